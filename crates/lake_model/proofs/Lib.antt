@@ -1,0 +1,4 @@
+pub mod SortingLemmas
+pub mod AnswerLemmas
+pub mod LayoutLemmas
+mod WorkedRuns

@@ -1,0 +1,10 @@
+pub mod Texts
+pub mod Keys
+pub mod Tables
+pub mod Records
+pub mod Queries
+pub mod Sorting
+pub mod Answer
+pub mod Journal
+pub mod Layout
+pub mod Plan
