@@ -1,0 +1,7 @@
+pub mod ScriptLemmas
+pub mod RightLemmas
+pub mod PlayLemmas
+pub mod StepLemmas
+pub mod GatherLemmas
+pub mod ProgressLemmas
+pub mod PlayedLemmas

@@ -1,0 +1,11 @@
+pub mod Numbers
+pub mod Commands
+pub mod Saying
+pub mod Reading
+pub mod Script
+pub mod Replies
+pub mod Answered
+pub mod Record
+pub mod Play
+pub mod Right
+pub mod Texts

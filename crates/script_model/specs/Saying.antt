@@ -1,0 +1,45 @@
+-- What one line outside a block says, by its words alone.
+use Rattle.std.specs.Prelude.{ℕ, Bool, if◌then◌else◌, List, length, take, drop, bytes_eq, codes, Option, Some, None}
+use Rattle.script_model.specs.declared.Reason.{Reason}
+use Rattle.script_model.specs.declared.Reason.TheVariants as reason
+use Rattle.lake_model.specs.Texts.{Text}
+use Rattle.lake_model.specs.Tables.{is_name}
+use Rattle.script_model.specs.Commands.{Task, Load, Search}
+use Rattle.script_model.specs.Numbers.{number}
+
+-- the front of a command that has a block
+pub data Front : Type 0 where
+  LoadBlock : (name : Text) → Front
+  SearchBlock : (k : ℕ) → Front
+
+abbrev pub closed : Front → List ℕ → Task
+closed (LoadBlock name) body = Load name body
+closed (SearchBlock k) body = Search k body
+
+pub data Said : Type 0 where
+  Nothing : Said
+  Wrong : (reason : Reason) → Said
+  Sync : Said
+  Does : (lane : ℕ) (task : Task) → Said
+  Fetches : (lane : ℕ) (name path : Text) → Said
+  Opens : (lane : ℕ) (front : Front) → Said
+
+-- what stands behind this beginning of the text
+abbrev pub behind : Text → Text → Option Text
+behind beginning text = if bytes_eq (take (length beginning) text) beginning then Some (drop (length beginning) text) else None
+
+abbrev pub load_said : Text → Said
+load_said name = if is_name name then Opens 1 (LoadBlock name) else Wrong reason.Unknown
+
+abbrev pub search_said : Option ℕ → Said
+search_said None = Wrong reason.Unknown
+search_said (Some k) = Opens 1 (SearchBlock k)
+
+abbrev pub said_by : Option Text → Option Text → Said
+said_by (Some name) k = load_said name
+said_by None (Some k) = search_said (number 1 10000 k)
+said_by None None = Wrong reason.Unknown
+
+-- The lines of a script are `load NAME` and `search K`, each with one space and followed by a block; K is 1 to 10,000.
+abbrev pub said : Text → Said
+said text = said_by (behind (codes "load ") text) (behind (codes "search ") text)

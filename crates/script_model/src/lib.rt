@@ -1,0 +1,35 @@
+//! The definitions of the script and of what a run makes of it: lines, commands and the reasons for which a line is refused;
+//! replies, the record of a run, the play of batches in a stated order, right records, the texts that are written, and the table
+//! of statuses. There is no code here but the plain types that both the code and the definitions use, and the laws of the definitions.
+#![tactic(auto)]
+
+/// Why a line of a script is refused.
+#[derive(Clone, Copy, Debug, PartialEq, Eq)]
+pub enum Reason {
+    LineTooLong,
+    Words,
+    Lane,
+    Unknown,
+    BatchCommands,
+    BlockTooLong,
+    BatchBytes,
+    NoEnd,
+    InputTooLong,
+}
+
+/// How a run ended.
+#[derive(Clone, Copy, Debug, PartialEq, Eq)]
+pub enum Status {
+    /// The source was read to its end, and all text was written.
+    Done,
+    /// The line, counted from 1, is the first that is at fault.
+    Script { line: u64, reason: Reason },
+    /// The words of the command line are refused, and nothing was read or written.
+    Usage,
+    /// The source failed.
+    ReadFault,
+    /// The sink failed.
+    WriteFault,
+    /// Memory was wanting.
+    NoMemory,
+}
