@@ -5,3 +5,4 @@ pub mod StepLemmas
 pub mod GatherLemmas
 pub mod ProgressLemmas
 pub mod PlayedLemmas
+mod WorkedRuns

@@ -9,3 +9,4 @@ pub mod Record
 pub mod Play
 pub mod Right
 pub mod Texts
+pub mod Statuses
