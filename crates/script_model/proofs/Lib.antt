@@ -5,4 +5,5 @@ pub mod StepLemmas
 pub mod GatherLemmas
 pub mod ProgressLemmas
 pub mod PlayedLemmas
+pub mod LimitLemmas
 mod WorkedRuns
