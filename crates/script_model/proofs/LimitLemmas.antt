@@ -1,5 +1,5 @@
 -- What stands behind the limit of a script changes nothing, and a script that passes its limit is at fault.
-use Rattle.std.proofs.Common.{◌≡◌, ap, sym, ◌∙◌, subst, ℕ, ◌+◌, ◌-◌, ◌<◌, ◌≤◌, List, [], ◌++◌, Bool, true, false, length, take, arith, length-append}
+use Rattle.std.proofs.Common.{◌≡◌, ap, sym, ◌∙◌, subst, ℕ, ◌+◌, ◌-◌, ◌<◌, List, [], ◌++◌, Bool, true, length, arith, length-append}
 use Rattle.std.specs.Prelude.{nat_lt, Option, Some, None}
 use Rattle.std.proofs.lemmas.List.{take-append-le}
 use Rattle.std.proofs.lemmas.Bool.{lt-ltb}
@@ -8,7 +8,7 @@ use Rattle.script_model.specs.declared.Reason.TheVariants as reason
 use Rattle.lake_model.specs.Texts.{Text, lines_of}
 use Rattle.script_model.specs.Commands.{Batch}
 use Rattle.script_model.specs.Reading.{Grammar, Reading, Reached, Stands, AtFault, LinesRead, read, read_with}
-use Rattle.script_model.specs.Script.{End, Whole, FaultAt, Commands, commands_with, commands_from, within, ended, begun_fault, unless_begun_fault, last_turn, end_turned}
+use Rattle.script_model.specs.Script.{Whole, FaultAt, Commands, commands_with, commands_from, within, ended, begun_fault, unless_begun_fault}
 
 -- what an input gives, from its beginning within the limit and whether it passes the limit
 abbrev given_by : Grammar → Reading → Text → Bool → Commands

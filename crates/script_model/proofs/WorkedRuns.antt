@@ -1,5 +1,5 @@
 -- Worked runs, from the bytes of a script to the bytes that are written where memory is ample and nothing fails.
-use Rattle.std.proofs.Common.{◌≡◌, refl, ℕ, List, [], ◌∷◌, ◌++◌, true, false}
+use Rattle.std.proofs.Common.{◌≡◌, refl, ℕ, List, [], ◌∷◌}
 use Rattle.std.specs.Prelude.{codes, flat_map}
 use Rattle.std.specs.Str.{trim_start, trim_end, chars, is_utf8}
 use Rattle.std.specs.Fmt.{digits}

@@ -1,10 +1,10 @@
 -- The play of batches in a stated order, one step at a time.
-use Rattle.std.specs.Prelude.{ℕ, zero, suc, ◌+◌, ◌-◌, ◌*◌, ◌==◌, ◌≡◌, Bool, true, false, List, [], ◌∷◌, ◌++◌, length, map, take, drop, filter, fold, flat_map, count_by, replicate, slice_get, slice_set, get_or, if◌then◌else◌, Option, Some, None}
+use Rattle.std.specs.Prelude.{ℕ, ◌+◌, ◌*◌, ◌==◌, ◌≡◌, Bool, true, false, List, [], ◌∷◌, ◌++◌, length, map, take, drop, filter, fold, flat_map, count_by, replicate, slice_get, slice_set, get_or, Option, Some, None}
 use Rattle.std.specs.List.{range_with_len}
 use Rattle.lake_model.specs.declared.Who.{Who}
 use Rattle.lake_model.specs.declared.Counts.{Counts}
 use Rattle.lake_model.specs.Journal.{who_with, Entry, entry_with}
-use Rattle.script_model.specs.Commands.{Task, Merge, Command, command_with, Batch}
+use Rattle.script_model.specs.Commands.{Merge, Command, command_with, Batch}
 use Rattle.script_model.specs.Replies.{Reply, NoMemory}
 use Rattle.script_model.specs.Answered.{answer_to, adds, has_pin, is_update_task}
 use Rattle.script_model.specs.Record.{Options, Answered, answered_with, RunRecord, empty, with_end}

@@ -1,5 +1,5 @@
 -- The record of a run: its journal, its answers, and the length of the journal behind each batch.
-use Rattle.std.specs.Prelude.{ℕ, Bool, true, false, List, [], Option, None}
+use Rattle.std.specs.Prelude.{ℕ, Bool, false, List, [], Option, None}
 use Rattle.lake_model.specs.declared.Who.{Who}
 use Rattle.lake_model.specs.Journal.{Entry}
 use Rattle.script_model.specs.Replies.{Reply}

@@ -13,7 +13,7 @@ use Rattle.lake_model.specs.declared.QueryRefused.{QueryRefused}
 use Rattle.lake_model.specs.declared.QueryRefused.TheVariants as query
 use Rattle.lake_model.specs.Texts.{Text}
 use Rattle.lake_model.specs.Tables.{Column, Table, members, key_bytes}
-use Rattle.lake_model.specs.Answer.{Row, answer}
+use Rattle.lake_model.specs.Answer.{Row, answer, Query}
 use Rattle.lake_model.specs.Journal.{Entry, counts, live, is_live, live_table}
 use Rattle.lake_model.specs.Layout.{Part, layout, shown, unmarked_of}
 use Rattle.lake_model.specs.Plan.{planned_parts}
@@ -134,12 +134,6 @@ drop_reply limits name journal =
 
 abbrev pub tables_reply : List Entry → Reply
 tables_reply journal = Listed (map line_of (live journal)) (length journal)
-
--- what is asked: the keys, how many rows, and a table that is left out
-pub record Query : Type 0 where
-  pub keys : List Text
-  pub k : ℕ
-  pub except : Option Text
 
 abbrev pub search_reply : Query → List Entry → Reply
 search_reply query journal = Found (length query.keys) (answer (live journal) query.keys query.k query.except) (length journal)
