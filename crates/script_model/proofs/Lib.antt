@@ -1,4 +1,5 @@
 pub mod ScriptLemmas
+pub mod InTurnLemmas
 pub mod RightLemmas
 pub mod PlayLemmas
 pub mod StepLemmas

@@ -8,4 +8,5 @@ pub mod Answered
 pub mod Record
 pub mod Play
 pub mod Right
+pub mod InTurn
 pub mod Texts
