@@ -5,4 +5,5 @@ pub mod PlayLemmas
 pub mod StepLemmas
 pub mod GatherLemmas
 pub mod ProgressLemmas
+pub mod LegalLemmas
 pub mod PlayedLemmas

@@ -9,4 +9,5 @@ pub mod Record
 pub mod Play
 pub mod Right
 pub mod InTurn
+pub mod Merges
 pub mod Texts
