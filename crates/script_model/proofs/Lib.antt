@@ -7,3 +7,5 @@ pub mod GatherLemmas
 pub mod ProgressLemmas
 pub mod LegalLemmas
 pub mod PlayedLemmas
+pub mod LimitLemmas
+mod WorkedRuns

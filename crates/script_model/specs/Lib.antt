@@ -11,3 +11,4 @@ pub mod Right
 pub mod InTurn
 pub mod Merges
 pub mod Texts
+pub mod Statuses

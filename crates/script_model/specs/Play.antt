@@ -7,7 +7,7 @@ use Rattle.lake_model.specs.Journal.{who_with, Entry, entry_with}
 use Rattle.script_model.specs.Commands.{Task, Merge, Command, command_with, Batch}
 use Rattle.script_model.specs.Replies.{Reply, NoMemory}
 use Rattle.script_model.specs.Answered.{answer_to, adds, has_pin, is_update_task}
-use Rattle.script_model.specs.Record.{Options, Answered, answered_with, RunRecord, empty}
+use Rattle.script_model.specs.Record.{Options, Answered, answered_with, RunRecord, empty, with_end}
 
 -- a command with its reply
 pub record Done : Type 0 where
@@ -138,6 +138,6 @@ pieces_of (Some pieces) = pieces
 abbrev pub played : Counts → Options → List Batch → List (List Bool) → RunRecord
 played limits options batches denials = played_from limits options.lanes options.merge 1 batches (pieces_of options.order) denials (empty options)
 
--- with memory at each step: a function of batches and pieces; else it may be wanting at any turn
+-- The record was played of these batches, with these options, where memory was wanting at some turns or at none.
 abbrev pub IsPlayed : Counts → Options → List Batch → RunRecord → Type 0
-IsPlayed limits options batches made = (denials : List (List Bool)) × (made ≡ played limits options batches denials)
+IsPlayed limits options batches made = (denials : List (List Bool)) × (made ≡ with_end made.ended (played limits options batches denials))
