@@ -1,5 +1,5 @@
 -- What is played without a merge has a legal journal, whose callers are lanes of the run.
-use Rattle.std.proofs.Common.{◌≡◌, refl, ap, sym, ◌∙◌, subst, ℕ, zero, suc, ◌+◌, ◌*◌, ◌≤◌, ◌<◌, List, [], ◌∷◌, ◌++◌, append_assoc, map, Bool, true, false, length, take, drop, cond, arith}
+use Rattle.std.proofs.Common.{◌≡◌, refl, ap, sym, ◌∙◌, subst, ℕ, zero, suc, ◌+◌, ◌*◌, ◌≤◌, List, [], ◌∷◌, ◌++◌, append_assoc, map, Bool, true, false, length, take, drop, cond, arith}
 use Rattle.std.specs.Prelude.{◌==◌, ◌&&◌, not, Option, Some, None, find, slice_get, slice_set, filter}
 use Rattle.std.specs.List.{AllByRecursion, fold, range_with_len}
 use Rattle.std.proofs.lemmas.List.{append-nil}
@@ -7,18 +7,20 @@ use Rattle.lake_model.specs.declared.Who.{Who}
 use Rattle.lake_model.specs.declared.Counts.{Counts}
 use Rattle.lake_model.specs.Journal as journal
 use Rattle.lake_model.specs.Texts.{Text}
-use Rattle.lake_model.specs.Tables.{Table, members}
+use Rattle.lake_model.specs.Tables.{members}
 use Rattle.lake_model.specs.Journal.{What, Entry, entry_with, is_live, counts}
 use Rattle.lake_model.specs.Layout.{may_follow, is_legal, is_legal_behind}
 use Rattle.script_model.specs.Commands.{Task, Load, LoadFile, DropTable, Tables, Search, Like, Merge, Command, Batch}
 use Rattle.script_model.specs.Replies.{Loaded, Dropped, Repeated, Unknown, Bounded, is_passed, load_bounds, drop_bounds, unless_lake_full}
 use Rattle.script_model.specs.Answered.{TableRead, IsTable, NoTable, table_read, file_read, load_answer, loads, answer_to, adds, has_pin, is_accepted, standing}
-use Rattle.script_model.specs.Record.{Options, RunRecord, plain, empty}
+use Rattle.script_model.specs.Record.{Options, RunRecord, plain, empty, with_end}
 use Rattle.script_model.specs.Script.{last_batch}
-use Rattle.script_model.specs.Play.{Done, done_with, Lane, lane_with, Play, play_with, who_of, entries_of, reply_or_denied, answered, step_of, lane_step, step_at, step, with_denials, play, play_batch, whole_order, lane_of, lanes_of, batch_after, head_or_empty, updates, pieces_of, played_from, played}
+use Rattle.script_model.specs.Play.{Done, done_with, Lane, lane_with, Play, play_with, who_of, entries_of, reply_or_denied, answered, step_of, lane_step, step_at, step, with_denials, play, play_batch, whole_order, lane_of, lanes_of, batch_after, head_or_empty, updates, pieces_of, played_from, played, IsPlayed}
 use Rattle.script_model.specs.Right.{IsRecordRight, AreBatchesRight}
 use Rattle.script_model.specs.InTurn.{record_in_turn, IsOneLane}
 use Rattle.script_model.specs.Merges.{is_merge, HasNoMerge, IsOfLanes}
+use Rattle.script_model.specs.PlayLaws.{IsWithoutMerges}
+use Rattle.script_model.specs.Statuses.{IsRecordOf}
 use Rattle.script_model.proofs.RightLemmas.{all_append}
 use Rattle.script_model.proofs.PlayedLemmas.{played_right}
 use Rattle.script_model.proofs.InTurnLemmas.{script_in_turn}
@@ -200,27 +202,35 @@ right_from limits options batches denials false merges lanes none =
           (subst (λ answers. AreBatchesRight limits options.lanes false 1 made.journal 0 batches ran.syncs answers) (sym ran.answers_are) ran.right);
     }
 
+-- the same but for whether its source was read to the end
+ended_right : (limits : Counts) (lanes : ℕ) (merge : Bool) (batches : List Batch) (made : RunRecord) (ended : Bool) → IsRecordRight limits lanes merge batches made → IsRecordRight limits lanes merge batches (with_end ended made)
+ended_right limits lanes merge batches made ended right = record { legal = right.legal; callers = right.callers; each = right.each }
+
 -- A record that was played of batches without a merge, with no merger beside them, is right: in whatever order, and wherever memory was wanting.
-pub record_right : (limits : Counts) (options : Options) (batches : List Batch) (denials : List (List Bool)) → options.merge ≡ false → AllByRecursion (IsOfLanes options.lanes) batches → AllByRecursion HasNoMerge batches
-    → IsRecordRight limits options.lanes options.merge batches (played limits options batches denials)
-record_right limits options batches denials merges lanes none = right_from limits options batches denials options.merge merges lanes none
+pub record_right : (limits : Counts) (options : Options) (batches : List Batch) (made : RunRecord) → IsWithoutMerges options batches → IsPlayed limits options batches made → IsRecordRight limits options.lanes options.merge batches made
+record_right limits options batches made none (denials, is) =
+    subst (λ r. IsRecordRight limits options.lanes options.merge batches r) (sym is)
+    (ended_right limits options.lanes options.merge batches (played limits options batches denials) made.ended (right_from limits options batches denials options.merge none.merger none.lanes none.commands))
 
 -- ---- one lane
+
+-- The record of a script that has one batch, or none, of one lane, its commands in turn, was played.
+pub script_played : (limits : Counts) (batch : Batch) (denials : List Bool) (ended : Bool) → IsOneLane batch → IsPlayed limits plain (last_batch batch) (with_end ended (record_in_turn limits batch denials))
+script_played limits batch denials ended one = let made = script_in_turn limits batch denials one in (made.0, ap (with_end ended) (sym made.1))
 
 of_lane_one : (batch : Batch) → IsOneLane batch → IsOfLanes 1 batch
 of_lane_one [] one = tt
 of_lane_one (command ∷ batch) one = ((omega (arith, one.0), omega (arith, one.0)), of_lane_one batch one.1)
 
--- So is the record of a script that has one batch, or none, of one lane.
-pub script_right : (limits : Counts) (batch : Batch) (denials : List Bool) → IsOneLane batch → HasNoMerge batch → IsRecordRight limits 1 false (last_batch batch) (record_in_turn limits batch denials)
-script_right limits batch denials one none =
-    let made = script_in_turn limits batch denials one in
-    subst (λ r. IsRecordRight limits 1 false (last_batch batch) r) made.1 (record_right limits plain (last_batch batch) made.0 refl (lanes batch one) (merges batch none))
-  where
-    lanes : (batch : Batch) → IsOneLane batch → AllByRecursion (IsOfLanes 1) (last_batch batch)
-    lanes [] one = tt
-    lanes (command ∷ batch) one = (of_lane_one (command ∷ batch) one, tt)
+without_merges : (batch : Batch) → IsOneLane batch → HasNoMerge batch → IsWithoutMerges plain (last_batch batch)
+without_merges [] one none = record { merger = refl; lanes = tt; commands = tt }
+without_merges (command ∷ batch) one none = record { merger = refl; lanes = (of_lane_one (command ∷ batch) one, tt); commands = (none, tt) }
 
-    merges : (batch : Batch) → HasNoMerge batch → AllByRecursion HasNoMerge (last_batch batch)
-    merges [] none = tt
-    merges (command ∷ batch) none = (none, tt)
+-- And so it is right.
+pub script_right : (limits : Counts) (batch : Batch) (denials : List Bool) (ended : Bool) → IsOneLane batch → HasNoMerge batch
+    → IsRecordRight limits 1 false (last_batch batch) (with_end ended (record_in_turn limits batch denials))
+script_right limits batch denials ended one none = record_right limits plain (last_batch batch) _ (without_merges batch one none) (script_played limits batch denials ended one)
+
+-- Behind the end of its source it is the record of the script.
+pub script_record : (limits : Counts) (batch : Batch) (denials : List Bool) → IsOneLane batch → HasNoMerge batch → IsRecordOf limits (last_batch batch) (with_end true (record_in_turn limits batch denials))
+script_record limits batch denials one none = record { ended = refl; right = script_right limits batch denials true one none; played = script_played limits batch denials true one }

@@ -10,5 +10,6 @@ pub mod Play
 pub mod Right
 pub mod InTurn
 pub mod Merges
+pub mod PlayLaws
 pub mod Texts
 pub mod Statuses
