@@ -208,3 +208,6 @@ fn add_fields(store: &mut StringRecord, record: &ByteRecord, number: u64) -> Res
 pub fn table_law()
     ensures { (rows : List Record) → (table_fault rows ≡ None) ↔ IsTable rows }
 {}
+
+#[cfg(test)]
+mod tests;
