@@ -1,4 +1,4 @@
-//! CSV bytes as a table: a header and records of its length, each field UTF-8, or the one refusal that the bytes earn.
+//! CSV bytes as a table, a header and records of its length with each field UTF-8, or the one refusal that the bytes earn.
 #![tactic(auto)]
 
 ghost use Rattle.std.specs.Prelude.{◌≡◌, ◌⊎◌, ◌↔◌, List, ◌+◌, ◌<◌, ◌≤◌, ◌++◌, ◌∷◌, [], true, false, length, Some, None, Ok, Err, IfOk, IfErr, OnOk, OnErr};
@@ -70,16 +70,16 @@ impl RawTable {
     }
 }
 
-/// The table of CSV bytes: a comma between fields, double quotes round a field that has a comma, a quote or a line break, a quote
-/// within quotes doubled (RFC 4180), and a line ended by LF, CR LF or CR. One byte order mark in front of the bytes is no part of
-/// them. An empty line is no record.
+/// The table of CSV bytes (RFC 4180), or why they are none. Commas separate the fields of a record. A field in double quotes may
+/// hold commas, line breaks and quotes, each quote doubled. A record ends at LF, CR LF or CR, and an empty line is no record. One
+/// byte order mark in front of the bytes is no part of them, nor is a second one, which the crate `csv` drops. No field is trimmed.
 ///
 /// # Errors
 ///
-/// The first of these that holds, and the crate's documentation of `CsvRefused` says what each carries: no record at all
-/// (`NoHeader`), a header of more than 1,024 fields (`TooManyColumns`), a field of the header that is no UTF-8 (`NotUtf8`), and
-/// then the first record at fault, by its length (`Unequal`) or else by its first field that is no UTF-8 (`NotUtf8`). `NoMemory`
-/// may come in place of any answer.
+/// The first of these that holds, with records and fields numbered from 1 and the header as record 1: `NoHeader` where there is no
+/// record; `TooManyColumns` where the header has more than 1,024 fields; `NotUtf8` at the header's first field that is not UTF-8;
+/// and at the first record at fault `Unequal` where its length is not the header's, and else `NotUtf8` at its first field that is
+/// not UTF-8. `NoMemory` may come in place of any answer, and says nothing of the bytes.
 pub fn read_table(alloc: Global, bytes: &[u8]) -> Result<RawTable, CsvRefused>
     ensures table { IfOk result (λ t. t ≡ records_of bytes.now) }
     ensures sound { OnOk result (csv_fault bytes.now ≡ None) }

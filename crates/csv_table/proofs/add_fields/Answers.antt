@@ -1,4 +1,4 @@
-use Rattle.std.proofs.Common.{◌∙◌, take, ◌+◌, ◌<◌, ◌≡◌, [], ◌∷◌, length, get_or, sym, ap, inr, arith, true, false}
+use Rattle.std.proofs.Common.{◌∙◌, take, ◌+◌, ◌≡◌, [], ◌∷◌, get_or, sym, ap, inr, true, false}
 use Rattle.std.proofs.lemmas.List.{append_assoc, take_more, take_all, drop_all}
 use Rattle.std.proofs.lemmas.Bool.{false_from_ne_true}
 use Rattle.std.proofs.lemmas.Str.{IsUtf8-from_is_utf8, is_utf8-from_IsUtf8}
