@@ -1,1 +1,4 @@
 pub mod AsciiLemmas
+pub mod LineLemmas
+pub mod OverlapLemmas
+pub mod TextLemmas

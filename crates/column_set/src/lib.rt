@@ -2,11 +2,14 @@
 //! borrow the titles of a table or own a share of them.
 #![tactic(auto)]
 
+mod keys;
 mod name;
+mod query;
 mod row;
 mod titles;
 
 pub use lake_model::{QueryRefused, SetRefused};
 pub use name::Name;
+pub use query::QuerySet;
 pub use row::{KeptRow, KeptRows, Row, Rows};
 pub use titles::Titles;
