@@ -71,14 +71,6 @@ all_lines-no_feed (byte ∷ text) h e =
           ap (λ (lines : Lines). lines.ended ++ last_line lines.rest) last
     ]
 
--- one more key, where the value has one
-pub keys_of_next : (value : Text) (values seen : List Text) → fold add_key seen (filter_map key (value ∷ values)) ≡ fold add_key (option_map_or (add_key seen) (key value) seen) (filter_map key values)
-keys_of_next value values seen = by (key value)
-  where
-    by : (found : Option Text) → fold add_key seen (cons_option found (filter_map key values)) ≡ fold add_key (option_map_or (add_key seen) found seen) (filter_map key values)
-    by None = refl
-    by (Some found) = refl
-
 pub line_fault-text : (n : ℕ) (line : Text) (lines : List Text) → is_utf8 line ≡ true → line_fault n (line ∷ lines) ≡ line_fault (n + 1) lines
 unfolding line_fault
 line_fault-text n line lines e = rw e refl

@@ -2,7 +2,7 @@
 ghost use Rattle.std.specs.Prelude.{◌≡◌, ◌⊎◌, ◌<◌, ◌≤◌, ◌==◌, ◌∷◌, [], bytes_eq, get_or, length, position, IfErr, IfOk, None, OnOk, Some};
 ghost use Rattle.std.specs.List.{IsDistinct};
 ghost use Rattle.lake_model.specs.Queries.{query_fault, query_of};
-ghost use Rattle.lake_model.specs.Tables.{has_key};
+ghost use Rattle.lake_model.specs.Tables.{has_key, overlap};
 ghost use Rattle.lake_model.specs.Texts.{all_lines};
 
 use crate::keys::{KeySet, MOST_KEYS};
@@ -74,6 +74,14 @@ impl QuerySet {
         ensures { result.now ≡ get_or self.now i [] }
     {
         self.keys.key(i)
+    }
+
+    /// How many keys of the query are among others.
+    pub(crate) fn shared_with(&self, keys: &KeySet) -> u32
+        requires { length keys.now ≤ 4194304 }
+        ensures { result ≡ overlap self.now keys.now }
+    {
+        self.keys.overlap(keys)
     }
 
     /// Whether the key is one of the query's.

@@ -10,7 +10,8 @@ use Rattle.lake_model.specs.Texts.{Text, all_lines}
 use Rattle.lake_model.specs.Keys.{key}
 use Rattle.lake_model.specs.Tables.{add_key}
 use Rattle.lake_model.specs.Queries.{count_fault, line_fault, query_fault, query_of}
-use Rattle.column_set.proofs.LineLemmas.{keys_of_next, line_fault-end, line_fault-other, line_fault-text, no_lines}
+use Rattle.column_set.proofs.LineLemmas.{line_fault-end, line_fault-other, line_fault-text, no_lines}
+use Rattle.column_set.proofs.ReadLemmas.{fold-next}
 use Rattle.column_set.proofs.query.QuerySet.read.Goals as goal
 
 nothing_left : (rest : Text) (empty : Bool) → empty ≡ (length rest == 0) → empty ≡ true → all_lines rest ≡ []
@@ -60,7 +61,7 @@ loop-number-preserved c =
     let good : is_utf8 line ≡ true = is_utf8-from_IsUtf8 _ c.in-Ok.ensures.cases.1 in
     let added = ok_then c.add.result (sym c.is_err.ensures.value ∙ c.if-is_err.false) c.add.ensures ∙ ap (λ value. option_map_or (add_key c.loop-number.keys) (key value) c.loop-number.keys) c.in-Ok.ensures.cases.0 in
     record {
-      keys = c.loop-number.invariant.keys ∙ ap (λ (lines : List Text). fold add_key c.loop-number.keys (filter_map key lines)) c.next_line.ensures ∙ keys_of_next line rest c.loop-number.keys
+      keys = c.loop-number.invariant.keys ∙ ap (λ (lines : List Text). fold add_key c.loop-number.keys (filter_map key lines)) c.next_line.ensures ∙ fold-next key line rest c.loop-number.keys
           ∙ ap (λ (seen : List Text). fold add_key seen (filter_map key rest)) (sym added);
       fault = c.loop-number.invariant.fault ∙ ap (line_fault c.loop-number.number) c.next_line.ensures ∙ line_fault-text c.loop-number.number line rest good;
     }
