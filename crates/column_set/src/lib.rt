@@ -9,6 +9,7 @@ mod row;
 mod table;
 mod titles;
 
+pub use keys::{distinct_law, overlap_law};
 pub use lake_model::{QueryRefused, SetRefused};
 pub use name::Name;
 pub use query::QuerySet;

@@ -83,10 +83,11 @@ impl TableSets {
         self.titles.table()
     }
 
-    /// How many columns there are, at most 1,024.
+    /// How many columns there are, at most 1,024. The keys of each differ from each other.
     pub fn columns(&self) -> u32
         ensures value { result ≡ length self.now.columns }
         ensures narrow { result ≤ 1024 }
+        ensures different { AllByRecursion (λ column. IsDistinct bytes_eq column.keys) self.now.columns }
     {
         self.sets.len() as u32
     }
