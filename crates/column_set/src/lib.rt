@@ -16,3 +16,6 @@ pub use query::QuerySet;
 pub use row::{KeptRow, KeptRows, Row, Rows};
 pub use table::{SharedTable, TableSets};
 pub use titles::Titles;
+
+#[cfg(test)]
+mod tests;
