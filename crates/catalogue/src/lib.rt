@@ -5,10 +5,15 @@
 ghost use Rattle.std.specs.Prelude.{◌≡◌};
 ghost use Rattle.lake_model.specs.Journal.{standard_limits};
 
+mod catalogue;
 mod entry;
+mod names;
+mod refusal;
 
+pub use catalogue::Catalogue;
 pub use entry::{Entry, What};
 pub use lake_model::{Counts, Which, Who};
+pub use refusal::LoadRefused;
 
 /// The limits of a lake as it is shipped: 65,536 live tables, 1,048,576 loads and drops, and, of all loads together, 16,777,216
 /// members and 1,073,741,824 bytes of keys.
