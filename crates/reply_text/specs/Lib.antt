@@ -1,2 +1,4 @@
+pub mod Callers
 pub mod Keeping
+pub mod Replies
 pub mod Words

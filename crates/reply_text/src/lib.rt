@@ -1,8 +1,12 @@
 //! Replies as they are written: the record of a run, and the text of its answers.
 #![tactic(auto)]
 
+mod lines;
 mod quoted;
+mod record;
 mod reply;
+mod text;
 mod words;
 
+pub use record::{Answered, By};
 pub use reply::Reply;

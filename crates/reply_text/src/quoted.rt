@@ -11,7 +11,11 @@ fn hexadecimal(digit: u8) -> u8
     requires { digit < 16 }
     ensures { result ≡ hexadecimal digit }
 {
-    if digit < 10 { b'0' + digit } else { b'a' + (digit - 10) }
+    if digit < 10 {
+        b'0' + digit
+    } else {
+        b'a' + (digit - 10)
+    }
 }
 
 // Appends a byte of a name, or the escape that stands for it.
@@ -30,7 +34,10 @@ fn push_escaped(byte: u8, into: &mut Vec<u8>) -> Result<(), NoMemory>
     } else if byte == b'\t' {
         push_bytes(b"\\t", into)
     } else if byte < 0x20 || byte == 0x7f {
-        push_bytes(&[b'\\', b'x', hexadecimal(byte / 16), hexadecimal(byte % 16)], into)
+        push_bytes(
+            &[b'\\', b'x', hexadecimal(byte / 16), hexadecimal(byte % 16)],
+            into,
+        )
     } else {
         push_bytes(&[byte], into)
     }

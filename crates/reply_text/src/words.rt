@@ -9,6 +9,7 @@ use itoa::Buffer;
 use no_memory::NoMemory;
 
 /// A word of a line.
+#[derive(Clone, Copy)]
 pub enum Word<'a> {
     /// As it stands.
     Text(&'a str),
@@ -27,8 +28,8 @@ pub fn push_bytes(bytes: &[u8], into: &mut Vec<u8>) -> Result<(), NoMemory>
     Ok(())
 }
 
-// Appends a number in decimal.
-fn push_number(number: u64, into: &mut Vec<u8>) -> Result<(), NoMemory>
+/// Appends a number in decimal.
+pub fn push_number(number: u64, into: &mut Vec<u8>) -> Result<(), NoMemory>
     ensures ok { OnOk result (into.new.items ≡ into.old.items ++ decimal number) }
     ensures kept { Keeps into.old.items into.new.items }
 {
@@ -48,8 +49,8 @@ fn push_word(word: &Word<'_>, into: &mut Vec<u8>) -> Result<(), NoMemory>
     }
 }
 
-// Appends words, each with a space before it.
-fn push_words(words: &[Word<'_>], into: &mut Vec<u8>) -> Result<(), NoMemory>
+/// Appends words, each with a space before it.
+pub fn push_words(words: &[Word<'_>], into: &mut Vec<u8>) -> Result<(), NoMemory>
     ensures ok { OnOk result (into.new.items ≡ into.old.items ++ flat_map (λ word. 0x20 ∷ word_text word) words.now) }
     ensures kept { Keeps into.old.items into.new.items }
 {
