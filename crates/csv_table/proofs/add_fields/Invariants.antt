@@ -1,0 +1,10 @@
+use Rattle.std.proofs.Common.{◌≡◌, ◌+◌, ◌++◌, take, drop}
+use Rattle.csv.specs.Records.{fields_of}
+use Rattle.lake_model.specs.Records.{text_fault}
+use Rattle.csv_table.proofs.add_fields.Given as goal
+
+abbrev pub invariant-loop-i : goal.invariant-loop-i
+invariant-loop-i l = record {
+  added : fields_of l.store ≡ fields_of l.fn.store ++ take l.i (fields_of l.record);
+  text : text_fault l.number 1 (fields_of l.record) ≡ text_fault l.number (l.i + 1) (drop l.i (fields_of l.record));
+}
