@@ -8,5 +8,5 @@ mod reply;
 mod text;
 mod words;
 
-pub use record::{Answered, By};
+pub use record::{Answered, By, RunRecord};
 pub use reply::Reply;
