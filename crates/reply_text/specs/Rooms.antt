@@ -1,5 +1,5 @@
--- A record with its rooms, and what is appended to it.
-use Rattle.std.specs.Prelude.{ℕ, ◌+◌, ◌≤◌, ◌++◌, ◌∷◌, [], Bool, List, length}
+-- A record with its rooms.
+use Rattle.std.specs.Prelude.{ℕ, ◌+◌, ◌≤◌, Bool, List, length}
 use Rattle.lake_model.specs.Journal.{Entry}
 use Rattle.script_model.specs.Record.{Answered, RunRecord, plain}
 
@@ -20,13 +20,3 @@ made_of journal answers syncs ended = record { options = plain; journal = journa
 -- there is room for so many more items
 abbrev pub HasRoom : {X : Type 0} → List X → ℕ → ℕ → Type 0
 HasRoom items capacity room = length items + room ≤ capacity
-
-abbrev pub with_answer : Answered → RunRecord → RunRecord
-with_answer answer made = record made { answers = made.answers ++ answer ∷ [] }
-
-abbrev pub with_entry : Entry → RunRecord → RunRecord
-with_entry entry made = record made { journal = made.journal ++ entry ∷ [] }
-
--- the end of a batch
-abbrev pub with_sync : RunRecord → RunRecord
-with_sync made = record made { syncs = made.syncs ++ length made.journal ∷ [] }

@@ -10,3 +10,4 @@ mod words;
 
 pub use record::{Answered, By, RunRecord};
 pub use reply::Reply;
+pub use text::write_replies;

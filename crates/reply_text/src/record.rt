@@ -1,8 +1,7 @@
 //! The record of a run: its journal, its answers, and how long the journal was at the end of each batch.
-ghost use Rattle.std.specs.Prelude.{◌≡◌, ◌<◌, ◌≤◌, ◌+◌, ◌++◌, ◌∷◌, [], true, vec_capacity, vec_len, OnOk};
+ghost use Rattle.std.specs.Prelude.{◌≡◌, ◌<◌, ◌≤◌, ◌+◌, ◌++◌, ◌∷◌, [], length, true, vec_capacity, vec_len, OnOk};
 ghost use Rattle.script_model.specs.Record.{empty, plain, with_end};
 ghost use Rattle.reply_text.specs.Callers.{who_by};
-ghost use Rattle.reply_text.specs.Rooms.{with_answer, with_entry, with_sync};
 
 use crate::reply::Reply;
 use catalogue::Entry;
@@ -136,10 +135,15 @@ impl RunRecord {
         self.ended = true;
     }
 
-    /// Makes room for so many more answers and entries, and for one more sync. No room gets less, also where memory is wanting.
+    /// Makes room for so many more answers and entries, and for one more sync.
     pub fn room(&mut self, answers: usize, entries: usize) -> Result<(), NoMemory>
         ensures made { self.new.made ≡ self.old.made }
         ensures room { OnOk result ((answers ≤ self.new.answers_room) × (entries ≤ self.new.entries_room) × (1 ≤ self.new.syncs_room)) }
+
+        // No room gets less, also where memory is wanting.
+        ensures answers_room { self.old.answers_room ≤ self.new.answers_room }
+        ensures entries_room { self.old.entries_room ≤ self.new.entries_room }
+        ensures syncs_room { self.old.syncs_room ≤ self.new.syncs_room }
     {
         self.answers.reserve(answers)?;
         self.answers_room = self.answers.capacity() - self.answers.len();
@@ -153,7 +157,7 @@ impl RunRecord {
     /// Appends an answer, for which there is room. It takes no memory.
     pub fn add_answer(&mut self, what: Answered)
         requires { 0 < self.old.answers_room }
-        ensures made { self.new.made ≡ with_answer what self.old.made }
+        ensures made { self.new.made ≡ record self.old.made { answers = self.old.made.answers ++ what ∷ [] } }
         ensures answers_room { self.new.answers_room + 1 ≡ self.old.answers_room }
         ensures entries_room { self.new.entries_room ≡ self.old.entries_room }
         ensures syncs_room { self.new.syncs_room ≡ self.old.syncs_room }
@@ -165,7 +169,7 @@ impl RunRecord {
     /// Appends an entry to the journal, for which there is room. It takes no memory.
     pub fn add_entry(&mut self, what: Entry)
         requires { 0 < self.old.entries_room }
-        ensures made { self.new.made ≡ with_entry what self.old.made }
+        ensures made { self.new.made ≡ record self.old.made { journal = self.old.made.journal ++ what ∷ [] } }
         ensures answers_room { self.new.answers_room ≡ self.old.answers_room }
         ensures entries_room { self.new.entries_room + 1 ≡ self.old.entries_room }
         ensures syncs_room { self.new.syncs_room ≡ self.old.syncs_room }
@@ -177,7 +181,7 @@ impl RunRecord {
     /// Notes the end of a batch: how long the journal is, for which there is room. It takes no memory.
     pub fn add_sync(&mut self)
         requires { 0 < self.old.syncs_room }
-        ensures made { self.new.made ≡ with_sync self.old.made }
+        ensures made { self.new.made ≡ record self.old.made { syncs = self.old.made.syncs ++ length self.old.made.journal ∷ [] } }
         ensures answers_room { self.new.answers_room ≡ self.old.answers_room }
         ensures entries_room { self.new.entries_room ≡ self.old.entries_room }
         ensures syncs_room { self.new.syncs_room + 1 ≡ self.old.syncs_room }

@@ -1,11 +1,11 @@
 //! The text of the answers of a record.
-ghost use Rattle.std.specs.Prelude.{◌≡◌, ◌++◌, false, flat_map, map, OnOk};
+ghost use Rattle.std.specs.Prelude.{◌≡◌, ◌++◌, drop, false, flat_map, map, OnErr, OnOk};
 ghost use Rattle.script_model.specs.Texts.{answers_text, line_text, more_lines, row_line, written_lines};
 ghost use Rattle.reply_text.specs.Keeping.{Keeps};
 ghost use Rattle.reply_text.specs.Replies.{reply_of};
 
 use crate::lines::push_first_line;
-use crate::record::Answered;
+use crate::record::{Answered, RunRecord};
 use crate::reply::Reply;
 use crate::words::Word::{Number, Quoted, Text};
 use crate::words::push_line;
@@ -66,6 +66,21 @@ fn push_answers(answers: &[Answered], into: &mut Vec<u8>) -> Result<(), NoMemory
 {
     for answer in answers {
         push_answer(answer, into)?;
+    }
+    Ok(())
+}
+
+/// Appends the text of the answers of a record from an index on, which counts from 0: for each, a line with the number of the
+/// command and what it is answered, and behind that a line for each row. Where memory is wanting, the text stands as it was.
+pub fn write_replies(of: &RunRecord, first: usize, into: &mut Vec<u8>) -> Result<(), NoMemory>
+    ensures ok { OnOk result (into.new.items ≡ into.old.items ++ answers_text false (drop first of.now.made.answers)) }
+    ensures err { OnErr result (into.new.items ≡ into.old.items) }
+{
+    let answers = of.answers();
+    let written = into.len();
+    if push_answers(&answers[first.min(answers.len())..], into).is_err() {
+        into.truncate(written);
+        return Err(NoMemory);
     }
     Ok(())
 }
