@@ -11,3 +11,6 @@ mod words;
 pub use record::{Answered, By, RunRecord};
 pub use reply::Reply;
 pub use text::write_replies;
+
+#[cfg(test)]
+mod tests;
