@@ -1,0 +1,82 @@
+//! The name of a table, held in place.
+ghost use Rattle.std.specs.Prelude.{◌≡◌, ◌&&◌, ◌↔◌, IfSome, IsSome, IsTrue, nat_le, true};
+ghost use Rattle.std.specs.List.{list_all};
+ghost use Rattle.lake_model.specs.Tables.{is_name};
+
+use std::marker::Model;
+use std::str;
+
+/// How many bytes a name has at most.
+const MOST_BYTES: usize = 255;
+
+/// The name of a table: 1 to 255 bytes, each from `!` (0x21) to `~` (0x7E), so printable ASCII with no space. A contract sees
+/// its bytes. It takes no memory but its own.
+#[derive(Drop)]
+pub struct Name {
+    bytes: [u8; 255],
+    len: u8,
+}
+
+impl Model for Name {
+    ghost use Rattle.std.specs.Prelude.{◌≡◌, ◌≤◌, List, ℕ, take, true};
+    ghost use Rattle.lake_model.specs.Tables.{is_name};
+
+    ghost Value = { List ℕ };
+
+    ghost view = { λ n. take n.len n.bytes };
+
+    ghost invariant = { λ n. (n.len ≤ 255) × (is_name (take n.len n.bytes) ≡ true) };
+}
+
+impl Name {
+    /// The name that the bytes are, and `None` where they are none.
+    pub fn read(bytes: &[u8]) -> Option<Name>
+        ensures name { IfSome result (λ name. name ≡ bytes.now) }
+        ensures exact { IsSome result ↔ IsTrue (is_name bytes.now) }
+    {
+        if bytes.is_empty() || bytes.len() > MOST_BYTES || !are_printable(bytes) {
+            return None;
+        }
+        let mut held = [0; 255];
+        held[..bytes.len()].copy_from_slice(bytes);
+        Some(Name {
+            bytes: held,
+            len: bytes.len() as u8,
+        })
+    }
+
+    /// The bytes of the name.
+    pub fn bytes(&self) -> &[u8]
+        ensures same { result.now ≡ self.now }
+        ensures name { is_name self.now ≡ true }
+    {
+        &self.bytes[..self.len as usize]
+    }
+
+    /// The name as a text.
+    pub fn text(&self) -> &str
+        ensures { result.now ≡ self.now }
+    {
+        match str::from_utf8(self.bytes()) {
+            Ok(text) => text,
+            Err(_) => unreachable!(),
+        }
+    }
+
+    /// The same name. It takes no memory.
+    pub fn copy(&self) -> Name
+        ensures { result ≡ self.now }
+    {
+        Name {
+            bytes: self.bytes,
+            len: self.len,
+        }
+    }
+}
+
+// Whether each byte is a printable one of ASCII, and no space.
+fn are_printable(bytes: &[u8]) -> bool
+    ensures { result ≡ list_all (λ byte. nat_le 0x21 byte && nat_le byte 0x7E) bytes.now }
+{
+    bytes.iter().all(|byte| 0x21 <= *byte && *byte <= 0x7e)
+}

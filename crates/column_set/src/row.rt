@@ -1,0 +1,199 @@
+//! The rows of an answer, which borrow the titles of a table, and the same rows with a share of the titles of their own.
+ghost use Rattle.std.specs.Prelude.{◌≡◌, IfOk};
+ghost use Rattle.lake_model.specs.Answer.{row_cmp};
+
+use crate::name::Name;
+use crate::titles::Titles;
+use no_memory::NoMemory;
+use std::alloc::Global;
+use std::cmp::Ordering;
+use std::marker::Model;
+use std::sync::Arc;
+
+/// A row of an answer: how many keys of the query the column shares, whose titles it has, and at which place, counted from 1,
+/// its column stands. It borrows the titles.
+#[derive(Drop)]
+pub struct Row<'a> {
+    pub overlap: u32,
+    pub titles: &'a Arc<Titles>,
+    pub place: u32,
+}
+
+impl<'a> Model for Row<'a> {
+    ghost use Rattle.std.specs.Prelude.{◌≤◌, ◌<◌, length};
+    ghost use Rattle.lake_model.specs.Answer.{Row as RowOf, row_at};
+
+    ghost Value = { RowOf };
+
+    ghost view = { λ r. row_at r.overlap r.titles.now.value r.place };
+
+    ghost invariant = { λ r. (0 < r.place) × (r.place ≤ length r.titles.now.value.columns) };
+}
+
+impl<'a> Row<'a> {
+    /// The order of an answer: the greater overlap first, and then by the bytes of the table's name, those of the column's name,
+    /// and the place.
+    pub fn order(&self, other: &Row<'_>) -> Ordering
+        ensures { result ≡ row_cmp self.now other.now }
+    {
+        let by_overlap = other.overlap.cmp(&self.overlap);
+        let by_table = self.table().bytes().cmp(other.table().bytes());
+        let by_column = self.column().cmp(other.column());
+        let by_place = self.place.cmp(&other.place);
+        by_overlap.then(by_table.then(by_column.then(by_place)))
+    }
+
+    /// The table's name.
+    pub fn table(&self) -> &Name
+        ensures { result.now ≡ self.now.table }
+    {
+        self.titles.table()
+    }
+
+    /// The column's name.
+    pub fn column(&self) -> &str
+        ensures { result.now ≡ self.now.column }
+    {
+        self.titles.column(self.place)
+    }
+
+    /// The same row, with a share of the titles of its own.
+    pub fn keep(&self) -> Result<KeptRow, NoMemory>
+        ensures { IfOk result (λ kept. kept ≡ self.now) }
+    {
+        Ok(KeptRow {
+            overlap: self.overlap,
+            titles: Arc::try_clone(self.titles)?,
+            place: self.place,
+        })
+    }
+}
+
+/// A row of an answer that owns a share of its titles.
+#[derive(Drop)]
+pub struct KeptRow {
+    overlap: u32,
+    titles: Arc<Titles>,
+    place: u32,
+}
+
+impl Model for KeptRow {
+    ghost use Rattle.std.specs.Prelude.{◌≤◌, ◌<◌, length};
+    ghost use Rattle.lake_model.specs.Answer.{Row as RowOf, row_at};
+
+    ghost Value = { RowOf };
+
+    ghost view = { λ r. row_at r.overlap r.titles.value r.place };
+
+    ghost invariant = { λ r. (0 < r.place) × (r.place ≤ length r.titles.value.columns) };
+}
+
+impl KeptRow {
+    /// How many keys of the query the column shares.
+    pub fn overlap(&self) -> u32
+        ensures { result ≡ self.now.overlap }
+    {
+        self.overlap
+    }
+
+    /// The table's name.
+    pub fn table(&self) -> &Name
+        ensures { result.now ≡ self.now.table }
+    {
+        self.titles.table()
+    }
+
+    /// The column's name.
+    pub fn column(&self) -> &str
+        ensures { result.now ≡ self.now.column }
+    {
+        self.titles.column(self.place)
+    }
+
+    /// The place of the column in its table, counted from 1.
+    pub fn place(&self) -> u32
+        ensures { result ≡ self.now.place }
+    {
+        self.place
+    }
+}
+
+/// Rows of an answer, in their order. A contract sees the list of the rows.
+#[derive(Drop)]
+pub struct Rows<'a> {
+    rows: Vec<Row<'a>>,
+}
+
+impl<'a> Model for Rows<'a> {
+    ghost use Rattle.std.specs.Prelude.{List};
+    ghost use Rattle.lake_model.specs.Answer.{Row as RowOf};
+
+    ghost Value = { List RowOf };
+
+    ghost view = { λ r. r.rows.items };
+}
+
+impl<'a> Rows<'a> {
+    /// These rows.
+    pub fn new(rows: Vec<Row<'a>>) -> Rows<'a>
+        ensures { result ≡ rows.entry.items }
+    {
+        Rows { rows }
+    }
+
+    /// The rows, in their order.
+    pub fn list(&self) -> &[Row<'a>]
+        ensures { result.now ≡ self.now }
+    {
+        &self.rows
+    }
+
+    /// The same rows, each with a share of its titles.
+    pub fn keep_all(&self, alloc: Global) -> Result<KeptRows, NoMemory>
+        ensures { IfOk result (λ kept. kept ≡ self.now) }
+    {
+        Ok(KeptRows::new(keep_rows(alloc, self.list())?))
+    }
+}
+
+// The same rows, each with a share of its titles.
+fn keep_rows(alloc: Global, rows: &[Row<'_>]) -> Result<Vec<KeptRow>, NoMemory>
+    ensures { IfOk result (λ kept. kept.items ≡ rows.now) }
+{
+    let mut kept = Vec::new(alloc);
+    for row in rows {
+        kept.push(row.keep()?)?;
+    }
+    Ok(kept)
+}
+
+/// Rows of an answer that own shares of their titles, in their order. A contract sees the list of the rows.
+#[derive(Drop)]
+pub struct KeptRows {
+    rows: Vec<KeptRow>,
+}
+
+impl Model for KeptRows {
+    ghost use Rattle.std.specs.Prelude.{List};
+    ghost use Rattle.lake_model.specs.Answer.{Row as RowOf};
+
+    ghost Value = { List RowOf };
+
+    ghost view = { λ r. r.rows.items };
+}
+
+impl KeptRows {
+    /// These rows.
+    pub fn new(rows: Vec<KeptRow>) -> KeptRows
+        ensures { result ≡ rows.items }
+    {
+        KeptRows { rows }
+    }
+
+    /// The rows, in their order.
+    pub fn list(&self) -> &[KeptRow]
+        ensures { result.now ≡ self.now }
+    {
+        &self.rows
+    }
+}

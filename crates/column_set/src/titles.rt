@@ -1,0 +1,58 @@
+//! The titles of a table: its name, and the names of its columns.
+ghost use Rattle.std.specs.Prelude.{◌≡◌, ◌≤◌, ◌<◌, length, map, string_bytes};
+ghost use Rattle.lake_model.specs.Tables.{column_name, titles_with};
+
+use crate::name::Name;
+use std::marker::Model;
+
+/// A table's name and its columns' names, at most 1,024 of them, each a text that may be empty or that of another column.
+#[derive(Drop)]
+pub struct Titles {
+    table: Name,
+    columns: Vec<String>,
+}
+
+impl Model for Titles {
+    ghost use Rattle.std.specs.Prelude.{◌≤◌, length, map, string_bytes};
+    ghost use Rattle.lake_model.specs.Tables.{Titles as TitlesOf, titles_with};
+
+    ghost Value = { TitlesOf };
+
+    ghost view = { λ t. titles_with t.table (map string_bytes t.columns.items) };
+
+    ghost invariant = { λ t. length t.columns.items ≤ 1024 };
+}
+
+impl Titles {
+    /// The titles of a table of this name, with columns of these names from the first place on.
+    pub fn new(table: Name, columns: Vec<String>) -> Titles
+        requires { length columns.items ≤ 1024 }
+        ensures { result ≡ titles_with table (map string_bytes columns.items) }
+    {
+        Titles { table, columns }
+    }
+
+    /// The table's name.
+    pub fn table(&self) -> &Name
+        ensures { result.now ≡ self.now.table }
+    {
+        &self.table
+    }
+
+    /// How many columns there are, at most 1,024.
+    pub fn columns(&self) -> u32
+        ensures value { result ≡ length self.now.columns }
+        ensures narrow { result ≤ 1024 }
+    {
+        self.columns.len() as u32
+    }
+
+    /// The name of the column at a place, counted from 1.
+    pub fn column(&self, place: u32) -> &str
+        requires low { 0 < place }
+        requires high { place ≤ length self.now.columns }
+        ensures { result.now ≡ column_name self.now place }
+    {
+        self.columns[place as usize - 1].as_str()
+    }
+}
