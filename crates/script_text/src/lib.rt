@@ -5,6 +5,7 @@ mod body;
 mod command;
 mod front;
 mod line;
+mod reader;
 
 mod refused;
 
