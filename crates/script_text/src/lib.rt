@@ -8,6 +8,7 @@ mod line;
 mod reader;
 
 mod refused;
+mod script;
 
 
 pub use body::Body;

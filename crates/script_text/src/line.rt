@@ -1,10 +1,24 @@
 //! Lines, as they are cut from a script and from a block.
-ghost use Rattle.std.specs.Prelude.{◌≡◌, ◌==◌, position};
+ghost use Rattle.std.specs.Prelude.{◌≡◌, ◌+◌, ◌==◌, ◌≤◌, IfNone, IfSome, [], drop, length, position};
+ghost use Rattle.lake_model.specs.Texts.{lines_of, lines_with};
 ghost use Rattle.script_model.specs.Numbers.{without_return};
 ghost use Rattle.script_model.specs.Reading.{is_end, undotted};
+ghost use Rattle.script_text.specs.Scripts.{with_line};
+
+// The line that begins at this place, without the line feed that ends it, and `None` where none does.
+pub(crate) fn next_line(script: &[u8], start: usize) -> Option<&[u8]>
+    requires { start ≤ length script.now }
+    ensures line { IfSome result (λ line. lines_of (drop start script.now) ≡ with_line line.now (lines_of (drop (start + (length line.now + 1)) script.now))) }
+    ensures within { IfSome result (λ line. start + (length line.now + 1) ≤ length script.now) }
+    ensures last { IfNone result (lines_of (drop start script.now) ≡ lines_with [] (drop start script.now)) }
+{
+    let rest = &script[start..];
+    let len = first_feed(rest)?;
+    Some(&rest[..len])
+}
 
 // Where the first line feed is.
-pub(crate) fn first_feed(text: &[u8]) -> Option<usize>
+fn first_feed(text: &[u8]) -> Option<usize>
     ensures { result ≡ position (λ byte. byte == 0x0A) text.now }
 {
     text.iter().position(|byte| *byte == b'\n')

@@ -123,10 +123,18 @@ impl Reader {
         }
     }
 
+    // The bytes of the lines that were read.
+    pub(crate) fn used(&self) -> usize
+        ensures { result ≡ self.now.used }
+    {
+        self.used
+    }
+
     // Reads a line that a line feed ended, without its line feed.
     pub(crate) fn turn(&mut self, line: &[u8]) -> Result<(), ScriptRefused>
         requires { self.old.used + (length line.now + 1) ≤ 1048576 }
         ensures goes { OnOk result (turn_of script_grammar line.now self.old ≡ Goes self.new) }
+        ensures used { OnOk result (self.new.used ≡ self.old.used + (length line.now + 1)) }
         ensures refused { IfErr result (λ e. (e ≡ ScriptRefused.NoMemory) ⊎ FaultsTurn (self.old.lines + 1) (turn_of script_grammar line.now self.old) e) }
     {
         self.lines += 1;
