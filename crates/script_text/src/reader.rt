@@ -1,16 +1,16 @@
 //! How far a script was read, and what each line does.
-ghost use Rattle.std.specs.Prelude.{◌≡◌, ◌+◌, ◌++◌, ◌∷◌, ◌<◌, ◌≤◌, ◌⊎◌, IfErr, IfSome, IsSome, None, OnOk, Some, [], length};
+ghost use Rattle.std.specs.Prelude.{◌≡◌, ◌+◌, ◌++◌, ◌∷◌, ◌<◌, ◌≤◌, ◌⊎◌, IfErr, IfOk, IfSome, IsSome, None, OnOk, Some, [], length};
 ghost use Rattle.script_model.specs.Numbers.{without_return};
 ghost use Rattle.script_model.specs.Reading.{Fails, Goes, block_ended, body_after, does, opened, turn_of};
 ghost use Rattle.script_model.specs.Saying.{closed, said};
-ghost use Rattle.script_model.specs.Script.{script_grammar, start};
+ghost use Rattle.script_model.specs.Script.{Whole, commands_with, end_turned, last_batch, last_turn, script_grammar, start};
 ghost use Rattle.script_text.specs.Fronts.{IsFrontInRange, front_of};
-ghost use Rattle.script_text.specs.Readings.{open_with};
-ghost use Rattle.script_text.specs.Refusals.{FaultsTurn};
+ghost use Rattle.script_text.specs.Readings.{IsInLaneOne, open_with};
+ghost use Rattle.script_text.specs.Refusals.{Faults, FaultsTurn};
 ghost use Rattle.script_text.specs.Tasks.{IsTaskInRange, task_of};
 
 use crate::body::Body;
-use crate::command::{Command, Task};
+use crate::command::{Batch, Command, Task};
 use crate::front::{Front, read_front};
 use crate::line::{is_end, undotted, without_return};
 use crate::refused::ScriptRefused;
@@ -123,6 +123,14 @@ impl Reader {
         }
     }
 
+    // The lines that were read.
+    pub(crate) fn lines(&self) -> u64
+        ensures value { result ≡ self.now.lines }
+        ensures small { result ≤ 1048576 }
+    {
+        self.lines
+    }
+
     // The bytes of the lines that were read.
     pub(crate) fn used(&self) -> usize
         ensures { result ≡ self.now.used }
@@ -147,6 +155,46 @@ impl Reader {
             return Ok(());
         }
         block.push_line(line)?;
+        Ok(())
+    }
+
+    // Ends the script behind its last line feed.
+    pub(crate) fn finish(mut self, rest: &[u8]) -> Result<Batch, ScriptRefused>
+        requires { self.used + length rest.now ≤ 1048576 }
+        ensures commands { IfOk result (λ batch. end_turned [] (self.lines + 1) (last_turn script_grammar self.block rest.now self) ≡ commands_with (last_batch batch) Whole []) }
+        ensures lanes { IfOk result IsInLaneOne }
+        ensures refused { IfErr result (λ e. (e ≡ ScriptRefused.NoMemory) ⊎ Faults (end_turned [] (self.lines + 1) (last_turn script_grammar self.block rest.now self)).end e) }
+    {
+        self.last_turn(rest)?;
+        let Reader {
+            commands, block, ..
+        } = self;
+        match block {
+            None => Ok(Batch::new(commands)),
+            Some(block) => Err(ScriptRefused::Script {
+                line: block.line(),
+                reason: Reason::NoEnd,
+            }),
+        }
+    }
+
+    // Reads what stands behind the last line feed, which is a line where it has a byte.
+    fn last_turn(&mut self, line: &[u8]) -> Result<(), ScriptRefused>
+        requires { self.old.used + length line.now ≤ 1048576 }
+        ensures goes { OnOk result (last_turn script_grammar self.old.block line.now self.old ≡ Goes self.new) }
+        ensures refused { IfErr result (λ e. (e ≡ ScriptRefused.NoMemory) ⊎ FaultsTurn (self.old.lines + 1) (last_turn script_grammar self.old.block line.now self.old) e) }
+    {
+        if line.is_empty() {
+            return Ok(());
+        }
+        if self.block.is_none() {
+            self.lines += 1;
+            self.used += line.len();
+            return self.open(line);
+        }
+        if is_end(line) {
+            self.close()?;
+        }
         Ok(())
     }
 
