@@ -1,13 +1,13 @@
 -- A text is cut at its first line feed.
-use Rattle.std.proofs.Common.{◌≡◌, refl, ap, sym, ◌∙◌, ℕ, suc, ◌+◌, ◌-◌, ◌<◌, ◌≤◌, List, [], ◌∷◌, ◌++◌, Bool, true, false, length, take, drop, get_or, arith, inl, inr}
-use Rattle.std.specs.Prelude.{◌==◌, nat_lt, position, Option, Some, None}
+use Rattle.std.proofs.Common.{◌≡◌, ap, sym, ◌∙◌, ℕ, suc, ◌+◌, ◌≤◌, [], ◌∷◌, ◌++◌, Bool, length, take, drop, get_or, arith, inl, inr}
+use Rattle.std.specs.Prelude.{◌==◌, nat_lt, position, Some, None}
 use Rattle.std.specs.List.{position_or_len}
 use Rattle.std.proofs.lemmas.Bool.{cases_Bool, eqb-true, ltb-false}
 use Rattle.std.proofs.lemmas.Option.{same_Some}
-use Rattle.std.proofs.lemmas.List.{drop-drop, length-take-le, take-append-drop}
+use Rattle.std.proofs.lemmas.List.{length-take-le, take-append-drop}
 use Rattle.std.proofs.lemmas.List.Quantifiers.{position-Some}
 use Rattle.std.proofs.Math.Seq.{drop-cons}
-use Rattle.lake_model.specs.Texts.{Text, Lines, lines_of, lines_with}
+use Rattle.lake_model.specs.Texts.{Text, lines_of, lines_with}
 use Rattle.script_text.specs.Scripts.{with_line}
 use Rattle.script_model.proofs.ScriptLemmas.{NoFeed, lines_first, lines_none}
 
@@ -47,7 +47,7 @@ no_feed text h =
     ]
 
 -- the text is its first line, a line feed, and the rest
-pub cut : (text : Text) (at : ℕ) → position is_feed text ≡ Some at → text ≡ take at text ++ 0x0A ∷ drop (at + 1) text
+cut : (text : Text) (at : ℕ) → position is_feed text ≡ Some at → text ≡ take at text ++ 0x0A ∷ drop (at + 1) text
 cut text at h =
     let found = position-Some is_feed text at 0 h in
     let next : suc at ≡ at + 1 = omega arith in
@@ -56,20 +56,13 @@ cut text at h =
     ∙ ap (λ (n : ℕ). take at text ++ 0x0A ∷ drop n text) next
 
 -- The lines of a text that has a line feed.
-lines_at : (text : Text) (at : ℕ) → position is_feed text ≡ Some at → lines_of text ≡ with_line (take at text) (lines_of (drop (at + 1) text))
+pub lines_at : (text : Text) (at : ℕ) → position is_feed text ≡ Some at → lines_of text ≡ with_line (take at text) (lines_of (drop (length (take at text) + 1) text))
 lines_at text at h =
+    let found = position-Some is_feed text at 0 h in
+    let within : at ≤ length text = omega (arith, found.0) in
     let whole : NoFeed (take at text) = rw (place text at h) (no_feed_before text) in
     ap lines_of (cut text at h) ∙ lines_first (take at text) (drop (at + 1) text) whole
-
--- The lines from a place on, where a line feed follows.
-pub lines_from : (script : Text) (start at : ℕ) → position is_feed (drop start script) ≡ Some at
-    → lines_of (drop start script) ≡ with_line (take at (drop start script)) (lines_of (drop (start + (length (take at (drop start script)) + 1)) script))
-lines_from script start at h =
-    let found = position-Some is_feed (drop start script) at 0 h in
-    let within : at ≤ length (drop start script) = omega (arith, found.0) in
-    lines_at (drop start script) at h
-    ∙ ap (λ (rest : Text). with_line (take at (drop start script)) (lines_of rest)) (drop-drop (at + 1) start script)
-    ∙ ap (λ (n : ℕ). with_line (take at (drop start script)) (lines_of (drop (start + (n + 1)) script))) (sym (length-take-le at (drop start script) within))
+    ∙ ap (λ (n : ℕ). with_line (take at text) (lines_of (drop (n + 1) text))) (sym (length-take-le at text within))
 
 -- The lines of a text that has none.
 pub lines_without : (text : Text) → position is_feed text ≡ None → lines_of text ≡ lines_with [] text

@@ -1,5 +1,6 @@
 -- The lines of a script are read one after another.
 use Rattle.std.proofs.Common.{◌≡◌, ap, ◌∙◌, subst, sym, ℕ, ◌+◌, List, [], ◌∷◌, drop, length}
+use Rattle.std.proofs.lemmas.List.{drop-drop}
 use Rattle.lake_model.specs.Texts.{Lines, Text, lines_of}
 use Rattle.script_model.specs.Reading.{Fails, Gives, Goes, LinesRead, Reading, Stands, Turn, read, read_with, turn_of, turned}
 use Rattle.script_model.specs.Script.{script_grammar}
@@ -23,12 +24,12 @@ read_goes reading next line lines others h e =
     first_turn reading line lines others h ∙ ap (λ (turn : Turn). read script_grammar (turned [] (reading.lines + 1) turn) others.ended) e
 
 -- The lines behind a place, where the first of them was read up to the next.
-pub lines_between : (script line : Text) (start from to : ℕ) → start ≡ from → to ≡ from + (length line + 1)
-    → lines_of (drop start script) ≡ with_line line (lines_of (drop (start + (length line + 1)) script))
-    → lines_of (drop from script) ≡ with_line line (lines_of (drop to script))
-lines_between script line start from to h e cut =
-    ap (λ (n : ℕ). lines_of (drop n script)) (sym h) ∙ cut
-    ∙ ap (λ (n : ℕ). with_line line (lines_of (drop n script))) (ap (λ (m : ℕ). m + (length line + 1)) h ∙ sym e)
+pub lines_between : (script line rest : Text) (from to : ℕ) → rest ≡ drop from script → to ≡ from + (length line + 1)
+    → lines_of rest ≡ with_line line (lines_of (drop (length line + 1) rest)) → lines_of (drop from script) ≡ with_line line (lines_of (drop to script))
+lines_between script line rest from to h e cut =
+    ap lines_of (sym h) ∙ cut
+    ∙ ap (λ (text : Text). with_line line (lines_of text))
+    (ap (drop (length line + 1)) h ∙ drop-drop (length line + 1) from script ∙ ap (λ (n : ℕ). drop n script) (sym e))
 
 -- behind a fault nothing is read
 fault_stays : (line : ℕ) (turn : Turn) (lines : List Text) (e : ScriptRefused) → FaultsTurn line turn e → FaultsReached (read script_grammar (turned [] line turn) lines).reached e

@@ -1,5 +1,5 @@
 -- The front of a command with a block, as the code holds it.
-use Rattle.std.specs.Prelude.{ℕ, ◌≤◌}
+use Rattle.std.specs.Prelude.{◌≤◌}
 use Rattle.script_model.specs.Saying as model
 use Rattle.script_text.specs.declared.front.Front.{Front}
 use Rattle.script_text.specs.declared.front.Front.TheVariants.{Load, Search}

@@ -1,5 +1,5 @@
 -- What a command asks for, as the code holds it.
-use Rattle.std.specs.Prelude.{ℕ, ◌≤◌}
+use Rattle.std.specs.Prelude.{◌≤◌}
 use Rattle.script_model.specs.Commands as model
 use Rattle.script_text.specs.declared.command.Task.{Task}
 use Rattle.script_text.specs.declared.command.Task.TheVariants.{Load, Search}

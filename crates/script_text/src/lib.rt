@@ -6,14 +6,11 @@ mod command;
 mod front;
 mod line;
 mod reader;
-
 mod refused;
 mod script;
-
 
 pub use body::Body;
 pub use command::{Batch, Command, Task};
 pub use refused::ScriptRefused;
 pub use script::read_script;
-
 pub use script_model::Reason;

@@ -5,16 +5,14 @@ ghost use Rattle.script_model.specs.Numbers.{without_return};
 ghost use Rattle.script_model.specs.Reading.{is_end, undotted};
 ghost use Rattle.script_text.specs.Scripts.{with_line};
 
-// The line that begins at this place, without the line feed that ends it, and `None` where none does.
-pub(crate) fn next_line(script: &[u8], start: usize) -> Option<&[u8]>
-    requires { start ≤ length script.now }
-    ensures line { IfSome result (λ line. lines_of (drop start script.now) ≡ with_line line.now (lines_of (drop (start + (length line.now + 1)) script.now))) }
-    ensures within { IfSome result (λ line. start + (length line.now + 1) ≤ length script.now) }
-    ensures last { IfNone result (lines_of (drop start script.now) ≡ lines_with [] (drop start script.now)) }
+// The first line of the text, without the line feed that ends it, and `None` where no line feed is left.
+pub(crate) fn first_line(text: &[u8]) -> Option<&[u8]>
+    ensures line { IfSome result (λ line. lines_of text.now ≡ with_line line.now (lines_of (drop (length line.now + 1) text.now))) }
+    ensures within { IfSome result (λ line. length line.now + 1 ≤ length text.now) }
+    ensures last { IfNone result (lines_of text.now ≡ lines_with [] text.now) }
 {
-    let rest = &script[start..];
-    let len = first_feed(rest)?;
-    Some(&rest[..len])
+    let end = first_feed(text)?;
+    Some(&text[..end])
 }
 
 // Where the first line feed is.

@@ -1,5 +1,5 @@
 //! How far a script was read, and what each line does.
-ghost use Rattle.std.specs.Prelude.{◌≡◌, ◌+◌, ◌++◌, ◌∷◌, ◌<◌, ◌≤◌, ◌⊎◌, IfErr, IfOk, IfSome, IsSome, None, OnOk, Some, [], length};
+ghost use Rattle.std.specs.Prelude.{◌≡◌, ◌+◌, ◌++◌, ◌∷◌, ◌<◌, ◌≤◌, ◌⊎◌, IfErr, IfOk, IfSome, IsSome, None, OnOk, Some, [], drop, length};
 ghost use Rattle.script_model.specs.Numbers.{without_return};
 ghost use Rattle.script_model.specs.Reading.{Fails, Goes, block_ended, body_after, does, opened, turn_of};
 ghost use Rattle.script_model.specs.Saying.{closed, said};
@@ -131,11 +131,12 @@ impl Reader {
         self.lines
     }
 
-    // The bytes of the lines that were read.
-    pub(crate) fn used(&self) -> usize
-        ensures { result ≡ self.now.used }
+    // What stands in the script behind the lines that were read.
+    pub(crate) fn rest<'a>(&self, script: &'a [u8]) -> &'a [u8]
+        requires { self.now.used ≤ length script.now }
+        ensures { result.now ≡ drop self.now.used script.now }
     {
-        self.used
+        &script[self.used..]
     }
 
     // Reads a line that a line feed ended, without its line feed.
@@ -167,7 +168,9 @@ impl Reader {
     {
         self.last_turn(rest)?;
         let Reader {
-            commands, block, ..
+            commands,
+            block,
+            ..
         } = self;
         match block {
             None => Ok(Batch::new(commands)),

@@ -3,7 +3,6 @@ ghost use Rattle.script_text.specs.declared.refused.ScriptRefused.TheVariants as
 
 use no_memory::NoMemory;
 use script_model::Reason;
-use std::alloc::{AllocError, AllocFailed};
 
 /// Why a script gives no commands.
 #[derive(Clone, Copy, Debug, PartialEq, Eq)]

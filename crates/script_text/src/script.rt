@@ -8,7 +8,7 @@ ghost use Rattle.script_text.specs.Refusals.{Faults, FaultsReached};
 ghost use Rattle.script_text.specs.Scripts.{lines_read};
 
 use crate::command::Batch;
-use crate::line::next_line;
+use crate::line::first_line;
 use crate::reader::Reader;
 use crate::refused::ScriptRefused;
 use script_model::Reason;
@@ -39,7 +39,7 @@ pub fn read_script(alloc: Global, bytes: &[u8]) -> Result<Batch, ScriptRefused>
             reason: Reason::InputTooLong,
         });
     }
-    let rest = &script[reader.used()..];
+    let rest = reader.rest(script);
     reader.finish(rest)
 }
 
@@ -63,7 +63,7 @@ fn read_lines(alloc: Global, script: &[u8]) -> Result<Reader, ScriptRefused>
     ensures refused { IfErr result (λ e. (e ≡ ScriptRefused.NoMemory) ⊎ FaultsReached (lines_read script.now).reached e) }
 {
     let mut reader = Reader::new(alloc);
-    while let Some(line) = next_line(script, reader.used()) {
+    while let Some(line) = first_line(reader.rest(script)) {
         reader.turn(line)?;
     }
     Ok(reader)

@@ -1,11 +1,9 @@
-use Rattle.std.proofs.Common.{◌≡◌, ◌≤◌, ◌+◌, ◌∙◌, [], List, ap, arith, drop, length, inl, inr, refl, subst, sym, ℕ, ◌⊎◌}
+use Rattle.std.proofs.Common.{◌≡◌, ◌+◌, ◌∙◌, [], ap, arith, drop, length, inl, inr, refl, subst, sym}
+use Rattle.std.proofs.lemmas.List.{length-drop}
 use Rattle.std.proofs.lemmas.Result.{err_from_is_err_and}
 use Rattle.lake_model.specs.Texts.{Lines, Text, lines_of}
 use Rattle.script_model.specs.Reading.{LinesRead}
-use Rattle.script_text.specs.declared.refused.ScriptRefused.{ScriptRefused}
-use Rattle.script_text.specs.declared.refused.ScriptRefused.TheVariants.{NoMemory}
 use Rattle.script_text.specs.Refusals.{FaultsReached}
-use Rattle.script_text.specs.Scripts.{lines_read, with_line}
 use Rattle.script_text.proofs.ReadLemmas.{lines_between, read_ends, read_goes, read_stops}
 use Rattle.script_text.proofs.script.read_lines.Goals as goal
 
@@ -15,9 +13,9 @@ loop-line-preserved c =
     let line = c.in-Some.line.now in
     let old = c.loop-line.reader in
     let new = c.turn.new.self in
-    let cut = lines_between script line c.used.result old.used new.used c.used.ensures c.in_ok-turn.ensures.used c.in-Some.ensures.line in
+    let cut = lines_between script line c.rest.result.now old.used new.used c.rest.ensures c.in_ok-turn.ensures.used c.in-Some.ensures.line in
     record {
-      used = omega (arith, c.in-Some.ensures.within, c.in_ok-turn.ensures.used, c.used.ensures);
+      used = omega (arith, c.in-Some.ensures.within, c.in_ok-turn.ensures.used, ap length c.rest.ensures, length-drop old.used script);
       lines = c.loop-line.invariant.lines ∙ read_goes old new line (lines_of (drop old.used script)) (lines_of (drop new.used script)) cut c.in_ok-turn.ensures.goes;
       rest = c.loop-line.invariant.rest ∙ ap (λ (lines : Lines). lines.rest) cut;
     }
@@ -27,14 +25,15 @@ returns-in_err-turn-clause-refused c =
     let script = c.args.script.now in
     let line = c.in-Some.line.now in
     let old = c.loop-line.reader in
+    let e = c.in_err-turn.field-0.0 in
+    let next = old.used + (length line + 1) in
+    let cut = lines_between script line c.rest.result.now old.used next c.rest.ensures refl c.in-Some.ensures.line in
+    let P : LinesRead → Type 0 = λ made. FaultsReached made.reached e in
     let p = err_from_is_err_and c.from_residual.result c.from_residual.ensures.1 in
-    let cut = lines_between script line c.used.result old.used (old.used + (length line + 1)) c.used.ensures (refl) c.in-Some.ensures.line in
-    let P : LinesRead → Type 0 = λ made. FaultsReached made.reached c.in_err-turn.field-0.0 in
     rw (p.1, p.2) (elim c.in_err-turn.ensures.refused [
       | inl h ↦ inl h
       | inr h ↦
-          inr (subst P (sym c.loop-line.invariant.lines)
-          (read_stops old line (lines_of (drop old.used script)) (lines_of (drop (old.used + (length line + 1)) script)) c.in_err-turn.field-0.0 cut h))
+          inr (subst P (sym c.loop-line.invariant.lines) (read_stops old line (lines_of (drop old.used script)) (lines_of (drop next script)) e cut h))
     ])
 
 pub returns-clause-lines : goal.returns-clause-lines
@@ -42,5 +41,5 @@ returns-clause-lines c =
     let script = c.args.script.now in
     let old = c.loop-line.reader in
     let none : (lines_of (drop old.used script)).ended ≡ [] =
-    ap (λ (n : ℕ). (lines_of (drop n script)).ended) (sym c.used.ensures) ∙ ap (λ (lines : Lines). lines.ended) c.in_default.ensures.last in
+    ap (λ (text : Text). (lines_of text).ended) (sym c.rest.ensures) ∙ ap (λ (lines : Lines). lines.ended) c.in_default.ensures.last in
     c.loop-line.invariant.lines ∙ read_ends old (lines_of (drop old.used script)) none

@@ -1,4 +1,4 @@
-use Rattle.std.proofs.Common.{◌≡◌, ◌≤◌, arith, length, sym}
+use Rattle.std.proofs.Common.{◌≤◌, arith, length, sym}
 use Rattle.std.proofs.lemmas.List.{length-take-le, take_all}
 use Rattle.script_text.proofs.script.within_limit.Goals as goal
 
