@@ -1,7 +1,7 @@
 //! How far a script was read, and what each line does.
-ghost use Rattle.std.specs.Prelude.{◌≡◌, ◌+◌, ◌++◌, ◌∷◌, ◌<◌, ◌≤◌, ◌⊎◌, IfErr, IfOk, IfSome, IsSome, None, OnOk, Some, [], drop, length};
+ghost use Rattle.std.specs.Prelude.{◌≡◌, ◌+◌, ◌++◌, ◌∷◌, ◌≤◌, ◌⊎◌, IfErr, IfOk, IfSome, IsSome, None, OnOk, Some, [], drop, length};
 ghost use Rattle.script_model.specs.Numbers.{without_return};
-ghost use Rattle.script_model.specs.Reading.{Fails, Goes, block_ended, body_after, does, opened, turn_of};
+ghost use Rattle.script_model.specs.Reading.{Goes, block_ended, body_after, does, turn_of};
 ghost use Rattle.script_model.specs.Saying.{closed, said};
 ghost use Rattle.script_model.specs.Script.{Whole, commands_with, end_turned, last_batch, last_turn, script_grammar, start};
 ghost use Rattle.script_text.specs.Fronts.{IsFrontInRange, front_of};
@@ -19,11 +19,13 @@ use script_model::Reason;
 use std::alloc::Global;
 use std::marker::Model;
 
-/// A block whose end is still to come: the line of its command, what that line said, and the body so far.
+/// A block whose end is still to come. A contract sees the line of its command, what that line said, and the body so far.
 #[derive(Drop)]
 pub(crate) struct OpenBlock {
+    /// The line of the command, counted from 1.
     line: u64,
     front: Front,
+    /// The lines of the block so far, each with its line feed.
     body: Vec<u8>,
 }
 
@@ -87,13 +89,17 @@ impl OpenBlock {
     }
 }
 
-/// How far a script was read: its lines and their bytes, the commands, and the block whose end is still to come.
+/// How far a script was read. A contract sees the reading of the definitions. After a refusal nothing is known of it.
 #[derive(Drop)]
 pub(crate) struct Reader {
     alloc: Global,
+    /// How many lines were read.
     lines: u64,
+    /// How many bytes these lines and their line feeds have, so where in the script the next line begins.
     used: usize,
+    /// The commands whose blocks have ended.
     commands: Vec<Command>,
+    /// The block whose end is still to come.
     block: Option<OpenBlock>,
 }
 
@@ -140,7 +146,7 @@ impl Reader {
     }
 
     // Reads a line that a line feed ended, without its line feed.
-    pub(crate) fn turn(&mut self, line: &[u8]) -> Result<(), ScriptRefused>
+    pub(crate) fn read_line(&mut self, line: &[u8]) -> Result<(), ScriptRefused>
         requires { self.old.used + (length line.now + 1) ≤ 1048576 }
         ensures goes { OnOk result (turn_of script_grammar line.now self.old ≡ Goes self.new) }
         ensures used { OnOk result (self.new.used ≡ self.old.used + (length line.now + 1)) }
@@ -149,24 +155,24 @@ impl Reader {
         self.lines += 1;
         self.used += line.len() + 1;
         let Some(block) = &mut self.block else {
-            return self.open(line);
+            return self.open_block(line);
         };
         if is_end(line) {
-            self.close()?;
-            return Ok(());
+            self.close_block()?;
+        } else {
+            block.push_line(line)?;
         }
-        block.push_line(line)?;
         Ok(())
     }
 
-    // Ends the script behind its last line feed.
+    // Reads what stands behind the last line feed, and gives the commands of the whole script.
     pub(crate) fn finish(mut self, rest: &[u8]) -> Result<Batch, ScriptRefused>
         requires { self.used + length rest.now ≤ 1048576 }
         ensures commands { IfOk result (λ batch. end_turned [] (self.lines + 1) (last_turn script_grammar self.block rest.now self) ≡ commands_with (last_batch batch) Whole []) }
         ensures lanes { IfOk result IsInLaneOne }
         ensures refused { IfErr result (λ e. (e ≡ ScriptRefused.NoMemory) ⊎ Faults (end_turned [] (self.lines + 1) (last_turn script_grammar self.block rest.now self)).end e) }
     {
-        self.last_turn(rest)?;
+        self.read_last_line(rest)?;
         let Reader {
             commands,
             block,
@@ -182,7 +188,7 @@ impl Reader {
     }
 
     // Reads what stands behind the last line feed, which is a line where it has a byte.
-    fn last_turn(&mut self, line: &[u8]) -> Result<(), ScriptRefused>
+    fn read_last_line(&mut self, line: &[u8]) -> Result<(), ScriptRefused>
         requires { self.old.used + length line.now ≤ 1048576 }
         ensures goes { OnOk result (last_turn script_grammar self.old.block line.now self.old ≡ Goes self.new) }
         ensures refused { IfErr result (λ e. (e ≡ ScriptRefused.NoMemory) ⊎ FaultsTurn (self.old.lines + 1) (last_turn script_grammar self.old.block line.now self.old) e) }
@@ -193,16 +199,16 @@ impl Reader {
         if self.block.is_none() {
             self.lines += 1;
             self.used += line.len();
-            return self.open(line);
+            return self.open_block(line);
         }
         if is_end(line) {
-            self.close()?;
+            self.close_block()?;
         }
         Ok(())
     }
 
     // Reads a line outside a block, which opens one.
-    fn open(&mut self, line: &[u8]) -> Result<(), ScriptRefused>
+    fn open_block(&mut self, line: &[u8]) -> Result<(), ScriptRefused>
         requires { self.old.block ≡ None }
         ensures goes { OnOk result (does script_grammar (said (without_return line.now)) self.old ≡ Goes self.new) }
         ensures refused { IfErr result (FaultsTurn self.old.lines (does script_grammar (said (without_return line.now)) self.old)) }
@@ -218,7 +224,7 @@ impl Reader {
     }
 
     // Ends the block, and its command comes.
-    fn close(&mut self) -> Result<(), NoMemory>
+    fn close_block(&mut self) -> Result<(), NoMemory>
         requires { IsSome self.old.block }
         ensures { OnOk result (IfSome self.old.block (λ block. self.new ≡ block_ended block self.old)) }
     {

@@ -1,6 +1,4 @@
 //! Why a script gives no commands.
-ghost use Rattle.script_text.specs.declared.refused.ScriptRefused.TheVariants as refused;
-
 use no_memory::NoMemory;
 use script_model::Reason;
 
@@ -15,6 +13,7 @@ pub enum ScriptRefused {
 
 impl From<NoMemory> for ScriptRefused {
     ghost use Rattle.std.specs.Prelude.{◌≡◌};
+    ghost use Rattle.script_text.specs.declared.refused.ScriptRefused.TheVariants as refused;
 
     ghost from_gives = { λ _ e. e ≡ refused.NoMemory };
 

@@ -43,7 +43,7 @@ pub fn read_script(alloc: Global, bytes: &[u8]) -> Result<Batch, ScriptRefused>
     reader.finish(rest)
 }
 
-// The bytes that a script may have.
+// The bytes within the limit.
 fn within_limit(bytes: &[u8]) -> &[u8]
     ensures { result.now ≡ take 1048576 bytes.now }
 {
@@ -64,7 +64,7 @@ fn read_lines(alloc: Global, script: &[u8]) -> Result<Reader, ScriptRefused>
 {
     let mut reader = Reader::new(alloc);
     while let Some(line) = first_line(reader.rest(script)) {
-        reader.turn(line)?;
+        reader.read_line(line)?;
     }
     Ok(reader)
 }
