@@ -14,3 +14,6 @@ pub use command::{Batch, Command, Task};
 pub use refused::ScriptRefused;
 pub use script::read_script;
 pub use script_model::Reason;
+
+#[cfg(test)]
+mod tests;
