@@ -47,11 +47,10 @@ pub fn read_script(alloc: Global, bytes: &[u8]) -> Result<Batch, ScriptRefused>
 fn within_limit(bytes: &[u8]) -> &[u8]
     ensures { result.now ≡ take 1048576 bytes.now }
 {
-    if bytes.len() > MOST_BYTES {
-        &bytes[..MOST_BYTES]
-    } else {
-        bytes
+    if bytes.len() <= MOST_BYTES {
+        return bytes;
     }
+    &bytes[..MOST_BYTES]
 }
 
 // Reads the lines of a script that a line feed ended.

@@ -7,5 +7,5 @@ slice_bounds-result-end c =
     let long : 1048576 ≤ length c.args.bytes.now = omega arith in
     sym (length-take-le 1048576 c.args.bytes.now long)
 
-pub returns-else-bytes-gt-MOST_BYTES : goal.returns-else-bytes-gt-MOST_BYTES
-returns-else-bytes-gt-MOST_BYTES c = sym (take_all 1048576 c.args.bytes.now c.if-bytes-gt-MOST_BYTES.false)
+pub returns-then-bytes-le-MOST_BYTES : goal.returns-then-bytes-le-MOST_BYTES
+returns-then-bytes-le-MOST_BYTES c = sym (take_all 1048576 c.args.bytes.now c.if-bytes-le-MOST_BYTES.true)
