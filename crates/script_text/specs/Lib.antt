@@ -1,0 +1,5 @@
+pub mod Fronts
+pub mod Readings
+pub mod Scripts
+pub mod Tasks
+pub mod Refusals

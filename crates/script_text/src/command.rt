@@ -1,0 +1,94 @@
+//! Commands, and the batch of them that a script asks for.
+ghost use Rattle.std.specs.Prelude.{◌≡◌, ◌≤◌};
+ghost use Rattle.script_text.specs.Tasks.{IsTaskInRange, task_of};
+
+use crate::body::Body;
+use column_set::Name;
+use std::marker::Model;
+
+/// What a command asks for.
+#[derive(Drop)]
+pub enum Task {
+    /// The table of the name is loaded from the body, which is CSV.
+    Load { name: Name, body: Body },
+    /// The `k` columns with the greatest overlap with the lines of the body are searched for, `k` from 1 to 10,000.
+    Search { k: u32, body: Body },
+}
+
+/// A command of a script. A contract sees its number, its lane and its task. Commands are numbered from 1, in the order of the
+/// script, and lanes from 1. The `k` of a search is 1 to 10,000.
+#[derive(Drop)]
+pub struct Command {
+    pub number: u64,
+    pub lane: u32,
+    pub task: Task,
+}
+
+impl Model for Command {
+    ghost use Rattle.std.specs.Prelude.{◌≤◌};
+    ghost use Rattle.script_model.specs.Commands.{Command as CommandOf, command_with};
+
+    ghost Value = { CommandOf };
+
+    ghost use Rattle.script_text.specs.Tasks.{IsTaskInRange, task_of};
+
+    ghost view = { λ c. command_with c.number c.lane (task_of c.task) };
+
+    ghost invariant = { λ c. (1 ≤ c.lane) × IsTaskInRange c.task };
+}
+
+impl Command {
+    /// The number of the command, counted from 1 in the order of the script.
+    pub fn number(&self) -> u64
+        ensures { result ≡ self.now.number }
+    {
+        self.number
+    }
+
+    /// The lane of the command, counted from 1.
+    pub fn lane(&self) -> u32
+        ensures value { result ≡ self.now.lane }
+        ensures low { 1 ≤ result }
+    {
+        self.lane
+    }
+
+    /// What the command asks for.
+    pub fn task(&self) -> &Task
+        ensures value { task_of result.now ≡ self.now.task }
+        ensures in_range { IsTaskInRange result.now }
+    {
+        &self.task
+    }
+}
+
+/// The commands of a batch, in the order of the script. A contract sees their list.
+#[derive(Drop)]
+pub struct Batch {
+    commands: Vec<Command>,
+}
+
+impl Model for Batch {
+    ghost use Rattle.std.specs.Prelude.{List};
+    ghost use Rattle.script_model.specs.Commands.{Command as CommandOf};
+
+    ghost Value = { List CommandOf };
+
+    ghost view = { λ b. b.commands.items };
+}
+
+impl Batch {
+    // These commands.
+    pub(crate) fn new(commands: Vec<Command>) -> Batch
+        ensures { result ≡ commands.items }
+    {
+        Batch { commands }
+    }
+
+    /// The commands, in the order of the script.
+    pub fn commands(&self) -> &[Command]
+        ensures { result.now ≡ self.now }
+    {
+        &self.commands
+    }
+}
