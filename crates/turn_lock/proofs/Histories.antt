@@ -1,7 +1,8 @@
 -- Laws of histories: lists of entries, and whose they are.
-use Rattle.std.proofs.Common.{◌≡◌, ℕ, ◌<◌, ◌≤◌, ◌⊎◌, Bool, true, false, List, [], ◌∷◌, ◌++◌, length, cond, ltb, refl, ap, sym, ◌∙◌, subst, arith, inl, inr, ⊎_elim, append_assoc, length-append}
-use Rattle.std.specs.Prelude.{MatchBool}
+use Rattle.std.proofs.Common.{◌≡◌, ℕ, ◌<◌, ◌≤◌, ◌⊎◌, Bool, true, false, List, [], ◌∷◌, ◌++◌, length, cond, ltb, refl, ap, sym, ◌∙◌, subst, arith, inl, inr, ⊎_elim, append_assoc, length-append, ne_eqb}
+use Rattle.std.specs.Prelude.{MatchBool, ◌==◌, filter}
 use Rattle.std.proofs.lemmas.List.{append-nil}
+use Rattle.std.proofs.lemmas.List.Elements.{filter-append}
 use Rattle.std.proofs.lemmas.Bool.Decides.{nat_tests}
 use mathlib.Core.List.{IsPrefix}
 use Rattle.turn_lock.specs.History.{Has, IsOfOthers, IsOfGiven, Grows, Follows, longer}
@@ -150,6 +151,17 @@ module _ {E : Type 0} (caller_of : E → ℕ) where
 
     pub longer_grows : IsLonger callers some more xs ys whole (longer xs ys)
     longer_grows = chosen (ltb (length xs) (length ys)) refl
+
+  -- the entries of each of the callers are those that it had
+  filter_others : (callers : List ℕ) (xs : List E) (number : ℕ) → Has callers number → IsOfOthers caller_of callers xs → filter (λ entry. caller_of entry == number) xs ≡ []
+  filter_others callers [] number h o = refl
+  filter_others callers (x ∷ xs) number h o =
+      rw (ne_eqb (caller_of x) number (λ e. o.0 (subst (Has callers) (sym e) h))) (filter_others callers xs number h o.1)
+
+  pub filter_grown : {callers : List ℕ} {xs ys : List E} (number : ℕ) → Has callers number → Grows caller_of callers xs ys → filter (λ entry. caller_of entry == number) ys ≡ filter (λ entry. caller_of entry == number) xs
+  filter_grown {callers} {xs} {ys} number h g =
+      let own : E → Bool = λ entry. caller_of entry == number in
+      ap (filter own) (sym g.begins) ∙ (filter-append own xs g.rest ∙ (ap (λ l. filter own xs ++ l) (filter_others callers g.rest number h g.others) ∙ append-nil (filter own xs)))
 
   -- ---- one entry more, or none
 

@@ -9,7 +9,10 @@ pub mod laws;
 mod lock;
 mod pass;
 mod plays;
+mod roll;
 mod seats;
+#[cfg(test)]
+mod tests;
 mod turn;
 mod view;
 
