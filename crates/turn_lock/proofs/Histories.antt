@@ -1,5 +1,5 @@
 -- Laws of histories: lists of entries, and whose they are.
-use Rattle.std.proofs.Common.{◌≡◌, ℕ, ◌<◌, ◌≤◌, ◌⊎◌, Bool, true, false, List, [], ◌∷◌, ◌++◌, length, cond, ltb, refl, ap, sym, ◌∙◌, subst, arith, inl, inr, ⊎_elim, append_assoc, length-append, ne_eqb}
+use Rattle.std.proofs.Common.{◌≡◌, ℕ, ◌≤◌, ◌⊎◌, Bool, true, false, List, [], ◌∷◌, ◌++◌, length, cond, ltb, refl, ap, sym, ◌∙◌, subst, arith, inl, inr, ⊎_elim, append_assoc, length-append, ne_eqb}
 use Rattle.std.specs.Prelude.{MatchBool, ◌==◌, filter}
 use Rattle.std.proofs.lemmas.List.{append-nil}
 use Rattle.std.proofs.lemmas.List.Elements.{filter-append}

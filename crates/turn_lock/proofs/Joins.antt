@@ -1,15 +1,14 @@
 -- The rule is kept where one seat takes in another, which is spent.
-use Rattle.std.proofs.Common.{◌≡◌, ◌≢◌, ◌⊎◌, ℕ, ◌<◌, ◌≤◌, eqb, Bool, true, false, true≢false, List, [], ◌∷◌, ◌++◌, length, set, Some, None, refl, sym, ap, ◌∙◌, subst, inl, inr, ⊎_elim, arith}
-use Rattle.std.specs.declared.option.Option.{Option}
+use Rattle.std.proofs.Common.{◌≡◌, ◌≢◌, ◌⊎◌, ℕ, eqb, false, true≢false, List, ◌++◌, length, set, None, refl, sym, ap, ◌∙◌, inl, inr, ⊎_elim, arith}
 use mathlib.Core.Option as maybe
 use mathlib.Core.List.{IsPrefix}
 use lib.ListN.{get_elem?}
 use prog.Atomic.{either}
-use Rattle.atomic_table.specs.Table.{State, Joins}
+use Rattle.atomic_table.specs.Table.{Joins}
 use Rattle.atomic_table.proofs.Lists.{at_set, exchanged}
 use Rattle.turn_lock.specs.declared.view.View.{View}
-use Rattle.turn_lock.specs.History.{Has, Grows}
-use Rattle.turn_lock.specs.Rule.{Account, own_number, numbers_of, spent_view, joined_view, Fits, HistoryRule, SeesAll, IsHolder, IsOpener, IsOwner}
+use Rattle.turn_lock.specs.History.{Has}
+use Rattle.turn_lock.specs.Rule.{Account, own_number, numbers_of, spent_view, joined_view, Fits}
 use Rattle.turn_lock.proofs.Histories.{has_append, has_left, has_right, others_of_none, grows_prefix, IsLonger, longer_grows, prefix_whole, prefix_length}
 use Rattle.turn_lock.proofs.ViewLists.{some_joined, each_set}
 use Rattle.turn_lock.proofs.Looks.{Rule, not_held, not_given}

@@ -1,12 +1,12 @@
 -- The rule holds at the opening, and a look keeps it.
-use Rattle.std.proofs.Common.{◌≡◌, ◌≢◌, ℕ, zero, suc, ◌+◌, ◌*◌, ◌<◌, Bool, true, false, true≢false, List, [], ◌∷◌, ◌++◌, length, set, get_or, Some, None, refl, sym, ap, ◌∙◌, subst, inl, inr, ⊎_elim, arith}
+use Rattle.std.proofs.Common.{◌≡◌, ℕ, zero, suc, ◌+◌, ◌*◌, true, false, true≢false, List, [], ◌∷◌, length, set, get_or, Some, None, refl, sym, ap, ◌∙◌, subst, inl, ⊎_elim, arith}
 use Rattle.std.specs.declared.option.Option.{Option}
 use mathlib.Core.Option as maybe
 use lib.ListN.{get_elem?}
-use Rattle.atomic_table.specs.Table.{State, Me, Step, step, keeps, opening, stepped, Allows}
+use Rattle.atomic_table.specs.Table.{State, Me, step, keeps, opening, stepped, Allows}
 use Rattle.turn_lock.specs.declared.view.View.{View}
-use Rattle.turn_lock.specs.History.{Has, Grows, IsOfGiven}
-use Rattle.turn_lock.specs.Rule.{Account, held_bit, numbers_of, opening_view, settled_view, EarlierGrow, IsTold, Fits, HasHome, HistoryRule, SeesAll, IsHolder, IsOpener, IsOwner, Looks, Peeks}
+use Rattle.turn_lock.specs.History.{IsOfGiven}
+use Rattle.turn_lock.specs.Rule.{Account, held_bit, opening_view, settled_view, IsTold, Fits, HistoryRule, Peeks}
 use Rattle.turn_lock.proofs.Histories.{grows_self, given_front}
 use Rattle.turn_lock.proofs.ViewLists.{some_set, each_set}
 

@@ -1,16 +1,13 @@
 -- The rule is kept where a view is cut in two: a note is cut off, or a new pass with its number.
-use Rattle.std.proofs.Common.{◌≡◌, ◌≢◌, ℕ, ◌+◌, ◌<◌, eqb, eq-eqb, ne_eqb, Bool, true, false, List, [], ◌∷◌, ◌++◌, length, set, Some, None, refl, sym, ap, ◌∙◌, subst, inl, inr, ⊎_elim, arith}
+use Rattle.std.proofs.Common.{◌≡◌, ◌≢◌, ℕ, ◌+◌, ◌<◌, eqb, eq-eqb, ne_eqb, false, List, [], ◌++◌, length, set, Some, None, refl, sym, ap, ◌∙◌, subst, inl, ⊎_elim, arith}
 use Rattle.std.specs.Prelude.{cond}
-use Rattle.std.specs.declared.option.Option.{Option}
-use mathlib.Core.Option as maybe
 use mathlib.Core.Logic.{dite}
 use native.Mathlib.Decide.{ℕ_discrete}
-use lib.ListN.{get_elem?}
-use Rattle.atomic_table.specs.Table.{State, Splits}
+use Rattle.atomic_table.specs.Table.{Splits}
 use Rattle.atomic_table.proofs.Lists.{at_last, set_here}
 use Rattle.turn_lock.specs.declared.view.View.{View}
-use Rattle.turn_lock.specs.History.{Has, Grows, IsOfGiven}
-use Rattle.turn_lock.specs.Rule.{Account, next_number, own_number, view_of, numbers_of, note_view, giving_view, numbered_view, Fits, HistoryRule, SeesAll, IsHolder, IsOpener, IsOwner}
+use Rattle.turn_lock.specs.History.{Has, IsOfGiven}
+use Rattle.turn_lock.specs.Rule.{Account, next_number, own_number, view_of, note_view, giving_view, numbered_view, Fits}
 use Rattle.turn_lock.proofs.Histories.{grows_of_none, given_more, given_back, others_of_new}
 use Rattle.turn_lock.proofs.ViewLists.{at_inside, some_set, some_more, each_set, each_more}
 use Rattle.turn_lock.proofs.Looks.{Rule, not_held, not_given, same_number}

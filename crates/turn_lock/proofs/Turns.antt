@@ -1,18 +1,18 @@
 -- The rule is kept where the lock is won, where the holder's entry is added to the history, and where the lock is freed.
-use Rattle.std.proofs.Common.{◌≡◌, ◌≢◌, ◌⊎◌, ℕ, ◌+◌, ◌*◌, ◌<◌, eqb, Bool, true, false, true≢false, List, [], ◌∷◌, ◌++◌, length, set, get_or, Some, None, refl, sym, ap, ◌∙◌, subst, inl, inr, ⊎_elim, arith, length-append}
+use Rattle.std.proofs.Common.{◌≡◌, ◌≢◌, ℕ, ◌+◌, ◌*◌, eqb, Bool, true, false, true≢false, List, [], ◌∷◌, ◌++◌, length, set, get_or, Some, None, refl, sym, ap, ◌∙◌, subst, inl, ⊎_elim, arith, length-append}
 use Rattle.std.specs.declared.option.Option.{Option}
 use mathlib.Core.Option as maybe
 use lib.ListN.{get_elem?}
 use prog.Atomic.{either}
-use Rattle.atomic_table.specs.Table.{State, Me, Step, step, keeps, Act, takes, gives, put_back, Valid, carried_after, stepped, Allows}
+use Rattle.atomic_table.specs.Table.{State, Step, step, keeps, Act, takes, gives, put_back, Valid, carried_after, stepped, Allows}
 use Rattle.atomic_table.proofs.Lists.{set_here, exchanged}
 use Rattle.turn_lock.specs.declared.view.View.{View}
 use Rattle.turn_lock.specs.History.{Has, Grows, IsOfGiven}
-use Rattle.turn_lock.specs.Rule.{Account, held_bit, own_number, view_of, numbers_of, settled_view, holding_view, free_view, Fits, HasHome, HistoryRule, SeesAll, IsHolder, IsOpener, IsOwner, Seated, Looks, Takes, Commits, Releases}
-use Rattle.turn_lock.specs.Passes.{FollowsOwn, Offers}
+use Rattle.turn_lock.specs.Rule.{Account, held_bit, own_number, view_of, numbers_of, settled_view, holding_view, free_view, Fits, HasHome, Seated, Looks, Takes, Commits, Releases}
+use Rattle.turn_lock.specs.Passes.{Offers}
 use Rattle.turn_lock.proofs.Histories.{grows_self, grows_by_entry, given_append}
 use Rattle.turn_lock.proofs.ViewLists.{at_inside, some_set, each_set}
-use Rattle.turn_lock.proofs.Looks.{Rule, not_held, same_number, unmoved}
+use Rattle.turn_lock.proofs.Looks.{Rule, not_held, unmoved}
 
 -- a word of a lock that is held is odd
 even_word : (count half : ℕ) (held : Bool) → 2 * count + held_bit held ≡ 2 * half → held ≡ false

@@ -49,11 +49,7 @@ impl<V: Kept> HistoryLock<V> {
     /// seen nothing, holds no turn, and has the numbers from 1 on to give.
     ///
     /// It takes memory for one word and one slot, and is refused only for want of it. The value is dropped then.
-    pub fn new(
-        alloc: Global,
-        value: V,
-        callers: u32,
-    ) -> Result<(HistoryLock<V>, Pass<V>), NoMemory>
+    pub fn new(alloc: Global, value: V, callers: u32) -> Result<(HistoryLock<V>, Pass<V>), NoMemory>
         requires callers { 1 ≤ callers }
         requires empty { V.list value ≡ [] }
         ensures { IfOk result (λ made. made.1 ≡ known made.0 0 [] [] false (Some 1) (callers - 1)) }

@@ -70,11 +70,7 @@ fn signed_by_two<R: Threads + Wait + Sync>(rt: &R, alloc: Global) -> Result<Part
 }
 
 // How many signatures the pass's next turn shows: in all, of caller 1 and of caller 2.
-fn counts<R: Wait>(
-    rt: &R,
-    lock: &HistoryLock<Roll>,
-    pass: &mut Pass<Roll>,
-) -> (usize, usize, usize)
+fn counts<R: Wait>(rt: &R, lock: &HistoryLock<Roll>, pass: &mut Pass<Roll>) -> (usize, usize, usize)
     requires { (pass.old.lock ≡ lock.now) × (pass.old.holds ≡ false) }
     ensures { pass.new ≡ after_seeing pass.old pass.new.seen false }
 {
