@@ -1,13 +1,16 @@
 //! The system's own streams and files. They tell no content, and count each error: the trusted edge, of a few lines each.
-ghost use Rattle.std.specs.Prelude.{None, ◌≡◌, ◌<◌, ◌≤◌, ℕ, is_ok, IfOk, IfErr, length, if◌then◌else◌};
+ghost use Rattle.std.specs.Prelude.{None, ◌≡◌, ◌≢◌, ◌↔◌, ◌<◌, ◌≤◌, ℕ, is_ok, IfOk, IfErr, IfSome, IsErrOf, length, vec_len, if◌then◌else◌};
 ghost use Rattle.std.specs.Io.{ReadsAtMost, WritesAtMost};
 ghost use Rattle.std.specs.Io.KnownBytes.{ReadConsumes, WriteAppends};
 ghost use Rattle.lake_io.specs.Causes.{HasCause, one_more};
 ghost use Rattle.lake_io.specs.Files.{HasFile};
 ghost use Rattle.lake_io.specs.Refusals.{Refuses, is_failed};
 
+#[cfg(test)]
+mod tests;
+
 use super::{Failed, Shelf, ShelfRefused, Sink, Source};
-use std::alloc::Global;
+use std::alloc::{AllocError, Global};
 use std::fs::File;
 use std::io::{ErrorKind, Read, Stdin, Stdout, Write};
 use std::marker::Model;
@@ -139,18 +142,32 @@ impl<'a, R: Files> FileShelf<'a, R> {
     }
 }
 
-/// The bytes of a file from where it stands to its end. `TooLong` where there are more than `most`, and `Failed` at an error
-/// of the system.
-fn read_file<F: Read>(alloc: Global, file: &mut F, most: usize) -> Result<Vec<u8>, ShelfRefused>
-    ensures { IfOk result (λ bytes. length bytes.items ≤ most) }
+/// Room for a piece of a file. It is on the heap, and its size is no fact that a proof needs.
+fn piece_room(alloc: Global) -> Result<Vec<u8>, AllocError>
+    ensures { IfOk result (λ room. 0 < vec_len room) }
 {
-    let Ok(mut room) = vec![in alloc; 0u8; PIECE] else {
-        return Err(ShelfRefused::NoMemory);
-    };
+    vec![in alloc; 0u8; PIECE]
+}
+
+/// The bytes of a file from where it stands to its end, read by way of `room`. `TooLong` where there are more than `most`,
+/// and `Failed` at an error of the system.
+fn read_file<F: Read>(
+    alloc: Global,
+    file: &mut F,
+    most: usize,
+    room: &mut [u8],
+) -> Result<Vec<u8>, ShelfRefused>
+    requires { 0 < length room.old }
+    ensures short { IfOk result (λ bytes. length bytes.items ≤ most) }
+    ensures found { result ≢ Err ShelfRefused.Missing }
+    // of a file that tells what it has left
+    ensures whole { IfOk result (λ bytes. IfSome (F.remaining file.old) (λ all. bytes.items ≡ all)) }
+    ensures long { IsErrOf result ShelfRefused.TooLong → IfSome (F.remaining file.old) (λ all. most < length all) }
+{
     let mut bytes = Vec::new(alloc);
-    // Each turn adds at least one byte, and there is room for `most`.
+    // Each turn adds at least one byte, and at most `most` are kept.
     'pieces: loop {
-        let Ok(count) = file.read(room.as_mut_slice()) else {
+        let Ok(count) = file.read(room) else {
             return Err(ShelfRefused::Failed);
         };
         if count == 0 {
@@ -163,6 +180,38 @@ fn read_file<F: Read>(alloc: Global, file: &mut F, most: usize) -> Result<Vec<u8
             return Err(ShelfRefused::NoMemory);
         }
     }
+}
+
+/// Why a file that cannot be opened is refused.
+fn open_refusal(kind: ErrorKind) -> ShelfRefused
+    ensures missing { result ≡ ShelfRefused.Missing ↔ (kind ≡ ErrorKind.NotFound) }
+    ensures memory { result ≡ ShelfRefused.NoMemory ↔ (kind ≡ ErrorKind.OutOfMemory) }
+    ensures failed { result ≢ ShelfRefused.TooLong }
+{
+    match kind {
+        ErrorKind::NotFound => ShelfRefused::Missing,
+        ErrorKind::OutOfMemory => ShelfRefused::NoMemory,
+        _ => ShelfRefused::Failed,
+    }
+}
+
+/// The bytes of the file at the path.
+fn open_and_read<R: Files>(
+    alloc: Global,
+    rt: &R,
+    path: &str,
+    most: usize,
+) -> Result<Vec<u8>, ShelfRefused>
+    ensures { IfOk result (λ bytes. length bytes.items ≤ most) }
+{
+    let mut file = match File::open(rt, path) {
+        Ok(file) => file,
+        Err(error) => return Err(open_refusal(error.kind())),
+    };
+    let Ok(mut room) = piece_room(alloc) else {
+        return Err(ShelfRefused::NoMemory);
+    };
+    read_file(alloc, &mut file, most, room.as_mut_slice())
 }
 
 impl<R: Files> Shelf for FileShelf<'_, R> {
@@ -180,14 +229,7 @@ impl<R: Files> Shelf for FileShelf<'_, R> {
         // exactly what it counts
         ensures state { self.new ≡ (if is_failed result then one_more self.old else self.old) }
     {
-        let answer = match File::open(self.rt, path) {
-            Ok(mut file) => read_file(alloc, &mut file, most),
-            Err(error) => match error.kind() {
-                ErrorKind::NotFound => Err(ShelfRefused::Missing),
-                ErrorKind::OutOfMemory => Err(ShelfRefused::NoMemory),
-                _ => Err(ShelfRefused::Failed),
-            },
-        };
+        let answer = open_and_read(alloc, self.rt, path, most);
         if let Err(ShelfRefused::Failed) = answer {
             self.faults = self.faults.saturating_add(1);
         }
