@@ -6,9 +6,6 @@ ghost use Rattle.lake_io.specs.Causes.{HasCause, one_more};
 ghost use Rattle.lake_io.specs.Files.{HasFile};
 ghost use Rattle.lake_io.specs.Refusals.{Refuses, is_failed};
 
-#[cfg(test)]
-mod tests;
-
 use super::{Failed, Shelf, ShelfRefused, Sink, Source};
 use std::alloc::{AllocError, Global};
 use std::fs::File;
@@ -16,8 +13,48 @@ use std::io::{ErrorKind, Read, Stdin, Stdout, Write};
 use std::marker::Model;
 use std::rt::Files;
 
-/// How many bytes of a file are asked for at once.
+/// How many bytes of a file are asked for at once: 64 KiB.
 const PIECE: usize = 65536;
+
+/// Counts a fault. A count that has reached 2^64 - 1 stays there.
+fn count_fault(faults: &mut u64) -> Failed
+    ensures count { faults.new ≡ one_more faults.old }
+    ensures later { faults.old ≤ faults.new }
+{
+    *faults = faults.saturating_add(1);
+    Failed
+}
+
+/// Reads a stream once, and counts each of its errors.
+fn read_counted<R: Read>(stream: &mut R, faults: &mut u64, into: &mut [u8]) -> Result<usize, Failed>
+    ensures bound { ReadsAtMost result into.new }
+    ensures bytes { ReadConsumes (R.remaining stream.old) (R.remaining stream.new) result into.new }
+    ensures cause { HasCause faults.old faults.new result }
+    ensures count { faults.new ≡ (if is_ok result then faults.old else one_more faults.old) }
+{
+    match stream.read(into) {
+        Ok(count) => Ok(count),
+        Err(_) => Err(count_fault(faults)),
+    }
+}
+
+/// Writes to a stream once, and an empty piece not at all. Counts each of its errors, and that it takes nothing.
+fn write_counted<W: Write>(stream: &mut W, faults: &mut u64, piece: &[u8]) -> Result<usize, Failed>
+    ensures bound { WritesAtMost result piece.now }
+    ensures some { IfOk result (λ count. 0 < length piece.now → 0 < count) }
+    ensures bytes { WriteAppends (W.contents stream.old) (W.contents stream.new) result piece.now }
+    ensures cause { HasCause faults.old faults.new result }
+    ensures count { faults.new ≡ (if is_ok result then faults.old else one_more faults.old) }
+{
+    if piece.is_empty() {
+        return Ok(0);
+    }
+    match stream.write(piece) {
+        Ok(0) => Err(count_fault(faults)),
+        Ok(count) => Ok(count),
+        Err(_) => Err(count_fault(faults)),
+    }
+}
 
 /// Standard input. It tells no bytes: a contract sees its count of faults.
 #[derive(Drop)]
@@ -56,13 +93,7 @@ impl Source for StdSource {
         // exactly what it counts
         ensures state { self.new ≡ (if is_ok result then self.old else one_more self.old) }
     {
-        match self.stream.read(into) {
-            Ok(count) => Ok(count),
-            Err(_) => {
-                self.faults = self.faults.saturating_add(1);
-                Err(Failed)
-            }
-        }
+        read_counted(&mut self.stream, &mut self.faults, into)
     }
 }
 
@@ -105,16 +136,7 @@ impl Sink for StdSink {
         // exactly what it counts
         ensures state { self.new ≡ (if is_ok result then self.old else one_more self.old) }
     {
-        if piece.is_empty() {
-            return Ok(0);
-        }
-        if let Ok(count) = self.stream.write(piece)
-            && count > 0
-        {
-            return Ok(count);
-        }
-        self.faults = self.faults.saturating_add(1);
-        Err(Failed)
+        write_counted(&mut self.stream, &mut self.faults, piece)
     }
 }
 
@@ -195,7 +217,8 @@ fn open_refusal(kind: ErrorKind) -> ShelfRefused
     }
 }
 
-/// The bytes of the file at the path.
+/// The bytes of the file at the path, of which there may be at most `most`, or why it is refused: by the error where the
+/// system does not open it, and as [`read_file`] says where it does.
 fn open_and_read<R: Files>(
     alloc: Global,
     rt: &R,
@@ -231,8 +254,11 @@ impl<R: Files> Shelf for FileShelf<'_, R> {
     {
         let answer = open_and_read(alloc, self.rt, path, most);
         if let Err(ShelfRefused::Failed) = answer {
-            self.faults = self.faults.saturating_add(1);
+            let _ = count_fault(&mut self.faults);
         }
         answer
     }
 }
+
+#[cfg(test)]
+mod tests;
