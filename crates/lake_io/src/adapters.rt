@@ -1,5 +1,5 @@
 //! The system's own streams and files. They tell no content, and count each error: the trusted edge, of a few lines each.
-ghost use Rattle.std.specs.Prelude.{None, ◌≡◌, ◌<◌, ◌≤◌, ℕ, is_ok, IfOk, IfErr, length, if◌then◌else◌};
+ghost use Rattle.std.specs.Prelude.{None, ◌≡◌, ◌≢◌, ◌↔◌, ◌<◌, ◌≤◌, ℕ, is_ok, IfOk, IfErr, IfSome, IsErrOf, length, vec_len, if◌then◌else◌};
 ghost use Rattle.std.specs.Io.{ReadsAtMost, WritesAtMost};
 ghost use Rattle.std.specs.Io.KnownBytes.{ReadConsumes, WriteAppends};
 ghost use Rattle.lake_io.specs.Causes.{HasCause, one_more};
@@ -7,14 +7,54 @@ ghost use Rattle.lake_io.specs.Files.{HasFile};
 ghost use Rattle.lake_io.specs.Refusals.{Refuses, is_failed};
 
 use super::{Failed, Shelf, ShelfRefused, Sink, Source};
-use std::alloc::Global;
+use std::alloc::{AllocError, Global};
 use std::fs::File;
 use std::io::{ErrorKind, Read, Stdin, Stdout, Write};
 use std::marker::Model;
 use std::rt::Files;
 
-/// How many bytes of a file are asked for at once.
+/// How many bytes of a file are asked for at once: 64 KiB.
 const PIECE: usize = 65536;
+
+/// Counts a fault. A count that has reached 2^64 - 1 stays there.
+fn count_fault(faults: &mut u64) -> Failed
+    ensures count { faults.new ≡ one_more faults.old }
+    ensures later { faults.old ≤ faults.new }
+{
+    *faults = faults.saturating_add(1);
+    Failed
+}
+
+/// Reads a stream once, and counts each of its errors.
+fn read_counted<R: Read>(stream: &mut R, faults: &mut u64, into: &mut [u8]) -> Result<usize, Failed>
+    ensures bound { ReadsAtMost result into.new }
+    ensures bytes { ReadConsumes (R.remaining stream.old) (R.remaining stream.new) result into.new }
+    ensures cause { HasCause faults.old faults.new result }
+    ensures count { faults.new ≡ (if is_ok result then faults.old else one_more faults.old) }
+{
+    match stream.read(into) {
+        Ok(count) => Ok(count),
+        Err(_) => Err(count_fault(faults)),
+    }
+}
+
+/// Writes to a stream once, and an empty piece not at all. Counts each of its errors, and that it takes nothing.
+fn write_counted<W: Write>(stream: &mut W, faults: &mut u64, piece: &[u8]) -> Result<usize, Failed>
+    ensures bound { WritesAtMost result piece.now }
+    ensures some { IfOk result (λ count. 0 < length piece.now → 0 < count) }
+    ensures bytes { WriteAppends (W.contents stream.old) (W.contents stream.new) result piece.now }
+    ensures cause { HasCause faults.old faults.new result }
+    ensures count { faults.new ≡ (if is_ok result then faults.old else one_more faults.old) }
+{
+    if piece.is_empty() {
+        return Ok(0);
+    }
+    match stream.write(piece) {
+        Ok(0) => Err(count_fault(faults)),
+        Ok(count) => Ok(count),
+        Err(_) => Err(count_fault(faults)),
+    }
+}
 
 /// Standard input. It tells no bytes: a contract sees its count of faults.
 #[derive(Drop)]
@@ -53,13 +93,7 @@ impl Source for StdSource {
         // exactly what it counts
         ensures state { self.new ≡ (if is_ok result then self.old else one_more self.old) }
     {
-        match self.stream.read(into) {
-            Ok(count) => Ok(count),
-            Err(_) => {
-                self.faults = self.faults.saturating_add(1);
-                Err(Failed)
-            }
-        }
+        read_counted(&mut self.stream, &mut self.faults, into)
     }
 }
 
@@ -102,16 +136,7 @@ impl Sink for StdSink {
         // exactly what it counts
         ensures state { self.new ≡ (if is_ok result then self.old else one_more self.old) }
     {
-        if piece.is_empty() {
-            return Ok(0);
-        }
-        if let Ok(count) = self.stream.write(piece)
-            && count > 0
-        {
-            return Ok(count);
-        }
-        self.faults = self.faults.saturating_add(1);
-        Err(Failed)
+        write_counted(&mut self.stream, &mut self.faults, piece)
     }
 }
 
@@ -139,18 +164,32 @@ impl<'a, R: Files> FileShelf<'a, R> {
     }
 }
 
-/// The bytes of a file from where it stands to its end. `TooLong` where there are more than `most`, and `Failed` at an error
-/// of the system.
-fn read_file<F: Read>(alloc: Global, file: &mut F, most: usize) -> Result<Vec<u8>, ShelfRefused>
-    ensures { IfOk result (λ bytes. length bytes.items ≤ most) }
+/// Room for a piece of a file. It is on the heap, and its size is no fact that a proof needs.
+fn piece_room(alloc: Global) -> Result<Vec<u8>, AllocError>
+    ensures { IfOk result (λ room. 0 < vec_len room) }
 {
-    let Ok(mut room) = vec![in alloc; 0u8; PIECE] else {
-        return Err(ShelfRefused::NoMemory);
-    };
+    vec![in alloc; 0u8; PIECE]
+}
+
+/// The bytes of a file from where it stands to its end, read by way of `room`. `TooLong` where there are more than `most`,
+/// and `Failed` at an error of the system.
+fn read_file<F: Read>(
+    alloc: Global,
+    file: &mut F,
+    most: usize,
+    room: &mut [u8],
+) -> Result<Vec<u8>, ShelfRefused>
+    requires { 0 < length room.old }
+    ensures short { IfOk result (λ bytes. length bytes.items ≤ most) }
+    ensures found { result ≢ Err ShelfRefused.Missing }
+    // of a file that tells what it has left
+    ensures whole { IfOk result (λ bytes. IfSome (F.remaining file.old) (λ all. bytes.items ≡ all)) }
+    ensures long { IsErrOf result ShelfRefused.TooLong → IfSome (F.remaining file.old) (λ all. most < length all) }
+{
     let mut bytes = Vec::new(alloc);
-    // Each turn adds at least one byte, and there is room for `most`.
+    // Each turn adds at least one byte, and at most `most` are kept.
     'pieces: loop {
-        let Ok(count) = file.read(room.as_mut_slice()) else {
+        let Ok(count) = file.read(room) else {
             return Err(ShelfRefused::Failed);
         };
         if count == 0 {
@@ -163,6 +202,39 @@ fn read_file<F: Read>(alloc: Global, file: &mut F, most: usize) -> Result<Vec<u8
             return Err(ShelfRefused::NoMemory);
         }
     }
+}
+
+/// Why a file that cannot be opened is refused.
+fn open_refusal(kind: ErrorKind) -> ShelfRefused
+    ensures missing { result ≡ ShelfRefused.Missing ↔ (kind ≡ ErrorKind.NotFound) }
+    ensures memory { result ≡ ShelfRefused.NoMemory ↔ (kind ≡ ErrorKind.OutOfMemory) }
+    ensures failed { result ≢ ShelfRefused.TooLong }
+{
+    match kind {
+        ErrorKind::NotFound => ShelfRefused::Missing,
+        ErrorKind::OutOfMemory => ShelfRefused::NoMemory,
+        _ => ShelfRefused::Failed,
+    }
+}
+
+/// The bytes of the file at the path, of which there may be at most `most`, or why it is refused: by the error where the
+/// system does not open it, and as [`read_file`] says where it does.
+fn open_and_read<R: Files>(
+    alloc: Global,
+    rt: &R,
+    path: &str,
+    most: usize,
+) -> Result<Vec<u8>, ShelfRefused>
+    ensures { IfOk result (λ bytes. length bytes.items ≤ most) }
+{
+    let mut file = match File::open(rt, path) {
+        Ok(file) => file,
+        Err(error) => return Err(open_refusal(error.kind())),
+    };
+    let Ok(mut room) = piece_room(alloc) else {
+        return Err(ShelfRefused::NoMemory);
+    };
+    read_file(alloc, &mut file, most, room.as_mut_slice())
 }
 
 impl<R: Files> Shelf for FileShelf<'_, R> {
@@ -180,17 +252,13 @@ impl<R: Files> Shelf for FileShelf<'_, R> {
         // exactly what it counts
         ensures state { self.new ≡ (if is_failed result then one_more self.old else self.old) }
     {
-        let answer = match File::open(self.rt, path) {
-            Ok(mut file) => read_file(alloc, &mut file, most),
-            Err(error) => match error.kind() {
-                ErrorKind::NotFound => Err(ShelfRefused::Missing),
-                ErrorKind::OutOfMemory => Err(ShelfRefused::NoMemory),
-                _ => Err(ShelfRefused::Failed),
-            },
-        };
+        let answer = open_and_read(alloc, self.rt, path, most);
         if let Err(ShelfRefused::Failed) = answer {
-            self.faults = self.faults.saturating_add(1);
+            let _ = count_fault(&mut self.faults);
         }
         answer
     }
 }
+
+#[cfg(test)]
+mod tests;

@@ -1,5 +1,5 @@
-use Rattle.std.proofs.Common.{rules, ◌≡◌, sym, ◌∙◌, ◌≤◌, ◌<◌, length, take, drop, min, ◌-◌, arith}
-use Rattle.std.proofs.lemmas.List.{length-take-le, length-drop, places}
+use Rattle.std.proofs.Common.{rules, ◌≡◌, ◌≤◌, length, take, drop, min, ◌-◌}
+use Rattle.std.proofs.lemmas.List.{places}
 use Rattle.lake_io.proofs.ReadFacts.{copied-front, none-left}
 use Rattle.lake_io.proofs.memory_source.MemorySourceSource.read.Goals as goal
 
