@@ -11,7 +11,8 @@ use Rattle.lake_model.specs.Tables.{members}
 use Rattle.lake_model.specs.Journal.{What, Entry, entry_with, is_live, counts}
 use Rattle.lake_model.specs.Layout.{may_follow, is_legal, is_legal_behind}
 use Rattle.script_model.specs.Commands.{Task, Load, LoadFile, DropTable, Tables, Search, Like, Merge, Command, Batch}
-use Rattle.script_model.specs.Replies.{Loaded, Dropped, Repeated, Unknown, Bounded, is_passed, load_bounds, drop_bounds, unless_lake_full}
+use Rattle.lake_model.specs.Limits.{Bounded, is_passed, load_bounds, drop_bounds}
+use Rattle.script_model.specs.Replies.{Loaded, Dropped, Repeated, Unknown, unless_lake_full}
 use Rattle.script_model.specs.Answered.{TableRead, IsTable, NoTable, table_read, file_read, load_answer, loads, answer_to, adds, has_pin, is_accepted, standing}
 use Rattle.script_model.specs.Record.{Options, RunRecord, plain, empty, with_end}
 use Rattle.script_model.specs.Script.{last_batch}
