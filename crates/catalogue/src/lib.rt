@@ -27,3 +27,6 @@ pub fn standard_limits() -> Counts
         key_bytes: 1_073_741_824,
     }
 }
+
+#[cfg(test)]
+mod tests;

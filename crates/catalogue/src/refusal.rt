@@ -5,7 +5,9 @@ use lake_model::Which;
 #[derive(Clone, Copy, Debug, PartialEq, Eq)]
 pub enum LoadRefused {
     /// A table of the name is live.
-    Repeated { at: u64 },
+    Repeated {
+        at: u64,
+    },
     /// What counts against a limit of the lake is `count`, and with `more`, which the load would add, it would pass the limit. Of
     /// the limits that would be passed it is the first, in the order of `Which`.
     Full {

@@ -22,10 +22,10 @@ invariant_of-self-2 c =
     let tables : c.push_reserved.new.items.items ≡ c.self.inside.tables.items ++ c.args.table ∷ [] =
     c.push_reserved.ensures.items ∙ (λ i. c.in_ok-reserve-2.ensures.items i ++ shared i ∷ []) in
     let counts : c.counts_with-self-inside.result
-        ≡ counts_with (c.self.inside.counts.live + 1) (c.self.inside.counts.updates + 1) (c.self.inside.counts.members + members c.args.table) (c.self.inside.counts.key_bytes + key_bytes c.args.table) =
+    ≡ counts_with (c.self.inside.counts.live + 1) (c.self.inside.counts.updates + 1) (c.self.inside.counts.members + members c.args.table) (c.self.inside.counts.key_bytes + key_bytes c.args.table) =
     (λ i. counts_with (c.counts_with-self-inside.ensures.live i) (c.counts_with-self-inside.ensures.updates i)
-      ((c.counts_with-self-inside.ensures.members ∙ ap (λ (t : Table). c.self.inside.counts.members + members t) counted) i)
-      ((c.counts_with-self-inside.ensures.key_bytes ∙ ap (λ (t : Table). c.self.inside.counts.key_bytes + key_bytes t) counted) i)) in
+    ((c.counts_with-self-inside.ensures.members ∙ ap (λ (t : Table). c.self.inside.counts.members + members t) counted) i)
+    ((c.counts_with-self-inside.ensures.key_bytes ∙ ap (λ (t : Table). c.self.inside.counts.key_bytes + key_bytes t) counted) i)) in
     is_kept-push fields.limits fields.journal.items table accepted c.args.who fields.tables.items fields.counts (λ q. is_some (get_by_text c.self.inside.positions q)) c.self.invariant
-        _ _ _ (λ q. is_some (get_by_text c.add_name.new.positions q)) journal tables counts
-        (λ q. c.in_ok-add_name.ensures.ok q ∙ ap (λ (b : Text). bytes_eq b q || is_some (get_by_text c.self.inside.positions q)) name)
+    _ _ _ (λ q. is_some (get_by_text c.add_name.new.positions q)) journal tables counts
+    (λ q. c.in_ok-add_name.ensures.ok q ∙ ap (λ (b : Text). bytes_eq b q || is_some (get_by_text c.self.inside.positions q)) name)
