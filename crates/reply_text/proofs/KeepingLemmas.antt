@@ -1,6 +1,6 @@
 -- A text keeps what it had through one addition after another.
 use Rattle.std.proofs.Common.{◌≡◌, ◌++◌, ◌∙◌, ◌≤◌, ap, sym, List, ℕ, length, take, arith, length-append}
-use Rattle.std.proofs.lemmas.List.{take-take, take-append-le}
+use Rattle.std.proofs.lemmas.List.{take-take}
 use Rattle.std.proofs.Math.Seq.{take-append_seam}
 use Rattle.reply_text.specs.Keeping.{Keeps}
 

@@ -4,18 +4,20 @@ use column_set::{KeptRow, KeptRows, Name, Row, Titles};
 use lake_model::Which;
 use no_memory::NoMemory;
 use std::alloc::Global;
+use std::process::Abort;
 use std::sync::Arc;
 use std::test::Fail;
 
-// The text of a reply to command 7 of lane 1.
-fn text_of(alloc: Global, reply: Reply) -> Result<Vec<u8>, NoMemory> {
-    let mut record = RunRecord::new(alloc);
+// The text of a reply to command 7 of lane 1 is this.
+fn shows(rt: &(impl Abort + AllocGlobal), reply: Reply, wanted: &str) -> Result<(), NoMemory> {
+    let mut record = RunRecord::new(rt.alloc());
     record.room(1, 0)?;
     let by = By::Command { number: 7, lane: 1 };
     record.add_answer(Answered { by, reply });
-    let mut text = Vec::new(alloc);
+    let mut text = Vec::new(rt.alloc());
     write_replies(&record, 0, &mut text)?;
-    Ok(text)
+    assert_eq!(rt; text.as_slice(), wanted.as_bytes());
+    Ok(())
 }
 
 // The row of a table's column, which is at place 2 of its columns.
@@ -34,18 +36,13 @@ fn row(alloc: Global, overlap: u32, table: Name, column: &str) -> Result<KeptRow
 
 #[test]
 fn a_load_shows_what_was_loaded(rt: HostRuntime) -> Result<(), Fail> {
-    let name = Name::read(b"t1").ok_or("no name")?;
-    let reply = Reply::Loaded {
-        name,
+    let loaded = Reply::Loaded {
+        name: Name::read(b"t1").ok_or("no name")?,
         columns: 2,
         members: 4,
         at: 1,
     };
-    let text = text_of(rt.alloc(), reply)?;
-    assert_eq!(rt;
-        text.as_slice(),
-        b"7 loaded t1 columns 2 members 4 at 1\n".as_slice()
-    );
+    shows(&rt, loaded, "7 loaded t1 columns 2 members 4 at 1\n")?;
     Ok(())
 }
 
@@ -62,79 +59,57 @@ fn rows_are_lines_and_column_names_are_quoted(rt: HostRuntime) -> Result<(), Fai
     let mut rows = Vec::new(alloc);
     rows.push(city)?;
     rows.push(odd)?;
-    let reply = Reply::Found {
+    let found = Reply::Found {
         query: 3,
         rows: KeptRows::new(rows),
         at: 18446744073709551615,
     };
-    let text = text_of(alloc, reply)?;
     let wanted =
         "7 answer 2 of 3 at 18446744073709551615\n  2 t1 2 \"city\"\n  1 zz 2 \"\\\"\\\\\\n\\r\\t\\x01\\x7fé\"\n";
-    assert_eq!(rt; text.as_slice(), wanted.as_bytes());
+    shows(&rt, found, wanted)?;
     Ok(())
 }
 
 #[test]
 fn refused_tables(rt: HostRuntime) -> Result<(), Fail> {
-    let alloc = rt.alloc();
-    let no_header = text_of(alloc, Reply::NoHeader)?;
-    assert_eq!(rt;
-        no_header.as_slice(),
-        b"7 refused csv no-header\n".as_slice()
-    );
-    let wide = text_of(alloc, Reply::TooManyColumns { got: 1025 })?;
-    assert_eq!(rt; wide.as_slice(), b"7 refused csv columns 1025\n".as_slice());
-    let unequal = text_of(
-        alloc,
-        Reply::Unequal {
-            row: 2,
-            want: 3,
-            got: 1,
-        },
-    )?;
-    assert_eq!(rt;
-        unequal.as_slice(),
-        b"7 refused csv record 2 want 3 got 1\n".as_slice()
-    );
-    let not_utf8 = text_of(alloc, Reply::NotUtf8 { row: 2, field: 5 })?;
-    assert_eq!(rt;
-        not_utf8.as_slice(),
-        b"7 refused csv record 2 field 5 not UTF-8\n".as_slice()
-    );
-    let many = text_of(alloc, Reply::TooManyValues { place: 9 })?;
-    assert_eq!(rt; many.as_slice(), b"7 refused values column 9\n".as_slice());
+    shows(&rt, Reply::NoHeader, "7 refused csv no-header\n")?;
+    let wide = Reply::TooManyColumns { got: 1025 };
+    shows(&rt, wide, "7 refused csv columns 1025\n")?;
+    let unequal = Reply::Unequal {
+        row: 2,
+        want: 3,
+        got: 1,
+    };
+    shows(&rt, unequal, "7 refused csv record 2 want 3 got 1\n")?;
+    let not_utf8 = Reply::NotUtf8 { row: 2, field: 5 };
+    shows(&rt, not_utf8, "7 refused csv record 2 field 5 not UTF-8\n")?;
+    let large = Reply::TooManyValues { place: 9 };
+    shows(&rt, large, "7 refused values column 9\n")?;
     Ok(())
 }
 
 #[test]
 fn refused_loads_and_queries(rt: HostRuntime) -> Result<(), Fail> {
-    let alloc = rt.alloc();
-    let name = Name::read(b"t1").ok_or("no name")?;
-    let repeated = text_of(alloc, Reply::Repeated { name, at: 4 })?;
-    assert_eq!(rt;
-        repeated.as_slice(),
-        b"7 refused repeated t1 at 4\n".as_slice()
-    );
-    let reply = Reply::Full {
+    let repeated = Reply::Repeated {
+        name: Name::read(b"t1").ok_or("no name")?,
+        at: 4,
+    };
+    shows(&rt, repeated, "7 refused repeated t1 at 4\n")?;
+    let full = Reply::Full {
         which: Which::KeyBytes,
         count: 1073741820,
         more: 5,
         at: 12,
     };
-    let full = text_of(alloc, reply)?;
-    assert_eq!(rt;
-        full.as_slice(),
-        b"7 refused full key-bytes 1073741820 more 5 at 12\n".as_slice()
-    );
-    let not_utf8 = text_of(alloc, Reply::QueryNotUtf8 { line: 10 })?;
-    assert_eq!(rt;
-        not_utf8.as_slice(),
-        b"7 refused query line 10 not UTF-8\n".as_slice()
-    );
-    let large = text_of(alloc, Reply::QueryTooLarge)?;
-    assert_eq!(rt; large.as_slice(), b"7 refused query values\n".as_slice());
-    let denied = text_of(alloc, Reply::NoMemory)?;
-    assert_eq!(rt; denied.as_slice(), b"7 no memory\n".as_slice());
+    shows(
+        &rt,
+        full,
+        "7 refused full key-bytes 1073741820 more 5 at 12\n",
+    )?;
+    let not_utf8 = Reply::QueryNotUtf8 { line: 10 };
+    shows(&rt, not_utf8, "7 refused query line 10 not UTF-8\n")?;
+    shows(&rt, Reply::QueryTooLarge, "7 refused query values\n")?;
+    shows(&rt, Reply::NoMemory, "7 no memory\n")?;
     Ok(())
 }
 

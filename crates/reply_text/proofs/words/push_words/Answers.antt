@@ -1,4 +1,3 @@
-use Rattle.std.proofs.Common.{◌≡◌, ◌++◌, ◌∙◌, ap, append_assoc}
 use Rattle.reply_text.proofs.KeepingLemmas.{keeps_behind}
 use Rattle.reply_text.proofs.words.push_words.Goals as goal
 
