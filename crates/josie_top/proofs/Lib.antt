@@ -1,1 +1,3 @@
 mod StreamFacts
+mod TableFacts
+mod RecordFacts

@@ -9,6 +9,7 @@ ghost use Rattle.script_model.specs.declared.Reason.{Reason};
 ghost use Rattle.script_model.specs.Script.{Whole, FaultAt, commands_of};
 ghost use Rattle.script_model.specs.Record.{empty, plain};
 ghost use Rattle.script_model.specs.Statuses.{IsPlain, Row};
+ghost use Rattle.josie_top.specs.Refused.{status_of};
 ghost use Rattle.josie_top.specs.Streams.{Traffic};
 
 use lake_io::{Gate, Shelf, Sink, Source};
@@ -35,6 +36,16 @@ fn is_plain(words: &[String]) -> bool
     ensures { result ≡ true ↔ IsPlain (map string_bytes words.now) }
 {
     words.len() == 1 && words[0].as_str() == "run"
+}
+
+/// The status of a run whose script is refused.
+fn status_of(refused: ScriptRefused) -> Status
+    ensures { result ≡ status_of refused }
+{
+    match refused {
+        ScriptRefused::Script { line, reason } => Status::Script { line, reason },
+        ScriptRefused::NoMemory => Status::NoMemory,
+    }
 }
 
 /// Reads a script from the source, answers its commands one after another in the record, and writes the replies to the sink.
@@ -68,13 +79,12 @@ pub fn run_ordered<S: Source, K: Sink, F: Shelf>(
         Ok(()) => {}
     }
     let batch = match read_script(alloc, script.as_slice()) {
-        Err(ScriptRefused::Script { line, reason }) => return Status::Script { line, reason },
-        Err(ScriptRefused::NoMemory) => return Status::NoMemory,
         Ok(batch) => batch,
+        Err(refused) => return status_of(refused),
     };
-    if play(alloc, &batch, out).is_err() {
+    let Ok(()) = play(alloc, &batch, out) else {
         return Status::NoMemory;
-    }
+    };
     let Ok(text) = text_of(alloc, out) else {
         return Status::NoMemory;
     };

@@ -57,7 +57,7 @@ file_nowhere FailedFault = refl
 file_nowhere MissingFault = refl
 file_nowhere TooLongFault = refl
 
-fault_nowhere : (fault : Fault) → standing (fault_reply fault) ≡ Nowhere
+pub fault_nowhere : (fault : Fault) → standing (fault_reply fault) ≡ Nowhere
 fault_nowhere (OfCsv why) = csv_nowhere why
 fault_nowhere (OfSets why) = sets_nowhere why
 fault_nowhere (OfQuery why) = query_nowhere why

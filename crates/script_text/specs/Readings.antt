@@ -4,6 +4,7 @@ use Rattle.std.specs.List.{AllByRecursion}
 use Rattle.script_model.specs.Commands.{Batch, Command, Task, Load, LoadFile, DropTable, Tables, Search, Like, Merge}
 use Rattle.script_model.specs.Reading.{Open, Reading}
 use Rattle.script_model.specs.Saying.{Front}
+use Rattle.script_model.specs.Merges.{HasNoMerge}
 
 -- the bytes of the body of a task
 abbrev pub body_size : Task → ℕ
@@ -40,3 +41,4 @@ pub record IsBounded (lines used : ℕ) (commands : Batch) (block : Option Open)
   pub used_within : used ≤ 1048576
   pub body_within : IsWithin used block
   pub lanes : IsInLaneOne commands
+  pub merges : HasNoMerge commands

@@ -1,10 +1,11 @@
 //! How far a script was read, and what each line does.
-ghost use Rattle.std.specs.Prelude.{◌≡◌, ◌+◌, ◌++◌, ◌∷◌, ◌≤◌, ◌⊎◌, IfErr, IfOk, IfSome, IsSome, None, OnOk, Some, [], drop, length};
+ghost use Rattle.std.specs.Prelude.{false, ◌≡◌, ◌+◌, ◌++◌, ◌∷◌, ◌≤◌, ◌⊎◌, IfErr, IfOk, IfSome, IsSome, None, OnOk, Some, [], drop, length};
 ghost use Rattle.script_model.specs.Numbers.{without_return};
 ghost use Rattle.script_model.specs.Reading.{Goes, block_ended, body_after, does, turn_of};
 ghost use Rattle.script_model.specs.Saying.{closed, said};
 ghost use Rattle.script_model.specs.Script.{Whole, commands_with, end_turned, last_batch, last_turn, script_grammar, start};
 ghost use Rattle.script_text.specs.Fronts.{IsFrontInRange, front_of};
+ghost use Rattle.script_model.specs.Merges.{HasNoMerge, is_merge};
 ghost use Rattle.script_text.specs.Readings.{IsInLaneOne, open_with};
 ghost use Rattle.script_text.specs.Refusals.{Faults, FaultsTurn};
 ghost use Rattle.script_text.specs.Tasks.{IsTaskInRange, task_of};
@@ -77,6 +78,7 @@ impl OpenBlock {
         requires { length self.body ≤ 67108864 }
         ensures task { task_of result ≡ closed self.front self.body }
         ensures in_range { IsTaskInRange result }
+        ensures no_merge { is_merge (task_of result) ≡ false }
     {
         let OpenBlock { front, body, .. } = self;
         let Some(body) = Body::new(body) else {
@@ -170,6 +172,7 @@ impl Reader {
         requires { self.used + length rest.now ≤ 1048576 }
         ensures commands { IfOk result (λ batch. end_turned [] (self.lines + 1) (last_turn script_grammar self.block rest.now self) ≡ commands_with (last_batch batch) Whole []) }
         ensures lanes { IfOk result IsInLaneOne }
+        ensures merges { IfOk result HasNoMerge }
         ensures refused { IfErr result (λ e. (e ≡ ScriptRefused.NoMemory) ⊎ Faults (end_turned [] (self.lines + 1) (last_turn script_grammar self.block rest.now self)).end e) }
     {
         self.read_last_line(rest)?;

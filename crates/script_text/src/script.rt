@@ -2,6 +2,7 @@
 ghost use Rattle.std.specs.Prelude.{◌≡◌, ◌≤◌, ◌⊎◌, IfErr, IfOk, [], drop, length, take};
 ghost use Rattle.std.specs.List.{AllByRecursion};
 ghost use Rattle.lake_model.specs.Texts.{lines_of};
+ghost use Rattle.script_model.specs.Merges.{HasNoMerge};
 ghost use Rattle.script_model.specs.Reading.{Stands, read_with};
 ghost use Rattle.script_model.specs.Script.{Whole, commands_of, commands_with, last_batch};
 ghost use Rattle.script_text.specs.Refusals.{Faults, FaultsReached};
@@ -29,6 +30,7 @@ const MOST_BYTES: usize = 1048576;
 pub fn read_script(alloc: Global, bytes: &[u8]) -> Result<Batch, ScriptRefused>
     ensures commands { IfOk result (λ batch. commands_of bytes.now ≡ commands_with (last_batch batch) Whole []) }
     ensures lanes { IfOk result (λ batch. AllByRecursion (λ c. c.lane ≡ 1) batch) }
+    ensures merges { IfOk result HasNoMerge }
     ensures refused { IfErr result (λ e. (e ≡ ScriptRefused.NoMemory) ⊎ Faults (commands_of bytes.now).end e) }
 {
     let script = within_limit(bytes);

@@ -1,0 +1,115 @@
+-- What a load and a search are answered, from what their parts answer.
+use Rattle.std.proofs.Common.{◌≡◌, refl, ap, sym, ◌∙◌, subst, ℕ, ◌+◌, List, [], ◌∷◌, ◌++◌, append-nil, length, map, Bool, true, false, cond, ◌⊎◌, inl, inr, Option, Some, None}
+use Rattle.std.specs.Prelude.{option_map, find}
+use Rattle.lake_model.specs.declared.Who.{Who}
+use Rattle.lake_model.specs.declared.Counts.{Counts}
+use Rattle.lake_model.specs.declared.CsvRefused.{CsvRefused}
+use Rattle.lake_model.specs.declared.CsvRefused.TheVariants as csv
+use Rattle.lake_model.specs.declared.SetRefused.{SetRefused}
+use Rattle.lake_model.specs.declared.SetRefused.TheVariants as sets
+use Rattle.lake_model.specs.declared.QueryRefused.{QueryRefused}
+use Rattle.lake_model.specs.declared.QueryRefused.TheVariants as query
+use Rattle.lake_model.specs.Texts.{Text}
+use Rattle.lake_model.specs.Tables.{Table, members}
+use Rattle.lake_model.specs.Records.{Record, records_of, csv_fault, sets_fault, table_of}
+use Rattle.lake_model.specs.Queries.{query_of, query_fault}
+use Rattle.lake_model.specs.Answer.{answer}
+use Rattle.lake_model.specs.Journal.{What, Entry, entry_with, is_live, live, counts}
+use Rattle.lake_model.specs.Limits.{Bounded, is_passed, load_bounds}
+use Rattle.catalogue.specs.declared.refusal.LoadRefused.{LoadRefused}
+use Rattle.catalogue.specs.declared.refusal.LoadRefused.TheVariants as refused
+use Rattle.catalogue.specs.Refusals.{load_refusal}
+use Rattle.script_model.specs.Commands.{Task, Load, Search}
+use Rattle.script_model.specs.Replies.{Reply, Loaded, Found, Repeated, Full, NoMemory, Fault, OfCsv, OfSets, OfQuery, fault_reply, csv_reply, sets_reply, query_reply, load_reply, unless_lake_full}
+use Rattle.script_model.specs.Answered.{TableRead, IsTable, NoTable, QueryRead, IsQuery, table_read, query_read, records_read, sets_read, keys_read, load_answer, search_answer, loads, adds, is_accepted, standing, Nowhere}
+use Rattle.script_model.specs.Play.{reply_or_denied}
+use Rattle.script_model.specs.Record.{RunRecord}
+use Rattle.script_model.proofs.PlayLemmas.{fault_nowhere}
+use Rattle.lake_core.specs.Loads.{IsRefusal, refusal_reply, loaded_by, with_added}
+
+-- the reply is this one, or the one for want of memory
+abbrev pub Answers : Reply → Reply → Type 0
+Answers reply wanted = (denied : Bool) × (reply ≡ reply_or_denied denied wanted)
+
+refusal_said : (table : Table) (n : ℕ) (accepted : Reply) (b : Bool) (o : Option Bounded) (e : LoadRefused)
+    → cond b (Some (refused.Repeated n)) (option_map (λ x. refused.Full x.which x.count x.more n) o) ≡ Some e
+    → refusal_reply table.name e ≡ cond b (Repeated table.name n) (unless_lake_full n accepted o)
+refusal_said table n accepted true o e h = let same : e ≡ refused.Repeated n = cc in ap (refusal_reply table.name) same
+refusal_said table n accepted false None e h = absurd (let f : None ≡ Some e = h in cc)
+refusal_said table n accepted false (Some x) e h = let same : e ≡ refused.Full x.which x.count x.more n = cc in ap (refusal_reply table.name) same
+
+-- a table that the catalogue refuses
+pub refused_load : (limits : Counts) (table : Table) (journal : List Entry) (e : LoadRefused) → (e ≡ refused.NoMemory) ⊎ (load_refusal limits table journal ≡ Some e)
+    → Answers (refusal_reply table.name e) (load_reply limits table journal)
+refused_load limits table journal e (inl none) = (true, ap (refusal_reply table.name) none)
+refused_load limits table journal e (inr h) =
+    (false, refusal_said table (length journal) _ (is_live journal table.name) (find is_passed (load_bounds limits table (counts journal))) e h)
+
+-- ---- what is read of a block
+
+pub csv_refusal : (name : Text) (bytes : List ℕ) (e : CsvRefused) → (e ≡ csv.NoMemory) ⊎ (csv_fault bytes ≡ Some e) → IsRefusal (table_read name bytes) (csv_reply e)
+unfolding table_read
+csv_refusal name bytes e (inl none) = inl (ap csv_reply none)
+csv_refusal name bytes e (inr h) = inr (OfCsv e, ap (records_read name (records_of bytes)) h, refl)
+
+sets_of : (name : Text) (bytes : List ℕ) → csv_fault bytes ≡ None → table_read name bytes ≡ sets_read name (records_of bytes) (sets_fault (records_of bytes))
+unfolding table_read
+sets_of name bytes none = ap (records_read name (records_of bytes)) none
+
+pub sets_refusal : (name : Text) (bytes : List ℕ) (rows : List Record) (e : SetRefused) → csv_fault bytes ≡ None → rows ≡ records_of bytes
+    → (e ≡ sets.NoMemory) ⊎ (sets_fault rows ≡ Some e) → IsRefusal (table_read name bytes) (sets_reply e)
+sets_refusal name bytes rows e none same (inl memory) = inl (ap sets_reply memory)
+sets_refusal name bytes rows e none same (inr h) =
+    inr (OfSets e, sets_of name bytes none ∙ ap (sets_read name (records_of bytes)) (ap sets_fault (sym same) ∙ h), refl)
+
+pub table_made : (name : Text) (bytes : List ℕ) (rows : List Record) → csv_fault bytes ≡ None → rows ≡ records_of bytes → sets_fault rows ≡ None
+    → table_read name bytes ≡ IsTable (table_of name rows)
+table_made name bytes rows none same small =
+    sets_of name bytes none ∙ ap (sets_read name (records_of bytes)) (ap sets_fault (sym same) ∙ small) ∙ ap (λ r. IsTable (table_of name r)) (sym same)
+
+-- ---- a load that its bytes refuse
+
+refused_nowhere : (read : TableRead) (reply : Reply) → IsRefusal read reply → is_accepted (standing reply) ≡ false
+refused_nowhere read reply (inl none) = ap (λ r. is_accepted (standing r)) none
+refused_nowhere read reply (inr (fault, is, said)) = ap (λ r. is_accepted (standing r)) said ∙ ap is_accepted (fault_nowhere fault)
+
+pub refused_answer : (limits : Counts) (journal : List Entry) (read : TableRead) (reply : Reply) → IsRefusal read reply → Answers reply (load_answer limits read journal)
+refused_answer limits journal read reply (inl none) = (true, none)
+refused_answer limits journal read reply (inr (fault, is, said)) = (false, said ∙ ap (λ r. load_answer limits r journal) (sym is))
+
+added_none : (who : Who) (made : RunRecord) → made ≡ with_added who [] made
+added_none who made = λ i. record made { journal = sym (append-nil made.journal) i }
+
+pub refused_adds : (who : Who) (name : Text) (bytes : List ℕ) (reply : Reply) (made : RunRecord) → IsRefusal (table_read name bytes) reply
+    → made ≡ with_added who (adds (Load name bytes) made.journal reply) made
+refused_adds who name bytes reply made why =
+    added_none who made ∙ ap (λ (b : Bool). with_added who (cond b (loads (table_read name bytes)) []) made) (sym (refused_nowhere (table_read name bytes) reply why))
+
+pub loaded_adds : (who : Who) (name : Text) (bytes : List ℕ) (table : Table) (reply : Reply) (made : RunRecord) → table_read name bytes ≡ IsTable table
+    → with_added who (loaded_by table reply) made ≡ with_added who (adds (Load name bytes) made.journal reply) made
+loaded_adds who name bytes table reply made is = ap (λ read. with_added who (cond (is_accepted (standing reply)) (loads read) []) made) (sym is)
+
+pub loaded_answer : (limits : Counts) (journal : List Entry) (read : TableRead) (table : Table) (reply : Reply) → read ≡ IsTable table → Answers reply (load_reply limits table journal)
+    → Answers reply (load_answer limits read journal)
+loaded_answer limits journal read table reply is answers = (answers.0, answers.1 ∙ ap (λ r. reply_or_denied answers.0 (load_answer limits r journal)) (sym is))
+
+-- ---- searches
+
+pub query_refused : (k : ℕ) (bytes : List ℕ) (journal : List Entry) (e : QueryRefused) → (e ≡ query.NoMemory) ⊎ (query_fault bytes ≡ Some e)
+    → Answers (query_reply e) (search_answer k (query_read bytes) journal)
+unfolding query_read
+query_refused k bytes journal e (inl none) = (true, ap query_reply none)
+query_refused k bytes journal e (inr h) = (false, ap (λ fault. search_answer k (keys_read bytes fault) journal) (sym h))
+
+pub query_found : (k : ℕ) (bytes : List ℕ) (journal : List Entry) (keys : List Text) → query_fault bytes ≡ None → keys ≡ query_of bytes
+    → Answers (Found (length keys) (answer (live journal) keys k None) (length journal)) (search_answer k (query_read bytes) journal)
+unfolding query_read
+query_found k bytes journal keys none same =
+    (false, ap (λ ks. search_answer k (IsQuery ks) journal) same ∙ ap (λ fault. search_answer k (keys_read bytes fault) journal) (sym none))
+
+either_none : (b : Bool) → cond {A = List What} b [] [] ≡ []
+either_none true = refl
+either_none false = refl
+
+pub search_adds : (who : Who) (k : ℕ) (bytes : List ℕ) (reply : Reply) (made : RunRecord) → made ≡ with_added who (adds (Search k bytes) made.journal reply) made
+search_adds who k bytes reply made = added_none who made ∙ ap (λ whats. with_added who whats made) (sym (either_none (is_accepted (standing reply))))

@@ -1,0 +1,30 @@
+-- What a load is answered, and what it adds to a record.
+use Rattle.std.specs.Prelude.{◌≡◌, ◌⊎◌, List, [], ◌∷◌, ◌++◌, map, if◌then◌else◌}
+use Rattle.lake_model.specs.declared.Who.{Who}
+use Rattle.lake_model.specs.Texts.{Text}
+use Rattle.lake_model.specs.Tables.{Table}
+use Rattle.lake_model.specs.Journal.{What, entry_with}
+use Rattle.lake_model.specs.Journal as journal
+use Rattle.catalogue.specs.declared.refusal.LoadRefused.{LoadRefused}
+use Rattle.catalogue.specs.declared.refusal.LoadRefused.TheVariants as refused
+use Rattle.script_model.specs.Replies.{Reply, Repeated, Full, NoMemory, Fault, fault_reply}
+use Rattle.script_model.specs.Answered.{TableRead, NoTable, is_accepted, standing}
+use Rattle.script_model.specs.Record.{RunRecord}
+
+-- the reply refuses what was read: for want of memory, or for its fault
+abbrev pub IsRefusal : TableRead → Reply → Type 0
+IsRefusal read reply = (reply ≡ NoMemory) ⊎ ((fault : Fault) × (read ≡ NoTable fault) × (reply ≡ fault_reply fault))
+
+-- the reply to a load that the catalogue refuses
+abbrev pub refusal_reply : Text → LoadRefused → Reply
+refusal_reply name (refused.Repeated at) = Repeated name at
+refusal_reply name (refused.Full which count more at) = Full which count more at
+refusal_reply name refused.NoMemory = NoMemory
+
+-- what the load of a table adds, where its reply accepts it
+abbrev pub loaded_by : Table → Reply → List What
+loaded_by table reply = if is_accepted (standing reply) then journal.Loaded table ∷ [] else []
+
+-- the record with what a command added to the journal
+abbrev pub with_added : Who → List What → RunRecord → RunRecord
+with_added who whats made = record made { journal = made.journal ++ map (entry_with who) whats }

@@ -1,0 +1,9 @@
+//! Commands answered over a catalogue on one thread, one after another, with their answers and entries put into the record of the run.
+#![tactic(auto)]
+
+mod driving;
+mod loading;
+mod searching;
+
+pub use driving::drive;
+pub use loading::make_table;

@@ -1,0 +1,141 @@
+//! Loads: the table of a block, and its entry.
+ghost use Rattle.std.specs.Prelude.{◌≡◌, ◌<◌, ◌+◌, ◌≤◌, Bool, IfOk, IfErr};
+ghost use Rattle.script_model.specs.Commands.{Load};
+ghost use Rattle.script_model.specs.Replies.{csv_reply, sets_reply, load_reply};
+ghost use Rattle.script_model.specs.Answered.{IsTable, table_read, load_answer, adds};
+ghost use Rattle.script_model.specs.Play.{reply_or_denied};
+ghost use Rattle.reply_text.specs.Replies.{reply_of};
+ghost use Rattle.lake_core.specs.Loads.{IsRefusal, refusal_reply, with_added, loaded_by};
+
+use catalogue::{Catalogue, Entry, LoadRefused, Who};
+use column_set::{Name, SetRefused, SharedTable, TableSets};
+use csv_table::{CsvRefused, read_table};
+use reply_text::{Reply, RunRecord};
+use script_text::Body;
+use std::alloc::Global;
+
+/// The table of a block under a name, or the reply that refuses it: for the first fault of its records, or else of its sets.
+pub fn make_table(alloc: Global, name: &Name, body: &Body) -> Result<SharedTable, Reply>
+    ensures table { IfOk result (λ table. table_read name.now body.now ≡ IsTable table) }
+    ensures refused { IfErr result (λ reply. IsRefusal (table_read name.now body.now) (reply_of reply)) }
+{
+    let raw = match read_table(alloc, body.bytes()) {
+        Ok(raw) => raw,
+        Err(refused) => return Err(reply_to_csv(refused)),
+    };
+    let sets = match TableSets::build(alloc, name.copy(), &raw) {
+        Ok(sets) => sets,
+        Err(refused) => return Err(reply_to_sets(refused)),
+    };
+    match SharedTable::new(alloc, sets) {
+        Ok(table) => Ok(table),
+        Err(_) => Err(Reply::NoMemory),
+    }
+}
+
+// The reply to bytes that are no table.
+fn reply_to_csv(refused: CsvRefused) -> Reply
+    ensures { reply_of result ≡ csv_reply refused }
+{
+    match refused {
+        CsvRefused::NoHeader => Reply::NoHeader,
+        CsvRefused::TooManyColumns { got } => Reply::TooManyColumns { got },
+        CsvRefused::Unequal { row, want, got } => Reply::Unequal { row, want, got },
+        CsvRefused::NotUtf8 { row, field } => Reply::NotUtf8 { row, field },
+        CsvRefused::NoMemory => Reply::NoMemory,
+    }
+}
+
+// The reply to fields that give no sets.
+fn reply_to_sets(refused: SetRefused) -> Reply
+    ensures { reply_of result ≡ sets_reply refused }
+{
+    match refused {
+        SetRefused::TooManyValues { place } => Reply::TooManyValues { place },
+        SetRefused::NoMemory => Reply::NoMemory,
+    }
+}
+
+// The reply to a table of this name that the catalogue refuses.
+fn reply_to_load(refused: LoadRefused, name: Name) -> Reply
+    ensures { reply_of result ≡ refusal_reply name refused }
+{
+    match refused {
+        LoadRefused::Repeated { at } => Reply::Repeated { name, at },
+        LoadRefused::Full {
+            which,
+            count,
+            more,
+            at,
+        } => Reply::Full {
+            which,
+            count,
+            more,
+            at,
+        },
+        LoadRefused::NoMemory => Reply::NoMemory,
+    }
+}
+
+// Loads a table. What the record and the reply keep of it is made before its entry, so that nothing is refused behind the entry.
+fn accept(
+    catalogue: &mut Catalogue,
+    who: Who,
+    table: SharedTable,
+    out: &mut RunRecord,
+) -> Reply
+    requires journal { out.old.made.journal ≡ catalogue.old.journal }
+    requires room { 0 < out.old.entries_room }
+    ensures answered { (denied : Bool) × (reply_of result ≡ reply_or_denied denied (load_reply catalogue.old.limits table catalogue.old.journal)) }
+    ensures made { out.new.made ≡ with_added who (loaded_by table (reply_of result)) out.old.made }
+    ensures journal { out.new.made.journal ≡ catalogue.new.journal }
+    ensures limits { catalogue.new.limits ≡ catalogue.old.limits }
+    ensures answers_room { out.new.answers_room ≡ out.old.answers_room }
+    ensures entries_room { out.old.entries_room ≤ out.new.entries_room + 1 }
+    ensures syncs_room { out.new.syncs_room ≡ out.old.syncs_room }
+{
+    let Ok(kept) = table.share() else {
+        return Reply::NoMemory;
+    };
+    let name = table.table().name().copy();
+    let columns = table.table().columns();
+    let members = table.table().members();
+    match catalogue.load(who, table) {
+        Ok(at) => {
+            out.add_entry(Entry::loaded(who, kept));
+            Reply::Loaded {
+                name,
+                columns,
+                members,
+                at,
+            }
+        }
+        Err(refused) => reply_to_load(refused, name),
+    }
+}
+
+/// Answers a load: the table of the body comes into the lake under the name, with an entry of this caller and command in the
+/// catalogue's journal and in the record's.
+pub(crate) fn load(
+    alloc: Global,
+    catalogue: &mut Catalogue,
+    who: Who,
+    name: &Name,
+    body: &Body,
+    out: &mut RunRecord,
+) -> Reply
+    requires journal { out.old.made.journal ≡ catalogue.old.journal }
+    requires room { 0 < out.old.entries_room }
+    ensures answered { (denied : Bool) × (reply_of result ≡ reply_or_denied denied (load_answer catalogue.old.limits (table_read name.now body.now) catalogue.old.journal)) }
+    ensures made { out.new.made ≡ with_added who (adds (Load name.now body.now) out.old.made.journal (reply_of result)) out.old.made }
+    ensures journal { out.new.made.journal ≡ catalogue.new.journal }
+    ensures limits { catalogue.new.limits ≡ catalogue.old.limits }
+    ensures answers_room { out.new.answers_room ≡ out.old.answers_room }
+    ensures entries_room { out.old.entries_room ≤ out.new.entries_room + 1 }
+    ensures syncs_room { out.new.syncs_room ≡ out.old.syncs_room }
+{
+    match make_table(alloc, name, body) {
+        Ok(table) => accept(catalogue, who, table, out),
+        Err(reply) => reply,
+    }
+}
