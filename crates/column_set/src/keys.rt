@@ -60,12 +60,14 @@ impl KeySet {
         self.keys.len()
     }
 
-    /// A key, by its index in order of first sight, from 0.
+    /// A key, by its index in order of first sight, from 0, and an empty text past the last.
     pub fn key(&self, i: u32) -> &str
-        requires { i < length self.now }
         ensures { result.now ≡ get_or self.now i [] }
     {
-        self.keys.as_slice()[i as usize].as_str()
+        match self.keys.get_index(i as usize) {
+            Some(key) => key.as_str(),
+            None => "",
+        }
     }
 
     /// Whether the key is there.

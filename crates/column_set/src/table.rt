@@ -3,7 +3,7 @@ ghost use Rattle.std.specs.Prelude.{◌≡◌, ◌⊎◌, ◌<◌, ◌≤◌, �
 ghost use Rattle.std.specs.List.{AllByRecursion, IsDistinct};
 ghost use Rattle.lake_model.specs.Records.{column_at, column_count, field_at, places_of, sets_fault, table_of, text_size};
 ghost use Rattle.lake_model.specs.Tables.{column_name, has_key, keys_at, titles_of};
-ghost use Rattle.column_set.specs.Columns.{IsSmall};
+ghost use Rattle.column_set.specs.Columns.{HasDistinctKeys, IsSmall};
 
 use crate::keys::{KeySet, MOST_KEYS};
 use crate::name::Name;
@@ -87,7 +87,7 @@ impl TableSets {
     pub fn columns(&self) -> u32
         ensures value { result ≡ length self.now.columns }
         ensures narrow { result ≤ 1024 }
-        ensures different { AllByRecursion (λ column. IsDistinct bytes_eq column.keys) self.now.columns }
+        ensures different { HasDistinctKeys self.now }
     {
         self.sets.len() as u32
     }
@@ -130,11 +130,11 @@ impl TableSets {
         self.sets[place as usize - 1].len() as u32
     }
 
-    /// A key of the column at a place, counted from 1, by its index in order of first sight, from 0.
+    /// A key of the column at a place, counted from 1, by its index in order of first sight, from 0, and an empty text past the
+    /// last.
     pub fn key(&self, place: u32, i: u32) -> &str
         requires low { 0 < place }
         requires high { place ≤ length self.now.columns }
-        requires index { i < length (keys_at self.now place) }
         ensures { result.now ≡ get_or (keys_at self.now place) i [] }
     {
         self.sets[place as usize - 1].key(i)

@@ -3,7 +3,7 @@ use Rattle.std.specs.Prelude.{sum_by}
 use Rattle.std.specs.declared.alloc.Global.{Global}
 use Rattle.std.proofs.lemmas.List.{length-map}
 use Rattle.lake_model.specs.Records.{table_of, text_size}
-use Rattle.lake_model.specs.Tables.{Table, Titles, members, titles_with}
+use Rattle.lake_model.specs.Tables.{Table, Titles, members}
 use Rattle.column_set.specs.Columns.{table_from}
 use Rattle.column_set.proofs.ColumnLemmas.{as_many_read, held_read, table_read}
 use Rattle.column_set.proofs.SizeLemmas.{members-size}
