@@ -1,14 +1,14 @@
 -- A table from its titles and the sets of its columns: how many columns it has, its titles, the set at a place, and the sums.
-use Rattle.std.proofs.Common.{◌≡◌, refl, ap, sym, ◌∙◌, ℕ, zero, suc, ◌+◌, ◌-◌, ◌<◌, ◌≤◌, List, [], ◌∷◌, map, length, arith, drop, get_or, subst}
+use Rattle.std.proofs.Common.{◌≡◌, refl, ap, sym, ◌∙◌, ℕ, zero, suc, ◌-◌, ◌<◌, ◌≤◌, List, [], ◌∷◌, map, length, arith, drop, get_or, subst}
 use Rattle.std.specs.Prelude.{bytes_eq, sum_by}
 use Rattle.std.specs.List.{AllByRecursion, IsDistinct}
 use Rattle.std.proofs.lemmas.List.FromFn.{length-map-range_with_len}
 use Rattle.std.proofs.lemmas.List.Sums.{sum_by-cons}
 use Rattle.lake_model.specs.Texts.{Text}
 use Rattle.lake_model.specs.Records.{Record, column_at, column_count, field_at, field_keys, places_of, table_of}
-use Rattle.lake_model.specs.Tables.{Column, Table, Titles, column_with, table_with, titles_of, titles_with, sets_of, keys_at, members, key_bytes}
+use Rattle.lake_model.specs.Tables.{Column, Table, Titles, column_with, table_with, titles_of, titles_with, keys_at, members, key_bytes}
 use Rattle.column_set.proofs.DistinctLemmas.{distinct_differ}
-use Rattle.column_set.specs.Columns.{IsHeld, IsSmall, columns_with, table_from}
+use Rattle.column_set.specs.Columns.{HasDistinctKeys, IsHeld, IsSmall, columns_with, table_from}
 
 length-columns_with : (names : List Text) (sets : List (List Text)) → length names ≡ length sets → length (columns_with names sets) ≡ length sets
 length-columns_with [] sets h = h
@@ -68,10 +68,8 @@ module _ {titles : Titles} {sets : List (List Text)} {members key_bytes : ℕ} (
   pub columns_held : length table.columns ≡ length sets
   columns_held = ap (λ t. length t.columns) (sym is) ∙ length-columns_with titles.columns sets held.as_many
 
-  pub different_held : AllByRecursion (λ column. IsDistinct bytes_eq column.keys) table.columns
-  different_held =
-      let P : Table → Type 0 = λ t. AllByRecursion (λ column. IsDistinct bytes_eq column.keys) t.columns in
-      subst P is (all-columns_with (IsDistinct bytes_eq) titles.columns sets held.different)
+  pub different_held : HasDistinctKeys table
+  different_held = subst HasDistinctKeys is (all-columns_with (IsDistinct bytes_eq) titles.columns sets held.different)
 
   pub titles_held : titles ≡ titles_of table
   titles_held = sym (ap (titles_with titles.table) (names-columns_with titles.columns sets held.as_many)) ∙ ap titles_of is

@@ -1,16 +1,12 @@
 -- The lines of a body, the first one cut off, and what the query is and is refused for, line by line.
-use Rattle.std.proofs.Common.{◌≡◌, ◌<◌, ◌≤◌, ◌+◌, ℕ, suc, List, [], ◌∷◌, ◌++◌, length, Option, Some, None, Bool, true, false, refl, sym, ap, ◌∙◌, arith, inl, inr, drop, take, suc-add, subst}
-use Rattle.std.specs.Prelude.{◌==◌, fold, nat_lt, position}
-use Rattle.std.specs.Option.{option_map_or}
-use Rattle.std.specs.List.{cons_option, filter_map, position_or_len}
+use Rattle.std.proofs.Common.{◌≡◌, ◌<◌, ◌≤◌, ◌+◌, ℕ, suc, List, [], ◌∷◌, ◌++◌, length, Some, None, true, false, refl, ap, arith, inl, inr, drop, take, suc-add, subst}
+use Rattle.std.specs.Prelude.{◌==◌, nat_lt, position}
+use Rattle.std.specs.List.{position_or_len}
 use Rattle.std.specs.Str.{is_utf8}
 use Rattle.std.proofs.lemmas.Bool.{cases_Bool, ltb-false, ltb-true}
 use Rattle.std.proofs.lemmas.Option.{same_Some}
-use Rattle.std.proofs.lemmas.List.{drop_all, take_all}
 use Rattle.lake_model.specs.declared.QueryRefused.TheVariants as query
 use Rattle.lake_model.specs.Texts.{Text, Lines, lines_with, lines_of, last_line, all_lines}
-use Rattle.lake_model.specs.Keys.{key}
-use Rattle.lake_model.specs.Tables.{add_key}
 use Rattle.lake_model.specs.Queries.{line_fault}
 
 pub no_lines : all_lines [] ≡ []

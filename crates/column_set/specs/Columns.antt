@@ -13,7 +13,11 @@ columns_with (name ∷ names) (keys ∷ sets) = column_with name keys ∷ column
 abbrev pub table_from : Titles → List (List Text) → Table
 table_from titles sets = table_with titles.table (columns_with titles.columns sets)
 
--- a set of as many keys as a column may have
+-- no column has a key twice
+abbrev pub HasDistinctKeys : Table → Type 0
+HasDistinctKeys table = AllByRecursion (λ column. IsDistinct bytes_eq column.keys) table.columns
+
+-- a set of no more keys than a column may have
 abbrev pub IsSmall : List Text → Type 0
 IsSmall keys = length keys ≤ 4194304
 

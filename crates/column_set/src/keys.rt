@@ -1,5 +1,5 @@
 //! A set of keys, each once and in order of first sight, which the sets of columns and of queries are made of.
-ghost use Rattle.std.specs.Prelude.{◌≡◌, ◌^◌, ◌<◌, ◌≤◌, List, [], bytes_eq, count_by, get_or, length, map, string_bytes, sum_by, IfSome, OnOk};
+ghost use Rattle.std.specs.Prelude.{◌≡◌, ◌^◌, ◌<◌, ◌≤◌, List, [], bytes_eq, count_by, get_or, length, map, string_bytes, sum_by, IfNone, IfSome, OnOk};
 ghost use Rattle.std.specs.List.{list_any, IsDistinct};
 ghost use Rattle.std.specs.Option.{option_map_or};
 ghost use Rattle.lake_model.specs.Keys.{key};
@@ -60,12 +60,14 @@ impl KeySet {
         self.keys.len()
     }
 
-    /// A key, by its index in order of first sight, from 0.
+    /// A key, by its index in order of first sight, from 0, and an empty text past the last.
     pub fn key(&self, i: u32) -> &str
-        requires { i < length self.now }
         ensures { result.now ≡ get_or self.now i [] }
     {
-        self.keys.as_slice()[i as usize].as_str()
+        match self.keys.get_index(i as usize) {
+            Some(key) => key.as_str(),
+            None => "",
+        }
     }
 
     /// Whether the key is there.
@@ -99,7 +101,8 @@ impl KeySet {
 
     /// How many bytes all keys have together, and `None` only where these are 2^64 or more.
     pub fn byte_count(&self) -> Option<u64>
-        ensures { IfSome result (λ count. count ≡ sum_by length self.now) }
+        ensures count { IfSome result (λ count. count ≡ sum_by length self.now) }
+        ensures too_many { IfNone result (2 ^ 64 ≤ sum_by length self.now) }
     {
         byte_count(self.keys.as_slice())
     }
@@ -113,9 +116,10 @@ fn count_in(texts: &[String], keys: &KeySet) -> u32
     texts.iter().filter(|text| keys.has(text.as_str())).count() as u32
 }
 
-// How many bytes the texts have together.
+// How many bytes the texts have together, and `None` only where these are 2^64 or more.
 fn byte_count(texts: &[String]) -> Option<u64>
-    ensures { IfSome result (λ count. count ≡ sum_by (λ text. length (string_bytes text)) texts.now) }
+    ensures count { IfSome result (λ count. count ≡ sum_by (λ text. length (string_bytes text)) texts.now) }
+    ensures too_many { IfNone result (2 ^ 64 ≤ sum_by (λ text. length (string_bytes text)) texts.now) }
 {
     let mut count = 0u64;
     for text in texts {

@@ -1,9 +1,9 @@
 //! A table as its titles and the sets of keys of its columns, and the same table shared.
-ghost use Rattle.std.specs.Prelude.{◌≡◌, ◌⊎◌, ◌<◌, ◌≤◌, [], bytes_eq, get_or, length, map, string_bytes, sum_by, IfErr, IfOk, IfSome, None, OnOk, Some};
+ghost use Rattle.std.specs.Prelude.{◌≡◌, ◌⊎◌, ◌<◌, ◌≤◌, ◌^◌, [], bytes_eq, get_or, length, map, string_bytes, sum_by, IfErr, IfNone, IfOk, IfSome, None, OnOk, Some};
 ghost use Rattle.std.specs.List.{AllByRecursion, IsDistinct};
 ghost use Rattle.lake_model.specs.Records.{column_at, column_count, field_at, places_of, sets_fault, table_of, text_size};
 ghost use Rattle.lake_model.specs.Tables.{column_name, has_key, keys_at, titles_of};
-ghost use Rattle.column_set.specs.Columns.{IsSmall};
+ghost use Rattle.column_set.specs.Columns.{HasDistinctKeys, IsSmall};
 
 use crate::keys::{KeySet, MOST_KEYS};
 use crate::name::Name;
@@ -87,7 +87,7 @@ impl TableSets {
     pub fn columns(&self) -> u32
         ensures value { result ≡ length self.now.columns }
         ensures narrow { result ≤ 1024 }
-        ensures different { AllByRecursion (λ column. IsDistinct bytes_eq column.keys) self.now.columns }
+        ensures different { HasDistinctKeys self.now }
     {
         self.sets.len() as u32
     }
@@ -130,11 +130,11 @@ impl TableSets {
         self.sets[place as usize - 1].len() as u32
     }
 
-    /// A key of the column at a place, counted from 1, by its index in order of first sight, from 0.
+    /// A key of the column at a place, counted from 1, by its index in order of first sight, from 0, and an empty text past the
+    /// last.
     pub fn key(&self, place: u32, i: u32) -> &str
         requires low { 0 < place }
         requires high { place ≤ length self.now.columns }
-        requires index { i < length (keys_at self.now place) }
         ensures { result.now ≡ get_or (keys_at self.now place) i [] }
     {
         self.sets[place as usize - 1].key(i)
@@ -223,7 +223,8 @@ fn member_count(sets: &[KeySet]) -> u64
 
 // How many bytes the keys of the sets have together, and `None` only where these are 2^64 or more.
 fn key_byte_count(sets: &[KeySet]) -> Option<u64>
-    ensures { IfSome result (λ count. count ≡ sum_by (λ keys. sum_by length keys) sets.now) }
+    ensures count { IfSome result (λ count. count ≡ sum_by (λ keys. sum_by length keys) sets.now) }
+    ensures too_many { IfNone result (2 ^ 64 ≤ sum_by (λ keys. sum_by length keys) sets.now) }
 {
     let mut count = 0u64;
     for keys in sets {

@@ -53,7 +53,7 @@ fn shared_values(rt: HostRuntime) -> Result<(), Fail> {
     assert_eq!(rt; cities.overlap(2, &query), 2);
     assert_eq!(rt; cities.overlap(2, &one), 1);
     assert_eq!(rt; cities.size(2), 2);
-    assert!(rt; cities.key(2, 0) == "rome" && cities.key(2, 1) == "oslo");
+    assert!(rt; cities.key(2, 0) == "rome" && cities.key(2, 1) == "oslo" && cities.key(2, 2) == "");
     assert!(rt; cities.has(2, "oslo") && !cities.has(1, "oslo"));
     let shared = SharedTable::new(alloc, cities)?;
     let other = shared.share()?;

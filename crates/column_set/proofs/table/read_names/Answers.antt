@@ -1,9 +1,8 @@
-use Rattle.std.proofs.Common.{◌≡◌, ◌∙◌, List, ◌++◌, ◌∷◌, [], ap, map, refl, string_bytes, sym}
+use Rattle.std.proofs.Common.{◌≡◌, ◌∙◌, ◌++◌, ◌∷◌, [], ap, map, string_bytes, sym}
 use Rattle.std.specs.declared.alloc.Global.{Global}
 use Rattle.std.proofs.lemmas.List.{map-append}
 use Rattle.std.proofs.lemmas.List.FromFn.{map-range_with_len_more}
-use Rattle.std.proofs.Common.{ℕ, ◌+◌, arith}
-use Rattle.lake_model.specs.Texts.{Text}
+use Rattle.std.proofs.Common.{◌+◌, arith}
 use Rattle.lake_model.specs.Records.{field_at}
 use Rattle.column_set.proofs.table.read_names.Goals as goal
 

@@ -1,9 +1,8 @@
-use Rattle.std.proofs.Common.{◌≡◌, ◌∙◌, ◌<◌, ◌≤◌, ◌+◌, ℕ, List, ◌++◌, ◌∷◌, [], Bool, true, false, ap, arith, inr, length, map, refl, sym}
+use Rattle.std.proofs.Common.{◌≡◌, ◌∙◌, ◌<◌, ◌+◌, ◌++◌, ◌∷◌, [], true, false, ap, arith, inr, length, sym}
 use Rattle.std.specs.Prelude.{nat_lt, not}
 use Rattle.std.specs.Result.{is_ok}
 use Rattle.std.proofs.lemmas.Bool.{le-ltb, lt-ltb}
 use Rattle.std.proofs.lemmas.List.FromFn.{length-map-range_with_len, map-range_with_len_more}
-use Rattle.lake_model.specs.Texts.{Text}
 use Rattle.lake_model.specs.Records.{column_at, column_count}
 use Rattle.column_set.specs.Columns.{IsSmall}
 use Rattle.column_set.proofs.ReadLemmas.{all-more, fault_behind-here, fault_behind-later}

@@ -1,5 +1,5 @@
-use Rattle.std.proofs.Common.{◌≡◌, ◌∙◌, ap, sym, map, string_bytes, length, List, ℕ}
-use Rattle.std.specs.Prelude.{sum_by, IfSome}
+use Rattle.std.proofs.Common.{◌≡◌, string_bytes, length}
+use Rattle.std.specs.Prelude.{sum_by}
 use Rattle.std.specs.declared.alloc.Global.{Global}
 use Rattle.lake_model.specs.Texts.{Text}
 use Rattle.column_set.proofs.TextLemmas.{sum_by-map}

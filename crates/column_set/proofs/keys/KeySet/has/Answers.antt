@@ -1,4 +1,4 @@
-use Rattle.std.proofs.Common.{◌≡◌, ◌∙◌, sym, ap, List, string_bytes}
+use Rattle.std.proofs.Common.{◌∙◌, sym, ap, List, string_bytes}
 use Rattle.std.specs.Prelude.{bytes_eq}
 use Rattle.lake_model.specs.Texts.{Text}
 use Rattle.lake_model.specs.Tables.{has_key}

@@ -1,4 +1,4 @@
-use Rattle.std.proofs.Common.{◌≡◌, ◌∙◌}
+use Rattle.std.proofs.Common.{◌∙◌}
 use Rattle.column_set.proofs.OverlapLemmas.{overlap_both_ways}
 use Rattle.column_set.proofs.keys.KeySet.overlap.Goals as goal
 

@@ -1,4 +1,4 @@
-use Rattle.std.proofs.Common.{◌≡◌, ◌∙◌, ap}
+use Rattle.std.proofs.Common.{◌∙◌, ap}
 use Rattle.lake_model.specs.Tables.{is_name}
 use Rattle.column_set.proofs.AsciiLemmas.{name_is_text}
 use Rattle.column_set.proofs.name.Name.text.Goals as goal

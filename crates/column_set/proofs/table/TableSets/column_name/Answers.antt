@@ -1,4 +1,4 @@
-use Rattle.std.proofs.Common.{◌≡◌, ◌≤◌, ◌∙◌, ap, length}
+use Rattle.std.proofs.Common.{◌∙◌, ap}
 use Rattle.lake_model.specs.Tables.{Titles, column_name}
 use Rattle.column_set.proofs.ColumnLemmas.{name_held, titles_held}
 use Rattle.column_set.proofs.table.TableSets.column_name.Goals as goal

@@ -1,4 +1,4 @@
-use Rattle.std.proofs.Common.{◌≡◌, arith}
+use Rattle.std.proofs.Common.{arith}
 use Rattle.column_set.proofs.ColumnLemmas.{columns_held, different_held}
 use Rattle.column_set.proofs.table.TableSets.columns.Goals as goal
 

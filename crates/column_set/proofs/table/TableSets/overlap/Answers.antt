@@ -1,4 +1,4 @@
-use Rattle.std.proofs.Common.{◌≡◌, ◌≤◌, ◌∙◌, ap, arith}
+use Rattle.std.proofs.Common.{◌∙◌, ap, arith}
 use Rattle.lake_model.specs.Tables.{overlap}
 use Rattle.column_set.proofs.ColumnLemmas.{keys_held, place_held, small_held}
 use Rattle.column_set.proofs.table.TableSets.overlap.Goals as goal

@@ -1,4 +1,4 @@
-use Rattle.std.proofs.Common.{◌≡◌, ◌≤◌, ◌∙◌, ap, arith, length}
+use Rattle.std.proofs.Common.{◌∙◌, ap, arith, length}
 use Rattle.column_set.proofs.ColumnLemmas.{keys_held, place_held, small_held}
 use Rattle.column_set.proofs.table.TableSets.size.Goals as goal
 
