@@ -45,3 +45,9 @@ answer tables query k except = take k (in_order row_cmp (all_rows tables query e
 -- the row at a place of a titled table
 abbrev pub row_at : ℕ → Titles → ℕ → Row
 row_at overlap titles place = record { overlap = overlap; table = titles.table; column = column_name titles place; place = place }
+
+-- what is asked: the keys, how many rows, and the name of a table that is left out
+pub record Query : Type 0 where
+  pub keys : List Text
+  pub k : ℕ
+  pub except : Option Text

@@ -61,3 +61,7 @@ who_with caller command = record { caller = caller; command = command }
 
 abbrev pub entry_with : Who → What → Entry
 entry_with who what = record { who = who; what = what }
+
+-- the limits of a lake as it is shipped
+abbrev pub standard_limits : Counts
+standard_limits = record { live = 65536; updates = 1048576; members = 16777216; key_bytes = 1073741824 }

@@ -6,5 +6,6 @@ pub mod Queries
 pub mod Sorting
 pub mod Answer
 pub mod Journal
+pub mod Limits
 pub mod Layout
 pub mod Plan

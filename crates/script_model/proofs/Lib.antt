@@ -1,7 +1,11 @@
 pub mod ScriptLemmas
+pub mod InTurnLemmas
 pub mod RightLemmas
 pub mod PlayLemmas
 pub mod StepLemmas
 pub mod GatherLemmas
 pub mod ProgressLemmas
+pub mod LegalLemmas
 pub mod PlayedLemmas
+pub mod LimitLemmas
+mod WorkedRuns

@@ -1,7 +1,7 @@
 -- What is played is right.
-use Rattle.std.proofs.Common.{◌≡◌, refl, ap, sym, ◌∙◌, subst, ℕ, ◌+◌, ◌-◌, ◌<◌, ◌≤◌, List, [], ◌∷◌, ◌++◌, append_assoc, map, Bool, true, false, length, take, drop, cond, arith, length-append, ◌⊎◌, inl, inr}
-use Rattle.std.specs.Prelude.{◌==◌, ⊤, Option, Some, None, find, slice_get, not}
-use Rattle.std.specs.List.{AllByRecursion, enumerate_from, filter, flat_map}
+use Rattle.std.proofs.Common.{◌≡◌, refl, ap, sym, ◌∙◌, subst, ℕ, ◌+◌, ◌-◌, ◌≤◌, List, [], ◌∷◌, ◌++◌, append_assoc, map, Bool, true, false, length, take, cond, arith, length-append, ◌⊎◌, inl, inr}
+use Rattle.std.specs.Prelude.{◌==◌, Option, Some, None, find, slice_get, not}
+use Rattle.std.specs.List.{AllByRecursion}
 use Rattle.std.proofs.lemmas.List.{take-append-le, append-nil}
 use Rattle.std.proofs.Math.Seq.{take-append_seam}
 use Rattle.std.proofs.lemmas.Grind.{flat_map-append}
@@ -14,17 +14,18 @@ use Rattle.lake_model.specs.declared.SetRefused.TheVariants as sets
 use Rattle.lake_model.specs.declared.QueryRefused.{QueryRefused}
 use Rattle.lake_model.specs.declared.QueryRefused.TheVariants as query
 use Rattle.std.proofs.lemmas.Bool.Decides.{nat_tests}
-use Rattle.script_model.proofs.RightLemmas.{rises_le, rises_up, rises_on, all_placed_stay, accepted_stay, own_entries_more, all_append}
+use Rattle.script_model.proofs.RightLemmas.{rises_on, all_placed_stay, accepted_stay, own_entries_more, all_append}
 use Rattle.lake_model.specs.Texts.{Text}
 use Rattle.lake_model.specs.Tables.{Table, Column, members}
 use Rattle.lake_model.specs.Journal.{What, Entry, is_live, live_table, counts, entry_with}
+use Rattle.lake_model.specs.Limits.{Bounded, is_passed, load_bounds, drop_bounds}
 use Rattle.lake_model.specs.Layout.{Part, layout, unmarked_of}
-use Rattle.lake_model.specs.Plan.{planned_parts, plan, plan_of}
+use Rattle.lake_model.specs.Plan.{planned_parts, plan_of}
 use Rattle.script_model.specs.Commands.{Task, Load, LoadFile, DropTable, Tables, Search, Like, Merge, Command}
-use Rattle.script_model.specs.Replies.{Reply, NoMemory, Repeated, Unknown, Loaded, Dropped, fault_reply, Fault, FileFault, OfCsv, OfSets, OfQuery, OfFile, FailedFault, MissingFault, TooLongFault, csv_reply, sets_reply, query_reply, file_reply, Bounded, is_passed, load_bounds, drop_bounds, unless_lake_full, load_reply, drop_reply, like_table, like_column, merge_planned, merge_gone, merge_reply, is_present}
-use Rattle.script_model.specs.Answered.{TableRead, IsTable, NoTable, QueryRead, IsQuery, NoQuery, file_read, load_answer, search_answer, policy_of, loads, swaps, table_read, query_read, answer_to, change_of, has_pin, Standing, Nowhere, Saw, Added, PlannedAndSaw, PlannedAndAdded, standing, adds, is_accepted}
+use Rattle.script_model.specs.Replies.{Reply, NoMemory, Repeated, Unknown, Loaded, Dropped, fault_reply, Fault, FileFault, OfCsv, OfSets, OfQuery, OfFile, FailedFault, MissingFault, TooLongFault, csv_reply, sets_reply, query_reply, file_reply, unless_lake_full, drop_reply, like_table, like_column, merge_planned, merge_gone, is_present}
+use Rattle.script_model.specs.Answered.{TableRead, IsTable, NoTable, QueryRead, IsQuery, NoQuery, file_read, load_answer, search_answer, policy_of, loads, swaps, table_read, query_read, answer_to, change_of, has_pin, Standing, Nowhere, Saw, Added, PlannedAndSaw, PlannedAndAdded, standing, is_accepted}
 use Rattle.script_model.specs.Play.{Done, done_with, who_of, entries_of, reply_or_denied}
-use Rattle.script_model.specs.Right.{Moment, moments, moments_by, IsBehind, Rises, pinned_by, made_by, answer_by, IsPlaced, IsUnplaced, own_entries, entries_by, at_position, accepted, IsRight}
+use Rattle.script_model.specs.Right.{Moment, moments, moments_by, Rises, IsPlaced, IsUnplaced, own_entries, entries_by, at_position, accepted, IsRight}
 
 -- ---- what the reply to a command can be
 

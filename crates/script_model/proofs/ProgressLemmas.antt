@@ -1,23 +1,22 @@
 -- A whole order leaves no command undone, and no lane loses one.
-use Rattle.std.proofs.Common.{◌≡◌, refl, ap, sym, ◌∙◌, subst, ℕ, zero, suc, ◌+◌, ◌-◌, ◌*◌, ◌<◌, ◌≤◌, List, [], ◌∷◌, ◌++◌, append_assoc, map, Bool, true, false, length, take, drop, cond, arith, get_or, length-append, replicate, ◌⊎◌, inl, inr}
+use Rattle.std.proofs.Common.{◌≡◌, refl, ap, sym, ◌∙◌, subst, ℕ, zero, suc, ◌+◌, ◌-◌, ◌*◌, ◌<◌, ◌≤◌, List, [], ◌∷◌, ◌++◌, append_assoc, map, Bool, true, false, length, take, cond, arith, get_or, length-append, replicate, ◌⊎◌, inl, inr}
 use Rattle.std.specs.Prelude.{◌==◌, Option, Some, None, slice_get, slice_set, filter, zip, nat_lt, nat_le}
-use Rattle.std.specs.List.{fold, flat_map, range_with_len, AllByRecursion, count_by}
-use Rattle.std.proofs.lemmas.List.{append-nil, map-append, length-set, get_or-map, take-append-le}
+use Rattle.std.specs.List.{fold, flat_map, range_with_len, AllByRecursion}
+use Rattle.std.proofs.lemmas.List.{append-nil, map-append, length-set}
 use Rattle.std.proofs.lemmas.List.Elements.{filter-append}
 use Rattle.std.proofs.lemmas.List.Sums.{length-filter, count_by-le-length}
-use Rattle.std.proofs.Math.Seq.{take-append_seam}
-use Rattle.script_model.proofs.StepLemmas.{LaneIs, LanesAre, PlayIs, batch_right}
+use Rattle.script_model.proofs.StepLemmas.{LanesAre, batch_right}
 use Rattle.script_model.proofs.GatherLemmas.{AreLists, gathered_commands, gathered_lane}
 use Rattle.std.proofs.lemmas.Bool.Decides.{nat_tests}
 use Rattle.std.proofs.lemmas.Grind.{flat_map-append}
 use Rattle.lake_model.specs.declared.Counts.{Counts}
-use Rattle.script_model.specs.Right.{IsRight, IsBatchRight, done_of, between}
+use Rattle.script_model.specs.Right.{IsRight, done_of}
 use Rattle.lake_model.specs.Journal.{Entry}
 use Rattle.script_model.specs.Commands.{Command, Batch}
 use Rattle.script_model.specs.Replies.{Reply}
 use Rattle.script_model.specs.Answered.{answer_to, has_pin}
-use Rattle.script_model.specs.Play.{Done, done_with, Lane, lane_with, Play, play_with, reply_or_denied, answered, step_of, lane_step, step_at, step, play, with_denials, whole_order, lane_of, lanes_of, play_batch, gathered, answers_of, who_of}
-use Rattle.script_model.specs.Record.{Answered, answered_with}
+use Rattle.script_model.specs.Play.{Done, done_with, Lane, lane_with, Play, play_with, reply_or_denied, step_of, lane_step, step_at, step, play, with_denials, whole_order, lane_of, lanes_of, play_batch, gathered, answers_of, who_of}
+use Rattle.script_model.specs.Record.{Answered}
 
 abbrev commands_in : List Done → List Command
 commands_in done = map (λ (d : Done). d.command) done

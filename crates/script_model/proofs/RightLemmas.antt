@@ -1,7 +1,7 @@
 -- A lane's answers stay right when others go on, and two lists of answers in a row are right together.
-use Rattle.std.proofs.Common.{◌≡◌, refl, ap, sym, ◌∙◌, subst, ℕ, ◌+◌, ◌-◌, ◌<◌, ◌≤◌, List, [], ◌∷◌, ◌++◌, append_assoc, map, Bool, true, false, length, take, cond, arith, length-append, ◌⊎◌}
-use Rattle.std.specs.Prelude.{◌==◌, ⊤}
-use Rattle.std.specs.List.{AllByRecursion, enumerate_from, filter, flat_map}
+use Rattle.std.proofs.Common.{◌≡◌, refl, ap, sym, ◌∙◌, subst, ℕ, ◌+◌, ◌-◌, ◌≤◌, List, [], ◌∷◌, ◌++◌, append_assoc, Bool, true, false, length, take, cond, arith, length-append}
+use Rattle.std.specs.Prelude.{◌==◌}
+use Rattle.std.specs.List.{AllByRecursion, enumerate_from, filter}
 use Rattle.std.proofs.lemmas.List.{take-append-le, append-nil}
 use Rattle.std.proofs.lemmas.List.Elements.{filter-append}
 use Rattle.std.proofs.lemmas.Grind.{flat_map-append}

@@ -1,19 +1,19 @@
 -- A script may be read a piece at a time, and a line at a time.
-use Rattle.std.proofs.Common.{◌≡◌, refl, ap, sym, ◌∙◌, subst, ℕ, zero, suc, ◌+◌, ◌-◌, ◌<◌, ◌≤◌, List, [], ◌∷◌, ◌++◌, append_assoc, map, Bool, true, false, length, take, drop, cond, arith, length-append}
-use Rattle.std.specs.Prelude.{◌==◌, nat_lt, nat_le, Option, Some, None, ⊤}
-use Rattle.std.specs.List.{fold, AllByRecursion}
+use Rattle.std.proofs.Common.{◌≡◌, refl, ap, sym, ◌∙◌, ℕ, ◌+◌, ◌-◌, ◌≤◌, List, [], ◌∷◌, ◌++◌, append_assoc, Bool, true, false, length, take, cond, arith, length-append}
+use Rattle.std.specs.Prelude.{◌==◌, nat_lt, Option, Some, None, ⊤}
+use Rattle.std.specs.List.{AllByRecursion}
 use Rattle.std.proofs.lemmas.List.{append-nil, take_all}
 use Rattle.std.proofs.lemmas.List.Sums.{fold-append}
 use Rattle.std.proofs.Math.Seq.{take-append-add}
 use Rattle.std.proofs.lemmas.Bool.Decides.{nat_tests}
 use Rattle.script_model.specs.declared.Reason.{Reason}
 use Rattle.script_model.specs.declared.Reason.TheVariants as reason
-use Rattle.lake_model.specs.Texts.{Text, Lines, lines_with, onto_first, onto_lines, lines_of}
+use Rattle.lake_model.specs.Texts.{Text, Lines, lines_with, onto_lines, lines_of}
 use Rattle.script_model.specs.Numbers.{without_return}
-use Rattle.script_model.specs.Reading.{Grammar, Open, Reading, Reached, Stands, AtFault, LinesRead, read_with, Turn, Goes, Gives, Fails, turned, turn_of, read_more, read, counted, unless_batch_full, does, with_command, opened, fetched, file_size, next_file, batch_ended, unless_fault, line_fault, body_fault, line_in, is_end, body_after, with_body, block_ended}
-use Rattle.script_model.specs.Commands.{Batch, File, Task}
-use Rattle.script_model.specs.Saying.{Said, Nothing, Wrong, Sync, Does, Opens, Fetches, Front}
-use Rattle.script_model.specs.Script.{Commands, commands_with, commands_from, read_from, ended, within, FaultAt, Whole, End, start, begun_fault, unless_begun_fault, last_turn, end_turned, at_end, last_batch}
+use Rattle.script_model.specs.Reading.{Grammar, Open, Reading, Reached, Stands, AtFault, LinesRead, read_with, Turn, Goes, Gives, Fails, turned, turn_of, read_more, read, counted, does, with_command, opened, fetched, file_size, next_file, unless_fault, line_fault, body_fault, line_in, is_end, body_after, with_body, block_ended}
+use Rattle.script_model.specs.Commands.{Batch}
+use Rattle.script_model.specs.Saying.{Said, Nothing, Wrong, Sync, Does, Opens, Fetches}
+use Rattle.script_model.specs.Script.{Commands, commands_with, commands_from, ended, FaultAt, Whole, begun_fault, unless_begun_fault, last_turn, end_turned, at_end, last_batch}
 
 -- ---- lines
 

@@ -1,19 +1,18 @@
 -- Each step of a play keeps every lane right.
-use Rattle.std.proofs.Common.{◌≡◌, refl, ap, sym, ◌∙◌, subst, ℕ, zero, suc, ◌+◌, ◌-◌, ◌<◌, ◌≤◌, List, [], ◌∷◌, ◌++◌, append_assoc, map, Bool, true, false, length, take, drop, cond, arith, length-append}
+use Rattle.std.proofs.Common.{◌≡◌, refl, ap, sym, ◌∙◌, subst, ℕ, zero, suc, ◌+◌, ◌<◌, ◌≤◌, List, [], ◌∷◌, ◌++◌, append_assoc, map, Bool, true, false, length, take, cond, arith, length-append}
 use Rattle.std.specs.Prelude.{◌==◌, ⊤, Option, Some, None, slice_get, slice_set, filter}
 use Rattle.std.specs.List.{AllByRecursion, fold, range_with_len}
 use Rattle.std.proofs.lemmas.List.{append-nil, length-take-le}
 use Rattle.std.proofs.Math.Seq.{take-append_seam}
 use Rattle.std.proofs.lemmas.Bool.Decides.{nat_tests}
-use Rattle.lake_model.specs.declared.Who.{Who}
 use Rattle.lake_model.specs.declared.Counts.{Counts}
-use Rattle.script_model.proofs.RightLemmas.{AreOthers, right_stays, rises_up}
-use Rattle.script_model.proofs.PlayLemmas.{Fits, IsPrefix, reply_fits, right_step}
+use Rattle.script_model.proofs.RightLemmas.{AreOthers, right_stays}
+use Rattle.script_model.proofs.PlayLemmas.{IsPrefix, reply_fits, right_step}
 use Rattle.lake_model.specs.Journal.{What, Entry, entry_with}
 use Rattle.script_model.specs.Commands.{Command, Batch}
 use Rattle.script_model.specs.Replies.{Reply}
 use Rattle.script_model.specs.Answered.{answer_to, adds, has_pin}
-use Rattle.script_model.specs.Play.{Done, done_with, Lane, lane_with, Play, play_with, who_of, entries_of, reply_or_denied, answered, step_of, lane_step, step_at, step, play, with_denials, lane_of, lanes_of, play_batch, whole_order}
+use Rattle.script_model.specs.Play.{done_with, Lane, lane_with, Play, play_with, who_of, entries_of, reply_or_denied, answered, step_of, lane_step, step_at, step, play, with_denials, lane_of, lanes_of, play_batch}
 use Rattle.script_model.specs.Right.{Moment, moments, Rises, IsRight}
 
 abbrev pub PinIs : ℕ → List Moment → ℕ → Option ℕ → Type 0

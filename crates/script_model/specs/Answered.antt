@@ -1,5 +1,5 @@
 -- What each command is answered, what it adds to the journal, and the positions that its reply shows.
-use Rattle.std.specs.Prelude.{ℕ, ◌+◌, ◌-◌, Bool, true, false, List, [], ◌∷◌, ◌++◌, length, map, take, if◌then◌else◌, Option, Some, None}
+use Rattle.std.specs.Prelude.{ℕ, Bool, true, false, List, [], ◌∷◌, if◌then◌else◌, Option, Some, None}
 use Rattle.lake_model.specs.declared.Policy.{Policy}
 use Rattle.lake_model.specs.declared.Policy.TheVariants.{Tier, All}
 use Rattle.lake_model.specs.declared.Counts.{Counts}
@@ -12,9 +12,10 @@ use Rattle.lake_model.specs.Records.{Record, records_of, csv_fault, sets_fault, 
 use Rattle.lake_model.specs.Queries.{query_of, query_fault}
 use Rattle.lake_model.specs.Journal.{What, Entry}
 use Rattle.lake_model.specs.Journal as journal
+use Rattle.lake_model.specs.Answer.{Query}
 use Rattle.lake_model.specs.Plan.{plan}
 use Rattle.script_model.specs.Commands.{File, Bytes, Failed, Missing, TooLong, Task, Load, LoadFile, DropTable, Tables, Search, Like, Merge}
-use Rattle.script_model.specs.Replies.{Shown, Reply, Loaded, Dropped, Listed, Found, Merged, Repeated, Unknown, NoColumn, Full, NothingToMerge, Stale, NoMemory, Fault, OfCsv, OfSets, OfQuery, OfFile, FailedFault, MissingFault, TooLongFault, fault_reply, Query, load_reply, drop_reply, tables_reply, search_reply, like_reply, merge_reply}
+use Rattle.script_model.specs.Replies.{Reply, Loaded, Dropped, Listed, Found, Merged, Repeated, Unknown, NoColumn, Full, NothingToMerge, Stale, Fault, OfCsv, OfSets, OfQuery, OfFile, FailedFault, MissingFault, TooLongFault, fault_reply, load_reply, drop_reply, tables_reply, search_reply, like_reply, merge_reply}
 
 -- the table of bytes, or the refusal of these bytes
 pub data TableRead : Type 0 where

@@ -8,4 +8,8 @@ pub mod Answered
 pub mod Record
 pub mod Play
 pub mod Right
+pub mod InTurn
+pub mod Merges
+pub mod PlayLaws
 pub mod Texts
+pub mod Statuses

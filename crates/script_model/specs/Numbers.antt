@@ -1,5 +1,5 @@
 -- Numbers as they are written, and the end of a line.
-use Rattle.std.specs.Prelude.{ℕ, ◌+◌, ◌-◌, ◌*◌, ◌==◌, Bool, ◌&&◌, not, if◌then◌else◌, List, length, take, fold, get_or, nat_le, Option, Some, None}
+use Rattle.std.specs.Prelude.{ℕ, ◌+◌, ◌-◌, ◌*◌, ◌==◌, Bool, ◌&&◌, not, if◌then◌else◌, length, take, fold, get_or, nat_le, Option, Some, None}
 use Rattle.std.specs.List.{list_all}
 use Rattle.lake_model.specs.Texts.{Text}
 

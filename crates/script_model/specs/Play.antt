@@ -1,13 +1,13 @@
 -- The play of batches in a stated order, one step at a time.
-use Rattle.std.specs.Prelude.{ℕ, zero, suc, ◌+◌, ◌-◌, ◌*◌, ◌==◌, ◌≡◌, Bool, true, false, List, [], ◌∷◌, ◌++◌, length, map, take, drop, filter, fold, flat_map, count_by, replicate, slice_get, slice_set, get_or, if◌then◌else◌, Option, Some, None}
+use Rattle.std.specs.Prelude.{ℕ, ◌+◌, ◌*◌, ◌==◌, ◌≡◌, Bool, true, false, List, [], ◌∷◌, ◌++◌, length, map, take, drop, filter, fold, flat_map, count_by, replicate, slice_get, slice_set, get_or, Option, Some, None}
 use Rattle.std.specs.List.{range_with_len}
 use Rattle.lake_model.specs.declared.Who.{Who}
 use Rattle.lake_model.specs.declared.Counts.{Counts}
 use Rattle.lake_model.specs.Journal.{who_with, Entry, entry_with}
-use Rattle.script_model.specs.Commands.{Task, Merge, Command, command_with, Batch}
+use Rattle.script_model.specs.Commands.{Merge, Command, command_with, Batch}
 use Rattle.script_model.specs.Replies.{Reply, NoMemory}
 use Rattle.script_model.specs.Answered.{answer_to, adds, has_pin, is_update_task}
-use Rattle.script_model.specs.Record.{Options, Answered, answered_with, RunRecord, empty}
+use Rattle.script_model.specs.Record.{Options, Answered, answered_with, RunRecord, empty, with_end}
 
 -- a command with its reply
 pub record Done : Type 0 where
@@ -138,6 +138,6 @@ pieces_of (Some pieces) = pieces
 abbrev pub played : Counts → Options → List Batch → List (List Bool) → RunRecord
 played limits options batches denials = played_from limits options.lanes options.merge 1 batches (pieces_of options.order) denials (empty options)
 
--- with memory at each step: a function of batches and pieces; else it may be wanting at any turn
+-- The record was played of these batches, with these options, where memory was wanting at some turns or at none.
 abbrev pub IsPlayed : Counts → Options → List Batch → RunRecord → Type 0
-IsPlayed limits options batches made = (denials : List (List Bool)) × (made ≡ played limits options batches denials)
+IsPlayed limits options batches made = (denials : List (List Bool)) × (made ≡ with_end made.ended (played limits options batches denials))

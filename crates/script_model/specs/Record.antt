@@ -1,5 +1,5 @@
 -- The record of a run: its journal, its answers, and the length of the journal behind each batch.
-use Rattle.std.specs.Prelude.{ℕ, Bool, true, false, List, [], Option, None}
+use Rattle.std.specs.Prelude.{ℕ, Bool, false, List, [], Option, None}
 use Rattle.lake_model.specs.declared.Who.{Who}
 use Rattle.lake_model.specs.Journal.{Entry}
 use Rattle.script_model.specs.Replies.{Reply}
@@ -32,6 +32,6 @@ pub record RunRecord : Type 0 where
 abbrev pub empty : Options → RunRecord
 empty options = record { options = options; journal = []; answers = []; syncs = []; ended = false }
 
--- the record of a run whose source was read to its end
-abbrev pub closed_record : RunRecord → RunRecord
-closed_record before = record before { ended = true }
+-- whether the source was read to its end
+abbrev pub with_end : Bool → RunRecord → RunRecord
+with_end ended made = record made { ended = ended }

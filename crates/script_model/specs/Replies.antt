@@ -1,8 +1,7 @@
 -- What each command is answered at a journal, where its bytes and its query are as they should be.
-use Rattle.std.specs.Prelude.{ℕ, ◌+◌, ◌-◌, Bool, not, nat_lt, nat_eq, ◌&&◌, List, [], ◌∷◌, length, map, find, bytes_eq, slice_get, if◌then◌else◌, Option, Some, None}
+use Rattle.std.specs.Prelude.{ℕ, ◌+◌, ◌-◌, Bool, not, nat_eq, ◌&&◌, List, [], ◌∷◌, length, map, find, bytes_eq, slice_get, if◌then◌else◌, Option, Some, None}
 use Rattle.std.specs.List.{list_any}
 use Rattle.lake_model.specs.declared.Which.{Which}
-use Rattle.lake_model.specs.declared.Which.TheVariants.{Live, Updates, Members, KeyBytes}
 use Rattle.lake_model.specs.declared.Policy.{Policy}
 use Rattle.lake_model.specs.declared.Counts.{Counts}
 use Rattle.lake_model.specs.declared.CsvRefused.{CsvRefused}
@@ -12,9 +11,10 @@ use Rattle.lake_model.specs.declared.SetRefused.TheVariants as sets
 use Rattle.lake_model.specs.declared.QueryRefused.{QueryRefused}
 use Rattle.lake_model.specs.declared.QueryRefused.TheVariants as query
 use Rattle.lake_model.specs.Texts.{Text}
-use Rattle.lake_model.specs.Tables.{Column, Table, members, key_bytes}
-use Rattle.lake_model.specs.Answer.{Row, answer}
+use Rattle.lake_model.specs.Tables.{Column, Table, members}
+use Rattle.lake_model.specs.Answer.{Row, answer, Query}
 use Rattle.lake_model.specs.Journal.{Entry, counts, live, is_live, live_table}
+use Rattle.lake_model.specs.Limits.{Bounded, is_passed, load_bounds, drop_bounds}
 use Rattle.lake_model.specs.Layout.{Part, layout, shown, unmarked_of}
 use Rattle.lake_model.specs.Plan.{planned_parts}
 
@@ -95,27 +95,6 @@ fault_reply (OfSets why) = sets_reply why
 fault_reply (OfQuery why) = query_reply why
 fault_reply (OfFile why) = file_reply why
 
--- one limit, what counts against it, and how much more would come
-pub record Bounded : Type 0 where
-  pub which : Which
-  pub count : ℕ
-  pub more : ℕ
-  pub limit : ℕ
-
-abbrev pub bounded : Which → ℕ → ℕ → ℕ → Bounded
-bounded which count more limit = record { which = which; count = count; more = more; limit = limit }
-
-abbrev pub is_passed : Bounded → Bool
-is_passed b = nat_lt b.limit (b.count + b.more)
-
--- the limits of a load and of a drop, in their order
-abbrev pub load_bounds : Counts → Table → Counts → List Bounded
-load_bounds limits table now = bounded Live now.live 1 limits.live ∷ bounded Updates now.updates 1 limits.updates
-    ∷ bounded Members now.members (members table) limits.members ∷ bounded KeyBytes now.key_bytes (key_bytes table) limits.key_bytes ∷ []
-
-abbrev pub drop_bounds : Counts → Counts → List Bounded
-drop_bounds limits now = bounded Updates now.updates 1 limits.updates ∷ []
-
 -- the first limit that would be passed, or else this
 abbrev pub unless_lake_full : ℕ → Reply → Option Bounded → Reply
 unless_lake_full at reply None = reply
@@ -134,12 +113,6 @@ drop_reply limits name journal =
 
 abbrev pub tables_reply : List Entry → Reply
 tables_reply journal = Listed (map line_of (live journal)) (length journal)
-
--- what is asked: the keys, how many rows, and a table that is left out
-pub record Query : Type 0 where
-  pub keys : List Text
-  pub k : ℕ
-  pub except : Option Text
 
 abbrev pub search_reply : Query → List Entry → Reply
 search_reply query journal = Found (length query.keys) (answer (live journal) query.keys query.k query.except) (length journal)

@@ -1,5 +1,5 @@
 -- What it is for a lane's answers, and for a record, to be right.
-use Rattle.std.specs.Prelude.{ℕ, ◌+◌, ◌-◌, ◌==◌, ◌≡◌, ◌≤◌, ◌<◌, ◌⊎◌, ⊤, Bool, true, false, List, [], ◌∷◌, ◌++◌, length, map, take, drop, filter, flat_map, get_or, zip, if◌then◌else◌}
+use Rattle.std.specs.Prelude.{ℕ, ◌+◌, ◌-◌, ◌==◌, ◌≡◌, ◌≤◌, ◌<◌, ◌⊎◌, ⊤, Bool, true, false, List, [], ◌∷◌, ◌++◌, length, map, take, drop, filter, flat_map, zip}
 use Rattle.std.specs.List.{AllByRecursion, enumerate_from}
 use Rattle.lake_model.specs.declared.Counts.{Counts}
 use Rattle.lake_model.specs.Journal.{Entry}

@@ -1,5 +1,5 @@
 -- What one line outside a block says, by its words alone.
-use Rattle.std.specs.Prelude.{ℕ, Bool, if◌then◌else◌, List, length, take, drop, bytes_eq, codes, Option, Some, None}
+use Rattle.std.specs.Prelude.{ℕ, if◌then◌else◌, List, length, take, drop, bytes_eq, codes, Option, Some, None}
 use Rattle.script_model.specs.declared.Reason.{Reason}
 use Rattle.script_model.specs.declared.Reason.TheVariants as reason
 use Rattle.lake_model.specs.Texts.{Text}

@@ -1,5 +1,5 @@
 -- The text of a record: its replies, what a trace adds, and its journal.
-use Rattle.std.specs.Prelude.{ℕ, ◌+◌, ◌/◌, ◌%◌, ◌==◌, Bool, true, false, ◌&&◌, ◌||◌, nat_lt, not, if◌then◌else◌, List, [], ◌∷◌, ◌++◌, length, map, drop, flat_map, codes, decimal, Option, Some, None}
+use Rattle.std.specs.Prelude.{ℕ, ◌+◌, ◌/◌, ◌%◌, ◌==◌, Bool, ◌&&◌, ◌||◌, nat_lt, not, if◌then◌else◌, List, [], ◌∷◌, ◌++◌, length, map, drop, flat_map, codes, decimal}
 use Rattle.std.specs.List.{join_by, enumerate_from}
 use Rattle.lake_model.specs.declared.Which.{Which}
 use Rattle.lake_model.specs.declared.Which.TheVariants as which
@@ -9,7 +9,7 @@ use Rattle.lake_model.specs.declared.Who.{Who}
 use Rattle.lake_model.specs.Journal.{What, Entry}
 use Rattle.lake_model.specs.Journal as journal
 use Rattle.script_model.specs.Replies.{Shown, Line, Reply, Loaded, Dropped, Listed, Found, Merged, Repeated, Unknown, NoColumn, Full, NothingToMerge, Stale, NoHeader, TooManyColumns, Unequal, NotUtf8, TooManyValues, FileFailed, FileMissing, FileTooLong, QueryNotUtf8, QueryTooLarge, NoMemory}
-use Rattle.script_model.specs.Record.{Options, Answered, RunRecord}
+use Rattle.script_model.specs.Record.{Answered, RunRecord}
 
 -- words with one space between
 abbrev pub spaced : List Text → Text

@@ -3,6 +3,10 @@
 //! of statuses. There is no code here but the plain types that both the code and the definitions use, and the laws of the definitions.
 #![tactic(auto)]
 
+mod laws;
+
+pub use laws::{in_turn_law, played_is_right_law};
+
 /// Why a line of a script is refused.
 #[derive(Clone, Copy, Debug, PartialEq, Eq)]
 pub enum Reason {

@@ -1,0 +1,13 @@
+-- What refuses a load: a live table of its name, or else the first limit that it would pass.
+use Rattle.std.specs.Prelude.{List, length, Option, Some, None, option_map, find, if◌then◌else◌}
+use Rattle.lake_model.specs.declared.Counts.{Counts}
+use Rattle.lake_model.specs.Tables.{Table}
+use Rattle.lake_model.specs.Journal.{Entry, is_live, counts}
+use Rattle.lake_model.specs.Limits.{is_passed, load_bounds}
+use Rattle.catalogue.specs.declared.refusal.LoadRefused.{LoadRefused}
+use Rattle.catalogue.specs.declared.refusal.LoadRefused.TheVariants.{Repeated, Full}
+
+abbrev pub load_refusal : Counts → Table → List Entry → Option LoadRefused
+load_refusal limits table journal =
+    if is_live journal table.name then Some (Repeated (length journal))
+    else option_map (λ b. Full b.which b.count b.more (length journal)) (find is_passed (load_bounds limits table (counts journal)))

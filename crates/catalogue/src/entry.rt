@@ -1,0 +1,51 @@
+//! An entry of the journal.
+ghost use Rattle.std.specs.Prelude.{◌≡◌, IfOk};
+ghost use Rattle.lake_model.specs.Journal.{entry_with, Loaded};
+
+use column_set::SharedTable;
+use lake_model::Who;
+use no_memory::NoMemory;
+use std::marker::Model;
+
+/// What an entry of the journal says: the table that was loaded, of which it keeps a share.
+#[derive(Drop)]
+pub enum What {
+    Loaded(SharedTable),
+}
+
+/// An entry of the journal: who made it, and what it says. A contract sees it as an entry of the definitions.
+#[derive(Drop)]
+pub struct Entry {
+    pub who: Who,
+    pub what: What,
+}
+
+impl Model for Entry {
+    ghost use Rattle.lake_model.specs.Journal.{Entry as EntryOf, entry_with};
+    ghost use Rattle.catalogue.specs.Entries.{what_of};
+
+    ghost Value = { EntryOf };
+
+    ghost view = { λ e. entry_with e.who (what_of e.what) };
+}
+
+impl Entry {
+    /// The entry of a load.
+    pub fn loaded(who: Who, table: SharedTable) -> Entry
+        ensures { result ≡ entry_with who (Loaded table) }
+    {
+        Entry {
+            who,
+            what: What::Loaded(table),
+        }
+    }
+
+    /// The same entry, with a share of its table. It copies no table.
+    pub fn share(&self) -> Result<Entry, NoMemory>
+        ensures { IfOk result (λ other. other ≡ self.now) }
+    {
+        match &self.what {
+            What::Loaded(table) => Ok(Entry::loaded(self.who, table.share()?)),
+        }
+    }
+}

@@ -1,0 +1,23 @@
+//! The names of the live tables. They lie in order, so that no choice of names makes a look-up slow.
+ghost use Rattle.std.specs.Prelude.{◌≡◌, ◌||◌, List, ℕ, bytes_eq, is_some, OnErr, OnOk};
+ghost use Rattle.std.specs.BTreeMap.{get_by_text};
+
+use column_set::Name;
+use no_memory::NoMemory;
+use std::alloc::Global;
+use std::collections::BTreeMap;
+
+/// Adds the name of a load at a position of the journal. Where memory is wanting, the names stay.
+pub fn add_name(
+    alloc: Global,
+    positions: &mut BTreeMap<String, u64>,
+    name: &Name,
+    at: u64,
+) -> Result<(), NoMemory>
+    ensures ok { OnOk result ((q : List ℕ) → is_some (get_by_text positions.new q) ≡ (bytes_eq name.now q || is_some (get_by_text positions.old q))) }
+    ensures err { OnErr result ((q : List ℕ) → is_some (get_by_text positions.new q) ≡ is_some (get_by_text positions.old q)) }
+{
+    let key = String::from_str(alloc, name.text())?;
+    positions.insert(key, at)?;
+    Ok(())
+}

@@ -1,0 +1,21 @@
+//! Why a load is refused.
+use lake_model::Which;
+
+/// Why a load is refused. In each of the first two, `at` is how many entries the journal has.
+#[derive(Clone, Copy, Debug, PartialEq, Eq)]
+pub enum LoadRefused {
+    /// A table of the name is live.
+    Repeated {
+        at: u64,
+    },
+    /// What counts against a limit of the lake is `count`, and with `more`, which the load would add, it would pass the limit. Of
+    /// the limits that would be passed it is the first, in the order of `Which`.
+    Full {
+        which: Which,
+        count: u64,
+        more: u64,
+        at: u64,
+    },
+    /// Memory was wanting.
+    NoMemory,
+}

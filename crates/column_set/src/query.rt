@@ -1,0 +1,111 @@
+//! The keys of a query.
+ghost use Rattle.std.specs.Prelude.{◌≡◌, ◌⊎◌, ◌<◌, ◌≤◌, ◌==◌, ◌∷◌, [], bytes_eq, get_or, length, position, IfErr, IfOk, None, OnOk, Some};
+ghost use Rattle.std.specs.List.{IsDistinct};
+ghost use Rattle.lake_model.specs.Queries.{query_fault, query_of};
+ghost use Rattle.lake_model.specs.Tables.{has_key, overlap};
+ghost use Rattle.lake_model.specs.Texts.{all_lines};
+
+use crate::keys::{KeySet, MOST_KEYS};
+use lake_model::QueryRefused;
+use std::alloc::Global;
+use std::marker::Model;
+use std::str;
+
+/// The keys of a query, none twice and at most 4,194,304. A contract sees the list of them, in order of first sight.
+#[derive(Drop)]
+pub struct QuerySet {
+    keys: KeySet,
+}
+
+impl Model for QuerySet {
+    ghost use Rattle.std.specs.Prelude.{◌≤◌, List, ℕ, length};
+
+    ghost Value = { List (List ℕ) };
+
+    ghost view = { λ q. q.keys };
+
+    ghost invariant = { λ q. length q.keys ≤ 4194304 };
+}
+
+impl QuerySet {
+    /// The query of a body with one value a line: the distinct keys of its lines, of which a value with nothing but white space
+    /// gives none. A line feed ends a line, and what stands behind the last one is a line where it has a byte.
+    ///
+    /// It is refused at the first line that is not UTF-8, then where there are more than 4,194,304 distinct keys, and where
+    /// memory is wanting.
+    pub fn read(alloc: Global, body: &[u8]) -> Result<QuerySet, QueryRefused>
+        ensures keys { IfOk result (λ q. q ≡ query_of body.now) }
+        ensures sound { OnOk result (query_fault body.now ≡ None) }
+        ensures refused { IfErr result (λ e. (e ≡ QueryRefused.NoMemory) ⊎ (query_fault body.now ≡ Some e)) }
+    {
+        let mut keys = KeySet::new(alloc);
+        let mut rest = body;
+        for number in 1..u64::MAX {
+            if rest.is_empty() {
+                if keys.len() > MOST_KEYS {
+                    return Err(QueryRefused::TooManyValues);
+                }
+                return Ok(QuerySet { keys });
+            }
+            let (line, after) = next_line(rest);
+            let Ok(value) = str::from_utf8(line) else {
+                return Err(QueryRefused::NotUtf8 { line: number });
+            };
+            if keys.add(alloc, value).is_err() {
+                return Err(QueryRefused::NoMemory);
+            }
+            rest = after;
+        }
+        Err(QueryRefused::NoMemory)
+    }
+
+    /// How many keys there are. They differ from each other.
+    pub fn len(&self) -> u32
+        ensures value { result ≡ length self.now }
+        ensures small { result ≤ 4194304 }
+        ensures different { IsDistinct bytes_eq self.now }
+    {
+        self.keys.len() as u32
+    }
+
+    /// A key, by its index in order of first sight, from 0.
+    pub fn key(&self, i: u32) -> &str
+        requires { i < length self.now }
+        ensures { result.now ≡ get_or self.now i [] }
+    {
+        self.keys.key(i)
+    }
+
+    /// How many keys of the query are among others.
+    pub(crate) fn shared_with(&self, keys: &KeySet) -> u32
+        requires { length keys.now ≤ 4194304 }
+        ensures { result ≡ overlap self.now keys.now }
+    {
+        self.keys.overlap(keys)
+    }
+
+    /// Whether the key is one of the query's.
+    pub fn has(&self, key: &str) -> bool
+        ensures { result ≡ has_key self.now key.now }
+    {
+        self.keys.has(key)
+    }
+}
+
+// Where the first line feed is.
+fn line_end(body: &[u8]) -> Option<usize>
+    ensures { result ≡ position (λ byte. byte == 0x0A) body.now }
+{
+    body.iter().position(|byte| *byte == b'\n')
+}
+
+// The first line of a body that has a byte, and what comes behind it.
+fn next_line(body: &[u8]) -> (&[u8], &[u8])
+    requires { 0 < length body.now }
+    ensures { all_lines body.now ≡ result.0.now ∷ all_lines result.1.now }
+{
+    match line_end(body) {
+        Some(at) => (&body[..at], &body[at + 1..]),
+        None => (body, &body[body.len()..]),
+    }
+}

@@ -1,0 +1,274 @@
+//! A table as its titles and the sets of keys of its columns, and the same table shared.
+ghost use Rattle.std.specs.Prelude.{◌≡◌, ◌⊎◌, ◌<◌, ◌≤◌, [], bytes_eq, get_or, length, map, string_bytes, sum_by, IfErr, IfOk, IfSome, None, OnOk, Some};
+ghost use Rattle.std.specs.List.{AllByRecursion, IsDistinct};
+ghost use Rattle.lake_model.specs.Records.{column_at, column_count, field_at, places_of, sets_fault, table_of, text_size};
+ghost use Rattle.lake_model.specs.Tables.{column_name, has_key, keys_at, titles_of};
+ghost use Rattle.column_set.specs.Columns.{IsSmall};
+
+use crate::keys::{KeySet, MOST_KEYS};
+use crate::name::Name;
+use crate::query::QuerySet;
+use crate::titles::Titles;
+use csv_table::RawTable;
+use lake_model::SetRefused;
+use no_memory::NoMemory;
+use std::alloc::Global;
+use std::marker::Model;
+use std::sync::Arc;
+
+/// A table: its name, and for each of its columns, at most 1,024, the name and the set of its keys, at most 4,194,304 and none
+/// twice. Columns are found by their place, counted from 1; two of them may have one name.
+#[derive(Drop)]
+pub struct TableSets {
+    titles: Arc<Titles>,
+    sets: Vec<KeySet>,
+    members: u64,
+    key_bytes: u64,
+}
+
+impl Model for TableSets {
+    ghost use Rattle.lake_model.specs.Tables.{Table};
+    ghost use Rattle.column_set.specs.Columns.{table_from, IsHeld};
+
+    ghost Value = { Table };
+
+    ghost view = { λ t. table_from t.titles.value t.sets.items };
+
+    ghost invariant = { λ t. IsHeld t.titles.value t.sets.items t.members t.key_bytes };
+}
+
+impl TableSets {
+    ghost use Rattle.lake_model.specs.Tables.{members as members_of, key_bytes as key_bytes_of};
+
+    /// The table of the name, with a column for each column of the fields: the field of the header is its name, and the keys of
+    /// the fields below it, in the order of the records, are its set.
+    ///
+    /// It is refused at the first column of more than 4,194,304 distinct keys, and where memory is wanting.
+    pub fn build(alloc: Global, name: Name, raw: &RawTable) -> Result<TableSets, SetRefused>
+        ensures table { IfOk result (λ t. t ≡ table_of name raw.now) }
+        ensures sound { OnOk result (sets_fault raw.now ≡ None) }
+        ensures size { IfOk result (λ t. members_of t ≤ text_size raw.now) }
+        ensures refused { IfErr result (λ e. (e ≡ SetRefused.NoMemory) ⊎ (sets_fault raw.now ≡ Some e)) }
+    {
+        let sets = read_sets(alloc, raw)?;
+        let Ok(names) = read_names(alloc, raw) else {
+            return Err(SetRefused::NoMemory);
+        };
+        let members = member_count(&sets);
+        let Some(key_bytes) = key_byte_count(&sets) else {
+            return Err(SetRefused::NoMemory);
+        };
+        let Ok(titles) = Arc::new(alloc, Titles::new(name, names)) else {
+            return Err(SetRefused::NoMemory);
+        };
+        Ok(TableSets {
+            titles,
+            sets,
+            members,
+            key_bytes,
+        })
+    }
+
+    /// The table's name and its columns' names, to be shared.
+    pub fn titles(&self) -> &Arc<Titles>
+        ensures { result.now.value ≡ titles_of self.now }
+    {
+        &self.titles
+    }
+
+    /// The table's name.
+    pub fn name(&self) -> &Name
+        ensures { result.now ≡ self.now.name }
+    {
+        self.titles.table()
+    }
+
+    /// How many columns there are, at most 1,024. The keys of each differ from each other.
+    pub fn columns(&self) -> u32
+        ensures value { result ≡ length self.now.columns }
+        ensures narrow { result ≤ 1024 }
+        ensures different { AllByRecursion (λ column. IsDistinct bytes_eq column.keys) self.now.columns }
+    {
+        self.sets.len() as u32
+    }
+
+    /// How many keys the sets of all columns have together.
+    pub fn members(&self) -> u64
+        ensures { result ≡ members_of self.now }
+    {
+        self.members
+    }
+
+    /// How many bytes the keys of all columns have together.
+    pub fn key_bytes(&self) -> u64
+        ensures { result ≡ key_bytes_of self.now }
+    {
+        self.key_bytes
+    }
+}
+
+impl TableSets {
+    ghost use Rattle.lake_model.specs.Tables.{overlap as overlap_of};
+
+    /// The name of the column at a place, counted from 1.
+    pub fn column_name(&self, place: u32) -> &str
+        requires low { 0 < place }
+        requires high { place ≤ length self.now.columns }
+        ensures { result.now ≡ column_name (titles_of self.now) place }
+    {
+        self.titles.column(place)
+    }
+
+    /// How many keys the column at a place, counted from 1, has. They differ from each other.
+    pub fn size(&self, place: u32) -> u32
+        requires low { 0 < place }
+        requires high { place ≤ length self.now.columns }
+        ensures value { result ≡ length (keys_at self.now place) }
+        ensures small { result ≤ 4194304 }
+        ensures different { IsDistinct bytes_eq (keys_at self.now place) }
+    {
+        self.sets[place as usize - 1].len() as u32
+    }
+
+    /// A key of the column at a place, counted from 1, by its index in order of first sight, from 0.
+    pub fn key(&self, place: u32, i: u32) -> &str
+        requires low { 0 < place }
+        requires high { place ≤ length self.now.columns }
+        requires index { i < length (keys_at self.now place) }
+        ensures { result.now ≡ get_or (keys_at self.now place) i [] }
+    {
+        self.sets[place as usize - 1].key(i)
+    }
+
+    /// Whether the column at a place, counted from 1, has the key.
+    pub fn has(&self, place: u32, key: &str) -> bool
+        requires low { 0 < place }
+        requires high { place ≤ length self.now.columns }
+        ensures { result ≡ has_key (keys_at self.now place) key.now }
+    {
+        self.sets[place as usize - 1].has(key)
+    }
+
+    /// How many keys of the query the column at a place, counted from 1, has. It takes the time to walk the smaller of the two
+    /// sets.
+    pub fn overlap(&self, place: u32, query: &QuerySet) -> u32
+        requires low { 0 < place }
+        requires high { place ≤ length self.now.columns }
+        ensures value { result ≡ overlap_of query.now (keys_at self.now place) }
+    {
+        query.shared_with(&self.sets[place as usize - 1])
+    }
+}
+
+// The names of the columns: the fields of the header.
+fn read_names(alloc: Global, raw: &RawTable) -> Result<Vec<String>, NoMemory>
+    ensures { IfOk result (λ names. map string_bytes names.items ≡ map (field_at raw.now 0) (places_of raw.now)) }
+{
+    let mut names = Vec::new(alloc);
+    for i in 0..raw.columns() {
+        names.push(String::from_str(alloc, raw.field(0, i + 1))?)?;
+    }
+    Ok(names)
+}
+
+// The sets of the columns, none too large.
+fn read_sets(alloc: Global, raw: &RawTable) -> Result<Vec<KeySet>, SetRefused>
+    ensures sets { IfOk result (λ sets. sets.items ≡ map (λ place. (column_at raw.now place).keys) (places_of raw.now)) }
+    ensures narrow { IfOk result (λ sets. length sets.items ≤ 1024) }
+    ensures small { IfOk result (λ sets. AllByRecursion IsSmall sets.items) }
+    ensures sound { OnOk result (sets_fault raw.now ≡ None) }
+    ensures refused { IfErr result (λ e. (e ≡ SetRefused.NoMemory) ⊎ (sets_fault raw.now ≡ Some e)) }
+{
+    let mut sets = Vec::new(alloc);
+    for i in 0..raw.columns() {
+        let place = i + 1;
+        let Ok(keys) = read_keys(alloc, raw, place) else {
+            return Err(SetRefused::NoMemory);
+        };
+        if keys.len() > MOST_KEYS {
+            return Err(SetRefused::TooManyValues { place });
+        }
+        if sets.push(keys).is_err() {
+            return Err(SetRefused::NoMemory);
+        }
+    }
+    Ok(sets)
+}
+
+// The keys of the column at a place.
+fn read_keys(alloc: Global, raw: &RawTable, place: u32) -> Result<KeySet, NoMemory>
+    requires low { 0 < place }
+    requires high { place ≤ column_count raw.now }
+    ensures { IfOk result (λ keys. keys ≡ (column_at raw.now place).keys) }
+{
+    let mut keys = KeySet::new(alloc);
+    for row in 0..raw.rows() {
+        keys.add(alloc, raw.field(row + 1, place))?;
+    }
+    Ok(keys)
+}
+
+// How many keys the sets have together.
+fn member_count(sets: &[KeySet]) -> u64
+    requires narrow { length sets.now ≤ 1024 }
+    requires small { AllByRecursion IsSmall sets.now }
+    ensures { result ≡ sum_by length sets.now }
+{
+    let mut count = 0u64;
+    for keys in sets {
+        count += keys.len() as u64;
+    }
+    count
+}
+
+// How many bytes the keys of the sets have together, and `None` only where these are 2^64 or more.
+fn key_byte_count(sets: &[KeySet]) -> Option<u64>
+    ensures { IfSome result (λ count. count ≡ sum_by (λ keys. sum_by length keys) sets.now) }
+{
+    let mut count = 0u64;
+    for keys in sets {
+        count = count.checked_add(keys.byte_count()?)?;
+    }
+    Some(count)
+}
+
+/// A table that is shared. A contract sees the table.
+#[derive(Drop)]
+pub struct SharedTable {
+    table: Arc<TableSets>,
+}
+
+impl Model for SharedTable {
+    ghost use Rattle.lake_model.specs.Tables.{Table};
+
+    ghost Value = { Table };
+
+    ghost view = { λ s. s.table.value };
+}
+
+impl SharedTable {
+    /// The table, to be shared.
+    pub fn new(alloc: Global, table: TableSets) -> Result<SharedTable, NoMemory>
+        ensures { IfOk result (λ shared. shared ≡ table) }
+    {
+        Ok(SharedTable {
+            table: Arc::new(alloc, table)?,
+        })
+    }
+
+    /// The table.
+    pub fn table(&self) -> &TableSets
+        ensures { result.now ≡ self.now }
+    {
+        &self.table
+    }
+
+    /// One more share of the table.
+    pub fn share(&self) -> Result<SharedTable, NoMemory>
+        ensures { IfOk result (λ other. other ≡ self.now) }
+    {
+        Ok(SharedTable {
+            table: Arc::try_clone(&self.table)?,
+        })
+    }
+}

@@ -1,0 +1,5 @@
+pub mod ReaderLemmas
+pub mod SplitLemmas
+pub mod FaultLemmas
+pub mod TableLemmas
+pub mod TableLawLemmas

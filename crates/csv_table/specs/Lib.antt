@@ -1,0 +1,2 @@
+pub mod SplitRecords
+pub mod RecordsLeft

@@ -1,0 +1,210 @@
+//! CSV bytes as a table, a header and records of its length with each field UTF-8, or the one refusal that the bytes earn.
+#![tactic(auto)]
+
+ghost use Rattle.std.specs.Prelude.{◌≡◌, ◌⊎◌, ◌↔◌, List, ◌+◌, ◌<◌, ◌≤◌, ◌++◌, ◌∷◌, [], true, false, length, Some, None, Ok, Err, IfOk, IfErr, OnOk, OnErr};
+ghost use Rattle.csv.specs.Reading.{has_failed, strip_bom};
+ghost use Rattle.csv.specs.Records.{fields_of};
+ghost use Rattle.lake_model.specs.Records.{column_count, csv_fault, field_at, header_fault, record_fault, records_of, table_fault, IsTable, Record, text_fault, text_size};
+ghost use Rattle.csv_table.specs.RecordsLeft.{IsReading, records_left};
+
+use csv::{ByteRecord, Reader, ReaderBuilder, StringRecord};
+pub use lake_model::CsvRefused;
+use std::alloc::Global;
+use std::marker::Model;
+use std::str;
+
+/// A header of at most 1,024 fields and fewer than 2^64 records of its length, each field UTF-8.
+///
+/// Rows are counted from 0, and row 0 is the header; places within a row, which are the columns, are counted from 1.
+#[derive(Drop)]
+pub struct RawTable {
+    /// The fields of all records, one record after another.
+    store: StringRecord,
+    columns: u32,
+    /// How many records there are, the header among them.
+    records: u64,
+}
+
+impl Model for RawTable {
+    ghost use Rattle.std.specs.Prelude.{◌≡◌, ◌*◌, ◌<◌, ◌≤◌, List, ℕ, length};
+    ghost use Rattle.csv.specs.Records.{fields_of};
+    ghost use Rattle.csv_table.specs.SplitRecords.{split_records};
+
+    ghost Value = { List (List (List ℕ)) };
+
+    ghost view = { λ table. split_records table.records table.columns (fields_of table.store) };
+
+    ghost invariant = { λ table. (length (fields_of table.store) ≡ table.records * table.columns) × (0 < table.records) × (table.columns ≤ 1024) };
+}
+
+impl RawTable {
+    /// How many columns there are: the fields of the header, 0 to 1,024.
+    pub fn columns(&self) -> u32
+        ensures value { result ≡ column_count self.now }
+        ensures narrow { result ≤ 1024 }
+    {
+        self.columns
+    }
+
+    /// How many records follow the header.
+    pub fn rows(&self) -> u64
+        ensures { result + 1 ≡ length self.now }
+    {
+        self.records - 1
+    }
+
+    /// The field of a row, 0 for the header and up to `rows()`, at a place, 1 to `columns()`.
+    pub fn field(&self, row: u64, place: u32) -> &str
+        requires row { row < length self.now }
+        requires low { 0 < place }
+        requires high { place ≤ column_count self.now }
+        ensures { result.now ≡ field_at self.now row place }
+    {
+        // The length of the store bounds the index: it is read for that alone.
+        let _fields = self.store.len();
+        let index = row as usize * self.columns as usize + (place as usize - 1);
+        match self.store.get(index) {
+            Some(field) => field,
+            None => unreachable!(),
+        }
+    }
+}
+
+/// The table of CSV bytes (RFC 4180), or why they are none. Commas separate the fields of a record. A field in double quotes may
+/// hold commas, line breaks and quotes, each quote doubled. A record ends at LF, CR LF or CR, and an empty line is no record. One
+/// byte order mark in front of the bytes is no part of them, nor is a second one, which the crate `csv` drops. No field is trimmed.
+///
+/// # Errors
+///
+/// The first of these that holds, with records and fields numbered from 1 and the header as record 1: `NoHeader` where there is no
+/// record; `TooManyColumns` where the header has more than 1,024 fields; `NotUtf8` at the header's first field that is not UTF-8;
+/// and at the first record at fault `Unequal` where its length is not the header's, and else `NotUtf8` at its first field that is
+/// not UTF-8. `NoMemory` may come in place of any answer, and says nothing of the bytes.
+pub fn read_table(alloc: Global, bytes: &[u8]) -> Result<RawTable, CsvRefused>
+    ensures table { IfOk result (λ t. t ≡ records_of bytes.now) }
+    ensures sound { OnOk result (csv_fault bytes.now ≡ None) }
+    ensures is_table { IfOk result (λ t. IsTable t) }
+    ensures size { IfOk result (λ t. text_size t ≤ length bytes.now) }
+    ensures refused { IfErr result (λ e. (e ≡ CsvRefused.NoMemory) ⊎ (csv_fault bytes.now ≡ Some e)) }
+{
+    let mut reader = open_reader(alloc, bytes);
+    let mut row = ByteRecord::new(alloc);
+    let mut store = StringRecord::new(alloc);
+    if !read_next(&mut reader, &mut row)? {
+        return Err(CsvRefused::NoHeader);
+    }
+    let columns = add_header(&mut store, &row)?;
+    for records in 1..u64::MAX {
+        if !read_next(&mut reader, &mut row)? {
+            return Ok(RawTable {
+                store,
+                columns,
+                records,
+            });
+        }
+        add_record(&mut store, &row, records + 1, columns)?;
+    }
+    // So many records take more bytes than an address space has.
+    Err(CsvRefused::NoMemory)
+}
+
+// A reader of the records of the bytes.
+fn open_reader(alloc: Global, bytes: &[u8]) -> Reader<&[u8]>
+    ensures reading { IsReading result }
+    ensures left { records_left result ≡ records_of bytes.now }
+{
+    ReaderBuilder::new()
+        .has_headers(false)
+        .flexible(true)
+        .from_reader(alloc, behind_mark(bytes))
+}
+
+// The bytes behind one byte order mark, or all of them where they do not begin with one.
+fn behind_mark(bytes: &[u8]) -> &[u8]
+    ensures { result.now ≡ strip_bom bytes.now }
+{
+    match bytes.strip_prefix(&[0xEF, 0xBB, 0xBF]) {
+        Some(rest) => rest,
+        None => bytes,
+    }
+}
+
+// Reads the next record, and tells whether there is one. A flexible reader over a slice refuses nothing but want of memory: the
+// clause `failed` says that no error of the text became that.
+fn read_next(reader: &mut Reader<&[u8]>, row: &mut ByteRecord) -> Result<bool, CsvRefused>
+    requires { IsReading reader.old }
+    ensures more { IfOk result (λ found. found ≡ true → IsReading reader.new × (records_left reader.old ≡ fields_of row.new ∷ records_left reader.new)) }
+    ensures end { IfOk result (λ found. found ≡ false → records_left reader.old ≡ []) }
+    ensures refused { IfErr result (λ e. e ≡ CsvRefused.NoMemory) }
+    ensures failed { OnErr result (has_failed reader.new ≡ true) }
+{
+    let Ok(found) = reader.read_byte_record(row) else {
+        return Err(CsvRefused::NoMemory);
+    };
+    Ok(found)
+}
+
+// Adds the header's fields to the store, and tells how many there are.
+fn add_header(store: &mut StringRecord, header: &ByteRecord) -> Result<u32, CsvRefused>
+    ensures ok { IfOk result (λ n. (n ≡ length (fields_of header.now)) × (n ≤ 1024) × (header_fault (fields_of header.now) ≡ None)) }
+    ensures added { OnOk result (fields_of store.new ≡ fields_of store.old ++ fields_of header.now) }
+    ensures refused { IfErr result (λ e. (e ≡ CsvRefused.NoMemory) ⊎ (header_fault (fields_of header.now) ≡ Some e)) }
+{
+    let got = header.len();
+    if got > 1024 {
+        return Err(CsvRefused::TooManyColumns { got: got as u64 });
+    }
+    add_fields(store, header, 1)?;
+    Ok(got as u32)
+}
+
+// Adds the fields of the record of a number, counted from 1, in a table of so many columns.
+fn add_record(
+    store: &mut StringRecord,
+    row: &ByteRecord,
+    number: u64,
+    columns: u32,
+) -> Result<(), CsvRefused>
+    ensures ok { OnOk result ((length (fields_of row.now) ≡ columns) × (record_fault number columns (fields_of row.now) ≡ None)) }
+    ensures added { OnOk result (fields_of store.new ≡ fields_of store.old ++ fields_of row.now) }
+    ensures refused { IfErr result (λ e. (e ≡ CsvRefused.NoMemory) ⊎ (record_fault number columns (fields_of row.now) ≡ Some e)) }
+{
+    let got = row.len();
+    if got != columns as usize {
+        return Err(CsvRefused::Unequal {
+            row: number,
+            want: columns as u64,
+            got: got as u64,
+        });
+    }
+    add_fields(store, row, number)
+}
+
+// Adds the fields of the record of a number up to the first that is no UTF-8, and refuses that one.
+fn add_fields(store: &mut StringRecord, row: &ByteRecord, number: u64) -> Result<(), CsvRefused>
+    ensures ok { OnOk result (text_fault number 1 (fields_of row.now) ≡ None) }
+    ensures added { OnOk result (fields_of store.new ≡ fields_of store.old ++ fields_of row.now) }
+    ensures refused { IfErr result (λ e. (e ≡ CsvRefused.NoMemory) ⊎ (text_fault number 1 (fields_of row.now) ≡ Some e)) }
+{
+    for (i, field) in row.iter().enumerate() {
+        let Ok(text) = str::from_utf8(field) else {
+            return Err(CsvRefused::NotUtf8 {
+                row: number,
+                field: i as u64 + 1,
+            });
+        };
+        if store.push_field(text).is_err() {
+            return Err(CsvRefused::NoMemory);
+        }
+    }
+    Ok(())
+}
+
+/// The law that joins the refusal to plain words: records have no fault exactly where there is a header of at most 1,024 fields,
+/// every record has its length, and every field is UTF-8.
+pub fn table_law()
+    ensures { (rows : List Record) → (table_fault rows ≡ None) ↔ IsTable rows }
+{}
+
+#[cfg(test)]
+mod tests;

@@ -1,0 +1,5 @@
+pub mod Callers
+pub mod Keeping
+pub mod Replies
+pub mod Rooms
+pub mod Words

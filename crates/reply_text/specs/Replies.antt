@@ -1,0 +1,26 @@
+-- A reply of the code, as the definitions have it, and the first line of its text.
+use Rattle.std.specs.Prelude.{ℕ, ◌∷◌, decimal}
+use Rattle.lake_model.specs.Texts.{Text}
+use Rattle.script_model.specs.Replies.{Reply}
+use Rattle.script_model.specs.Replies as model
+use Rattle.script_model.specs.Texts.{line_text, reply_words, spaced}
+use Rattle.reply_text.specs.declared.reply.Reply.{Reply as Declared}
+use Rattle.reply_text.specs.declared.reply.Reply.TheVariants.{Loaded, Found, NoHeader, TooManyColumns, Unequal, NotUtf8, TooManyValues, Repeated, Full, QueryNotUtf8, QueryTooLarge, NoMemory}
+
+abbrev pub reply_of : Declared → Reply
+reply_of (Loaded name columns members at) = model.Loaded name columns members at
+reply_of (Found query rows at) = model.Found query rows at
+reply_of NoHeader = model.NoHeader
+reply_of (TooManyColumns got) = model.TooManyColumns got
+reply_of (Unequal row want got) = model.Unequal row want got
+reply_of (NotUtf8 row field) = model.NotUtf8 row field
+reply_of (TooManyValues place) = model.TooManyValues place
+reply_of (Repeated name at) = model.Repeated name at
+reply_of (Full which count more at) = model.Full which count more at
+reply_of (QueryNotUtf8 line) = model.QueryNotUtf8 line
+reply_of QueryTooLarge = model.QueryTooLarge
+reply_of NoMemory = model.NoMemory
+
+-- the number of a command, and the words of its reply
+abbrev pub first_line : ℕ → Reply → Text
+first_line number reply = line_text (spaced (decimal number ∷ reply_words reply))

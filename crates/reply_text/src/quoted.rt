@@ -1,0 +1,67 @@
+//! A column's name between quotes, with escapes for what would break its line.
+ghost use Rattle.std.specs.Prelude.{◌≡◌, ◌<◌, ◌++◌, flat_map, OnOk};
+ghost use Rattle.script_model.specs.Texts.{escaped_byte, hexadecimal, quoted};
+ghost use Rattle.reply_text.specs.Keeping.{Keeps};
+
+use crate::words::push_bytes;
+use no_memory::NoMemory;
+
+// A hexadecimal digit, in lower case.
+fn hexadecimal(digit: u8) -> u8
+    requires { digit < 16 }
+    ensures { result ≡ hexadecimal digit }
+{
+    if digit < 10 {
+        b'0' + digit
+    } else {
+        b'a' + (digit - 10)
+    }
+}
+
+// Appends a byte of a name, or the escape that stands for it.
+fn push_escaped(byte: u8, into: &mut Vec<u8>) -> Result<(), NoMemory>
+    ensures ok { OnOk result (into.new.items ≡ into.old.items ++ escaped_byte byte) }
+    ensures kept { Keeps into.old.items into.new.items }
+{
+    if byte == b'"' {
+        push_bytes(b"\\\"", into)
+    } else if byte == b'\\' {
+        push_bytes(b"\\\\", into)
+    } else if byte == b'\n' {
+        push_bytes(b"\\n", into)
+    } else if byte == b'\r' {
+        push_bytes(b"\\r", into)
+    } else if byte == b'\t' {
+        push_bytes(b"\\t", into)
+    } else if byte < 0x20 || byte == 0x7f {
+        push_bytes(
+            &[b'\\', b'x', hexadecimal(byte / 16), hexadecimal(byte % 16)],
+            into,
+        )
+    } else {
+        push_bytes(&[byte], into)
+    }
+}
+
+// Appends the bytes of a name, each or the escape that stands for it.
+fn push_all_escaped(name: &[u8], into: &mut Vec<u8>) -> Result<(), NoMemory>
+    ensures ok { OnOk result (into.new.items ≡ into.old.items ++ flat_map escaped_byte name.now) }
+    ensures kept { Keeps into.old.items into.new.items }
+{
+    for byte in name {
+        push_escaped(*byte, into)?;
+    }
+    Ok(())
+}
+
+/// Appends a name between quotes: a quote and a backslash have a backslash before them, a line feed, a carriage return and a tab
+/// are `\n`, `\r` and `\t`, any other byte below 0x20 and 0x7F are `\x` and two hexadecimal digits in lower case, and any other
+/// byte stands as it is.
+pub fn push_quoted(name: &str, into: &mut Vec<u8>) -> Result<(), NoMemory>
+    ensures ok { OnOk result (into.new.items ≡ into.old.items ++ quoted name.now) }
+    ensures kept { Keeps into.old.items into.new.items }
+{
+    push_bytes(b"\"", into)?;
+    push_all_escaped(name.as_bytes(), into)?;
+    push_bytes(b"\"", into)
+}

@@ -1,0 +1,63 @@
+//! What a command is answered.
+
+use column_set::{KeptRows, Name};
+use lake_model::Which;
+
+/// What a command is answered. A position `at` is the length of the journal that the answer stands at.
+#[derive(Drop)]
+pub enum Reply {
+    /// The table was loaded, as the entry numbered `at` of the journal.
+    Loaded {
+        name: Name,
+        columns: u32,
+        members: u64,
+        at: u64,
+    },
+    /// The rows that answer a query of `query` keys.
+    Found {
+        query: u32,
+        rows: KeptRows,
+        at: u64,
+    },
+    /// The bytes have no record.
+    NoHeader,
+    /// The header has `got` fields, more than 1,024.
+    TooManyColumns {
+        got: u64,
+    },
+    /// The record, counted from 1 with the header, has `got` fields where the header has `want`.
+    Unequal {
+        row: u64,
+        want: u64,
+        got: u64,
+    },
+    /// The field of the record, both counted from 1, is not UTF-8.
+    NotUtf8 {
+        row: u64,
+        field: u64,
+    },
+    /// The column at the place, counted from 1, has more than 4,194,304 distinct keys.
+    TooManyValues {
+        place: u32,
+    },
+    /// A table of this name is live.
+    Repeated {
+        name: Name,
+        at: u64,
+    },
+    /// The limit would be passed by `more` beyond the `count` that there is.
+    Full {
+        which: Which,
+        count: u64,
+        more: u64,
+        at: u64,
+    },
+    /// The line of the query, counted from 1, is not UTF-8.
+    QueryNotUtf8 {
+        line: u64,
+    },
+    /// The query has more than 4,194,304 distinct keys.
+    QueryTooLarge,
+    /// Memory was wanting.
+    NoMemory,
+}

@@ -1,0 +1,78 @@
+//! Numbers, words and lines, put behind what a text has already. Where memory is wanting, the text keeps what it had.
+ghost use Rattle.std.specs.Prelude.{◌≡◌, ◌++◌, ◌∷◌, [], decimal, flat_map, map, OnOk};
+ghost use Rattle.script_model.specs.Texts.{line_text, spaced};
+ghost use Rattle.reply_text.specs.Keeping.{Keeps};
+ghost use Rattle.reply_text.specs.Words.{word_text};
+
+use crate::quoted::push_quoted;
+use itoa::Buffer;
+use no_memory::NoMemory;
+
+/// A word of a line.
+#[derive(Clone, Copy)]
+pub enum Word<'a> {
+    /// As it stands.
+    Text(&'a str),
+    /// In decimal.
+    Number(u64),
+    /// In quotes, with escapes.
+    Quoted(&'a str),
+}
+
+/// Appends these bytes.
+pub fn push_bytes(bytes: &[u8], into: &mut Vec<u8>) -> Result<(), NoMemory>
+    ensures ok { OnOk result (into.new.items ≡ into.old.items ++ bytes.now) }
+    ensures kept { Keeps into.old.items into.new.items }
+{
+    into.extend_from_slice(bytes)?;
+    Ok(())
+}
+
+/// Appends a number in decimal.
+pub fn push_number(number: u64, into: &mut Vec<u8>) -> Result<(), NoMemory>
+    ensures ok { OnOk result (into.new.items ≡ into.old.items ++ decimal number) }
+    ensures kept { Keeps into.old.items into.new.items }
+{
+    let mut buffer = Buffer::new();
+    push_bytes(buffer.format(number).as_bytes(), into)
+}
+
+// Appends a word.
+fn push_word(word: &Word<'_>, into: &mut Vec<u8>) -> Result<(), NoMemory>
+    ensures ok { OnOk result (into.new.items ≡ into.old.items ++ word_text word.now) }
+    ensures kept { Keeps into.old.items into.new.items }
+{
+    match word {
+        Word::Text(text) => push_bytes(text.as_bytes(), into),
+        Word::Number(number) => push_number(*number, into),
+        Word::Quoted(text) => push_quoted(text, into),
+    }
+}
+
+/// Appends words, each with a space before it.
+pub fn push_words(words: &[Word<'_>], into: &mut Vec<u8>) -> Result<(), NoMemory>
+    ensures ok { OnOk result (into.new.items ≡ into.old.items ++ flat_map (λ word. 0x20 ∷ word_text word) words.now) }
+    ensures kept { Keeps into.old.items into.new.items }
+{
+    for word in words {
+        push_bytes(b" ", into)?;
+        push_word(word, into)?;
+    }
+    Ok(())
+}
+
+/// Appends a line: what it begins with, a number, and words with a space before each.
+pub fn push_line(
+    lead: &str,
+    number: u64,
+    words: &[Word<'_>],
+    into: &mut Vec<u8>,
+) -> Result<(), NoMemory>
+    ensures ok { OnOk result (into.new.items ≡ into.old.items ++ line_text (lead.now ++ spaced (decimal number ∷ map word_text words.now))) }
+    ensures kept { Keeps into.old.items into.new.items }
+{
+    push_bytes(lead.as_bytes(), into)?;
+    push_number(number, into)?;
+    push_words(words, into)?;
+    push_bytes(b"\n", into)
+}

@@ -1,0 +1,237 @@
+-- What is played without a merge has a legal journal, whose callers are lanes of the run.
+use Rattle.std.proofs.Common.{◌≡◌, refl, ap, sym, ◌∙◌, subst, ℕ, zero, suc, ◌+◌, ◌*◌, ◌≤◌, List, [], ◌∷◌, ◌++◌, append_assoc, map, Bool, true, false, length, take, drop, cond, arith}
+use Rattle.std.specs.Prelude.{◌==◌, ◌&&◌, not, Option, Some, None, find, slice_get, slice_set, filter}
+use Rattle.std.specs.List.{AllByRecursion, fold, range_with_len}
+use Rattle.std.proofs.lemmas.List.{append-nil}
+use Rattle.lake_model.specs.declared.Who.{Who}
+use Rattle.lake_model.specs.declared.Counts.{Counts}
+use Rattle.lake_model.specs.Journal as journal
+use Rattle.lake_model.specs.Texts.{Text}
+use Rattle.lake_model.specs.Tables.{members}
+use Rattle.lake_model.specs.Journal.{What, Entry, entry_with, is_live, counts}
+use Rattle.lake_model.specs.Layout.{may_follow, is_legal, is_legal_behind}
+use Rattle.script_model.specs.Commands.{Task, Load, LoadFile, DropTable, Tables, Search, Like, Merge, Command, Batch}
+use Rattle.lake_model.specs.Limits.{Bounded, is_passed, load_bounds, drop_bounds}
+use Rattle.script_model.specs.Replies.{Loaded, Dropped, Repeated, Unknown, unless_lake_full}
+use Rattle.script_model.specs.Answered.{TableRead, IsTable, NoTable, table_read, file_read, load_answer, loads, answer_to, adds, has_pin, is_accepted, standing}
+use Rattle.script_model.specs.Record.{Options, RunRecord, plain, empty, with_end}
+use Rattle.script_model.specs.Script.{last_batch}
+use Rattle.script_model.specs.Play.{Done, done_with, Lane, lane_with, Play, play_with, who_of, entries_of, reply_or_denied, answered, step_of, lane_step, step_at, step, with_denials, play, play_batch, whole_order, lane_of, lanes_of, batch_after, head_or_empty, updates, pieces_of, played_from, played, IsPlayed}
+use Rattle.script_model.specs.Right.{IsRecordRight, AreBatchesRight}
+use Rattle.script_model.specs.InTurn.{record_in_turn, IsOneLane}
+use Rattle.script_model.specs.Merges.{is_merge, HasNoMerge, IsOfLanes}
+use Rattle.script_model.specs.PlayLaws.{IsWithoutMerges}
+use Rattle.script_model.specs.Statuses.{IsRecordOf}
+use Rattle.script_model.proofs.RightLemmas.{all_append}
+use Rattle.script_model.proofs.PlayedLemmas.{played_right}
+use Rattle.script_model.proofs.InTurnLemmas.{script_in_turn}
+
+-- ---- a legal journal that goes on
+
+and_assoc : (a b c : Bool) → (a && (b && c)) ≡ ((a && b) && c)
+and_assoc true b c = refl
+and_assoc false b c = refl
+
+and_true : (b : Bool) → (b && true) ≡ b
+and_true true = refl
+and_true false = refl
+
+pub legal_behind-append : (before entries more : List Entry) → is_legal_behind before (entries ++ more) ≡ (is_legal_behind before entries && is_legal_behind (before ++ entries) more)
+legal_behind-append before [] more = ap (λ j. is_legal_behind j more) (sym (append-nil before))
+legal_behind-append before (entry ∷ entries) more =
+    ap (λ b. may_follow before entry.what && b) (legal_behind-append (before ++ entry ∷ []) entries more ∙ ap (λ j. is_legal_behind (before ++ entry ∷ []) entries && is_legal_behind j more) (append_assoc before (entry ∷ []) entries))
+    ∙ and_assoc (may_follow before entry.what) (is_legal_behind (before ++ entry ∷ []) entries) (is_legal_behind (before ++ entry ∷ entries) more)
+
+-- One more entry.
+pub legal_more : (journal : List Entry) (entry : Entry) → is_legal (journal ++ entry ∷ []) ≡ (is_legal journal && may_follow journal entry.what)
+legal_more journal entry = legal_behind-append [] journal (entry ∷ []) ∙ ap (λ b. is_legal journal && b) (and_true (may_follow journal entry.what))
+
+-- ---- what a command adds
+
+none_either : (b : Bool) → cond {A = List What} b [] [] ≡ []
+none_either true = refl
+none_either false = refl
+
+load_follows : (limits : Counts) (who : Who) (read : TableRead) (now : List Entry) → is_legal_behind now (map (entry_with who) (cond (is_accepted (standing (load_answer limits read now))) (loads read) [])) ≡ true
+load_follows limits who (NoTable fault) now = ap (λ whats. is_legal_behind now (map (entry_with who) whats)) (none_either (is_accepted (standing (load_answer limits (NoTable fault) now))))
+load_follows limits who (IsTable table) now = by (is_live now table.name) (find is_passed (load_bounds limits table (counts now))) refl
+  where
+    by : (b : Bool) (o : Option Bounded) → is_live now table.name ≡ b
+        → is_legal_behind now (map (entry_with who) (cond (is_accepted (standing (cond b (Repeated table.name (length now)) (unless_lake_full (length now) (Loaded table.name (length table.columns) (members table) (length now + 1)) o)))) (journal.Loaded table ∷ []) [])) ≡ true
+    by true o e = refl
+    by false None e = ap (λ b. not b && true) e
+    by false (Some bound) e = refl
+
+drop_follows : (limits : Counts) (who : Who) (name : Text) (now : List Entry) → is_legal_behind now (map (entry_with who) (adds (DropTable name) now (answer_to limits (DropTable name) now now))) ≡ true
+drop_follows limits who name now = by (is_live now name) (find is_passed (drop_bounds limits (counts now))) refl
+  where
+    by : (b : Bool) (o : Option Bounded) → is_live now name ≡ b
+        → is_legal_behind now (map (entry_with who) (cond (is_accepted (standing (cond b (unless_lake_full (length now) (Dropped name (length now + 1)) o) (Unknown name (length now))))) (journal.Dropped name ∷ []) [])) ≡ true
+    by true None e = ap (λ b. b && true) e
+    by true (Some bound) e = refl
+    by false o e = refl
+
+-- what a command adds may follow, whatever its pin, unless it is a merge
+task_follows : (limits : Counts) (who : Who) (task : Task) (pinned now : List Entry) → is_merge task ≡ false → is_legal_behind now (map (entry_with who) (adds task pinned (answer_to limits task pinned now))) ≡ true
+task_follows limits who (Load name body) pinned now no_merge = load_follows limits who (table_read name body) now
+task_follows limits who (LoadFile name file) pinned now no_merge = load_follows limits who (file_read name file) now
+task_follows limits who (DropTable name) pinned now no_merge = drop_follows limits who name now
+task_follows limits who Tables pinned now no_merge = refl
+task_follows limits who (Search k body) pinned now no_merge = ap (λ whats. is_legal_behind now (map (entry_with who) whats)) (none_either (is_accepted (standing (answer_to limits (Search k body) pinned now))))
+task_follows limits who (Like k name place) pinned now no_merge = ap (λ whats. is_legal_behind now (map (entry_with who) whats)) (none_either (is_accepted (standing (answer_to limits (Like k name place) pinned now))))
+task_follows limits who (Merge all) pinned now no_merge = absurd (let f : true ≡ false = no_merge in cc)
+
+reply_follows : (limits : Counts) (command : Command) (denied : Bool) (pinned now : List Entry) → is_merge command.task ≡ false
+    → is_legal_behind now (entries_of pinned command (reply_or_denied denied (answer_to limits command.task pinned now))) ≡ true
+reply_follows limits command true pinned now no_merge = refl
+reply_follows limits command false pinned now no_merge = task_follows limits (who_of command) command.task pinned now no_merge
+
+-- ---- a legal play
+
+-- commands of these lanes and no merge
+abbrev IsQuiet : ℕ → List Command → Type 0
+IsQuiet n commands = AllByRecursion (λ command. (command.lane ≤ n) × (is_merge command.task ≡ false)) commands
+
+abbrev AreCallers : ℕ → List Entry → Type 0
+AreCallers n entries = AllByRecursion (λ e. e.who.caller ≤ n) entries
+
+record IsLawful (n : ℕ) (journal : List Entry) : Type 0 where
+  legal : is_legal journal ≡ true
+  callers : AreCallers n journal
+
+record PlaysLawfully (n : ℕ) (state : Play) : Type 0 where
+  lawful : IsLawful n state.journal
+  quiet : AllByRecursion (λ lane. IsQuiet n lane.todo) state.lanes
+
+all_get : {X : Type 0} (P : X → Type 0) (xs : List X) (i : ℕ) (x : X) → AllByRecursion P xs → slice_get xs i ≡ Some x → P x
+all_get P [] i x h e = cc
+all_get P (y ∷ xs) zero x h e = let same : y ≡ x = cc in subst P same h.0
+all_get P (y ∷ xs) (suc i) x h e = all_get P xs i x h.1 e
+
+all_set : {X : Type 0} (P : X → Type 0) (xs : List X) (i : ℕ) (x : X) → AllByRecursion P xs → P x → AllByRecursion P (slice_set xs i x)
+all_set P [] i x h k = tt
+all_set P (y ∷ xs) zero x h k = (k, h.1)
+all_set P (y ∷ xs) (suc i) x h k = (h.0, all_set P xs i x h.1 k)
+
+are_callers : (n : ℕ) (command : Command) (whats : List What) → command.lane ≤ n → AreCallers n (map (entry_with (who_of command)) whats)
+are_callers n command [] h = tt
+are_callers n command (what ∷ whats) h = (h, are_callers n command whats h)
+
+lawful_on : (n : ℕ) (before entries : List Entry) → IsLawful n before → is_legal_behind before entries ≡ true → AreCallers n entries → IsLawful n (before ++ entries)
+lawful_on n before entries lawful legal callers = record {
+  legal = legal_behind-append [] before entries ∙ ap (λ b. b && is_legal_behind before entries) lawful.legal ∙ legal;
+  callers = all_append (λ (e : Entry). e.who.caller ≤ n) before entries lawful.callers callers;
+}
+
+answered_lawful : (limits : Counts) (denied : Bool) (n : ℕ) (journal : List Entry) (lanes : List Lane) (l : ℕ) (done : List Done) (command : Command) (todo : List Command) (pinned : List Entry)
+    → PlaysLawfully n (play_with journal lanes) → IsQuiet n (command ∷ todo) → PlaysLawfully n (answered limits denied journal lanes l done command todo pinned)
+answered_lawful limits denied n journal lanes l done command todo pinned lawful quiet =
+    let reply = reply_or_denied denied (answer_to limits command.task pinned journal) in
+    record {
+      lawful = lawful_on n journal (entries_of pinned command reply) lawful.lawful (reply_follows limits command denied pinned journal quiet.0.1) (are_callers n command (adds command.task pinned reply) quiet.0.0);
+      quiet = all_set (λ (lane : Lane). IsQuiet n lane.todo) lanes l (lane_with todo None (done ++ done_with command reply ∷ [])) lawful.quiet quiet.1;
+    }
+
+step_of_lawful : (limits : Counts) (denied : Bool) (n : ℕ) (journal : List Entry) (lanes : List Lane) (l : ℕ) (done : List Done) (command : Command) (todo : List Command) (b : Bool) (pin : Option ℕ)
+    → PlaysLawfully n (play_with journal lanes) → IsQuiet n (command ∷ todo) → PlaysLawfully n (step_of limits denied journal lanes l done command todo b pin)
+step_of_lawful limits denied n journal lanes l done command todo true None lawful quiet =
+    record { lawful = lawful.lawful; quiet = all_set (λ (lane : Lane). IsQuiet n lane.todo) lanes l (lane_with (command ∷ todo) (Some (length journal)) done) lawful.quiet quiet }
+step_of_lawful limits denied n journal lanes l done command todo true (Some at) lawful quiet = answered_lawful limits denied n journal lanes l done command todo (take at journal) lawful quiet
+step_of_lawful limits denied n journal lanes l done command todo false pin lawful quiet = answered_lawful limits denied n journal lanes l done command todo journal lawful quiet
+
+lane_step_lawful : (limits : Counts) (denied : Bool) (n : ℕ) (journal : List Entry) (lanes : List Lane) (l : ℕ) (todo : List Command) (lane : Lane)
+    → PlaysLawfully n (play_with journal lanes) → IsQuiet n todo → PlaysLawfully n (lane_step limits denied journal lanes l todo lane)
+lane_step_lawful limits denied n journal lanes l [] lane lawful quiet = lawful
+lane_step_lawful limits denied n journal lanes l (command ∷ todo) lane lawful quiet = step_of_lawful limits denied n journal lanes l lane.done command todo (has_pin command.task) lane.pin lawful quiet
+
+step_at_lawful : (limits : Counts) (denied : Bool) (n : ℕ) (journal : List Entry) (lanes : List Lane) (l : ℕ) (o : Option Lane) → PlaysLawfully n (play_with journal lanes) → slice_get lanes l ≡ o
+    → PlaysLawfully n (step_at limits denied journal lanes l o)
+step_at_lawful limits denied n journal lanes l None lawful e = lawful
+step_at_lawful limits denied n journal lanes l (Some lane) lawful e =
+    lane_step_lawful limits denied n journal lanes l lane.todo lane lawful (all_get (λ (lane : Lane). IsQuiet n lane.todo) lanes l lane lawful.quiet e)
+
+steps_lawful : (limits : Counts) (n : ℕ) (state : Play) (turns : List (ℕ × Bool)) → PlaysLawfully n state → PlaysLawfully n (fold (step limits) state turns)
+steps_lawful limits n state [] lawful = lawful
+steps_lawful limits n state (turn ∷ turns) lawful =
+    steps_lawful limits n (step limits state turn) turns (step_at_lawful limits turn.1 n state.journal state.lanes turn.0 (slice_get state.lanes turn.0) lawful refl)
+
+play_lawful : (limits : Counts) (n : ℕ) (order : List ℕ) (denials : List Bool) (state : Play) → PlaysLawfully n state → PlaysLawfully n (play limits order denials state)
+unfolding play
+play_lawful limits n order denials state lawful = steps_lawful limits n state (with_denials order denials) lawful
+
+-- ---- a batch, and a record
+
+all_filter : (P : Command → Type 0) (p : Command → Bool) (commands : List Command) → AllByRecursion P commands → AllByRecursion P (filter p commands)
+all_filter P p [] h = tt
+all_filter P p (command ∷ commands) h = by (p command) (all_filter P p commands h.1)
+  where
+    by : (b : Bool) → AllByRecursion P (filter p commands) → AllByRecursion P (cond b (command ∷ filter p commands) (filter p commands))
+    by true rest = (h.0, rest)
+    by false rest = rest
+
+quiet_batch : (n : ℕ) (batch : Batch) → IsOfLanes n batch → HasNoMerge batch → IsQuiet n batch
+quiet_batch n [] lanes none = tt
+quiet_batch n (command ∷ batch) lanes none = ((lanes.0.1, none.0), quiet_batch n batch lanes.1 none.1)
+
+quiet_lanes : (n : ℕ) (batch : Batch) (from count : ℕ) → IsQuiet n batch → AllByRecursion (λ lane. IsQuiet n lane.todo) (map (lane_of batch) (range_with_len from count))
+quiet_lanes n batch from zero quiet = tt
+quiet_lanes n batch from (suc count) quiet = (all_filter (λ command. (command.lane ≤ n) × (is_merge command.task ≡ false)) (λ command. command.lane == from) batch quiet, quiet_lanes n batch (from + 1) count quiet)
+
+batch_lawful : (limits : Counts) (n : ℕ) (batch : Batch) (piece : List ℕ) (denials : List Bool) (journal : List Entry) → IsQuiet n batch → IsLawful n journal → IsLawful n (play_batch limits n batch [] piece denials journal).journal
+batch_lawful limits n batch piece denials journal quiet lawful =
+    (play_lawful limits n (whole_order piece n (2 * (length batch + length {A = Command} []))) denials (play_with journal (lanes_of n batch [])) (record { lawful = lawful; quiet = (tt, quiet_lanes n batch 1 n quiet) })).lawful
+
+played_lawful : (limits : Counts) (n next : ℕ) (batches : List Batch) (pieces : List (List ℕ)) (denials : List (List Bool)) (before : RunRecord) → AllByRecursion (IsOfLanes n) batches → AllByRecursion HasNoMerge batches
+    → IsLawful n before.journal → IsLawful n (played_from limits n false next batches pieces denials before).journal
+unfolding played_from
+played_lawful limits n next [] pieces denials before lanes none lawful = lawful
+played_lawful limits n next (batch ∷ batches) pieces denials before lanes none lawful =
+    played_lawful limits n (next + updates batch) batches (drop 1 pieces) (drop 1 denials) (batch_after limits n batch [] (head_or_empty pieces) (head_or_empty denials) before) lanes.1 none.1
+    (batch_lawful limits n batch (head_or_empty pieces) (head_or_empty denials) before.journal (quiet_batch n batch lanes.0 none.0) lawful)
+
+right_from : (limits : Counts) (options : Options) (batches : List Batch) (denials : List (List Bool)) (merge : Bool) → merge ≡ false → AllByRecursion (IsOfLanes options.lanes) batches → AllByRecursion HasNoMerge batches
+    → IsRecordRight limits options.lanes merge batches (played_from limits options.lanes merge 1 batches (pieces_of options.order) denials (empty options))
+right_from limits options batches denials true merges lanes none = absurd (let f : true ≡ false = merges in cc)
+right_from limits options batches denials false merges lanes none =
+    let made = played_from limits options.lanes false 1 batches (pieces_of options.order) denials (empty options) in
+    let ran = played_right limits options.lanes false 1 batches (pieces_of options.order) denials (empty options) lanes in
+    let lawful = played_lawful limits options.lanes 1 batches (pieces_of options.order) denials (empty options) lanes none (record { legal = refl; callers = tt }) in
+    record {
+      legal = lawful.legal;
+      callers = lawful.callers;
+      each = subst (λ syncs. AreBatchesRight limits options.lanes false 1 made.journal 0 batches syncs made.answers) (sym ran.syncs_are)
+          (subst (λ answers. AreBatchesRight limits options.lanes false 1 made.journal 0 batches ran.syncs answers) (sym ran.answers_are) ran.right);
+    }
+
+-- the same but for whether its source was read to the end
+ended_right : (limits : Counts) (lanes : ℕ) (merge : Bool) (batches : List Batch) (made : RunRecord) (ended : Bool) → IsRecordRight limits lanes merge batches made → IsRecordRight limits lanes merge batches (with_end ended made)
+ended_right limits lanes merge batches made ended right = record { legal = right.legal; callers = right.callers; each = right.each }
+
+-- A record that was played of batches without a merge, with no merger beside them, is right: in whatever order, and wherever memory was wanting.
+pub record_right : (limits : Counts) (options : Options) (batches : List Batch) (made : RunRecord) → IsWithoutMerges options batches → IsPlayed limits options batches made → IsRecordRight limits options.lanes options.merge batches made
+record_right limits options batches made none (denials, is) =
+    subst (λ r. IsRecordRight limits options.lanes options.merge batches r) (sym is)
+    (ended_right limits options.lanes options.merge batches (played limits options batches denials) made.ended (right_from limits options batches denials options.merge none.merger none.lanes none.commands))
+
+-- ---- one lane
+
+-- The record of a script that has one batch, or none, of one lane, its commands in turn, was played.
+pub script_played : (limits : Counts) (batch : Batch) (denials : List Bool) (ended : Bool) → IsOneLane batch → IsPlayed limits plain (last_batch batch) (with_end ended (record_in_turn limits batch denials))
+script_played limits batch denials ended one = let made = script_in_turn limits batch denials one in (made.0, ap (with_end ended) (sym made.1))
+
+of_lane_one : (batch : Batch) → IsOneLane batch → IsOfLanes 1 batch
+of_lane_one [] one = tt
+of_lane_one (command ∷ batch) one = ((omega (arith, one.0), omega (arith, one.0)), of_lane_one batch one.1)
+
+without_merges : (batch : Batch) → IsOneLane batch → HasNoMerge batch → IsWithoutMerges plain (last_batch batch)
+without_merges [] one none = record { merger = refl; lanes = tt; commands = tt }
+without_merges (command ∷ batch) one none = record { merger = refl; lanes = (of_lane_one (command ∷ batch) one, tt); commands = (none, tt) }
+
+-- And so it is right.
+pub script_right : (limits : Counts) (batch : Batch) (denials : List Bool) (ended : Bool) → IsOneLane batch → HasNoMerge batch
+    → IsRecordRight limits 1 false (last_batch batch) (with_end ended (record_in_turn limits batch denials))
+script_right limits batch denials ended one none = record_right limits plain (last_batch batch) _ (without_merges batch one none) (script_played limits batch denials ended one)
+
+-- Behind the end of its source it is the record of the script.
+pub script_record : (limits : Counts) (batch : Batch) (denials : List Bool) → IsOneLane batch → HasNoMerge batch → IsRecordOf limits (last_batch batch) (with_end true (record_in_turn limits batch denials))
+script_record limits batch denials one none = record { ended = refl; right = script_right limits batch denials true one none; played = script_played limits batch denials true one }

@@ -1,0 +1,87 @@
+-- Worked runs, from the bytes of a script to the bytes that are written where memory is ample and nothing fails.
+use Rattle.std.proofs.Common.{◌≡◌, refl, ℕ, List, [], ◌∷◌}
+use Rattle.std.specs.Prelude.{codes, flat_map}
+use Rattle.std.specs.Str.{trim_start, trim_end, chars, is_utf8}
+use Rattle.std.specs.Fmt.{digits}
+use lib.Utf8.{encode}
+use Rattle.caseless.proofs.Computing.{caseless}
+use Rattle.csv.specs.Machine.{next_record}
+use Rattle.csv.specs.Reading.{records_from, strip_bom}
+use Rattle.lake_model.specs.Texts.{lines_of}
+use Rattle.lake_model.specs.Records.{rows_fault, text_fault}
+use Rattle.lake_model.specs.Queries.{line_fault}
+use Rattle.lake_model.specs.Sorting.{in_order, put_in_order}
+use Rattle.lake_model.specs.Journal.{standard_limits}
+use Rattle.script_model.specs.declared.Reason.TheVariants as reason
+use Rattle.script_model.specs.Reading.{read}
+use Rattle.script_model.specs.Script.{commands_of, FaultAt}
+use Rattle.script_model.specs.Answered.{table_read, query_read}
+use Rattle.script_model.specs.Record.{plain}
+use Rattle.script_model.specs.Play.{play, played, played_from}
+use Rattle.script_model.specs.Texts.{line_text, text}
+
+abbrev lines : List (List ℕ) → List ℕ
+lines texts = flat_map line_text texts
+
+abbrev written : List ℕ → List ℕ
+written script = text (played standard_limits plain (commands_of script).batches [])
+
+-- a search of an empty lake
+nothing_loaded : written (lines (codes "search 5" ∷ codes "a" ∷ codes "." ∷ [])) ≡ lines (codes "1 answer 0 of 1 at 0" ∷ [])
+unfolding lines_of read next_record records_from strip_bom is_utf8 caseless trim_start trim_end chars encode digits in_order put_in_order rows_fault text_fault line_fault table_read query_read play played_from
+nothing_loaded = refl
+
+-- two values of three match
+first_table : written (lines (codes "load t1" ∷ codes "id,city" ∷ codes "1,Rome" ∷ codes "2,Oslo" ∷ codes "." ∷ codes "search 1" ∷ codes "rome" ∷ codes "OSLO" ∷ codes "Paris" ∷ codes "." ∷ [])) ≡ lines (codes "1 loaded t1 columns 2 members 4 at 1" ∷ codes "2 answer 1 of 3 at 1" ∷ codes "  2 t1 2 \"city\"" ∷ [])
+unfolding lines_of read next_record records_from strip_bom is_utf8 caseless trim_start trim_end chars encode digits in_order put_in_order rows_fault text_fault line_fault table_read query_read play played_from
+first_table = refl
+
+-- a table without values, and bytes without a header
+no_header : written (lines (codes "load h" ∷ codes "a,b" ∷ codes "." ∷ codes "load z" ∷ codes "." ∷ codes "search 3" ∷ codes "a" ∷ codes "." ∷ [])) ≡ lines (codes "1 loaded h columns 2 members 0 at 1" ∷ codes "2 refused csv no-header" ∷ codes "3 answer 0 of 1 at 1" ∷ [])
+unfolding lines_of read next_record records_from strip_bom is_utf8 caseless trim_start trim_end chars encode digits in_order put_in_order rows_fault text_fault line_fault table_read query_read play played_from
+no_header = refl
+
+-- ties by column name and then by place; an empty name
+ties : written (lines (codes "load d" ∷ codes "x,x," ∷ codes "1,1,1" ∷ codes "." ∷ codes "search 3" ∷ codes "1" ∷ codes "." ∷ [])) ≡ lines (codes "1 loaded d columns 3 members 3 at 1" ∷ codes "2 answer 3 of 1 at 1" ∷ codes "  1 d 3 \"\"" ∷ codes "  1 d 1 \"x\"" ∷ codes "  1 d 2 \"x\"" ∷ [])
+unfolding lines_of read next_record records_from strip_bom is_utf8 caseless trim_start trim_end chars encode digits in_order put_in_order rows_fault text_fault line_fault table_read query_read play played_from
+ties = refl
+
+-- German sharp s, and an e with an acute in one character and in two
+unicode : written (lines (codes "load s" ∷ codes "v" ∷ (32 ∷ 83 ∷ 116 ∷ 114 ∷ 97 ∷ 195 ∷ 159 ∷ 101 ∷ []) ∷ codes "STRASSE" ∷ codes "strasse " ∷ (195 ∷ 169 ∷ []) ∷ (101 ∷ 204 ∷ 129 ∷ []) ∷ codes "." ∷ codes "search 1" ∷ codes "STRASSE" ∷ (195 ∷ 137 ∷ []) ∷ codes "." ∷ [])) ≡ lines (codes "1 loaded s columns 1 members 2 at 1" ∷ codes "2 answer 1 of 2 at 1" ∷ codes "  2 s 1 \"v\"" ∷ [])
+unfolding lines_of read next_record records_from strip_bom is_utf8 caseless trim_start trim_end chars encode digits in_order put_in_order rows_fault text_fault line_fault table_read query_read play played_from
+unicode = refl
+
+-- a refused table leaves its name free
+repeated : written (lines (codes "load t" ∷ codes "a,b" ∷ codes "1" ∷ codes "." ∷ codes "load t" ∷ codes "c" ∷ codes "x" ∷ codes "." ∷ codes "load t" ∷ codes "c" ∷ codes "y" ∷ codes "." ∷ [])) ≡ lines (codes "1 refused csv record 2 want 2 got 1" ∷ codes "2 loaded t columns 1 members 1 at 1" ∷ codes "3 refused repeated t at 1" ∷ [])
+unfolding lines_of read next_record records_from strip_bom is_utf8 caseless trim_start trim_end chars encode digits in_order put_in_order rows_fault text_fault line_fault table_read query_read play played_from
+repeated = refl
+
+-- bytes that are no text, in a table and in a query
+not_utf8 : written (lines (codes "load w" ∷ codes "a" ∷ (255 ∷ []) ∷ codes "." ∷ codes "search 1" ∷ (255 ∷ []) ∷ codes "." ∷ [])) ≡ lines (codes "1 refused csv record 2 field 1 not UTF-8" ∷ codes "2 refused query line 1 not UTF-8" ∷ [])
+unfolding lines_of read next_record records_from strip_bom is_utf8 caseless trim_start trim_end chars encode digits in_order put_in_order rows_fault text_fault line_fault table_read query_read play played_from
+not_utf8 = refl
+
+-- a line of a block that begins with a dot is written with one more
+stuffed : written (lines (codes "load p" ∷ codes "v" ∷ codes ".." ∷ codes "." ∷ codes "search 1" ∷ codes ".." ∷ codes "." ∷ [])) ≡ lines (codes "1 loaded p columns 1 members 1 at 1" ∷ codes "2 answer 1 of 1 at 1" ∷ codes "  1 p 1 \"v\"" ∷ [])
+unfolding lines_of read next_record records_from strip_bom is_utf8 caseless trim_start trim_end chars encode digits in_order put_in_order rows_fault text_fault line_fault table_read query_read play played_from
+stuffed = refl
+
+-- a line of neither form
+unknown : (commands_of (lines (codes "load t" ∷ codes "c" ∷ codes "x" ∷ codes "." ∷ codes "find" ∷ []))).end ≡ FaultAt 5 reason.Unknown
+unfolding lines_of read
+unknown = refl
+
+-- more rows than may be asked for
+too_many_rows : (commands_of (lines (codes "search 10001" ∷ []))).end ≡ FaultAt 1 reason.Unknown
+unfolding lines_of read
+too_many_rows = refl
+
+-- the input ends inside a block
+no_end : (commands_of (lines (codes "load p" ∷ codes "v" ∷ codes ".." ∷ codes "." ∷ codes "search 1" ∷ codes ".." ∷ codes "." ∷ codes "search 1" ∷ codes "a" ∷ []))).end ≡ FaultAt 8 reason.NoEnd
+unfolding lines_of read
+no_end = refl
+
+-- a carriage return before the line feed of a command, and before that of a dot; a last line without a line feed
+returns : written (codes "load t\r\nc\nx\n.\r\nsearch 1\nx\n.") ≡ lines (codes "1 loaded t columns 1 members 1 at 1" ∷ codes "2 answer 1 of 1 at 1" ∷ codes "  1 t 1 \"c\"" ∷ [])
+unfolding lines_of read next_record records_from strip_bom is_utf8 caseless trim_start trim_end chars encode digits in_order put_in_order rows_fault text_fault line_fault table_read query_read play played_from
+returns = refl

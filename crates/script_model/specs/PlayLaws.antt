@@ -1,0 +1,37 @@
+-- The laws of play, for batches without a merge and with no merger beside them.
+use Rattle.std.specs.Prelude.{◌≡◌, Bool, false, List, [], ◌∷◌, ◌++◌, length}
+use Rattle.std.specs.List.{AllByRecursion}
+use Rattle.lake_model.specs.declared.Counts.{Counts}
+use Rattle.script_model.specs.Commands.{Command, Batch}
+use Rattle.script_model.specs.Script.{last_batch}
+use Rattle.script_model.specs.Record.{Options, RunRecord, plain, with_end}
+use Rattle.script_model.specs.Play.{IsPlayed, batch_after}
+use Rattle.script_model.specs.Right.{IsRecordRight}
+use Rattle.script_model.specs.InTurn.{after_command, in_turn, with_sync, record_in_turn, IsOneLane}
+use Rattle.script_model.specs.Merges.{HasNoMerge, IsOfLanes}
+
+-- the merger is off, every command is of a lane of the options, and none is a merge
+pub record IsWithoutMerges (options : Options) (batches : List Batch) : Type 0 where
+  pub merger : options.merge ≡ false
+  pub lanes : AllByRecursion (IsOfLanes options.lanes) batches
+  pub commands : AllByRecursion HasNoMerge batches
+
+-- What was played is right, in whatever order it was played, and wherever memory was wanting.
+abbrev pub PlayedIsRight : Type 0
+PlayedIsRight = (limits : Counts) (options : Options) (batches : List Batch) (made : RunRecord) → IsWithoutMerges options batches
+    → IsPlayed limits options batches made → IsRecordRight limits options.lanes options.merge batches made
+
+-- One more command in turn comes behind all others.
+abbrev pub GoesOnInTurn : Type 0
+GoesOnInTurn = (limits : Counts) (commands : List Command) (denials : List Bool) (command : Command) (denied : Bool) (before : RunRecord) → length denials ≡ length commands
+    → in_turn limits (commands ++ command ∷ []) (denials ++ denied ∷ []) before ≡ after_command limits (in_turn limits commands denials before) command denied
+
+-- What the commands of a batch of one lane make in turn is that batch played without a stated order, with memory wanting at some turns or at none.
+abbrev pub BatchIsPlayed : Type 0
+BatchIsPlayed = (limits : Counts) (batch : Batch) (denials : List Bool) (before : RunRecord) → IsOneLane batch
+    → (turns : List Bool) × (batch_after limits 1 batch [] [] turns before ≡ with_sync (in_turn limits batch denials before))
+
+-- So is the record of a script of one batch, or of none, whether or not its source was read to the end.
+abbrev pub ScriptIsPlayed : Type 0
+ScriptIsPlayed = (limits : Counts) (batch : Batch) (denials : List Bool) (ended : Bool) → IsOneLane batch
+    → IsPlayed limits plain (last_batch batch) (with_end ended (record_in_turn limits batch denials))

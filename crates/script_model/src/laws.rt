@@ -1,0 +1,18 @@
+//! The laws of play: each is the contract of a function that does nothing.
+
+ghost use Rattle.script_model.specs.PlayLaws.{PlayedIsRight, GoesOnInTurn, BatchIsPlayed, ScriptIsPlayed};
+
+/// A record that was played of batches is right: its journal is legal, no entry's caller is past the number of lanes, and between the
+/// lengths of the journal that its syncs name each lane's answers are right. It may be played in any stated order, on any number of
+/// lanes, and memory may be wanting at any turn. Said of batches without a merge, with no merger beside them.
+pub fn played_is_right_law()
+    ensures { PlayedIsRight }
+{}
+
+/// On one lane without a stated order, play is one command after another: each is answered at the journal as it stands, or memory is
+/// wanting for it. So whoever answers the commands of a batch in turn has played it.
+pub fn in_turn_law()
+    ensures one_more { GoesOnInTurn }
+    ensures batch { BatchIsPlayed }
+    ensures script { ScriptIsPlayed }
+{}

@@ -1,0 +1,169 @@
+-- The tokens, from any list that has each key once.
+use Rattle.std.proofs.Common.{◌≡◌, refl, ap, sym, ◌∙◌, ℕ, suc, ◌+◌, ◌<◌, List, [], ◌∷◌, ◌++◌, Bool, true, false, ◌||◌, cond, map, length, get_or, arith}
+use Rattle.std.specs.Prelude.{bytes_eq, fold}
+use Rattle.std.specs.Bool.{Decides}
+use Rattle.std.specs.Cmp.{IsTotalOrder, IsEquivalence}
+use Rattle.std.specs.Ordering.{ordering_then, is_lt}
+use Rattle.std.specs.declared.cmp.Ordering.{Ordering}
+use Rattle.std.specs.declared.cmp.Ordering.TheVariants.{Less, Equal, Greater}
+use Rattle.std.specs.List.{list_any, IsDistinct, AllByRecursion, flat_map, remove, count_by}
+use Rattle.std.specs.List.Sorted.{IsPermutation, IsSortedBy}
+use Rattle.std.proofs.lemmas.Cmp.{then_total, on_total, nat_cmp_total, nat_list_cmp_total}
+use Rattle.std.proofs.lemmas.Map.Lookups.{exact_unsigned, exact_bytes}
+use Rattle.std.proofs.lemmas.Map.Keys.{IsDistinct-IsPermutation, IsDistinct-push}
+use Rattle.std.proofs.lemmas.List.Folds.{list_any-append}
+use Rattle.std.proofs.lemmas.List.Sorted.{IsPermutation-refl, IsPermutation-sym, IsPermutation-trans, IsPermutation-cons, IsPermutation-remove, IsPermutation-map, list_any-IsPermutation}
+use Rattle.std.proofs.lemmas.List.Sums.{sum_by-cons, sum_by-append}
+use Rattle.std.proofs.lemmas.Slice.Eq.{bytes_eq-Decides}
+use Rattle.search_model.specs.Segment.{Titled, Token, token_cmp, token_of, tokens_of}
+use Rattle.lake_model.proofs.SortingLemmas.{in_order-IsPermutation, sorted_is}
+use Rattle.lake_model.specs.Sorting.{in_order}
+use Rattle.lake_model.specs.Texts.{Text}
+use Rattle.lake_model.specs.Tables.{distinct, has_key, add_key}
+
+pub token_cmp_total : IsTotalOrder token_cmp
+token_cmp_total = then_total (on_total (λ (t : Token). t.frequency) nat_cmp_total) (on_total (λ (t : Token). t.key) nat_list_cmp_total)
+
+both_equal : (a b : Ordering) → ordering_then a b ≡ Equal → (a ≡ Equal) × (b ≡ Equal)
+both_equal Less b e = cc
+both_equal Equal b e = (refl, e)
+both_equal Greater b e = cc
+
+pub token_cmp_exact : (a b : Token) → token_cmp a b ≡ Equal → a ≡ b
+token_cmp_exact a b e =
+    let p = both_equal _ _ e in
+    let frequency : a.frequency ≡ b.frequency = exact_unsigned _ _ p.0 in
+    let key : a.key ≡ b.key = exact_bytes _ _ p.1 in
+    λ i. record { key = key i; frequency = frequency i }
+
+same_test : (a b : Bool) (P Q : Type 0) → Decides a P → Decides b Q → (P → Q) → (Q → P) → a ≡ b
+same_test true b P Q d e f g = sym (e.1 (f (d.0 refl)))
+same_test false true P Q d e f g = d.1 (g (e.0 refl))
+same_test false false P Q d e f g = refl
+
+flips : (x y : Text) → bytes_eq x y ≡ bytes_eq y x
+flips x y = same_test _ _ _ _ (bytes_eq-Decides x y) (bytes_eq-Decides y x) (λ e. sym e) (λ e. sym e)
+
+itself : (x : Text) → bytes_eq x x ≡ true
+itself x = (bytes_eq-Decides x x).1 refl
+
+abbrev Found : Text → List Text → Type 0
+Found x ys = (i : ℕ) × (i < length ys) × (x ≡ get_or ys i x)
+
+find_here : (x y : Text) (ys : List Text) (b : Bool) → bytes_eq x y ≡ b → (b || list_any (bytes_eq x) ys) ≡ true → (list_any (bytes_eq x) ys ≡ true → Found x ys) → Found x (y ∷ ys)
+find_here x y ys true e h rest = (0, omega arith, (bytes_eq-Decides x y).0 e)
+find_here x y ys false e h rest = let r = rest h in (suc r.0, omega (arith, r.1), r.2)
+
+find_at : (x : Text) (ys : List Text) → list_any (bytes_eq x) ys ≡ true → Found x ys
+find_at x [] h = cc
+find_at x (y ∷ ys) h = find_here x y ys (bytes_eq x y) refl h (find_at x ys)
+
+lacked : (x q : Text) (xs : List Text) → AllByRecursion (λ y. bytes_eq x y ≡ false) xs → bytes_eq q x ≡ true → list_any (bytes_eq q) xs ≡ false
+lacked x q [] h e = refl
+lacked x q (y ∷ ys) h e =
+    let same : q ≡ x = (bytes_eq-Decides q x).0 e in
+    ap (λ (z : Text). bytes_eq z y || list_any (bytes_eq q) ys) same ∙ ap (λ b. b || list_any (bytes_eq q) ys) h.0 ∙ lacked x q ys h.1 e
+
+-- two lists that have each key once, and the same keys
+pub permutation : (xs ys : List Text) → IsDistinct bytes_eq xs → IsDistinct bytes_eq ys → ((q : Text) → list_any (bytes_eq q) xs ≡ list_any (bytes_eq q) ys) → IsPermutation xs ys
+unfolding IsDistinct
+permutation [] [] d e h = IsPermutation-refl []
+permutation [] (y ∷ ys) d e h = absurd (let t : (bytes_eq y y || list_any (bytes_eq y) ys) ≡ true = ap (λ b. b || list_any (bytes_eq y) ys) (itself y) in let f : false ≡ true = h y ∙ t in cc)
+permutation (x ∷ xs) ys d e h =
+    let t : (bytes_eq x x || list_any (bytes_eq x) xs) ≡ true = ap (λ b. b || list_any (bytes_eq x) xs) (itself x) in
+    let at = find_at x ys (sym (h x) ∙ t) in
+    let rest = remove ys at.0 in
+    let moved : IsPermutation ys (x ∷ rest) = IsPermutation-remove ys at.0 x at.1 at.2 in
+    let apart : IsDistinct bytes_eq (x ∷ rest) = IsDistinct-IsPermutation bytes_eq flips ys (x ∷ rest) moved e in
+    let members : (q : Text) → list_any (bytes_eq q) xs ≡ list_any (bytes_eq q) rest = λ q. by q (bytes_eq q x) (list_any (bytes_eq q) xs) (list_any (bytes_eq q) rest) (h q ∙ list_any-IsPermutation (bytes_eq q) ys (x ∷ rest) moved) (lacked x q xs d.0) (lacked x q rest apart.0) in
+    IsPermutation-trans (x ∷ xs) (x ∷ rest) ys (IsPermutation-cons x xs rest (permutation xs rest d.1 apart.1 members)) (IsPermutation-sym ys (x ∷ rest) moved)
+  where
+    by : (q : Text) (b u v : Bool) → (b || u) ≡ (b || v) → (b ≡ true → u ≡ false) → (b ≡ true → v ≡ false) → u ≡ v
+    by q true u v s f g = f refl ∙ sym (g refl)
+    by q false u v s f g = s
+
+equivalence : IsEquivalence bytes_eq
+equivalence = record { refl = itself; symm = flips; congr = λ x y z e. ap (λ (w : Text). bytes_eq w z) ((bytes_eq-Decides x y).0 e) }
+
+insert_one : (seen : List Text) (t : Text) (b : Bool) → list_any (bytes_eq t) seen ≡ b → IsDistinct bytes_eq seen → IsDistinct bytes_eq (cond b seen (seen ++ t ∷ []))
+insert_one seen t true e h = h
+insert_one seen t false e h = IsDistinct-push equivalence seen t h e
+
+distinct_insert : (seen texts : List Text) → IsDistinct bytes_eq seen → IsDistinct bytes_eq (fold add_key seen texts)
+distinct_insert seen [] h = h
+distinct_insert seen (t ∷ texts) h = distinct_insert (add_key seen t) texts (insert_one seen t (list_any (bytes_eq t) seen) refl h)
+
+-- the keys of a set differ
+pub distinct_differs : (texts : List Text) → IsDistinct bytes_eq (distinct texts)
+unfolding IsDistinct
+distinct_differs texts = distinct_insert [] texts tt
+
+or_false : (a : Bool) → a ≡ (a || false)
+or_false true = refl
+or_false false = refl
+
+or_more : (a b c : Bool) → ((a || b) || c) ≡ (a || (b || c))
+or_more true b c = refl
+or_more false b c = refl
+
+seen_one : (q t : Text) (seen : List Text) (b : Bool) → list_any (bytes_eq t) seen ≡ b → list_any (bytes_eq q) (cond b seen (seen ++ t ∷ [])) ≡ (list_any (bytes_eq q) seen || bytes_eq q t)
+seen_one q t seen false e = list_any-append (bytes_eq q) seen (t ∷ []) ∙ ap (λ b. list_any (bytes_eq q) seen || b) (sym (or_false (bytes_eq q t)))
+seen_one q t seen true e = by (bytes_eq q t) refl
+  where
+    or_true : (a : Bool) → (a || true) ≡ true
+    or_true true = refl
+    or_true false = refl
+
+    by : (b : Bool) → bytes_eq q t ≡ b → list_any (bytes_eq q) seen ≡ (list_any (bytes_eq q) seen || bytes_eq q t)
+    by true same = ap (λ (z : Text). list_any (bytes_eq z) seen) ((bytes_eq-Decides q t).0 same) ∙ e ∙ sym (or_true (list_any (bytes_eq q) seen)) ∙ ap (λ b. list_any (bytes_eq q) seen || b) (sym same)
+    by false other = or_false (list_any (bytes_eq q) seen) ∙ ap (λ b. list_any (bytes_eq q) seen || b) (sym other)
+
+members_insert : (q : Text) (seen texts : List Text) → list_any (bytes_eq q) (fold add_key seen texts) ≡ (list_any (bytes_eq q) seen || list_any (bytes_eq q) texts)
+members_insert q seen [] = or_false (list_any (bytes_eq q) seen)
+members_insert q seen (t ∷ texts) =
+    members_insert q (add_key seen t) texts
+    ∙ ap (λ b. b || list_any (bytes_eq q) texts) (seen_one q t seen (list_any (bytes_eq t) seen) refl)
+    ∙ or_more (list_any (bytes_eq q) seen) (bytes_eq q t) (list_any (bytes_eq q) texts)
+
+-- and a key is in the set where it is among the texts
+pub distinct_has : (q : Text) (texts : List Text) → list_any (bytes_eq q) (distinct texts) ≡ list_any (bytes_eq q) texts
+distinct_has q texts = members_insert q [] texts
+
+-- the tokens of some columns, from their keys, each once, in whatever order
+pub tokens_from : (columns : List Titled) (keys : List Text) → IsDistinct bytes_eq keys → ((q : Text) → list_any (bytes_eq q) (flat_map (λ c. c.column.keys) columns) ≡ list_any (bytes_eq q) keys)
+    → in_order token_cmp (map (token_of columns) keys) ≡ tokens_of columns
+unfolding tokens_of
+tokens_from columns keys d h =
+    let all = flat_map (λ (c : Titled). c.column.keys) columns in
+    in_order-IsPermutation token_cmp_total token_cmp_exact _ _ (IsPermutation-map (token_of columns) _ _ (permutation (distinct all) keys (distinct_differs all) d (λ q. distinct_has q all ∙ h q)))
+
+-- from sorted keys: what `sort` and a walk that skips equal neighbours leave
+pub tokens_from_sorted : (columns : List Titled) (keys : List Text) → IsDistinct bytes_eq keys → ((q : Text) → list_any (bytes_eq q) (flat_map (λ c. c.column.keys) columns) ≡ list_any (bytes_eq q) keys)
+    → (tokens : List Token) → IsSortedBy (λ a b. is_lt (token_cmp a b)) tokens → IsPermutation (map (token_of columns) keys) tokens → tokens ≡ tokens_of columns
+tokens_from_sorted columns keys d h tokens up same =
+    sorted_is token_cmp_total token_cmp_exact tokens up ∙ in_order-IsPermutation token_cmp_total token_cmp_exact _ _ same ∙ tokens_from columns keys d h
+
+abbrev once : Bool → ℕ
+once b = cond b 1 0
+
+one_more : (b l : Bool) (n rest : ℕ) → n ≡ once b + rest → rest ≡ once l → (b ≡ true → l ≡ false) → n ≡ once (b || l)
+one_more true l n rest e f g = let z : once l ≡ 0 = ap once (g refl) in omega arith
+one_more false l n rest e f g = omega arith
+
+-- a key stands in a set at most once
+count_one : (key : Text) (keys : List Text) → IsDistinct bytes_eq keys → count_by (bytes_eq key) keys ≡ once (list_any (bytes_eq key) keys)
+unfolding IsDistinct
+count_one key [] d = refl
+count_one key (k ∷ keys) d =
+    one_more (bytes_eq key k) (list_any (bytes_eq key) keys) _ (count_by (bytes_eq key) keys) (sum_by-cons (λ (y : Text). once (bytes_eq key y)) k keys) (count_one key keys d.1) (lacked k key keys d.0)
+
+-- so the columns that hold a key are as many as its copies in all columns' sets
+pub frequency_flat : (key : Text) (columns : List Titled) → AllByRecursion (λ c. IsDistinct bytes_eq c.column.keys) columns
+    → count_by (bytes_eq key) (flat_map (λ c. c.column.keys) columns) ≡ count_by (λ c. has_key c.column.keys key) columns
+frequency_flat key [] d = refl
+frequency_flat key (c ∷ columns) d =
+    let split = sum_by-append (λ (y : Text). once (bytes_eq key y)) c.column.keys (flat_map (λ (o : Titled). o.column.keys) columns) in
+    let here = count_one key c.column.keys d.0 in
+    let rest = frequency_flat key columns d.1 in
+    let first = sum_by-cons (λ (o : Titled). once (has_key o.column.keys key)) c columns in
+    omega (arith, split, here, rest, first)

@@ -1,0 +1,4 @@
+pub mod Segment
+pub mod Choosers
+pub mod Looks
+pub mod Arrays

@@ -1,0 +1,7 @@
+pub mod Histories
+pub mod ViewLists
+pub mod Looks
+pub mod Splits
+pub mod Joins
+pub mod Turns
+pub mod Passes

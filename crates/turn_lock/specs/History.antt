@@ -1,0 +1,32 @@
+-- Lists of entries, each entry of one caller.
+use Rattle.std.specs.Prelude.{ℕ, ◌≡◌, ◌<◌, ◌⊎◌, List, [], ◌∷◌, ◌++◌, length, nat_lt, if◌then◌else◌}
+
+-- the number is among these
+abbrev pub Has : List ℕ → ℕ → Type 0
+Has [] number = ⊥
+Has (first ∷ others) number = (first ≡ number) ⊎ Has others number
+
+module _ {E : Type 0} (caller_of : E → ℕ) where
+  -- no entry is of these callers
+  abbrev pub IsOfOthers : List ℕ → List E → Type 0
+  IsOfOthers callers [] = Unit {0}
+  IsOfOthers callers (entry ∷ entries) = (¬ (Has callers (caller_of entry))) × IsOfOthers callers entries
+
+  -- each entry is of a caller whose number is below this one
+  abbrev pub IsOfGiven : ℕ → List E → Type 0
+  IsOfGiven given [] = Unit {0}
+  IsOfGiven given (entry ∷ entries) = (caller_of entry < given) × IsOfGiven given entries
+
+  -- the list after begins with the list before, and the rest of it is of other callers than these
+  pub record Grows (callers : List ℕ) (before after : List E) : Type 0 where
+    pub rest : List E
+    pub begins : before ++ rest ≡ after
+    pub others : IsOfOthers callers rest
+
+  -- the list before, with nothing more or with one entry more, of this caller
+  abbrev pub Follows : ℕ → List E → List E → Type 0
+  Follows caller before after = (after ≡ before) ⊎ ((entry : E) × (caller_of entry ≡ caller) × (after ≡ before ++ entry ∷ []))
+
+-- the longer of two lists, and the first where they are as long
+abbrev pub longer : {E : Type 0} → List E → List E → List E
+longer first second = if nat_lt (length first) (length second) then second else first

@@ -1,0 +1,40 @@
+//! Laws of histories, for crates that build on the lock. Each function here does nothing: its contract is a law of the
+//! lists of any value that a lock may keep. Proofs cite the lemmas behind them, of `proofs/Histories.antt`.
+ghost use Rattle.turn_lock.specs.Laws.{GrowthIsReflexive, GrowthIsTransitive, GrowthIsOfFewerCallers, GrowthIsABeginning, GrowthByAnEntry, GrowthBetweenBeginnings, GrowthKeepsEntries};
+
+use crate::kept::Kept;
+
+/// A list that stayed as it was has grown, by nothing.
+pub fn growth_is_reflexive<V: Kept>()
+    ensures { GrowthIsReflexive V.caller_of }
+{}
+
+/// A list that has grown twice has grown.
+pub fn growth_is_transitive<V: Kept>()
+    ensures { GrowthIsTransitive V.caller_of }
+{}
+
+/// A list that has grown by entries of others than some callers has so for fewer of them.
+pub fn growth_is_of_fewer_callers<V: Kept>()
+    ensures { GrowthIsOfFewerCallers V.caller_of }
+{}
+
+/// A list that has grown begins with what it was.
+pub fn growth_is_a_beginning<V: Kept>()
+    ensures { GrowthIsABeginning V.caller_of }
+{}
+
+/// An entry of another caller is growth.
+pub fn growth_by_an_entry<V: Kept>()
+    ensures { GrowthByAnEntry V.caller_of }
+{}
+
+/// Of two beginnings of one list, the longer grows from the shorter as the list does.
+pub fn growth_between_beginnings<V: Kept>()
+    ensures { GrowthBetweenBeginnings V.caller_of }
+{}
+
+/// A list that has grown has the entries of each of the callers that it had, in their order, and no other of theirs.
+pub fn growth_keeps_entries<V: Kept>()
+    ensures { GrowthKeepsEntries V.caller_of }
+{}

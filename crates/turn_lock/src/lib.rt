@@ -1,0 +1,22 @@
+//! A lock that counts the history of the value behind it.
+//!
+//! The value stands for a list of entries, each of one caller. A caller has a [`Pass`], which knows a beginning of
+//! that list. It takes a [`Turn`] at the value, adds an entry or none, and gives the turn back.
+#![tactic(auto)]
+
+mod kept;
+pub mod laws;
+mod lock;
+mod pass;
+mod plays;
+mod roll;
+mod seats;
+#[cfg(test)]
+mod tests;
+mod turn;
+mod view;
+
+pub use kept::Kept;
+pub use lock::HistoryLock;
+pub use pass::{Note, Pass};
+pub use turn::Turn;

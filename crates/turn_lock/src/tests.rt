@@ -1,0 +1,202 @@
+//! The lock over a roll, with threads of their own for two callers: what the opening pass finds after they have ended,
+//! and that a taker waits for the holder. No clause says that memory is there, nor that anyone ever gets a turn.
+ghost use Rattle.std.specs.Prelude.{◌≡◌, [], false, true, None, Some, IfOk};
+ghost use Rattle.turn_lock.specs.Passes.{known, after_seeing};
+
+use crate::roll::{Roll, note_and_sign, sign, take_roll};
+use crate::{HistoryLock, Pass};
+use no_memory::NoMemory;
+use std::alloc::Global;
+use std::sync::Wait;
+use std::sync::atomic::{AtomicBool, Ordering};
+use std::test::Fail;
+use std::thread;
+use std::thread::{Threads, join};
+
+const SIGNATURES: u32 = 1000;
+
+type Parts = (HistoryLock<Roll>, Pass<Roll>, Pass<Roll>, Pass<Roll>);
+
+// A lock over an empty roll, its opening pass, and the passes of callers 1 and 2.
+fn start(alloc: Global) -> Result<Parts, NoMemory>
+    ensures opening { IfOk result (λ r. r.1 ≡ known r.0 0 [] [] false (Some 3) 0) }
+    ensures first { IfOk result (λ r. r.2 ≡ known r.0 1 [] [] false None 0) }
+    ensures second { IfOk result (λ r. r.3 ≡ known r.0 2 [] [] false None 0) }
+{
+    let (lock, mut opening) = HistoryLock::new(alloc, Roll::new(alloc), 3)?;
+    let first = lock.new_pass(&mut opening);
+    let second = lock.new_pass(&mut opening);
+    Ok((lock, opening, first, second))
+}
+
+// Signs so often, in turns.
+fn sign_often<R: Wait>(
+    rt: &R,
+    lock: &HistoryLock<Roll>,
+    mut pass: Pass<Roll>,
+    count: u32,
+) -> Result<Pass<Roll>, NoMemory>
+    requires { (pass.lock ≡ lock.now) × (pass.holds ≡ false) }
+    ensures { IfOk result (λ after. after ≡ after_seeing pass after.seen false) }
+{
+    for _ in 0..count {
+        sign(rt, lock, &mut pass)?;
+    }
+    Ok(pass)
+}
+
+// Callers 1 and 2 have signed a thousand times each, on threads of their own.
+fn signed_by_two<R: Threads + Wait + Sync>(rt: &R, alloc: Global) -> Result<Parts, NoMemory>
+    ensures opening { IfOk result (λ r. r.1 ≡ known r.0 0 [] [] false (Some 3) 0) }
+    ensures first { IfOk result (λ r. r.2 ≡ known r.0 1 [] r.2.seen false None 0) }
+    ensures second { IfOk result (λ r. r.3 ≡ known r.0 2 [] r.3.seen false None 0) }
+{
+    let (lock, opening, first, second) = start(alloc)?;
+    let shared = &lock;
+    let (first, second) = join(
+        rt,
+        move || -> Result<Pass<Roll>, NoMemory>
+            requires { (first.lock ≡ shared.now) × (first.holds ≡ false) }
+            ensures { IfOk result (λ after. after ≡ after_seeing first after.seen false) }
+        { sign_often(rt, shared, first, SIGNATURES) },
+        move || -> Result<Pass<Roll>, NoMemory>
+            requires { (second.lock ≡ shared.now) × (second.holds ≡ false) }
+            ensures { IfOk result (λ after. after ≡ after_seeing second after.seen false) }
+        { sign_often(rt, shared, second, SIGNATURES) },
+    );
+    let first = first?;
+    let second = second?;
+    Ok((lock, opening, first, second))
+}
+
+// How many signatures the pass's next turn shows: in all, of caller 1 and of caller 2.
+fn counts<R: Wait>(rt: &R, lock: &HistoryLock<Roll>, pass: &mut Pass<Roll>) -> (usize, usize, usize)
+    requires { (pass.old.lock ≡ lock.now) × (pass.old.holds ≡ false) }
+    ensures { pass.new ≡ after_seeing pass.old pass.new.seen false }
+{
+    let mut turn = take_roll(rt, lock, pass);
+    let signed = turn.value().signed();
+    let all = signed.len();
+    let first = signed.iter().filter(|caller| **caller == 1).count();
+    let second = signed.iter().filter(|caller| **caller == 2).count();
+    lock.give(pass, turn);
+    (all, first, second)
+}
+
+#[test]
+fn notes_of_two_threads_are_met(rt: HostRuntime) -> Result<(), Fail> {
+    let (lock, mut opening, mut first, mut second) = signed_by_two(&rt, rt.alloc())?;
+    let note = lock.note(&mut first);
+    lock.meet(&mut opening, note);
+    let note = lock.note(&mut second);
+    lock.meet(&mut opening, note);
+    assert_eq!(rt; counts(&rt, &lock, &mut opening), (2000, 1000, 1000));
+    Ok(())
+}
+
+#[test]
+fn passes_of_two_threads_end(rt: HostRuntime) -> Result<(), Fail> {
+    let (lock, mut opening, first, second) = signed_by_two(&rt, rt.alloc())?;
+    lock.end(&mut opening, first);
+    lock.end(&mut opening, second);
+    assert_eq!(rt; counts(&rt, &lock, &mut opening), (2000, 1000, 1000));
+    Ok(())
+}
+
+#[test]
+fn numbers_are_given_in_order(rt: HostRuntime) -> Result<(), Fail> {
+    let (lock, mut opening) = HistoryLock::new(rt.alloc(), Roll::new(rt.alloc()), 3)?;
+    assert_eq!(rt; (opening.caller(), lock.left(&opening)), (0, 2));
+    let first = lock.new_pass(&mut opening);
+    assert_eq!(rt; (first.caller(), lock.left(&opening)), (1, 1));
+    let second = lock.new_pass(&mut opening);
+    assert_eq!(rt; (second.caller(), lock.left(&opening)), (2, 0));
+    Ok(())
+}
+
+// Lets other threads run until the flag is set, or so many times.
+fn wait_for(flag: &AtomicBool) {
+    for _ in 0..1_000_000 {
+        if flag.load(Ordering::SeqCst) {
+            return;
+        }
+        thread::yield_now();
+    }
+}
+
+/// What the holder and the taker tell each other.
+#[derive(Drop)]
+struct Flags {
+    held: AtomicBool,
+    begun: AtomicBool,
+    given: AtomicBool,
+}
+
+// Takes a turn, and gives it back some time after the other has begun to wait for it.
+fn hold<R: Wait>(rt: &R, lock: &HistoryLock<Roll>, mut pass: Pass<Roll>, flags: &Flags)
+    requires { (pass.lock ≡ lock.now) × (pass.holds ≡ false) }
+{
+    let turn = take_roll(rt, lock, &mut pass);
+    flags.held.store(true, Ordering::SeqCst);
+    wait_for(&flags.begun);
+    for _ in 0..1000 {
+        thread::yield_now();
+    }
+    flags.given.store(true, Ordering::SeqCst);
+    lock.give(&mut pass, turn);
+}
+
+// Takes a turn while the other holds one, and answers whether that was given back by then.
+fn take_behind<R: Wait>(
+    rt: &R,
+    lock: &HistoryLock<Roll>,
+    mut pass: Pass<Roll>,
+    flags: &Flags,
+) -> bool
+    requires { (pass.lock ≡ lock.now) × (pass.holds ≡ false) }
+{
+    wait_for(&flags.held);
+    flags.begun.store(true, Ordering::SeqCst);
+    let turn = take_roll(rt, lock, &mut pass);
+    let was_given = flags.given.load(Ordering::SeqCst);
+    lock.give(&mut pass, turn);
+    was_given
+}
+
+fn holder_and_taker<R: Threads + Wait + Sync>(rt: &R, alloc: Global) -> Result<bool, NoMemory> {
+    let (lock, _opening, holder, taker) = start(alloc)?;
+    let flags = Flags {
+        held: AtomicBool::new(false),
+        begun: AtomicBool::new(false),
+        given: AtomicBool::new(false),
+    };
+    let (lock, flags) = (&lock, &flags);
+    let (was_given, ()) = join(
+        rt,
+        move || -> bool
+            requires { (taker.lock ≡ lock.now) × (taker.holds ≡ false) }
+        { take_behind(rt, lock, taker, flags) },
+        move || -> ()
+            requires { (holder.lock ≡ lock.now) × (holder.holds ≡ false) }
+        { hold(rt, lock, holder, flags) },
+    );
+    Ok(was_given)
+}
+
+#[test]
+fn a_taker_waits_for_the_holder(rt: HostRuntime) -> Result<(), Fail> {
+    assert!(rt; holder_and_taker(&rt, rt.alloc())?);
+    Ok(())
+}
+
+#[test]
+fn a_note_shows_what_was_seen_before(rt: HostRuntime) -> Result<(), Fail> {
+    let (lock, mut opening, mut first, mut second) = start(rt.alloc())?;
+    sign(&rt, &lock, &mut first)?;
+    let (note, done) = note_and_sign(&rt, &lock, &mut first);
+    done?;
+    lock.meet(&mut second, note);
+    lock.end(&mut opening, second);
+    assert_eq!(rt; counts(&rt, &lock, &mut opening), (2, 2, 0));
+    Ok(())
+}
