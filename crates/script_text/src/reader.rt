@@ -1,5 +1,5 @@
 //! How far a script was read, and what each line does.
-ghost use Rattle.std.specs.Prelude.{false, ◌≡◌, ◌+◌, ◌++◌, ◌∷◌, ◌≤◌, ◌⊎◌, IfErr, IfOk, IfSome, IsSome, None, OnOk, Some, [], drop, length};
+ghost use Rattle.std.specs.Prelude.{false, ◌≡◌, ◌+◌, ◌++◌, ◌∷◌, ◌≤◌, ◌⊎◌, IfErr, IfOk, IfSome, IsSome, None, OnOk, [], drop, length};
 ghost use Rattle.script_model.specs.Numbers.{without_return};
 ghost use Rattle.script_model.specs.Reading.{Goes, block_ended, body_after, does, turn_of};
 ghost use Rattle.script_model.specs.Saying.{closed, said};
