@@ -1,12 +1,13 @@
 -- A table from its titles and the sets of its columns: how many columns it has, its titles, the set at a place, and the sums.
-use Rattle.std.proofs.Common.{◌≡◌, refl, ap, sym, ◌∙◌, ℕ, zero, suc, ◌+◌, ◌-◌, ◌<◌, ◌≤◌, List, [], ◌∷◌, map, length, arith, get_or}
-use Rattle.std.specs.Prelude.{sum_by}
-use Rattle.std.specs.List.{AllByRecursion}
+use Rattle.std.proofs.Common.{◌≡◌, refl, ap, sym, ◌∙◌, ℕ, zero, suc, ◌+◌, ◌-◌, ◌<◌, ◌≤◌, List, [], ◌∷◌, map, length, arith, drop, get_or, subst}
+use Rattle.std.specs.Prelude.{bytes_eq, sum_by}
+use Rattle.std.specs.List.{AllByRecursion, IsDistinct}
 use Rattle.std.proofs.lemmas.List.FromFn.{length-map-range_with_len}
 use Rattle.std.proofs.lemmas.List.Sums.{sum_by-cons}
 use Rattle.lake_model.specs.Texts.{Text}
-use Rattle.lake_model.specs.Records.{Record, column_at, column_count, field_at, places_of, table_of}
+use Rattle.lake_model.specs.Records.{Record, column_at, column_count, field_at, field_keys, places_of, table_of}
 use Rattle.lake_model.specs.Tables.{Column, Table, Titles, column_with, table_with, titles_of, titles_with, sets_of, keys_at, members, key_bytes}
+use Rattle.column_set.proofs.DistinctLemmas.{distinct_differ}
 use Rattle.column_set.specs.Columns.{IsHeld, IsSmall, columns_with, table_from}
 
 length-columns_with : (names : List Text) (sets : List (List Text)) → length names ≡ length sets → length (columns_with names sets) ≡ length sets
@@ -37,6 +38,15 @@ pub columns_with-map : (f : ℕ → Text) (g : ℕ → List Text) (places : List
 columns_with-map f g [] = refl
 columns_with-map f g (place ∷ places) = ap (λ columns. column_with (f place) (g place) ∷ columns) (columns_with-map f g places)
 
+all-columns_with : (P : List Text → Type 0) (names : List Text) (sets : List (List Text)) → AllByRecursion P sets → AllByRecursion (λ c. P c.keys) (columns_with names sets)
+all-columns_with P [] sets h = tt
+all-columns_with P (name ∷ names) [] h = tt
+all-columns_with P (name ∷ names) (keys ∷ sets) h = (h.0, all-columns_with P names sets h.1)
+
+all-map : {X Y : Type 0} (P : Y → Type 0) (f : X → Y) → ((x : X) → P (f x)) → (xs : List X) → AllByRecursion P (map f xs)
+all-map P f h [] = tt
+all-map P f h (x ∷ xs) = (h x, all-map P f h xs)
+
 all-at : {X : Type 0} (P : X → Type 0) (xs : List X) (i : ℕ) (d : X) → AllByRecursion P xs → i < length xs → P (get_or xs i d)
 all-at P [] i d h within = absurd (omega arith)
 all-at P (x ∷ xs) zero d h within = h.0
@@ -57,6 +67,11 @@ key_bytes-table_from titles sets as_many = sum_by-columns_with (λ keys. sum_by 
 module _ {titles : Titles} {sets : List (List Text)} {members key_bytes : ℕ} (held : IsHeld titles sets members key_bytes) (table : Table) (is : table_from titles sets ≡ table) where
   pub columns_held : length table.columns ≡ length sets
   columns_held = ap (λ t. length t.columns) (sym is) ∙ length-columns_with titles.columns sets held.as_many
+
+  pub different_held : AllByRecursion (λ column. IsDistinct bytes_eq column.keys) table.columns
+  different_held =
+      let P : Table → Type 0 = λ t. AllByRecursion (λ column. IsDistinct bytes_eq column.keys) t.columns in
+      subst P is (all-columns_with (IsDistinct bytes_eq) titles.columns sets held.different)
 
   pub titles_held : titles ≡ titles_of table
   titles_held = sym (ap (titles_with titles.table) (names-columns_with titles.columns sets held.as_many)) ∙ ap titles_of is
@@ -83,6 +98,11 @@ module _ (name : Text) (rows : List Record) (names : List Text) (sets : List (Li
   pub as_many_read : length names ≡ length sets
   as_many_read = ap length named ∙ length-map-range_with_len (field_at rows 0) 1 (column_count rows) ∙ sym (ap length read ∙ length-map-range_with_len (λ place. (column_at rows place).keys) 1 (column_count rows))
 
+  different_read : AllByRecursion (IsDistinct bytes_eq) sets
+  different_read =
+      let P : List (List Text) → Type 0 = AllByRecursion (IsDistinct bytes_eq) in
+      subst P (sym read) (all-map (IsDistinct bytes_eq) (λ place. (column_at rows place).keys) (λ place. distinct_differ (field_keys place (drop 1 rows))) (places_of rows))
+
   pub held_read : length sets ≤ 1024 → AllByRecursion IsSmall sets → (titles : Titles) → titles ≡ titles_with name names → (count bytes : ℕ) → count ≡ sum_by (λ keys. length keys) sets → bytes ≡ sum_by (λ keys. sum_by (λ key. length key) keys) sets → IsHeld titles sets count bytes
   held_read narrow small titles is count bytes counted weighed =
       let as_many : length titles.columns ≡ length sets = ap (λ (t : Titles). length t.columns) is ∙ as_many_read in
@@ -90,6 +110,7 @@ module _ (name : Text) (rows : List Record) (names : List Text) (sets : List (Li
         as_many = as_many;
         narrow = narrow;
         small = small;
+        different = different_read;
         counted = counted ∙ sym (members-table_from titles sets as_many);
         weighed = weighed ∙ sym (key_bytes-table_from titles sets as_many);
       }

@@ -1,5 +1,6 @@
 pub mod AsciiLemmas
 pub mod ColumnLemmas
+pub mod DistinctLemmas
 pub mod LineLemmas
 pub mod OverlapLemmas
 pub mod ReadLemmas

@@ -1,6 +1,6 @@
 -- A table from its titles and the sets of its columns, one set for each column of the titles.
-use Rattle.std.specs.Prelude.{◌≡◌, ◌≤◌, ℕ, List, [], ◌∷◌, length}
-use Rattle.std.specs.List.{AllByRecursion}
+use Rattle.std.specs.Prelude.{◌≡◌, ◌≤◌, ℕ, List, [], ◌∷◌, bytes_eq, length}
+use Rattle.std.specs.List.{AllByRecursion, IsDistinct}
 use Rattle.lake_model.specs.Texts.{Text}
 use Rattle.lake_model.specs.Tables as tables
 use Rattle.lake_model.specs.Tables.{Column, Table, Titles, column_with, table_with}
@@ -17,10 +17,11 @@ table_from titles sets = table_with titles.table (columns_with titles.columns se
 abbrev pub IsSmall : List Text → Type 0
 IsSmall keys = length keys ≤ 4194304
 
--- what is held of a table is one set for each column, none too large, with the numbers of all keys and of their bytes
+-- what is held of a table is one set for each column, none too large and none with a key twice, with the numbers of all keys and of their bytes
 pub record IsHeld (titles : Titles) (sets : List (List Text)) (members key_bytes : ℕ) : Type 0 where
   pub as_many : length titles.columns ≡ length sets
   pub narrow : length sets ≤ 1024
   pub small : AllByRecursion IsSmall sets
+  pub different : AllByRecursion (IsDistinct bytes_eq) sets
   pub counted : members ≡ tables.members (table_from titles sets)
   pub weighed : key_bytes ≡ tables.key_bytes (table_from titles sets)

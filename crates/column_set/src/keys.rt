@@ -1,9 +1,10 @@
 //! A set of keys, each once and in order of first sight, which the sets of columns and of queries are made of.
-ghost use Rattle.std.specs.Prelude.{◌≡◌, ◌^◌, ◌<◌, ◌≤◌, [], bytes_eq, count_by, get_or, length, map, string_bytes, sum_by, IfSome, OnOk};
+ghost use Rattle.std.specs.Prelude.{◌≡◌, ◌^◌, ◌<◌, ◌≤◌, List, [], bytes_eq, count_by, get_or, length, map, string_bytes, sum_by, IfNone, IfSome, OnOk};
 ghost use Rattle.std.specs.List.{list_any, IsDistinct};
 ghost use Rattle.std.specs.Option.{option_map_or};
 ghost use Rattle.lake_model.specs.Keys.{key};
-ghost use Rattle.lake_model.specs.Tables.{add_key, has_key};
+ghost use Rattle.lake_model.specs.Tables.{add_key, distinct, has_key, overlap};
+ghost use Rattle.lake_model.specs.Texts.{Text};
 
 use indexmap::IndexSet;
 use no_memory::NoMemory;
@@ -98,7 +99,8 @@ impl KeySet {
 
     /// How many bytes all keys have together, and `None` only where these are 2^64 or more.
     pub fn byte_count(&self) -> Option<u64>
-        ensures { IfSome result (λ count. count ≡ sum_by length self.now) }
+        ensures count { IfSome result (λ count. count ≡ sum_by length self.now) }
+        ensures too_many { IfNone result (2 ^ 64 ≤ sum_by length self.now) }
     {
         byte_count(self.keys.as_slice())
     }
@@ -112,9 +114,10 @@ fn count_in(texts: &[String], keys: &KeySet) -> u32
     texts.iter().filter(|text| keys.has(text.as_str())).count() as u32
 }
 
-// How many bytes the texts have together.
+// How many bytes the texts have together, and `None` only where these are 2^64 or more.
 fn byte_count(texts: &[String]) -> Option<u64>
-    ensures { IfSome result (λ count. count ≡ sum_by (λ text. length (string_bytes text)) texts.now) }
+    ensures count { IfSome result (λ count. count ≡ sum_by (λ text. length (string_bytes text)) texts.now) }
+    ensures too_many { IfNone result (2 ^ 64 ≤ sum_by (λ text. length (string_bytes text)) texts.now) }
 {
     let mut count = 0u64;
     for text in texts {
@@ -122,3 +125,15 @@ fn byte_count(texts: &[String]) -> Option<u64>
     }
     Some(count)
 }
+
+/// Making texts distinct leaves none of them twice, and leaves out none.
+pub fn distinct_law()
+    ensures different { (texts : List Text) → IsDistinct bytes_eq (distinct texts) }
+    ensures same { (texts : List Text) (text : Text) → has_key (distinct texts) text ≡ has_key texts text }
+{}
+
+/// Of two lists in which no text stands twice, as many texts of the one stand in the other as of the other in the one. So the
+/// overlap of a query and a column may be counted over either.
+pub fn overlap_law()
+    ensures { (xs ys : List Text) → IsDistinct bytes_eq xs → IsDistinct bytes_eq ys → overlap xs ys ≡ overlap ys xs }
+{}

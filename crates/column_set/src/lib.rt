@@ -9,9 +9,13 @@ mod row;
 mod table;
 mod titles;
 
+pub use keys::{distinct_law, overlap_law};
 pub use lake_model::{QueryRefused, SetRefused};
 pub use name::Name;
 pub use query::QuerySet;
 pub use row::{KeptRow, KeptRows, Row, Rows};
 pub use table::{SharedTable, TableSets};
 pub use titles::Titles;
+
+#[cfg(test)]
+mod tests;

@@ -1,5 +1,5 @@
 //! A table as its titles and the sets of keys of its columns, and the same table shared.
-ghost use Rattle.std.specs.Prelude.{◌≡◌, ◌⊎◌, ◌<◌, ◌≤◌, [], bytes_eq, get_or, length, map, string_bytes, sum_by, IfErr, IfOk, IfSome, None, OnOk, Some};
+ghost use Rattle.std.specs.Prelude.{◌≡◌, ◌⊎◌, ◌<◌, ◌≤◌, ◌^◌, [], bytes_eq, get_or, length, map, string_bytes, sum_by, IfErr, IfNone, IfOk, IfSome, None, OnOk, Some};
 ghost use Rattle.std.specs.List.{AllByRecursion, IsDistinct};
 ghost use Rattle.lake_model.specs.Records.{column_at, column_count, field_at, places_of, sets_fault, table_of, text_size};
 ghost use Rattle.lake_model.specs.Tables.{column_name, has_key, keys_at, titles_of};
@@ -83,10 +83,11 @@ impl TableSets {
         self.titles.table()
     }
 
-    /// How many columns there are, at most 1,024.
+    /// How many columns there are, at most 1,024. The keys of each differ from each other.
     pub fn columns(&self) -> u32
         ensures value { result ≡ length self.now.columns }
         ensures narrow { result ≤ 1024 }
+        ensures different { AllByRecursion (λ column. IsDistinct bytes_eq column.keys) self.now.columns }
     {
         self.sets.len() as u32
     }
@@ -222,7 +223,8 @@ fn member_count(sets: &[KeySet]) -> u64
 
 // How many bytes the keys of the sets have together, and `None` only where these are 2^64 or more.
 fn key_byte_count(sets: &[KeySet]) -> Option<u64>
-    ensures { IfSome result (λ count. count ≡ sum_by (λ keys. sum_by length keys) sets.now) }
+    ensures count { IfSome result (λ count. count ≡ sum_by (λ keys. sum_by length keys) sets.now) }
+    ensures too_many { IfNone result (2 ^ 64 ≤ sum_by (λ keys. sum_by length keys) sets.now) }
 {
     let mut count = 0u64;
     for keys in sets {

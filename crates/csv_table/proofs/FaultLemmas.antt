@@ -1,7 +1,8 @@
 -- The faults of records, one field and one record at a time.
-use Rattle.std.proofs.Common.{◌≡◌, ◌<◌, ◌+◌, ℕ, List, [], ◌∷◌, length, drop, get_or, Some, None, true, false, refl}
+use Rattle.std.proofs.Common.{◌≡◌, ◌<◌, ◌≤◌, ◌+◌, ℕ, zero, suc, List, [], ◌∷◌, length, drop, get_or, Some, None, true, false, refl, arith}
 use Rattle.std.proofs.lemmas.List.{drop_more}
 use Rattle.std.specs.Str.{is_utf8}
+use Rattle.csv.specs.Records as csv
 use Rattle.lake_model.specs.Records.{text_fault, rows_fault, record_fault}
 use Rattle.lake_model.specs.declared.CsvRefused.{CsvRefused}
 use Rattle.lake_model.specs.declared.CsvRefused.TheVariants as refused
@@ -33,3 +34,17 @@ rows_bad row want r rs e h = rw h refl
 pub rows_end : (row want : ℕ) → rows_fault row want [] ≡ None
 unfolding rows_fault
 rows_end row want = refl
+
+-- a field that a record has at a place stands there
+pub field_there : (fields : List (List ℕ)) (i : ℕ) (field : List ℕ) → csv.field_at fields i ≡ Some field → (i < length fields) × (get_or fields i [] ≡ field)
+unfolding csv.field_at
+field_there [] i field e = cc e
+field_there (f ∷ fs) zero field e = (omega arith, cc)
+field_there (f ∷ fs) (suc i) field e = let (less, same) = field_there fs i field e in (omega (arith, less), same)
+
+-- and where it has none, the record ends
+pub field_past : (fields : List (List ℕ)) (i : ℕ) → csv.field_at fields i ≡ None → length fields ≤ i
+unfolding csv.field_at
+field_past [] i e = omega arith
+field_past (f ∷ fs) zero e = cc e
+field_past (f ∷ fs) (suc i) e = let past = field_past fs i e in omega (arith, past)

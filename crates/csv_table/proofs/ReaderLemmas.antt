@@ -106,6 +106,7 @@ takes_byte cfg s (c ∷ rest) p q e =
           omega (arith, h.shorter)
     ]
 
+-- two ways to go on that agree after the record that was read give the same records
 next_same : (o : Option Read) (f g : State → List ℕ → List Record) → ((p : Read) → o ≡ Some p → f p.1 p.2 ≡ g p.1 p.2) → records_next f o ≡ records_next g o
 next_same None f g h = refl
 next_same (Some p) f g h = ap (λ (t : List Record). p.0 ∷ t) (h p refl)
@@ -125,6 +126,7 @@ turns cfg (suc m) (suc n) s xs q a b =
 abbrev pub left_records : Config → State → List ℕ → List Record
 left_records cfg s y = records_from cfg (length y + 1) s y
 
+-- a record that is read is the first of those left
 pub left_more : (cfg : Config) (s s2 : State) (y z : List ℕ) (f : Record) → ends_at_end s ≡ false → next_record cfg s [] [] y ≡ Some (f, s2, z)
     → left_records cfg s y ≡ f ∷ left_records cfg s2 z
 unfolding records_from
@@ -134,10 +136,12 @@ left_more cfg s s2 y z f q e =
     let less2 : length z < length y = less in
     rw (add-one (length y), e) (ap (λ (t : List Record). f ∷ t) (turns cfg (length y) (length z + 1) s2 z quiet less2 (omega arith)))
 
+-- and where none is read, none is left
 pub left_none : (cfg : Config) (s : State) (y : List ℕ) → next_record cfg s [] [] y ≡ None → left_records cfg s y ≡ []
 unfolding records_from
 left_none cfg s y e = rw (add-one (length y), e) refl
 
+-- the parts of what was read, put together
 next_is : (o : Option Read) (p : Read) (f : Record) (s : State) (z : List ℕ) → o ≡ Some p → f ≡ p.0 → p.1 ≡ s → p.2 ≡ z → o ≡ Some (f, s, z)
 next_is o p f s z h a b c = rw (a, ← b, ← c) h
 
@@ -190,6 +194,7 @@ size_from cfg (suc n) s xs =
     let rest = size_from cfg n p.1 p.2 in
     omega (arith, took.bytes, rest))
 
+-- without a mark the bytes are no longer
 strip_size : (xs : List ℕ) → length (strip_bom xs) ≤ length xs
 unfolding strip_bom
 strip_size [] = omega arith
@@ -197,6 +202,7 @@ strip_size (a ∷ []) = omega arith
 strip_size (a ∷ b ∷ []) = omega arith
 strip_size (a ∷ b ∷ c ∷ rest) = elim ((a == 239) && (b == 187) && (c == 191)) as (λ t. length (if t then rest else a ∷ b ∷ c ∷ rest) ≤ length (a ∷ b ∷ c ∷ rest)) [ true ↦ omega arith | false ↦ omega arith ]
 
+-- the fields of the records behind the marks are together no longer than all the bytes
 pub size_records : (cfg : Config) (xs : List ℕ) (n : ℕ) (s : State) → text_size (records_from cfg n s (strip_bom (strip_bom xs))) ≤ length xs
 size_records cfg xs n s =
     let whole = size_from cfg n s (strip_bom (strip_bom xs)) in

@@ -1,5 +1,5 @@
 -- A reader of the crate `csv` over bytes, as the records that it has left.
-use Rattle.std.specs.Prelude.{◌≡◌, ◌+◌, List, [], ℕ, length, true, false, Option, Some, None, IsSome}
+use Rattle.std.specs.Prelude.{◌≡◌, ◌+◌, List, [], length, true, false, Option, Some, None, IsSome}
 use Rattle.std.specs.Borrow.{Bor}
 use Rattle.csv.specs.Machine.{ends_at_end}
 use Rattle.csv.specs.Reading.{Ready, default_config, is_flexible, reader_config, reader_state, reader_trim, records_from, source_of}

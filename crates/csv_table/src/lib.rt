@@ -1,4 +1,4 @@
-//! CSV bytes as a table: a header and records of its length, each field UTF-8, or the one refusal that the bytes earn.
+//! CSV bytes as a table, a header and records of its length with each field UTF-8, or the one refusal that the bytes earn.
 #![tactic(auto)]
 
 ghost use Rattle.std.specs.Prelude.{◌≡◌, ◌⊎◌, ◌↔◌, List, ◌+◌, ◌<◌, ◌≤◌, ◌++◌, ◌∷◌, [], true, false, length, Some, None, Ok, Err, IfOk, IfErr, OnOk, OnErr};
@@ -70,16 +70,16 @@ impl RawTable {
     }
 }
 
-/// The table of CSV bytes: a comma between fields, double quotes round a field that has a comma, a quote or a line break, a quote
-/// within quotes doubled (RFC 4180), and a line ended by LF, CR LF or CR. One byte order mark in front of the bytes is no part of
-/// them. An empty line is no record.
+/// The table of CSV bytes (RFC 4180), or why they are none. Commas separate the fields of a record. A field in double quotes may
+/// hold commas, line breaks and quotes, each quote doubled. A record ends at LF, CR LF or CR, and an empty line is no record. One
+/// byte order mark in front of the bytes is no part of them, nor is a second one, which the crate `csv` drops. No field is trimmed.
 ///
 /// # Errors
 ///
-/// The first of these that holds, and the crate's documentation of `CsvRefused` says what each carries: no record at all
-/// (`NoHeader`), a header of more than 1,024 fields (`TooManyColumns`), a field of the header that is no UTF-8 (`NotUtf8`), and
-/// then the first record at fault, by its length (`Unequal`) or else by its first field that is no UTF-8 (`NotUtf8`). `NoMemory`
-/// may come in place of any answer.
+/// The first of these that holds, with records and fields numbered from 1 and the header as record 1: `NoHeader` where there is no
+/// record; `TooManyColumns` where the header has more than 1,024 fields; `NotUtf8` at the header's first field that is not UTF-8;
+/// and at the first record at fault `Unequal` where its length is not the header's, and else `NotUtf8` at its first field that is
+/// not UTF-8. `NoMemory` may come in place of any answer, and says nothing of the bytes.
 pub fn read_table(alloc: Global, bytes: &[u8]) -> Result<RawTable, CsvRefused>
     ensures table { IfOk result (λ t. t ≡ records_of bytes.now) }
     ensures sound { OnOk result (csv_fault bytes.now ≡ None) }
@@ -88,21 +88,21 @@ pub fn read_table(alloc: Global, bytes: &[u8]) -> Result<RawTable, CsvRefused>
     ensures refused { IfErr result (λ e. (e ≡ CsvRefused.NoMemory) ⊎ (csv_fault bytes.now ≡ Some e)) }
 {
     let mut reader = open_reader(alloc, bytes);
-    let mut record = ByteRecord::new(alloc);
+    let mut row = ByteRecord::new(alloc);
     let mut store = StringRecord::new(alloc);
-    if !read_next(&mut reader, &mut record)? {
+    if !read_next(&mut reader, &mut row)? {
         return Err(CsvRefused::NoHeader);
     }
-    let columns = add_header(&mut store, &record)?;
+    let columns = add_header(&mut store, &row)?;
     for records in 1..u64::MAX {
-        if !read_next(&mut reader, &mut record)? {
+        if !read_next(&mut reader, &mut row)? {
             return Ok(RawTable {
                 store,
                 columns,
                 records,
             });
         }
-        add_record(&mut store, &record, records + 1, columns)?;
+        add_record(&mut store, &row, records + 1, columns)?;
     }
     // So many records take more bytes than an address space has.
     Err(CsvRefused::NoMemory)
@@ -131,14 +131,14 @@ fn behind_mark(bytes: &[u8]) -> &[u8]
 
 // Reads the next record, and tells whether there is one. A flexible reader over a slice refuses nothing but want of memory: the
 // clause `failed` says that no error of the text became that.
-fn read_next(reader: &mut Reader<&[u8]>, record: &mut ByteRecord) -> Result<bool, CsvRefused>
+fn read_next(reader: &mut Reader<&[u8]>, row: &mut ByteRecord) -> Result<bool, CsvRefused>
     requires { IsReading reader.old }
-    ensures more { IfOk result (λ found. found ≡ true → IsReading reader.new × (records_left reader.old ≡ fields_of record.new ∷ records_left reader.new)) }
+    ensures more { IfOk result (λ found. found ≡ true → IsReading reader.new × (records_left reader.old ≡ fields_of row.new ∷ records_left reader.new)) }
     ensures end { IfOk result (λ found. found ≡ false → records_left reader.old ≡ []) }
     ensures refused { IfErr result (λ e. e ≡ CsvRefused.NoMemory) }
     ensures failed { OnErr result (has_failed reader.new ≡ true) }
 {
-    let Ok(found) = reader.read_byte_record(record) else {
+    let Ok(found) = reader.read_byte_record(row) else {
         return Err(CsvRefused::NoMemory);
     };
     Ok(found)
@@ -161,15 +161,15 @@ fn add_header(store: &mut StringRecord, header: &ByteRecord) -> Result<u32, CsvR
 // Adds the fields of the record of a number, counted from 1, in a table of so many columns.
 fn add_record(
     store: &mut StringRecord,
-    record: &ByteRecord,
+    row: &ByteRecord,
     number: u64,
     columns: u32,
 ) -> Result<(), CsvRefused>
-    ensures ok { OnOk result ((length (fields_of record.now) ≡ columns) × (record_fault number columns (fields_of record.now) ≡ None)) }
-    ensures added { OnOk result (fields_of store.new ≡ fields_of store.old ++ fields_of record.now) }
-    ensures refused { IfErr result (λ e. (e ≡ CsvRefused.NoMemory) ⊎ (record_fault number columns (fields_of record.now) ≡ Some e)) }
+    ensures ok { OnOk result ((length (fields_of row.now) ≡ columns) × (record_fault number columns (fields_of row.now) ≡ None)) }
+    ensures added { OnOk result (fields_of store.new ≡ fields_of store.old ++ fields_of row.now) }
+    ensures refused { IfErr result (λ e. (e ≡ CsvRefused.NoMemory) ⊎ (record_fault number columns (fields_of row.now) ≡ Some e)) }
 {
-    let got = record.len();
+    let got = row.len();
     if got != columns as usize {
         return Err(CsvRefused::Unequal {
             row: number,
@@ -177,19 +177,16 @@ fn add_record(
             got: got as u64,
         });
     }
-    add_fields(store, record, number)
+    add_fields(store, row, number)
 }
 
 // Adds the fields of the record of a number up to the first that is no UTF-8, and refuses that one.
-fn add_fields(store: &mut StringRecord, record: &ByteRecord, number: u64) -> Result<(), CsvRefused>
-    ensures ok { OnOk result (text_fault number 1 (fields_of record.now) ≡ None) }
-    ensures added { OnOk result (fields_of store.new ≡ fields_of store.old ++ fields_of record.now) }
-    ensures refused { IfErr result (λ e. (e ≡ CsvRefused.NoMemory) ⊎ (text_fault number 1 (fields_of record.now) ≡ Some e)) }
+fn add_fields(store: &mut StringRecord, row: &ByteRecord, number: u64) -> Result<(), CsvRefused>
+    ensures ok { OnOk result (text_fault number 1 (fields_of row.now) ≡ None) }
+    ensures added { OnOk result (fields_of store.new ≡ fields_of store.old ++ fields_of row.now) }
+    ensures refused { IfErr result (λ e. (e ≡ CsvRefused.NoMemory) ⊎ (text_fault number 1 (fields_of row.now) ≡ Some e)) }
 {
-    for i in 0..record.len() {
-        let Some(field) = record.get(i) else {
-            unreachable!()
-        };
+    for (i, field) in row.iter().enumerate() {
         let Ok(text) = str::from_utf8(field) else {
             return Err(CsvRefused::NotUtf8 {
                 row: number,
@@ -208,3 +205,6 @@ fn add_fields(store: &mut StringRecord, record: &ByteRecord, number: u64) -> Res
 pub fn table_law()
     ensures { (rows : List Record) → (table_fault rows ≡ None) ↔ IsTable rows }
 {}
+
+#[cfg(test)]
+mod tests;

@@ -1,5 +1,5 @@
 -- The key of an ASCII text is the text in small letters.
-use Rattle.std.proofs.Common.{◌≡◌, ap, sym, ◌∙◌, ℕ, ◌<◌, List, map, take, drop, length, arith, encode_utf8_all, cond, get_or}
+use Rattle.std.proofs.Common.{◌≡◌, ap, ◌∙◌, ℕ, List, map, drop, encode_utf8_all}
 use Rattle.std.specs.Prelude.{chars, IsAscii}
 use Rattle.std.specs.Str.{IsTrim}
 use Rattle.std.specs.Char.{to_ascii_lowercase}

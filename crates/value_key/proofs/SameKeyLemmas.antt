@@ -1,22 +1,20 @@
 -- Two values match exactly where they have one key, or none.
-use Rattle.std.proofs.Common.{◌≡◌, refl, ap, sym, ◌∙◌, subst, ℕ, ◌+◌, ◌<◌, List, [], ◌∷◌, ◌++◌, length, arith, Bool, true, false, cond, Option, Some, None, length-append, ◌==◌, encode_utf8_all}
+use Rattle.std.proofs.Common.{◌≡◌, refl, ap, sym, ◌∙◌, ℕ, ◌<◌, List, [], ◌∷◌, length, arith, Bool, true, false, cond, Option, Some, None, length-append, ◌==◌, encode_utf8_all}
 use Rattle.std.specs.Prelude.{chars, IsUtf8, ◌↔◌}
-use Rattle.std.specs.Str.{trim}
 use Rattle.std.specs.List.{flat_map}
 use Rattle.std.proofs.lemmas.Str.{encodes_same, encodes-chars, chars-nil}
 use Rattle.std.proofs.lemmas.Bool.Decides.{nat_tests}
 use Rattle.ucd_case.specs.CaseFolding.{full_fold, full_folding}
 use Rattle.ucd_case.specs.CaseFolding as folding
 use Rattle.ucd_normal.specs.Decomposition.{or_itself}
-use Rattle.ucd_normal.specs.declared.forms.Form.{Form}
 use Rattle.ucd_normal.specs.declared.forms.Form.TheVariants.{Nfd}
-use Rattle.unicode_normalization.specs.Decompose.{decompose, table_of}
+use Rattle.unicode_normalization.specs.Decompose.{decompose}
 use Rattle.unicode_normalization.specs.Hangul.{is_syllable, decompose_hangul}
 use Rattle.unicode_normalization.specs.Forms.{nfd, normalize, decomposed}
 use Rattle.unicode_normalization.specs.Order.{canonical_order}
 use Rattle.unicode_normalization.proofs.OrderLemmas.{length-canonical_order}
 use Rattle.caseless.specs.Caseless.{default_case_fold, canonical_key}
-use Rattle.lake_model.specs.Keys.{key, key_of_text, IsSameValue}
+use Rattle.lake_model.specs.Keys.{key_of_text}
 
 flat_map_some : {X A : Type 0} (f : X → List A) (xs : List X) → ((x : X) → 0 < length (f x)) → 0 < length xs → 0 < length (flat_map f xs)
 flat_map_some f [] some h = h

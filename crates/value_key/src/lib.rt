@@ -1,7 +1,7 @@
 //! The key of a value: canonical caseless matching of two values, made into a text that both have where they match.
 #![tactic(auto)]
 
-ghost use Rattle.std.specs.Prelude.{◌≡◌, ◌↔◌, IfOk, IsAscii, IsTrue, option_map, string_bytes};
+ghost use Rattle.std.specs.Prelude.{◌≡◌, ◌↔◌, IfOk, IsAscii, IsOk, IsTrue, option_map, string_bytes};
 ghost use Rattle.lake_model.specs.Keys.{key, key_of_text, IsSameValue};
 
 use caseless::{canonical_caseless_match_str, default_case_fold_str};
@@ -30,6 +30,7 @@ pub fn key_of(alloc: Global, value: &str) -> Result<Option<String>, NoMemory>
 pub fn same_value(alloc: Global, a: &str, b: &str) -> Result<bool, NoMemory>
     ensures matched { IfOk result (λ same. IsTrue same ↔ IsSameValue a.now b.now) }
     ensures keys { IfOk result (λ same. IsTrue same ↔ (key a.now ≡ key b.now)) }
+    ensures ascii { IsAscii a.now → IsAscii b.now → IsOk result }
 {
     let left = a.trim();
     let right = b.trim();
@@ -65,3 +66,6 @@ fn folded_key(alloc: Global, text: &str) -> Result<String, NoMemory>
     let folded = default_case_fold_str(alloc, decomposed.as_str())?;
     Ok(to_nfd(alloc, folded.as_str())?)
 }
+
+#[cfg(test)]
+mod tests;

@@ -18,7 +18,7 @@ loop-records-init c =
     record {
       reading = more.0;
       narrow = header.ok.1;
-      left = header_good c.args.bytes.now (fields_of c.read_next.new.record) (fields_of c.add_header.new.store) (records_left c.read_next.new.reader) c.in_ok-columns.columns
+      left = header_good c.args.bytes.now (fields_of c.read_next.new.row) (fields_of c.add_header.new.store) (records_left c.read_next.new.reader) c.in_ok-columns.columns
           (sym c.open_reader-reader.ensures.left ∙ more.1) header.ok.2 flat header.ok.0;
     }
 
@@ -48,7 +48,7 @@ returns-in_err-add_record-clause-refused c =
     let (e, is, same) = err_from_is_err_and c.from_residual-in_err-add_record.result c.from_residual-in_err-add_record.ensures.1 in
     rw (is, same) (elim c.in_err-add_record.ensures.refused [
       | inl none ↦ inl none
-      | inr bad ↦ inr (record_bad c.args.bytes.now c.loop-records.records c.in_ok-columns.columns (fields_of c.loop-records.store) (fields_of c.read_next-in-loop-records.new.record)
+      | inr bad ↦ inr (record_bad c.args.bytes.now c.loop-records.records c.in_ok-columns.columns (fields_of c.loop-records.store) (fields_of c.read_next-in-loop-records.new.row)
           (records_left c.loop-records.reader) (records_left c.read_next-in-loop-records.new.reader) c.in_err-add_record.field-0.0 c.loop-records.invariant.left more.1 bad)
     ])
 
@@ -61,6 +61,6 @@ loop-records-preserved c =
       reading = more.0;
       narrow = c.loop-records.invariant.narrow;
       left = record_good c.args.bytes.now c.loop-records.records c.in_ok-columns.columns (fields_of c.loop-records.store) (fields_of c.add_record.new.store)
-          (fields_of c.read_next-in-loop-records.new.record) (records_left c.loop-records.reader) (records_left c.read_next-in-loop-records.new.reader)
+          (fields_of c.read_next-in-loop-records.new.row) (records_left c.loop-records.reader) (records_left c.read_next-in-loop-records.new.reader)
           c.loop-records.invariant.left more.1 added.ok.0 added.ok.1 added.added;
     }

@@ -1,5 +1,7 @@
 use Rattle.std.proofs.Common.{◌≡◌, ap, sym, ◌∙◌, length, ◌==◌}
 use Rattle.lake_model.specs.Keys.{key}
+use Rattle.std.proofs.lemmas.Bool.{false≢true}
+use Rattle.value_key.proofs.AsciiLemmas.{IsAscii-trim}
 use Rattle.value_key.proofs.SameKeyLemmas.{keyed, same_keys}
 use Rattle.value_key.proofs.same_value.Goals as goal
 
@@ -10,3 +12,9 @@ returns-clause-keys c =
     let right : keyed (length c.trim-right.result.now == 0) c.trim-right.result.now ≡ key c.args.b.now = ap (λ t. keyed (length t == 0) t) c.trim-right.ensures.trim in
     let match = c.in_ok-canonical_caseless_match_str.ensures.value in
     (λ h. sym left ∙ same.1 (match.0 h) ∙ right, λ e. match.1 (same.0 (left ∙ e ∙ sym right)))
+
+pub returns-in_err-canonical_caseless_match_str-clause-ascii : goal.returns-in_err-canonical_caseless_match_str-clause-ascii
+returns-in_err-canonical_caseless_match_str-clause-ascii c = λ left right.
+    absurd (false≢true (c.in_err-canonical_caseless_match_str.ensures.ascii
+    (IsAscii-trim c.args.a.now c.trim-left.result.now left c.trim-left.ensures.value)
+    (IsAscii-trim c.args.b.now c.trim-right.result.now right c.trim-right.ensures.value)))

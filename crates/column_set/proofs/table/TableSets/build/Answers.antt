@@ -20,7 +20,7 @@ new-requires c =
 pub invariant_of-result : goal.invariant_of-result
 invariant_of-result c =
     let counted = c.member_count-members.ensures ∙ ap (sum_by (λ keys. length keys)) c.deref.ensures.value in
-    let weighed = c.in-Some.ensures ∙ ap (sum_by (λ keys. sum_by (λ key. length key) keys)) c.deref-2.ensures.value in
+    let weighed = c.in-Some.ensures.count ∙ ap (sum_by (λ keys. sum_by (λ key. length key) keys)) c.deref-2.ensures.value in
     held_read c.args.name c.args.raw.now (map string_bytes c.in-Ok.names.items) c.in_ok-sets.sets.items c.in-Ok.ensures c.in_ok-sets.ensures.sets
     c.in_ok-sets.ensures.narrow c.in_ok-sets.ensures.small c.in-Ok-new.titles.value (c.in-Ok-new.ensures.ok ∙ c.new.ensures) c.member_count-members.result c.in-Some.key_bytes counted weighed
 
