@@ -1,4 +1,4 @@
-use Rattle.std.proofs.Common.{◌≡◌, ◌∙◌, ap, refl, subst, ℕ, ◌+◌, ◌<◌, ◌≤◌, ◌++◌, ◌∷◌, [], length, arith, drop}
+use Rattle.std.proofs.Common.{◌≡◌, ◌∙◌, ap, refl, subst, ◌+◌, ◌<◌, ◌≤◌, ◌++◌, ◌∷◌, [], length, arith, drop}
 use Rattle.lake_model.specs.Answer.{Row, rows_from, row_at}
 use Rattle.lake_model.specs.Tables.{keys_at, overlap, titles_of}
 use Rattle.lake_model.proofs.AnswerLemmas.{rows_from_taken, rows_from_skipped}

@@ -1,4 +1,4 @@
-use Rattle.std.proofs.Common.{◌≡◌, ◌∙◌, sym, ap, take, option_copied, rules}
+use Rattle.std.proofs.Common.{◌∙◌, ap, take, rules}
 use Rattle.lake_model.specs.Sorting.{in_order}
 use Rattle.lake_model.specs.Answer.{row_cmp}
 use Rattle.lake_model.proofs.SortingLemmas.{in_order-from_sort_by}
