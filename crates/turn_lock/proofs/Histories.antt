@@ -1,11 +1,11 @@
 -- Laws of histories: lists of entries, and whose they are.
 use Rattle.std.proofs.Common.{◌≡◌, ℕ, ◌≤◌, ◌⊎◌, Bool, true, false, List, [], ◌∷◌, ◌++◌, length, cond, ltb, refl, ap, sym, ◌∙◌, subst, arith, inl, inr, ⊎_elim, append_assoc, length-append, ne_eqb}
-use Rattle.std.specs.Prelude.{MatchBool, ◌==◌, filter}
+use Rattle.std.specs.Prelude.{◌==◌, filter}
 use Rattle.std.proofs.lemmas.List.{append-nil}
 use Rattle.std.proofs.lemmas.List.Elements.{filter-append}
 use Rattle.std.proofs.lemmas.Bool.Decides.{nat_tests}
 use mathlib.Core.List.{IsPrefix}
-use Rattle.turn_lock.specs.History.{Has, IsOfOthers, IsOfGiven, Grows, Follows, longer}
+use Rattle.turn_lock.specs.History.{Has, IsOfOthers, IsOfGiven, Grows, Adds, longer}
 
 -- ---- numbers among numbers
 
@@ -101,6 +101,10 @@ module _ {E : Type 0} (caller_of : E → ℕ) where
   pub grows_of_fewer : {callers : List ℕ} {xs ys : List E} (fewer : List ℕ) → ((number : ℕ) → Has fewer number → Has callers number) → Grows caller_of callers xs ys → Grows caller_of fewer xs ys
   grows_of_fewer {callers} fewer among g = record { rest = g.rest; begins = g.begins; others = others_of_either fewer callers callers g.rest (λ n h. inl (among n h)) g.others g.others }
 
+  -- what has grown, and has then grown for these callers and maybe more, has grown
+  pub grows_then : {callers later : List ℕ} {xs ys zs : List E} → ((number : ℕ) → Has callers number → Has later number) → Grows caller_of callers xs ys → Grows caller_of later ys zs → Grows caller_of callers xs zs
+  grows_then {callers} {later} among g h = grows_trans g (grows_of_fewer callers among h)
+
   -- said of no callers
   pub grows_of_none : {callers : List ℕ} {xs ys : List E} → Grows caller_of callers xs ys → Grows caller_of [] xs ys
   grows_of_none g = record { rest = g.rest; begins = g.begins; others = others_of_none g.rest }
@@ -163,8 +167,9 @@ module _ {E : Type 0} (caller_of : E → ℕ) where
       let own : E → Bool = λ entry. caller_of entry == number in
       ap (filter own) (sym g.begins) ∙ (filter-append own xs g.rest ∙ (ap (λ l. filter own xs ++ l) (filter_others callers g.rest number h g.others) ∙ append-nil (filter own xs)))
 
-  -- ---- one entry more, or none
-
-  pub follows_if : (added : Bool) (xs ys : List E) (entry : E) → MatchBool added (ys ≡ xs ++ entry ∷ []) (ys ≡ xs) → Follows caller_of (caller_of entry) xs ys
-  follows_if true xs ys entry m = inr (entry, refl, m)
-  follows_if false xs ys entry m = inl m
+  -- and after an addition, those that it had with the new one
+  pub filter_added : {callers : List ℕ} {before after : List E} {entry : E} (number : ℕ) → Has callers number → Adds caller_of callers before entry after
+      → filter (λ e. caller_of e == number) after ≡ filter (λ e. caller_of e == number) (before ++ entry ∷ [])
+  filter_added {callers} {before} {after} {entry} number h a =
+      let own : E → Bool = λ e. caller_of e == number in
+      ap (filter own) a.ends ∙ (filter-append own a.found (entry ∷ []) ∙ (ap (λ l. l ++ filter own (entry ∷ [])) (filter_grown number h a.grows) ∙ sym (filter-append own before (entry ∷ []))))

@@ -5,3 +5,4 @@ pub mod Splits
 pub mod Joins
 pub mod Turns
 pub mod Passes
+pub mod Clients

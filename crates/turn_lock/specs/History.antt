@@ -23,6 +23,12 @@ module _ {E : Type 0} (caller_of : E → ℕ) where
     pub begins : before ++ rest ≡ after
     pub others : IsOfOthers callers rest
 
+  -- the list after begins with the list before, goes on with entries of other callers than these, and ends with this entry
+  pub record Adds (callers : List ℕ) (before : List E) (entry : E) (after : List E) : Type 0 where
+    pub found : List E
+    pub grows : Grows callers before found
+    pub ends : after ≡ found ++ entry ∷ []
+
   -- the list before, with nothing more or with one entry more, of this caller
   abbrev pub Follows : ℕ → List E → List E → Type 0
   Follows caller before after = (after ≡ before) ⊎ ((entry : E) × (caller_of entry ≡ caller) × (after ≡ before ++ entry ∷ []))

@@ -1,7 +1,7 @@
 -- Laws of histories, as facts that the contracts of `laws` cite.
 use Rattle.std.specs.Prelude.{ℕ, ◌≡◌, ◌≤◌, ◌==◌, List, [], ◌∷◌, ◌++◌, length, filter}
 use mathlib.Core.List.{IsPrefix}
-use Rattle.turn_lock.specs.History.{Has, Grows}
+use Rattle.turn_lock.specs.History.{Has, Grows, Adds}
 
 module _ {E : Type 0} (caller_of : E → ℕ) where
   -- a list that stayed has grown
@@ -32,3 +32,8 @@ module _ {E : Type 0} (caller_of : E → ℕ) where
   abbrev pub GrowthKeepsEntries : Type 0
   GrowthKeepsEntries = (callers : List ℕ) (before after : List E) (number : ℕ) → Has callers number → Grows caller_of callers before after
       → filter (λ entry. caller_of entry == number) after ≡ filter (λ entry. caller_of entry == number) before
+
+  -- and after an addition, those that it had with the new one
+  abbrev pub AdditionKeepsEntries : Type 0
+  AdditionKeepsEntries = (callers : List ℕ) (before after : List E) (entry : E) (number : ℕ) → Has callers number → Adds caller_of callers before entry after
+      → filter (λ e. caller_of e == number) after ≡ filter (λ e. caller_of e == number) (before ++ entry ∷ [])

@@ -50,8 +50,8 @@ module _ {E : Type 0} where
   after_ending pass other = known pass.lock pass.caller (callers_of other ++ pass.ended) (longer pass.seen other.seen) pass.holds pass.given pass.left
 
   -- the pass after it gave this number
-  abbrev pub after_giving : Known E → ℕ → Known E
-  after_giving pass number = known pass.lock pass.caller pass.ended pass.seen pass.holds (Some (number + 1)) (pred pass.left)
+  abbrev pub after_numbering : Known E → ℕ → Known E
+  after_numbering pass number = known pass.lock pass.caller pass.ended pass.seen pass.holds (Some (number + 1)) (pred pass.left)
 
   -- the new pass that has the number
   abbrev pub new_pass_of : Known E → ℕ → Known E

@@ -1,6 +1,19 @@
 -- The history rule of the lock's table, and what each kind of step on the table does and tells.
 -- The table has one word and one slot. The word counts the history: it is twice its length, and one more while the lock is held. The slot has the value.
 -- Each pass and each note is a seat of the table. What a seat knows is its view.
+--
+-- The kinds of step, n being the length of the history before it:
+--
+--   kind     the word              what the step changes besides
+--   look     stands                the seat is told of its earlier lists, which are forgotten
+--   take     2n to 2n + 1          the seat has the slot in hand, holds the lock, and has seen the whole history
+--   commit   2n + 1 to 2n + 3      the history, and what the holder has seen, gets one entry of the holder's own
+--   release  2n + 1 to 2n          the slot goes home, and the seat holds the lock no longer
+--   note     stands                a new seat has seen as much, and has no caller
+--   number   stands                a new seat has the next number and has seen as much; the opener counts it
+--   join     stands                a seat has seen the longer of two lists and has the callers of both; the other seat is spent
+--
+-- Between take and release the value goes from the slot in hand to the holder and back, which is no step on the word.
 use Rattle.std.specs.Prelude.{ℕ, ◌≡◌, ◌≢◌, ◌+◌, ◌*◌, ◌<◌, Bool, true, false, List, [], ◌∷◌, ◌++◌, length, Some, None}
 use Rattle.std.specs.declared.option.Option.{Option}
 use mathlib.Core.Option as maybe

@@ -1,6 +1,6 @@
 //! Laws of histories, for crates that build on the lock. Each function here does nothing: its contract is a law of the
 //! lists of any value that a lock may keep. Proofs cite the lemmas behind them, of `proofs/Histories.antt`.
-ghost use Rattle.turn_lock.specs.Laws.{GrowthIsReflexive, GrowthIsTransitive, GrowthIsOfFewerCallers, GrowthIsABeginning, GrowthByAnEntry, GrowthBetweenBeginnings, GrowthKeepsEntries};
+ghost use Rattle.turn_lock.specs.Laws.{GrowthIsReflexive, GrowthIsTransitive, GrowthIsOfFewerCallers, GrowthIsABeginning, GrowthByAnEntry, GrowthBetweenBeginnings, GrowthKeepsEntries, AdditionKeepsEntries};
 
 use crate::kept::Kept;
 
@@ -37,4 +37,9 @@ pub fn growth_between_beginnings<V: Kept>()
 /// A list that has grown has the entries of each of the callers that it had, in their order, and no other of theirs.
 pub fn growth_keeps_entries<V: Kept>()
     ensures { GrowthKeepsEntries V.caller_of }
+{}
+
+/// A list to which an entry was added has besides it the entries of each of the callers that it had, in their order.
+pub fn addition_keeps_entries<V: Kept>()
+    ensures { AdditionKeepsEntries V.caller_of }
 {}

@@ -2,7 +2,7 @@
 ghost use Rattle.std.specs.Prelude.{◌≡◌, ◌⊎◌, ℕ, ◌<◌, ◌≤◌, ◌-◌, ◌^◌, IfOk, IfSome, IsSome, [], ◌∷◌, None, Some, true, false, length};
 ghost use mathlib.Core.List.{IsPrefix};
 ghost use Rattle.turn_lock.specs.History.{Grows, IsOfGiven, Follows, longer};
-ghost use Rattle.turn_lock.specs.Passes.{known, noted, callers_of, after_seeing, after_ending, after_giving, new_pass_of};
+ghost use Rattle.turn_lock.specs.Passes.{known, noted, callers_of, after_seeing, after_ending, after_numbering, new_pass_of};
 
 use crate::kept::Kept;
 use crate::pass::{Note, Pass};
@@ -140,7 +140,7 @@ impl<V: Kept> HistoryLock<V> {
     pub fn new_pass(&self, pass: &mut Pass<V>) -> Pass<V>
         requires lock { pass.old.lock ≡ self.now }
         requires left { IsSome pass.old.given × (0 < pass.old.left) }
-        ensures { IfSome pass.old.given (λ number. (pass.new ≡ after_giving pass.old number) × (result ≡ new_pass_of pass.old number)) }
+        ensures { IfSome pass.old.given (λ number. (pass.new ≡ after_numbering pass.old number) × (result ≡ new_pass_of pass.old number)) }
     {
         let Some(number) = pass.given else {
             unreachable!()

@@ -9,7 +9,8 @@ use std::marker::Model;
 ///
 /// Contracts see it as its lock, its caller number, the callers that ended into it, the list that it has seen, and
 /// whether it holds a turn. The list begins the lock's history, and no entry of the pass's callers stands behind it:
-/// what the pass sees later begins with what it has seen now, and goes on with entries of other callers.
+/// until the pass adds one of its own, what it sees later begins with what it has seen now, and goes on with entries of
+/// other callers.
 ///
 /// The pass that comes with the lock is caller 0. It alone gives numbers, from 1 on, and knows besides how many were
 /// given and how many are left.

@@ -1,9 +1,9 @@
 //! The smallest value that the lock can keep: a roll of the callers that signed it. The crate's tests use the lock over
 //! it, and its must-fail edits break calls over it where no edit of the generic lock could write the fault.
 ghost use Rattle.std.specs.Prelude.{◌≡◌, ◌<◌, ◌^◌, ◌++◌, ◌∷◌, [], length, true, false, OnOk, OnErr, MatchResult};
-ghost use Rattle.turn_lock.specs.History.{Grows};
+ghost use Rattle.turn_lock.specs.History.{Grows, Adds};
 ghost use Rattle.turn_lock.specs.Passes.{after_seeing, callers_of, noted};
-ghost use Rattle.turn_lock.specs.Roll.{signer_of, Signs};
+ghost use Rattle.turn_lock.specs.Roll.{signer_of};
 
 use crate::kept::Kept;
 use crate::lock::HistoryLock;
@@ -71,7 +71,7 @@ pub(crate) fn sign<R: Wait>(
     requires lock { pass.old.lock ≡ lock.now }
     requires free { pass.old.holds ≡ false }
     ensures pass { pass.new ≡ after_seeing pass.old pass.new.seen false }
-    ensures signs { MatchResult result (λ _. Signs pass.old pass.new.seen) (λ _. Grows signer_of (callers_of pass.old) pass.old.seen pass.new.seen) }
+    ensures signs { MatchResult result (λ _. Adds signer_of (callers_of pass.old) pass.old.seen pass.old.caller pass.new.seen) (λ _. Grows signer_of (callers_of pass.old) pass.old.seen pass.new.seen) }
 {
     let caller = pass.caller();
     let mut turn = lock.take(rt, pass);

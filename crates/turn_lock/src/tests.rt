@@ -190,7 +190,7 @@ fn a_taker_waits_for_the_holder(rt: HostRuntime) -> Result<(), Fail> {
 }
 
 #[test]
-fn a_note_shows_what_was_seen_before(rt: HostRuntime) -> Result<(), Fail> {
+fn one_caller_signs_twice(rt: HostRuntime) -> Result<(), Fail> {
     let (lock, mut opening, mut first, mut second) = start(rt.alloc())?;
     sign(&rt, &lock, &mut first)?;
     let (note, done) = note_and_sign(&rt, &lock, &mut first);
