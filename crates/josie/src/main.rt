@@ -98,24 +98,6 @@ fn about(words: &[String]) -> Option<&'static str> {
     }
 }
 
-/// Runs the words over the real streams, files and a new record.
-fn run_words(rt: &HostRuntime, words: &[String]) -> Status {
-    let mut source = StdSource::new(rt.stdin());
-    let mut sink = StdSink::new(rt.stdout());
-    let mut shelf = FileShelf::new(rt);
-    let mut record = RunRecord::new(rt.alloc());
-    run(
-        rt,
-        rt.alloc(),
-        words,
-        &mut source,
-        &mut sink,
-        &mut shelf,
-        &NoGate,
-        &mut record,
-    )
-}
-
 fn main(rt: HostRuntime) -> ExitCode {
     let status = match words_of(&rt) {
         Err(status) => status,
@@ -124,7 +106,22 @@ fn main(rt: HostRuntime) -> ExitCode {
                 Ok(()) => Status::Done,
                 Err(_) => Status::WriteFault,
             },
-            None => run_words(&rt, words.as_slice()),
+            None => {
+                let mut source = StdSource::new(rt.stdin());
+                let mut sink = StdSink::new(rt.stdout());
+                let mut shelf = FileShelf::new(&rt);
+                let mut record = RunRecord::new(rt.alloc());
+                run(
+                    &rt,
+                    rt.alloc(),
+                    words.as_slice(),
+                    &mut source,
+                    &mut sink,
+                    &mut shelf,
+                    &NoGate,
+                    &mut record,
+                )
+            }
         },
     };
     explain(&rt, status);

@@ -127,3 +127,6 @@ pub fn run<R: Threads + Wait + Sync, S: Source, K: Sink, F: Shelf, G: Gate + Syn
     }
     run_ordered(alloc, source, sink, shelf, out)
 }
+
+#[cfg(test)]
+mod tests;

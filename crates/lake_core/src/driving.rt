@@ -42,12 +42,7 @@ fn reply_to(
 }
 
 // Answers a command.
-fn answer(
-    alloc: Global,
-    catalogue: &mut Catalogue,
-    command: &Command,
-    out: &mut RunRecord,
-)
+fn answer(alloc: Global, catalogue: &mut Catalogue, command: &Command, out: &mut RunRecord)
     requires journal { out.old.made.journal ≡ catalogue.old.journal }
     requires answers { 0 < out.old.answers_room }
     requires entries { 0 < out.old.entries_room }

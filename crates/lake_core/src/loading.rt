@@ -78,12 +78,7 @@ fn reply_to_load(refused: LoadRefused, name: Name) -> Reply
 }
 
 // Loads a table. What the record and the reply keep of it is made before its entry, so that nothing is refused behind the entry.
-fn accept(
-    catalogue: &mut Catalogue,
-    who: Who,
-    table: SharedTable,
-    out: &mut RunRecord,
-) -> Reply
+fn accept(catalogue: &mut Catalogue, who: Who, table: SharedTable, out: &mut RunRecord) -> Reply
     requires journal { out.old.made.journal ≡ catalogue.old.journal }
     requires room { 0 < out.old.entries_room }
     ensures answered { (denied : Bool) × (reply_of result ≡ reply_or_denied denied (load_reply catalogue.old.limits table catalogue.old.journal)) }
