@@ -48,10 +48,9 @@ fn loads_up_to_the_limit_of_updates(rt: HostRuntime) -> Result<(), Fail> {
     );
     assert_eq!(rt; lake.at(), 2);
     assert_eq!(rt; lake.journal().len(), 2);
-    let first = lake.journal()[0].who;
-    let second = lake.journal()[1].who;
-    assert_eq!(rt; first, FIRST);
-    assert_eq!(rt; second, SECOND);
+    for (entry, who) in lake.journal().iter().zip([FIRST, SECOND]) {
+        assert_eq!(rt; entry.who, who);
+    }
     Ok(())
 }
 
