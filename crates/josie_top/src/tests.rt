@@ -12,6 +12,9 @@ const SCRIPT: &str =
 const WRITTEN: &str =
     "1 loaded stations columns 3 members 9 at 1\n2 answer 1 of 3 at 1\n  2 stations 2 \"city\"\n3 answer 1 of 2 at 1\n  2 stations 3 \"country\"\n";
 
+// A script so short that it can be read byte by byte often.
+const SHORT: &str = "load t\nv\nx\n.\nsearch 1\nX\n.\n";
+
 // How a run of the word ends, and whether it wrote this.
 fn ends<R: Threads + Wait + Sync>(
     rt: &R,
@@ -21,7 +24,7 @@ fn ends<R: Threads + Wait + Sync>(
     failing_read: u64,
     sink_piece: usize,
     failing_write: u64,
-    written: &str,
+    written: &[u8],
 ) -> Result<(Status, bool), Fail> {
     let mut words = Vec::new(alloc);
     words.push(String::from_str(alloc, "run")?)?;
@@ -43,45 +46,59 @@ fn ends<R: Threads + Wait + Sync>(
         &NoGate,
         &mut record,
     );
-    Ok((status, sink.written() == written.as_bytes()))
+    Ok((status, sink.written() == written))
 }
 
 #[test]
 fn answers_a_script(rt: HostRuntime) -> Result<(), Fail> {
     for piece in [1usize, 7, 64, 4096] {
-        let (status, same) = ends(&rt, rt.alloc(), SCRIPT, piece, 0, piece, 0, WRITTEN)?;
+        let (status, same) = ends(
+            &rt,
+            rt.alloc(),
+            SCRIPT,
+            piece,
+            0,
+            piece,
+            0,
+            WRITTEN.as_bytes(),
+        )?;
         assert!(rt; status == Status::Done && same);
     }
     Ok(())
 }
 
 #[test]
+fn writes_nothing_for_an_empty_input(rt: HostRuntime) -> Result<(), Fail> {
+    let (status, same) = ends(&rt, rt.alloc(), "", 1, 0, 1, 1, b"")?;
+    assert!(rt; status == Status::Done && same);
+    Ok(())
+}
+
+// The calls are one for each piece, and one that finds the end.
+#[test]
 fn ends_at_each_failing_read_with_nothing_written(rt: HostRuntime) -> Result<(), Fail> {
-    for piece in [16usize, 64] {
-        let reads = (SCRIPT.len() / piece) as u64 + 1;
-        for failing in 1..reads + 1 {
-            let (status, same) = ends(&rt, rt.alloc(), SCRIPT, piece, failing, 64, 0, "")?;
+    for (script, piece, calls) in [(SHORT, 1usize, 27u64), (SCRIPT, 7, 25), (SCRIPT, 64, 4)] {
+        for failing in 1..=calls {
+            let (status, same) = ends(&rt, rt.alloc(), script, piece, failing, 64, 0, b"")?;
             assert!(rt; status == Status::ReadFault && same);
         }
+        let (status, _) = ends(&rt, rt.alloc(), script, piece, calls + 1, 64, 0, b"")?;
+        assert!(rt; status == Status::Done);
     }
     Ok(())
 }
 
 #[test]
 fn ends_at_each_failing_write_with_what_was_taken(rt: HostRuntime) -> Result<(), Fail> {
-    for (piece, failing, taken) in [
-        (64usize, 1u64, ""),
-        (
-            64,
-            2,
-            "1 loaded stations columns 3 members 9 at 1\n2 answer 1 of 3 at 1\n",
-        ),
-        (25, 2, "1 loaded stations columns"),
-        (25, 3, "1 loaded stations columns 3 members 9 at 1\n2 answe"),
-        (1, 4, "1 l"),
-    ] {
-        let (status, same) = ends(&rt, rt.alloc(), SCRIPT, 4096, 0, piece, failing, taken)?;
-        assert!(rt; status == Status::WriteFault && same);
+    let written = WRITTEN.as_bytes();
+    for (piece, calls) in [(1usize, 132u64), (7, 19), (64, 3)] {
+        let mut taken = 0usize;
+        for failing in 1..=calls {
+            let first = written.get(..taken).ok_or("the text is shorter")?;
+            let (status, same) = ends(&rt, rt.alloc(), SCRIPT, 4096, 0, piece, failing, first)?;
+            assert!(rt; status == Status::WriteFault && same);
+            taken = taken.saturating_add(piece);
+        }
     }
     Ok(())
 }
@@ -94,7 +111,7 @@ fn names_the_first_line_at_fault(rt: HostRuntime) -> Result<(), Fail> {
         ("search 10001\n", 1, Reason::Unknown),
         ("\n", 1, Reason::Unknown),
     ] {
-        let (status, same) = ends(&rt, rt.alloc(), script, 5, 0, 64, 0, "")?;
+        let (status, same) = ends(&rt, rt.alloc(), script, 5, 0, 64, 0, b"")?;
         assert!(rt; status == Status::Script { line, reason } && same);
     }
     Ok(())
