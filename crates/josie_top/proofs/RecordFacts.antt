@@ -1,5 +1,5 @@
 -- What the commands of a script make of an empty record, and its text.
-use Rattle.std.proofs.Common.{◌≡◌, refl, ap, sym, ◌∙◌, subst, ℕ, ◌<◌, List, [], ◌∷◌, ◌++◌, length, Bool, true, false, arith}
+use Rattle.std.proofs.Common.{◌≡◌, refl, ap, sym, ◌∙◌, subst, ◌<◌, List, [], ◌∷◌, length, Bool, true, false, arith}
 use Rattle.lake_model.specs.declared.Counts.{Counts}
 use Rattle.script_model.specs.Commands.{Command, Batch}
 use Rattle.script_model.specs.Script.{last_batch}

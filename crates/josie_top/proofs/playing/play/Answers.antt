@@ -1,6 +1,6 @@
-use Rattle.std.proofs.Common.{rules, ◌≡◌, ◌<◌, ◌∙◌, [], ap, arith, length, true}
+use Rattle.std.proofs.Common.{rules, ◌≡◌, ◌<◌, ◌∙◌, ap, length, true}
 use Rattle.lake_model.specs.Journal.{standard_limits}
-use Rattle.script_model.specs.Record.{empty, plain, with_end}
+use Rattle.script_model.specs.Record.{with_end}
 use Rattle.josie_top.proofs.RecordFacts.{played-record, empty-record}
 use Rattle.josie_top.proofs.playing.play.Goals as goal
 

@@ -1,0 +1,4 @@
+pub mod Versions
+pub mod Distinct
+pub mod Shown
+pub mod Lines

@@ -1,0 +1,31 @@
+//! A region is made where memory is ample, and lends what was put: no clause says that memory is there.
+use crate::{Region, Span};
+use std::mem::size_of;
+use std::test::Fail;
+
+// Asks of a type that any thread may have it, or look at it.
+fn crosses_threads<T: Send + Sync>() {}
+
+// A region and its spans may be of any thread: what is built on them is shared among threads.
+#[test]
+fn threads_share_a_region() {
+    crosses_threads::<Region>();
+    crosses_threads::<Span>();
+}
+
+// Two texts and an empty one between them in a region of 8 bytes: 3 bytes are left, and each text reads back.
+#[test]
+fn three_texts(rt: HostRuntime) -> Result<(), Fail> {
+    let mut region = Region::new(rt.alloc(), 8)?;
+    assert_eq!(rt; region.spare(), 8);
+    let first = region.put("ab");
+    let empty = region.put("");
+    let last = region.put("cde");
+    assert_eq!(rt; region.spare(), 3);
+    assert!(rt; region.text(first) == "ab");
+    assert!(rt; region.text(empty) == "");
+    assert!(rt; region.text(last) == "cde");
+    assert!(rt; first != last);
+    assert_eq!(rt; size_of::<Span>(), 8);
+    Ok(())
+}
