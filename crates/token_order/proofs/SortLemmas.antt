@@ -1,0 +1,94 @@
+-- What a sort by a key leaves, and sorted keys.
+use Rattle.std.proofs.Common.{◌≡◌, refl, ap, sym, ◌∙◌, subst, ℕ, suc, ◌+◌, ◌<◌, List, [], ◌∷◌, map, length, get_or, Bool, true, false, arith}
+use Rattle.std.specs.Prelude.{bytes_eq}
+use Rattle.std.specs.List.{AllByRecursion}
+use Rattle.std.specs.List.Sorted.{IsSorted, IsSortedBy, IsSortedByClosure, IsSortedByKey}
+use Rattle.std.specs.Fn.{Called, ComparesAs}
+use Rattle.std.specs.Cmp.{IsStrictWeakOrder, IsTotalOrder}
+use Rattle.std.specs.Cmp.Lexicographic.{slice_cmp}
+use Rattle.std.specs.Ordering.{is_lt, nat_cmp, ordering_reverse}
+use Rattle.std.specs.declared.cmp.Ordering.{Ordering}
+use Rattle.std.specs.declared.cmp.Ordering.TheVariants.{Less, Equal, Greater}
+use Rattle.std.proofs.lemmas.Cmp.{nat_list_cmp_total}
+use Rattle.std.proofs.lemmas.Fn.{always_returns_same}
+use Rattle.std.proofs.lemmas.List.{get_or-map, length-map}
+use Rattle.std.proofs.lemmas.List.Elements.{recursion_from_All}
+use Rattle.std.proofs.lemmas.List.Sorted.{ranks_by, sorted_far}
+use Rattle.std.proofs.lemmas.Map.Lookups.{exact_bytes}
+use Rattle.std.proofs.lemmas.Slice.Eq.{bytes_eq-Decides}
+use Rattle.lake_model.specs.Texts.{Text}
+use denote.Ref.{Bor}
+use denote.Param.Members.{Mut}
+
+-- what `sort_unstable_by` leaves, where each call of its closure compares two keys
+pub sorted_by_key : {X K : Type 0} {R : K → K → Ordering} → IsTotalOrder R → (key : X → K) → {F : Type 0} {g : Mut F (Bor X × (Bor X × Unit {0})) Ordering} {f : F} (xs : List X)
+    → IsSortedByClosure g f xs
+    → ((a : Bor X × (Bor X × Unit {0})) (r : Ordering) (f' : F) → Called g f a r f' → (r ≡ R (key a.0.now) (key a.1.0.now)) × (f' ≡ f)) → IsSortedByKey key R xs
+sorted_by_key {X = X} {R = R} total key {g = g} {f = f} xs up h =
+    let less : X → X → Bool = λ x y. is_lt (R (key x) (key y)) in
+    let by : ComparesAs g less f = always_returns_same g (λ a r. is_lt r ≡ is_lt (R (key a.0.now) (key a.1.0.now))) f (λ a r f' k. (ap is_lt (h a r f' k).0, (h a r f' k).1)) in
+    up less (ranks_by total key) by
+
+-- so the keys are sorted
+pub sorted_map : {X K : Type 0} (R : K → K → Ordering) (key : X → K) (xs : List X) → IsSortedByKey key R xs → IsSorted R (map key xs)
+sorted_map R key [] up k d low h = absurd (omega arith)
+sorted_map R key (x ∷ xs) up k d low h =
+    let long : k + 1 < length (x ∷ xs) = omega (arith, length-map (x ∷ xs) key) in
+    let first = get_or-map key (x ∷ xs) k x d (omega arith) in
+    let second = get_or-map key (x ∷ xs) (k + 1) x d long in
+    ap (λ b. is_lt (R (get_or (map key (x ∷ xs)) (k + 1) d) b)) first ∙ ap (λ a. is_lt (R a (key (get_or (x ∷ xs) k x)))) second ∙ up k x low long
+
+abbrev pub less : Text → Text → Bool
+less a b = is_lt (slice_cmp nat_cmp a b)
+
+-- no key is less than one before it
+abbrev pub Rises : List Text → Type 0
+Rises [] = Unit {0}
+Rises (x ∷ xs) = AllByRecursion (λ y. less y x ≡ false) xs × Rises xs
+
+order : IsStrictWeakOrder less
+order = ranks_by nat_list_cmp_total (λ (x : Text). x)
+
+tail_sorted : (x : Text) (xs : List Text) → IsSortedBy less (x ∷ xs) → IsSortedBy less xs
+tail_sorted x xs up k d a b =
+    let at : less (get_or (x ∷ xs) (suc k + 1) d) (get_or (x ∷ xs) (suc k) d) ≡ false = up (suc k) d (omega arith) (omega arith) in
+    let e : suc k + 1 ≡ suc (k + 1) = omega arith in
+    subst (λ (n : ℕ). less (get_or (x ∷ xs) n d) (get_or xs k d) ≡ false) e at
+
+pub rises : (xs : List Text) → IsSorted (slice_cmp nat_cmp) xs → Rises xs
+rises [] up = tt
+rises (x ∷ xs) up =
+    (recursion_from_All (λ y. less y x ≡ false) xs (λ k d b. sorted_far less order (x ∷ xs) up 0 (suc k) d (omega arith) (omega arith)), rises xs (tail_sorted x xs up))
+
+level : (r : Ordering) → is_lt r ≡ false → is_lt (ordering_reverse r) ≡ false → r ≡ Equal
+level Less n m = cc
+level Equal n m = refl
+level Greater n m = cc
+
+same_text : (x y : Text) → less x y ≡ false → less y x ≡ false → x ≡ y
+same_text x y n m = exact_bytes x y (level (slice_cmp nat_cmp x y) n (ap is_lt (sym (nat_list_cmp_total.antisymm y x)) ∙ m))
+
+-- two texts that differ, either way
+pub differ_back : (a k : Text) → bytes_eq k a ≡ false → bytes_eq a k ≡ false
+differ_back a k n = by (bytes_eq a k) refl
+  where
+    by : (b : Bool) → bytes_eq a k ≡ b → b ≡ false
+    by false e = refl
+    by true e = absurd (let f : bytes_eq k a ≡ true = (bytes_eq-Decides k a).1 (sym ((bytes_eq-Decides a k).0 e)) in let g : true ≡ false = sym f ∙ n in cc)
+
+-- k comes after a and is another, so what comes after k is another than a
+beyond : (a k y : Text) → less k a ≡ false → bytes_eq k a ≡ false → less y k ≡ false → bytes_eq a y ≡ false
+beyond a k y up n h = by (bytes_eq a y) refl
+  where
+    by : (b : Bool) → bytes_eq a y ≡ b → b ≡ false
+    by false e = refl
+    by true e = absurd (
+        let same : a ≡ y = (bytes_eq-Decides a y).0 e in
+        let low : less a k ≡ false = ap (λ (z : Text). less z k) same ∙ h in
+        let f : bytes_eq k a ≡ true = (bytes_eq-Decides k a).1 (same_text k a up low) in
+        let g : true ≡ false = sym f ∙ n in cc
+        )
+
+pub beyond_all : (a k : Text) (ys : List Text) → less k a ≡ false → bytes_eq k a ≡ false → AllByRecursion (λ y. less y k ≡ false) ys → AllByRecursion (λ y. bytes_eq a y ≡ false) ys
+beyond_all a k [] up n h = tt
+beyond_all a k (y ∷ ys) up n h = (beyond a k y up n h.0, beyond_all a k ys up n h.1)

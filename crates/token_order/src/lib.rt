@@ -1,0 +1,10 @@
+//! The vocabulary of a list of tables: its distinct keys, numbered as tokens by rising frequency, and then by their bytes.
+#![tactic(auto)]
+
+mod numbers;
+mod places;
+mod runs;
+mod vocab;
+
+pub use search_model::TokenAt;
+pub use vocab::Vocab;
