@@ -1,8 +1,0 @@
-pub mod ListsLemmas
-pub mod KeyLemmas
-pub mod SegmentLemmas
-pub mod PartLemmas
-pub mod AmongLemmas
-pub mod FoundLemmas
-pub mod ShownLemmas
-pub mod WorkedSegment

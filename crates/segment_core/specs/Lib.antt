@@ -1,4 +1,0 @@
-pub mod Versions
-pub mod Distinct
-pub mod Shown
-pub mod Lines
