@@ -54,6 +54,17 @@ layout journal = parts_from 1 [] journal
 abbrev pub shown : List Part → List (ℕ × List (ℕ × Bool))
 shown parts = map (λ part. (part.number, map (λ place. (place.position, place.marked)) part.places)) parts
 
+-- a layout as a reply shows it: the length of the journal, and the parts
+pub record Shown : Type 0 where
+  pub at : ℕ
+  pub parts : List (ℕ × List (ℕ × Bool))
+
+abbrev pub shown_with : ℕ → List (ℕ × List (ℕ × Bool)) → Shown
+shown_with at parts = record { at = at; parts = parts }
+
+abbrev pub shown_layout : List Entry → Shown
+shown_layout journal = shown_with (length journal) (shown (layout journal))
+
 abbrev pub positions_of : List Part → List ℕ
 positions_of parts = map (λ place. place.position) (flat_map (λ part. part.places) parts)
 

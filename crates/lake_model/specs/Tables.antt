@@ -49,6 +49,18 @@ titles_of table = titles_with table.name (map (λ column. column.name) table.col
 abbrev pub column_name : Titles → ℕ → Text
 column_name titles place = get_or titles.columns (place - 1) []
 
+-- a line of a list of tables: name, columns, members
+pub record Line : Type 0 where
+  pub name : Text
+  pub columns : ℕ
+  pub members : ℕ
+
+abbrev pub line_with : Text → ℕ → ℕ → Line
+line_with name columns members = record { name = name; columns = columns; members = members }
+
+abbrev pub line_of : Table → Line
+line_of table = line_with table.name (length table.columns) (members table)
+
 abbrev pub column_with : Text → List Text → Column
 column_with name keys = record { name = name; keys = keys }
 

@@ -11,29 +11,12 @@ use Rattle.lake_model.specs.declared.SetRefused.TheVariants as sets
 use Rattle.lake_model.specs.declared.QueryRefused.{QueryRefused}
 use Rattle.lake_model.specs.declared.QueryRefused.TheVariants as query
 use Rattle.lake_model.specs.Texts.{Text}
-use Rattle.lake_model.specs.Tables.{Column, Table, members}
+use Rattle.lake_model.specs.Tables.{Column, Table, Line, line_of, members}
 use Rattle.lake_model.specs.Answer.{Row, answer, Query}
 use Rattle.lake_model.specs.Journal.{Entry, counts, live, is_live, live_table}
 use Rattle.lake_model.specs.Limits.{Bounded, is_passed, load_bounds, drop_bounds}
-use Rattle.lake_model.specs.Layout.{Part, layout, shown, unmarked_of}
+use Rattle.lake_model.specs.Layout.{Part, Shown, layout, shown_layout, unmarked_of}
 use Rattle.lake_model.specs.Plan.{planned_parts}
-
--- a layout as a reply shows it
-pub record Shown : Type 0 where
-  pub at : ℕ
-  pub parts : List (ℕ × List (ℕ × Bool))
-
-abbrev pub shown_layout : List Entry → Shown
-shown_layout journal = record { at = length journal; parts = shown (layout journal) }
-
--- a line of a list of tables: name, columns, members
-pub record Line : Type 0 where
-  pub name : Text
-  pub columns : ℕ
-  pub members : ℕ
-
-abbrev pub line_of : Table → Line
-line_of table = record { name = table.name; columns = length table.columns; members = members table }
 
 pub data Reply : Type 0 where
   Loaded : (name : Text) (columns members at : ℕ) → Reply

@@ -1,5 +1,6 @@
 -- What one line outside a block says, by its words alone.
-use Rattle.std.specs.Prelude.{ℕ, if◌then◌else◌, List, length, take, drop, bytes_eq, codes, Option, Some, None}
+use Rattle.std.specs.Prelude.{ℕ, Bool, ◌||◌, ◌==◌, nat_eq, if◌then◌else◌, List, length, take, drop, get_or, bytes_eq, codes, Option, Some, None}
+use Rattle.std.specs.List.{list_all}
 use Rattle.script_model.specs.declared.Reason.{Reason}
 use Rattle.script_model.specs.declared.Reason.TheVariants as reason
 use Rattle.lake_model.specs.Texts.{Text}
@@ -40,6 +41,13 @@ said_by (Some name) k = load_said name
 said_by None (Some k) = search_said (number 1 10000 k)
 said_by None None = Wrong reason.Unknown
 
--- The lines of a script are `load NAME` and `search K`, each with one space and followed by a block; K is 1 to 10,000.
+-- The commands are `load NAME` and `search K`, each with one space and followed by a block; K is 1 to 10,000.
+abbrev pub command_said : Text → Said
+command_said text = said_by (behind (codes "load ") text) (behind (codes "search ") text)
+
+-- a line that is empty, has only spaces, or begins with `#`
+abbrev pub is_skipped : Text → Bool
+is_skipped text = list_all (nat_eq 0x20) text || get_or text 0 0 == 0x23
+
 abbrev pub said : Text → Said
-said text = said_by (behind (codes "load ") text) (behind (codes "search ") text)
+said text = if is_skipped text then Nothing else command_said text

@@ -8,7 +8,9 @@ use Rattle.lake_model.specs.Answer.{Row}
 use Rattle.lake_model.specs.declared.Who.{Who}
 use Rattle.lake_model.specs.Journal.{What, Entry}
 use Rattle.lake_model.specs.Journal as journal
-use Rattle.script_model.specs.Replies.{Shown, Line, Reply, Loaded, Dropped, Listed, Found, Merged, Repeated, Unknown, NoColumn, Full, NothingToMerge, Stale, NoHeader, TooManyColumns, Unequal, NotUtf8, TooManyValues, FileFailed, FileMissing, FileTooLong, QueryNotUtf8, QueryTooLarge, NoMemory}
+use Rattle.lake_model.specs.Layout.{Shown}
+use Rattle.lake_model.specs.Tables.{Line}
+use Rattle.script_model.specs.Replies.{Reply, Loaded, Dropped, Listed, Found, Merged, Repeated, Unknown, NoColumn, Full, NothingToMerge, Stale, NoHeader, TooManyColumns, Unequal, NotUtf8, TooManyValues, FileFailed, FileMissing, FileTooLong, QueryNotUtf8, QueryTooLarge, NoMemory}
 use Rattle.script_model.specs.Record.{Answered, RunRecord}
 
 -- words with one space between

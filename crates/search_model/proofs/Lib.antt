@@ -1,4 +1,5 @@
 pub mod TokenLemmas
+pub mod KeyLemmas
 pub mod OverlapLemmas
 pub mod BoundLemmas
 pub mod FilterLemmas

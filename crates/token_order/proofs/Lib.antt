@@ -2,5 +2,5 @@ pub mod PlaceLemmas
 pub mod RunLemmas
 pub mod SortLemmas
 pub mod TokenLemmas
-pub mod KeyLemmas
+pub mod FrequencyLemmas
 pub mod CountLemmas

@@ -4,7 +4,7 @@ use Rattle.std.specs.Cmp.Lexicographic.{slice_cmp}
 use Rattle.std.proofs.lemmas.Fn.{always_returns_same}
 use Rattle.std.proofs.lemmas.List.{get_or_default}
 use Rattle.search_model.specs.Arrays.{key_of, token_at}
-use Rattle.token_order.proofs.KeyLemmas.{found, none, rising}
+use Rattle.search_model.proofs.KeyLemmas.{found, none, rising}
 use Rattle.token_order.proofs.numbers.find.Goals as goal
 
 pub returns-in-Ok : goal.returns-in-Ok

@@ -1,6 +1,6 @@
 use Rattle.std.proofs.Common.{◌∙◌, refl, map}
 use Rattle.search_model.specs.Arrays.{token_at}
-use Rattle.token_order.proofs.KeyLemmas.{key_here}
+use Rattle.search_model.proofs.KeyLemmas.{key_here}
 use Rattle.token_order.proofs.numbers.key_of.Goals as goal
 
 pub returns-in-Some : goal.returns-in-Some

@@ -3,7 +3,7 @@ use Rattle.std.proofs.lemmas.List.{length-map}
 use Rattle.lake_model.specs.Tables.{Table}
 use Rattle.search_model.specs.Arrays.{token_at}
 use Rattle.search_model.specs.Segment.{Token, columns_of, tokens_of}
-use Rattle.token_order.proofs.KeyLemmas.{frequency_here}
+use Rattle.token_order.proofs.FrequencyLemmas.{frequency_here}
 use Rattle.token_order.proofs.vocab.Vocab.frequency.Goals as goal
 
 pub returns : goal.returns

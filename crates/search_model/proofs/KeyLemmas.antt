@@ -21,7 +21,6 @@ use Rattle.search_model.specs.Segment.{Token}
 use Rattle.search_model.specs.Arrays.{key_of, numbers_of, IsByKey, IsToken, token_with, token_at, pointed}
 use Rattle.lake_model.specs.Tables.{Table}
 use Rattle.search_model.specs.declared.TokenAt.{TokenAt}
-use Rattle.token_order.specs.Vocabulary.{frequency_of}
 
 -- the keys of the tokens from the n-th on
 any_from : (all : List Token) (key : Text) (n : ℕ) (rest : List Token) → drop n all ≡ rest
@@ -78,12 +77,3 @@ key_here tables tokens named n at is h e =
     ∙ ap (λ (t : Token). t.key) (sym (get_or-map (token_at tables) tokens n at (token_at tables at) h))
     ∙ sym (get_or-map (λ (t : Token). t.key) (map (token_at tables) tokens) n (token_at tables at) [] inside)
     ∙ ap (λ (ts : List Token). key_of ts n) is
-
--- and its frequency
-pub frequency_here : (tables : List Table) (tokens : List TokenAt) (named : List Token) (n : ℕ) (at : TokenAt) → map (token_at tables) tokens ≡ named → n < length tokens → at ≡ get_or tokens n at → at.frequency ≡ frequency_of named n
-frequency_here tables tokens named n at is h e =
-    let inside : n < length (map (token_at tables) tokens) = omega (arith, length-map tokens (token_at tables)) in
-    ap (λ (t : TokenAt). t.frequency) e
-    ∙ ap (λ (t : Token). t.frequency) (sym (get_or-map (token_at tables) tokens n at (token_at tables at) h))
-    ∙ sym (get_or-map (λ (t : Token). t.frequency) (map (token_at tables) tokens) n (token_at tables at) 0 inside)
-    ∙ ap (λ (ts : List Token). frequency_of ts n) is

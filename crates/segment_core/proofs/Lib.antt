@@ -1,0 +1,7 @@
+pub mod ListsLemmas
+pub mod SegmentLemmas
+pub mod PartLemmas
+pub mod AmongLemmas
+pub mod FoundLemmas
+pub mod ShownLemmas
+pub mod WorkedSegment

@@ -1,0 +1,29 @@
+-- What replies show of a version.
+use Rattle.std.specs.Prelude.{ℕ, Bool, List, [], ◌∷◌, map, filter, not, if◌then◌else◌}
+use Rattle.lake_model.specs.Texts.{Text}
+use Rattle.lake_model.specs.Tables.{Table}
+use Rattle.lake_model.specs.Tables.{Line, line_of}
+use Rattle.lake_model.specs.Tables.{line_with}
+use Rattle.lake_model.specs.Layout.{Place, Part, unmarked_of}
+
+-- the positions of places, with their marks
+abbrev pub shown_places : List Place → List (ℕ × Bool)
+shown_places places = map (λ place. (place.position, place.marked)) places
+
+-- a line from its parts: the name, how many columns, how many members
+abbrev pub line_from : Text × ℕ × ℕ → Line
+line_from line = line_with line.0 line.1 line.2
+
+-- the lines of the tables that are unmarked
+abbrev pub lines_without : List Table → List Bool → List Line
+lines_without [] marks = []
+lines_without (t ∷ ts) [] = []
+lines_without (t ∷ ts) (m ∷ ms) = if m then lines_without ts ms else line_of t ∷ lines_without ts ms
+
+-- the lines of the places that are unmarked
+abbrev pub unmarked_lines : List Place → List Line
+unmarked_lines places = map (λ place. line_of place.table) (filter (λ place. not place.marked) places)
+
+-- the lines of the unmarked tables, in the order of the layout, which is that of their loads
+abbrev pub live_lines : List Part → List Line
+live_lines parts = map (λ place. line_of place.table) (unmarked_of parts)

@@ -1,0 +1,111 @@
+//! What replies show of a version: its layout, and a line for each of its live tables.
+ghost use Rattle.std.specs.Prelude.{◌≡◌, map};
+ghost use Rattle.lake_model.specs.Layout.{shown_with};
+ghost use Rattle.segment_core.specs.Lines.{line_from};
+
+use column_set::Name;
+use std::marker::Model;
+
+/// The places of a part: for each table the position of its load in the journal, and whether it is marked as dropped. A contract
+/// sees the list.
+#[derive(Drop)]
+pub struct Places {
+    places: Vec<(u64, bool)>,
+}
+
+impl Model for Places {
+    ghost use Rattle.std.specs.Prelude.{Bool, List, ℕ};
+
+    ghost Value = { List (ℕ × Bool) };
+
+    ghost view = { λ p. p.places.items };
+}
+
+impl Places {
+    /// These places. It takes no memory.
+    pub fn new(places: Vec<(u64, bool)>) -> Places
+        ensures { result ≡ places.items }
+    {
+        Places { places }
+    }
+
+    /// The places, in their order.
+    pub fn list(&self) -> &[(u64, bool)]
+        ensures { result.now ≡ self.now }
+    {
+        &self.places
+    }
+}
+
+/// A layout: its position, which is how many entries the journal has there, and its parts, each with its number and its places. A
+/// contract sees the position and the parts.
+#[derive(Drop)]
+pub struct Layout {
+    at: u64,
+    parts: Vec<(u64, Places)>,
+}
+
+impl Model for Layout {
+    ghost use Rattle.lake_model.specs.Layout.{Shown};
+    ghost use Rattle.lake_model.specs.Layout.{shown_with};
+
+    ghost Value = { Shown };
+
+    ghost view = { λ l. shown_with l.at l.parts.items };
+}
+
+impl Layout {
+    /// The layout of these parts at a position. It takes no memory.
+    pub fn new(at: u64, parts: Vec<(u64, Places)>) -> Layout
+        ensures { result ≡ shown_with at parts.items }
+    {
+        Layout { at, parts }
+    }
+
+    /// Its position.
+    pub fn at(&self) -> u64
+        ensures { result ≡ self.now.at }
+    {
+        self.at
+    }
+
+    /// The number and the places of each part, in the order of the layout.
+    pub fn parts(&self) -> &[(u64, Places)]
+        ensures { result.now ≡ self.now.parts }
+    {
+        &self.parts
+    }
+}
+
+/// The lines of a list of tables: the name of each, how many columns it has, and how many members these have together. A contract
+/// sees the list of the lines.
+#[derive(Drop)]
+pub struct TableLines {
+    lines: Vec<(Name, u32, u64)>,
+}
+
+impl Model for TableLines {
+    ghost use Rattle.std.specs.Prelude.{map, List};
+    ghost use Rattle.lake_model.specs.Tables.{Line};
+    ghost use Rattle.segment_core.specs.Lines.{line_from};
+
+    ghost Value = { List Line };
+
+    ghost view = { λ t. map line_from t.lines.items };
+}
+
+impl TableLines {
+    /// These lines. It takes no memory.
+    pub fn new(lines: Vec<(Name, u32, u64)>) -> TableLines
+        ensures { result ≡ map line_from lines.items }
+    {
+        TableLines { lines }
+    }
+
+    /// The lines, in their order.
+    pub fn list(&self) -> &[(Name, u32, u64)]
+        ensures { map line_from result.now ≡ self.now }
+    {
+        &self.lines
+    }
+}

@@ -1,0 +1,20 @@
+//! Segments of a lake, the versions that hold them, and all that a search may ask of a version, with a log of what it reads.
+#![tactic(auto)]
+
+mod layout;
+mod looks;
+mod numbers;
+mod pin;
+mod segment;
+mod version;
+
+pub use layout::{Layout, Places, TableLines};
+pub use looks::Looks;
+pub use numbers::{Marks, Numbers};
+pub use pin::Pin;
+pub use search_model::{Look, Owner, Posting, TokenAt};
+pub use segment::Segment;
+pub use version::{Part, Version};
+
+#[cfg(test)]
+mod tests;

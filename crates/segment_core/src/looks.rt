@@ -1,0 +1,255 @@
+//! The looks of a search at a version: all that it may ask, and a log of the lists and the sets that it read.
+ghost use Rattle.std.specs.Prelude.{◌≡◌, ◌<◌, ◌+◌, ◌++◌, ◌∷◌, [], count_by, drop, false, get_or, length, not, IfOk, OnErr, OnOk};
+ghost use Rattle.search_model.specs.Looks.{is_read};
+
+use crate::segment::Segment;
+use crate::version::{Part, Version};
+use column_set::{QuerySet, Titles};
+use no_memory::NoMemory;
+use search_model::{Look, Posting};
+use std::alloc::Global;
+use std::marker::Model;
+use std::sync::Arc;
+
+/// All that a search gets of a version. It borrows the version's pin, and lends for as long as that is borrowed. Each posting list
+/// and each set that it reads goes to its log. A contract sees the version, the log, and for how many looks more the log has room.
+///
+/// Parts are found by their index in the order of the layout, tokens and columns by their numbers in the part's segment, all from
+/// 0. It lends no key.
+#[derive(Drop)]
+pub struct Looks<'a> {
+    version: &'a Version,
+    log: Vec<Look>,
+    spare: usize,
+}
+
+impl<'a> Model for Looks<'a> {
+    ghost use Rattle.std.specs.Prelude.{◌≤◌, ◌+◌, vec_capacity, vec_len};
+    ghost use Rattle.segment_core.specs.Versions.{looks_with, LooksOf};
+
+    ghost Value = { LooksOf };
+
+    ghost view = { λ l. looks_with l.version.now l.log.items l.spare };
+
+    ghost invariant = { λ l. vec_len l.log + l.spare ≤ vec_capacity l.log };
+}
+
+impl<'a> Looks<'a> {
+    ghost use Rattle.lake_model.specs.Tables.{titles_of};
+    ghost use Rattle.search_model.specs.Arrays.{table_at, titled_at, IsToken};
+    ghost use Rattle.search_model.specs.Segment.{tokens_in};
+    ghost use Rattle.segment_core.specs.Versions.{looks_with, marks_of, part_at, segment_at, tables_of};
+
+    // Looks at this version, with an empty log.
+    pub(crate) fn new(alloc: Global, version: &'a Version) -> Looks<'a>
+        ensures { result ≡ looks_with version.now [] 0 }
+    {
+        Looks {
+            version,
+            log: Vec::new(alloc),
+            spare: 0,
+        }
+    }
+
+    /// How many parts there are.
+    pub fn parts(&self) -> u32
+        ensures { result ≡ length self.now.version.parts }
+    {
+        self.version.parts().len() as u32
+    }
+
+    /// The number of a part.
+    pub fn number(&self, part: u32) -> u64
+        requires { part < length self.now.version.parts }
+        ensures { result ≡ (part_at self.now.version.parts part).number }
+    {
+        self.version.part(part).number
+    }
+
+    /// How many columns a part has, those of marked tables too.
+    pub fn sets(&self, part: u32) -> u32
+        requires { part < length self.now.version.parts }
+        ensures { result ≡ length (segment_at self.now.version.parts part).sets }
+    {
+        self.version.part(part).segment().sets()
+    }
+
+    /// How many tokens a column has.
+    pub fn size(&self, part: u32, set: u32) -> u32
+        requires part { part < length self.now.version.parts }
+        requires set { set < length (segment_at self.now.version.parts part).sets }
+        ensures { result ≡ length (get_or (segment_at self.now.version.parts part).sets set []) }
+    {
+        self.version.part(part).segment().size(set)
+    }
+
+    /// The token of a part that the key is, and `None` where no column of the part has the key.
+    pub fn lookup(&self, part: u32, key: &str) -> Option<u32>
+        requires { part < length self.now.version.parts }
+        ensures { IsToken (segment_at self.now.version.parts part).tokens key.now result }
+    {
+        self.version.part(part).segment().lookup(key)
+    }
+
+    /// How many columns hold a token.
+    pub fn list_len(&self, part: u32, token: u32) -> u32
+        requires part { part < length self.now.version.parts }
+        requires token { token < length (segment_at self.now.version.parts part).tokens }
+        ensures { result ≡ length (get_or (segment_at self.now.version.parts part).lists token []) }
+    {
+        self.version.part(part).segment().list_len(token)
+    }
+
+    /// The tokens of a part of which the keys are the query's, rising, so that the rarest come first. It walks the smaller of the
+    /// two, the part's tokens or the query's keys.
+    pub fn query_tokens(
+        &self,
+        alloc: Global,
+        part: u32,
+        query: &QuerySet,
+    ) -> Result<Vec<u32>, NoMemory>
+        requires { part < length self.now.version.parts }
+        ensures { IfOk result (λ tokens. tokens.items ≡ tokens_in (segment_at self.now.version.parts part).tokens query.now) }
+    {
+        self.version.part(part).segment().tokens_among(alloc, query)
+    }
+
+    /// Whether the table of a column is unmarked.
+    pub fn live(&self, part: u32, set: u32) -> bool
+        requires part { part < length self.now.version.parts }
+        requires set { set < length (segment_at self.now.version.parts part).sets }
+        ensures { result ≡ not (get_or (marks_of (part_at self.now.version.parts part)) (titled_at (segment_at self.now.version.parts part).columns set).from false) }
+    {
+        let part: &Part = self.version.part(part);
+        let owner = part.segment().owner(set);
+        !part.marks()[owner.table as usize]
+    }
+
+    /// The titles of the table of a column, and the place of the column there, from 1.
+    pub fn table_of(&self, part: u32, set: u32) -> (&'a Arc<Titles>, u32)
+        requires part { part < length self.now.version.parts }
+        requires set { set < length (segment_at self.now.version.parts part).sets }
+        ensures titles { result.0.now.value ≡ titles_of (table_at (tables_of (part_at self.now.version.parts part)) (titled_at (segment_at self.now.version.parts part).columns set).from) }
+        ensures place { result.1 ≡ (titled_at (segment_at self.now.version.parts part).columns set).place }
+    {
+        let version: &'a Version = self.version;
+        let segment: &'a Segment = version.part(part).segment();
+        let owner = segment.owner(set);
+        let table = segment.tables()[owner.table as usize].table();
+        (table.titles(), owner.place)
+    }
+}
+
+impl<'a> Looks<'a> {
+    ghost use Rattle.search_model.specs.declared.Look.TheVariants.{Probe, Read};
+    ghost use Rattle.segment_core.specs.Versions.{part_at, segment_at};
+
+    /// Makes room for more looks in the log.
+    pub fn reserve_log(&mut self, more: usize) -> Result<(), NoMemory>
+        ensures version { self.new.version ≡ self.old.version }
+        ensures log { self.new.log ≡ self.old.log }
+        ensures room { OnOk result (self.new.spare ≡ self.old.spare + more) }
+        ensures failed { OnErr result (self.new.spare ≡ self.old.spare) }
+    {
+        let Some(spare) = self.spare.checked_add(more) else {
+            return Err(NoMemory);
+        };
+        self.log.reserve(spare)?;
+        self.spare = spare;
+        Ok(())
+    }
+
+    /// For how many looks more the log has room.
+    pub fn log_spare(&self) -> usize
+        ensures { result ≡ self.now.spare }
+    {
+        self.spare
+    }
+
+    /// The columns that hold a token, rising, each with the token's position among its tokens, from 0, and their number. The look is
+    /// logged. It takes no memory.
+    pub fn list(&mut self, part: u32, token: u32) -> &'a [Posting]
+        requires part { part < length self.old.version.parts }
+        requires token { token < length (segment_at self.old.version.parts part).tokens }
+        requires room { 0 < self.old.spare }
+        ensures list { result.now ≡ get_or (segment_at self.old.version.parts part).lists token [] }
+        ensures version { self.new.version ≡ self.old.version }
+        ensures log { self.new.log ≡ self.old.log ++ Read (part_at self.old.version.parts part).number token ∷ [] }
+        ensures spare { self.new.spare + 1 ≡ self.old.spare }
+    {
+        let version: &'a Version = self.version;
+        let read: &'a Part = version.part(part);
+        let list = read.segment().list(token);
+        self.note(Look::Read {
+            part: read.number,
+            token,
+        });
+        list
+    }
+
+    /// The tokens of a column behind a position, which counts from 0, rising. The look is logged. It takes no memory.
+    pub fn tail(&mut self, part: u32, set: u32, after: u32) -> &'a [u32]
+        requires part { part < length self.old.version.parts }
+        requires set { set < length (segment_at self.old.version.parts part).sets }
+        requires after { after < length (get_or (segment_at self.old.version.parts part).sets set []) }
+        requires room { 0 < self.old.spare }
+        ensures tail { result.now ≡ drop (after + 1) (get_or (segment_at self.old.version.parts part).sets set []) }
+        ensures version { self.new.version ≡ self.old.version }
+        ensures log { self.new.log ≡ self.old.log ++ Probe (part_at self.old.version.parts part).number set after ∷ [] }
+        ensures spare { self.new.spare + 1 ≡ self.old.spare }
+    {
+        let version: &'a Version = self.version;
+        let probed: &'a Part = version.part(part);
+        let tail = probed.segment().tail(set, after);
+        self.note(Look::Probe {
+            part: probed.number,
+            set,
+            after,
+        });
+        tail
+    }
+
+    // One more look in the log.
+    fn note(&mut self, look: Look)
+        requires { 0 < self.old.spare }
+        ensures version { self.new.version ≡ self.old.version }
+        ensures log { self.new.log ≡ self.old.log ++ look ∷ [] }
+        ensures spare { self.new.spare + 1 ≡ self.old.spare }
+    {
+        match self.log.push(look) {
+            Ok(()) => self.spare -= 1,
+            Err(_) => unreachable!(),
+        }
+    }
+
+    /// The looks so far, in their order. A part is named by its number.
+    pub fn log(&self) -> &[Look]
+        ensures { result.now ≡ self.now.log }
+    {
+        &self.log
+    }
+
+    /// How many posting lists were read.
+    pub fn reads(&self) -> u64
+        ensures { result ≡ count_by is_read self.now.log }
+    {
+        self.log.iter().filter(|look| is_read_look(**look)).count() as u64
+    }
+
+    /// How many sets were probed.
+    pub fn probes(&self) -> u64
+        ensures { result ≡ count_by (λ look. not (is_read look)) self.now.log }
+    {
+        self.log.iter().filter(|look| !is_read_look(**look)).count() as u64
+    }
+}
+
+// Whether the look read a posting list.
+fn is_read_look(look: Look) -> bool
+    ensures { result ≡ is_read look }
+{
+    match look {
+        Look::Read { .. } => true,
+        Look::Probe { .. } => false,
+    }
+}

@@ -1,0 +1,238 @@
+//! The inverted index of a list of tables, in flat arrays.
+ghost use Rattle.std.specs.Prelude.{◌≡◌, ◌+◌, ◌<◌, ◌≤◌, [], drop, get_or, length, slice_index, slice_range, IfOk};
+ghost use Rattle.std.specs.List.Sorted.{IsPermutation};
+ghost use Rattle.search_model.specs.Arrays.{key_of, titled_at, IsToken};
+ghost use Rattle.search_model.specs.Segment.{segment, tokens_in};
+
+use column_set::{QuerySet, SharedTable};
+use no_memory::NoMemory;
+use search_model::{Owner, Posting, TokenAt};
+use std::alloc::Global;
+use std::marker::Model;
+use std::sync::atomic::{AtomicU64, Ordering};
+
+/// The inverted index of a list of tables. Its columns are those of the tables, numbered from 0 by table and then by place. Its
+/// tokens are the distinct keys of the columns, numbered from 0 by rising frequency (how many columns hold the key), and then by
+/// the bytes of the key. Each column has its tokens, and each token its posting list: the columns that hold it. A contract sees the
+/// list of the tables.
+///
+/// A segment never changes but for its meter, which counts how often one of its lists was read. The index is that of Zhu, Deng,
+/// Nargesian and Miller, "JOSIE: Overlap Set Similarity Search for Finding Joinable Tables in Data Lakes", SIGMOD 2019.
+#[derive(Drop)]
+pub struct Segment {
+    tables: Vec<SharedTable>,
+    owners: Vec<Owner>,
+    tokens: Vec<TokenAt>,
+    by_key: Vec<u32>,
+    list_starts: Vec<u32>,
+    postings: Vec<Posting>,
+    set_starts: Vec<u32>,
+    set_tokens: Vec<u32>,
+    meter: AtomicU64,
+}
+
+impl Model for Segment {
+    ghost use Rattle.std.specs.Prelude.{List};
+    ghost use Rattle.lake_model.specs.Tables.{Table};
+    ghost use Rattle.search_model.specs.Arrays.{AreArrays};
+
+    ghost Value = { List Table };
+
+    ghost view = { λ s. s.tables.items };
+
+    ghost invariant = { λ s. AreArrays s.tables.items s.owners.items s.tokens.items s.by_key.items s.list_starts.items s.postings.items s.set_starts.items s.set_tokens.items };
+}
+
+impl Segment {
+    ghost use Rattle.search_model.specs.Arrays.{AreArrays};
+
+    /// The segment of these tables, from its arrays: where each column stands; where each token's key stands, in the order of the
+    /// tokens; the tokens' numbers, by their keys; the posting lists, one behind another, with where each begins and one more for
+    /// the end; and the columns' tokens likewise. It takes no memory.
+    pub fn new(
+        tables: Vec<SharedTable>,
+        owners: Vec<Owner>,
+        tokens: Vec<TokenAt>,
+        by_key: Vec<u32>,
+        list_starts: Vec<u32>,
+        postings: Vec<Posting>,
+        set_starts: Vec<u32>,
+        set_tokens: Vec<u32>,
+    ) -> Segment
+        requires { AreArrays tables.items owners.items tokens.items by_key.items list_starts.items postings.items set_starts.items set_tokens.items }
+        ensures { result ≡ tables.items }
+    {
+        Segment {
+            tables,
+            owners,
+            tokens,
+            by_key,
+            list_starts,
+            postings,
+            set_starts,
+            set_tokens,
+            meter: AtomicU64::new(0),
+        }
+    }
+
+    /// The tables, in their order.
+    pub fn tables(&self) -> &[SharedTable]
+        ensures { result.now ≡ self.now }
+    {
+        &self.tables
+    }
+
+    /// How many columns there are.
+    pub fn sets(&self) -> u32
+        ensures { result ≡ length (segment self.now).sets }
+    {
+        self.owners.len() as u32
+    }
+
+    /// The token that the key is, and `None` where no column has the key. It takes as many comparisons as the number of tokens has
+    /// binary digits.
+    pub fn lookup(&self, key: &str) -> Option<u32>
+        ensures { IsToken (segment self.now).tokens key.now result }
+    {
+        match self
+            .by_key
+            .binary_search_by(|token| self.key(*token).cmp(key))
+        {
+            Ok(at) => Some(self.by_key[at]),
+            Err(_) => None,
+        }
+    }
+
+    /// How many columns hold the token.
+    pub fn list_len(&self, token: u32) -> u32
+        requires { token < length (segment self.now).tokens }
+        ensures { result ≡ length (get_or (segment self.now).lists token []) }
+    {
+        len_at(&self.list_starts, token)
+    }
+
+    /// How many tokens the column has.
+    pub(crate) fn size(&self, set: u32) -> u32
+        requires { set < length (segment self.now).sets }
+        ensures { result ≡ length (get_or (segment self.now).sets set []) }
+    {
+        len_at(&self.set_starts, set)
+    }
+
+    /// The index of the column's table, from 0, and the column's place there, from 1.
+    pub(crate) fn owner(&self, set: u32) -> Owner
+        requires { set < length (segment self.now).sets }
+        ensures table { result.table ≡ (titled_at (segment self.now).columns set).from }
+        ensures place { result.place ≡ (titled_at (segment self.now).columns set).place }
+        ensures within { result.table < length self.now }
+    {
+        self.owners[set as usize]
+    }
+
+    /// The columns that hold the token, rising, each with the token's position among its tokens and their number. It raises the
+    /// meter.
+    pub(crate) fn list(&self, token: u32) -> &[Posting]
+        requires { token < length (segment self.now).tokens }
+        ensures { result.now ≡ get_or (segment self.now).lists token [] }
+    {
+        self.meter.fetch_add(1, Ordering::SeqCst);
+        list_at(&self.list_starts, &self.postings, token, 0)
+    }
+
+    /// The column's tokens behind the position, which counts from 0, rising. It raises the meter.
+    pub(crate) fn tail(&self, set: u32, after: u32) -> &[u32]
+        requires set { set < length (segment self.now).sets }
+        requires after { after < length (get_or (segment self.now).sets set []) }
+        ensures { result.now ≡ drop (after + 1) (get_or (segment self.now).sets set []) }
+    {
+        self.meter.fetch_add(1, Ordering::SeqCst);
+        list_at(&self.set_starts, &self.set_tokens, set, after as usize + 1)
+    }
+
+    /// How often a list or a set of the segment was read. No contract sees it.
+    pub(crate) fn meter(&self) -> u64 {
+        self.meter.load(Ordering::SeqCst)
+    }
+
+    // The key of a token, and the empty text where there is no such token.
+    fn key(&self, token: u32) -> &str
+        ensures { result.now ≡ key_of (segment self.now).tokens token }
+    {
+        if token as usize >= self.tokens.len() {
+            return "";
+        }
+        let at = self.tokens[token as usize];
+        self.tables[at.table as usize]
+            .table()
+            .key(at.place, at.index)
+    }
+}
+
+impl Segment {
+    /// The tokens of which the keys are the query's, rising. It walks the smaller of the two: the tokens, or the keys of the query.
+    pub(crate) fn tokens_among(&self, alloc: Global, query: &QuerySet) -> Result<Vec<u32>, NoMemory>
+        ensures { IfOk result (λ tokens. tokens.items ≡ tokens_in (segment self.now).tokens query.now) }
+    {
+        if self.tokens.len() < query.len() as usize {
+            self.asked_tokens(alloc, query)
+        } else {
+            self.found_tokens(alloc, query)
+        }
+    }
+
+    // The same, where the query is asked for the key of each token.
+    fn asked_tokens(&self, alloc: Global, query: &QuerySet) -> Result<Vec<u32>, NoMemory>
+        ensures { IfOk result (λ tokens. tokens.items ≡ tokens_in (segment self.now).tokens query.now) }
+    {
+        let mut tokens = Vec::new(alloc);
+        for token in 0..self.tokens.len() as u32 {
+            if query.has(self.key(token)) {
+                tokens.push(token)?;
+            }
+        }
+        Ok(tokens)
+    }
+
+    // The same, where each key of the query is looked up.
+    fn found_tokens(&self, alloc: Global, query: &QuerySet) -> Result<Vec<u32>, NoMemory>
+        ensures { IfOk result (λ tokens. tokens.items ≡ tokens_in (segment self.now).tokens query.now) }
+    {
+        let mut tokens = self.looked_up(alloc, query)?;
+        tokens.sort_unstable();
+        Ok(tokens)
+    }
+
+    // The tokens of which the keys are the query's, in the order of the query's keys.
+    fn looked_up(&self, alloc: Global, query: &QuerySet) -> Result<Vec<u32>, NoMemory>
+        ensures { IfOk result (λ tokens. IsPermutation (tokens_in (segment self.now).tokens query.now) tokens.items) }
+    {
+        let mut tokens = Vec::new(alloc);
+        for i in 0..query.len() {
+            if let Some(token) = self.lookup(query.key(i)) {
+                tokens.push(token)?;
+            }
+        }
+        Ok(tokens)
+    }
+}
+
+// How long the list at an index is.
+fn len_at(starts: &[u32], i: u32) -> u32
+    requires there { i + 1 < length starts.now }
+    requires rising { slice_index starts.now i ≤ slice_index starts.now (i + 1) }
+    ensures { result + slice_index starts.now i ≡ slice_index starts.now (i + 1) }
+{
+    starts[i as usize + 1] - starts[i as usize]
+}
+
+// The list at an index, without the first elements that are to be skipped.
+fn list_at<'a, T>(starts: &[u32], flat: &'a [T], i: u32, skip: usize) -> &'a [T]
+    requires there { i + 1 < length starts.now }
+    requires rising { slice_index starts.now i + skip ≤ slice_index starts.now (i + 1) }
+    requires within { slice_index starts.now (i + 1) ≤ length flat.now }
+    ensures { result.now ≡ slice_range flat.now (slice_index starts.now i + skip) (slice_index starts.now (i + 1)) }
+{
+    let from = starts[i as usize] as usize + skip;
+    let to = starts[i as usize + 1] as usize;
+    &flat[from..to]
+}
