@@ -6,8 +6,9 @@ ghost use Rattle.script_model.specs.InTurn.{after_command, in_turn, with_sync};
 ghost use Rattle.reply_text.specs.Replies.{reply_of};
 ghost use Rattle.lake_core.specs.Loads.{with_added};
 
+use crate::dropping::drop_table;
 use crate::loading::load;
-use crate::searching::search;
+use crate::searching::{list, search};
 use catalogue::{Catalogue, Who};
 use no_memory::NoMemory;
 use reply_text::{Answered, By, Reply, RunRecord};
@@ -37,6 +38,8 @@ fn reply_to(
     };
     match command.task() {
         Task::Load { name, body } => load(alloc, catalogue, who, name, body, out),
+        Task::Drop { name } => drop_table(catalogue, who, name, out),
+        Task::Tables => list(alloc, catalogue),
         Task::Search { k, body } => search(alloc, catalogue, *k, body),
     }
 }

@@ -2,8 +2,9 @@
 #![tactic(auto)]
 
 mod driving;
+mod dropping;
 mod loading;
 mod searching;
 
 pub use driving::drive;
-pub use loading::make_table;
+pub use loading::{Loadable, make_table};

@@ -1,5 +1,6 @@
 //! Loads: the table of a block, and its entry.
-ghost use Rattle.std.specs.Prelude.{◌≡◌, ◌<◌, ◌+◌, ◌≤◌, Bool, IfOk, IfErr};
+ghost use Rattle.std.specs.Prelude.{◌≡◌, ◌<◌, ◌+◌, ◌≤◌, ◌∷◌, [], Bool, IfOk, IfErr};
+ghost use Rattle.lake_model.specs.Tables.{members};
 ghost use Rattle.script_model.specs.Commands.{Load};
 ghost use Rattle.script_model.specs.Replies.{csv_reply, sets_reply, load_reply};
 ghost use Rattle.script_model.specs.Answered.{IsTable, table_read, load_answer, adds};
@@ -10,13 +11,42 @@ ghost use Rattle.lake_core.specs.Loads.{IsRefusal, refusal_reply, with_added, lo
 use catalogue::{Catalogue, Entry, LoadRefused, Who};
 use column_set::{Name, SetRefused, SharedTable, TableSets};
 use csv_table::{CsvRefused, read_table};
+use no_memory::NoMemory;
 use reply_text::{Reply, RunRecord};
 use script_text::Body;
+use segment_build::build;
+use segment_core::Segment;
 use std::alloc::Global;
+use std::sync::Arc;
 
-/// The table of a block under a name, or the reply that refuses it: for the first fault of its records, or else of its sets.
-pub fn make_table(alloc: Global, name: &Name, body: &Body) -> Result<SharedTable, Reply>
+/// A table that can be loaded, with the segment of this table alone.
+#[derive(Drop)]
+pub struct Loadable {
+    pub table: SharedTable,
+    pub segment: Arc<Segment>,
+}
+
+/// The table of a block under a name with its segment, or the reply that refuses it: for the first fault of its records, or else of its
+/// sets, or for want of memory.
+pub fn make_table(alloc: Global, name: &Name, body: &Body) -> Result<Loadable, Reply>
+    ensures table { IfOk result (λ made. table_read name.now body.now ≡ IsTable made.table) }
+    ensures segment { IfOk result (λ made. made.segment.value ≡ made.table ∷ []) }
+    ensures refused { IfErr result (λ reply. IsRefusal (table_read name.now body.now) (reply_of reply)) }
+{
+    let table = match read_sets(alloc, name, body) {
+        Ok(table) => table,
+        Err(reply) => return Err(reply),
+    };
+    match index_table(alloc, &table) {
+        Ok(segment) => Ok(Loadable { table, segment }),
+        Err(NoMemory) => Err(Reply::NoMemory),
+    }
+}
+
+// The table of a block under a name, or the reply that refuses it.
+fn read_sets(alloc: Global, name: &Name, body: &Body) -> Result<SharedTable, Reply>
     ensures table { IfOk result (λ table. table_read name.now body.now ≡ IsTable table) }
+    ensures members { IfOk result (λ table. members table ≤ 67108864) }
     ensures refused { IfErr result (λ reply. IsRefusal (table_read name.now body.now) (reply_of reply)) }
 {
     let raw = match read_table(alloc, body.bytes()) {
@@ -31,6 +61,18 @@ pub fn make_table(alloc: Global, name: &Name, body: &Body) -> Result<SharedTable
         Ok(table) => Ok(table),
         Err(_) => Err(Reply::NoMemory),
     }
+}
+
+// The segment of one table.
+fn index_table(alloc: Global, table: &SharedTable) -> Result<Arc<Segment>, NoMemory>
+    requires { members table.now ≤ 67108864 }
+    ensures { IfOk result (λ segment. segment.value ≡ table.now ∷ []) }
+{
+    let mut tables = Vec::new(alloc);
+    tables.push(table.share()?)?;
+    let _columns = table.table().columns();
+    let segment = build(alloc, tables)?;
+    Ok(Arc::new(alloc, segment)?)
 }
 
 // The reply to bytes that are no table.
@@ -78,7 +120,14 @@ fn reply_to_load(refused: LoadRefused, name: Name) -> Reply
 }
 
 // Loads a table. What the record and the reply keep of it is made before its entry, so that nothing is refused behind the entry.
-fn accept(catalogue: &mut Catalogue, who: Who, table: SharedTable, out: &mut RunRecord) -> Reply
+fn accept(
+    catalogue: &mut Catalogue,
+    who: Who,
+    table: SharedTable,
+    segment: Arc<Segment>,
+    out: &mut RunRecord,
+) -> Reply
+    requires segment { segment.value ≡ table ∷ [] }
     requires journal { out.old.made.journal ≡ catalogue.old.journal }
     requires room { 0 < out.old.entries_room }
     ensures answered { (denied : Bool) × (reply_of result ≡ reply_or_denied denied (load_reply catalogue.old.limits table catalogue.old.journal)) }
@@ -95,7 +144,7 @@ fn accept(catalogue: &mut Catalogue, who: Who, table: SharedTable, out: &mut Run
     let name = table.table().name().copy();
     let columns = table.table().columns();
     let members = table.table().members();
-    match catalogue.load(who, table) {
+    match catalogue.load(who, table, segment) {
         Ok(at) => {
             out.add_entry(Entry::loaded(who, kept));
             Reply::Loaded {
@@ -130,7 +179,7 @@ pub(crate) fn load(
     ensures syncs_room { out.new.syncs_room ≡ out.old.syncs_room }
 {
     match make_table(alloc, name, body) {
-        Ok(table) => accept(catalogue, who, table, out),
+        Ok(Loadable { table, segment }) => accept(catalogue, who, table, segment, out),
         Err(reply) => reply,
     }
 }

@@ -12,6 +12,7 @@ use crate::words::{push_bytes, push_line, push_number, push_words};
 use column_set::{KeptRows, Name};
 use lake_model::Which;
 use no_memory::NoMemory;
+use segment_core::{Layout, TableLines};
 
 // The word for a limit.
 fn which_word(which: Which) -> &'static str
@@ -50,15 +51,48 @@ fn push_loaded(
     push_line("", number, &words, into)
 }
 
+// `N dropped NAME at P`
+fn push_dropped(number: u64, name: &Name, at: u64, into: &mut Vec<u8>) -> Result<(), NoMemory>
+    ensures ok { OnOk result (into.new.items ≡ into.old.items ++ first_line number (model.Dropped name.now at)) }
+    ensures kept { Keeps into.old.items into.new.items }
+{
+    let words = [
+        Text("dropped"),
+        Text(name.text()),
+        Text("at"),
+        Number(at),
+    ];
+    push_line("", number, &words, into)
+}
+
+// `N tables T at P`
+fn push_listed(
+    number: u64,
+    tables: &TableLines,
+    at: u64,
+    into: &mut Vec<u8>,
+) -> Result<(), NoMemory>
+    ensures ok { OnOk result (into.new.items ≡ into.old.items ++ first_line number (model.Listed tables.now at)) }
+    ensures kept { Keeps into.old.items into.new.items }
+{
+    let words = [
+        Text("tables"),
+        Number(tables.list().len() as u64),
+        Text("at"),
+        Number(at),
+    ];
+    push_line("", number, &words, into)
+}
+
 // `N answer R of Q at P`
 fn push_found(
     number: u64,
     query: u32,
     rows: &KeptRows,
-    at: u64,
+    layout: &Layout,
     into: &mut Vec<u8>,
 ) -> Result<(), NoMemory>
-    ensures ok { OnOk result (into.new.items ≡ into.old.items ++ first_line number (model.Found query rows.now at)) }
+    ensures ok { OnOk result (into.new.items ≡ into.old.items ++ first_line number (model.Found query rows.now layout.now)) }
     ensures kept { Keeps into.old.items into.new.items }
 {
     let words = [
@@ -67,7 +101,7 @@ fn push_found(
         Text("of"),
         Number(u64::from(query)),
         Text("at"),
-        Number(at),
+        Number(layout.at()),
     ];
     push_line("", number, &words, into)
 }
@@ -127,6 +161,15 @@ fn push_repeated(number: u64, name: &Name, at: u64, into: &mut Vec<u8>) -> Resul
     push_refused(number, "repeated", &words, into)
 }
 
+// `N refused unknown NAME at P`
+fn push_unknown(number: u64, name: &Name, at: u64, into: &mut Vec<u8>) -> Result<(), NoMemory>
+    ensures ok { OnOk result (into.new.items ≡ into.old.items ++ first_line number (model.Unknown name.now at)) }
+    ensures kept { Keeps into.old.items into.new.items }
+{
+    let words = [Text(name.text()), Text("at"), Number(at)];
+    push_refused(number, "unknown", &words, into)
+}
+
 // `N refused full WHICH COUNT more MORE at P`
 fn push_full(
     number: u64,
@@ -171,7 +214,13 @@ pub fn push_first_line(number: u64, reply: &Reply, into: &mut Vec<u8>) -> Result
             members,
             at,
         } => push_loaded(number, name, *columns, *members, *at, into),
-        Reply::Found { query, rows, at } => push_found(number, *query, rows, *at, into),
+        Reply::Dropped { name, at } => push_dropped(number, name, *at, into),
+        Reply::Listed { tables, at } => push_listed(number, tables, *at, into),
+        Reply::Found {
+            query,
+            rows,
+            layout,
+        } => push_found(number, *query, rows, layout, into),
         Reply::NoHeader => push_refused(number, "csv no-header", &[], into),
         Reply::TooManyColumns { got } => push_refused(number, "csv columns", &[Number(*got)], into),
         Reply::Unequal { row, want, got } => push_unequal(number, *row, *want, *got, into),
@@ -183,6 +232,7 @@ pub fn push_first_line(number: u64, reply: &Reply, into: &mut Vec<u8>) -> Result
             into,
         ),
         Reply::Repeated { name, at } => push_repeated(number, name, *at, into),
+        Reply::Unknown { name, at } => push_unknown(number, name, *at, into),
         Reply::Full {
             which,
             count,

@@ -2,6 +2,7 @@
 
 use column_set::{KeptRows, Name};
 use lake_model::Which;
+use segment_core::{Layout, TableLines};
 
 /// What a command is answered. A position `at` is the length of the journal that the answer stands at.
 #[derive(Drop)]
@@ -13,11 +14,21 @@ pub enum Reply {
         members: u64,
         at: u64,
     },
-    /// The rows that answer a query of `query` keys.
+    /// The table was dropped, by the entry numbered `at` of the journal.
+    Dropped {
+        name: Name,
+        at: u64,
+    },
+    /// The live tables, in the order of their loads.
+    Listed {
+        tables: TableLines,
+        at: u64,
+    },
+    /// The rows that answer a query of `query` keys, over the layout that was searched.
     Found {
         query: u32,
         rows: KeptRows,
-        at: u64,
+        layout: Layout,
     },
     /// The bytes have no record.
     NoHeader,
@@ -42,6 +53,11 @@ pub enum Reply {
     },
     /// A table of this name is live.
     Repeated {
+        name: Name,
+        at: u64,
+    },
+    /// No table of this name is live.
+    Unknown {
         name: Name,
         at: u64,
     },

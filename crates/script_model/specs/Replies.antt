@@ -22,7 +22,7 @@ pub data Reply : Type 0 where
   Loaded : (name : Text) (columns members at : ℕ) → Reply
   Dropped : (name : Text) (at : ℕ) → Reply
   Listed : (tables : List Line) (at : ℕ) → Reply
-  Found : (query : ℕ) (rows : List Row) (at : ℕ) → Reply
+  Found : (query : ℕ) (rows : List Row) (layout : Shown) → Reply
   Merged : (layout : Shown) (parts tables at : ℕ) → Reply
   Repeated : (name : Text) (at : ℕ) → Reply
   Unknown : (name : Text) (at : ℕ) → Reply
@@ -98,7 +98,7 @@ abbrev pub tables_reply : List Entry → Reply
 tables_reply journal = Listed (map line_of (live journal)) (length journal)
 
 abbrev pub search_reply : Query → List Entry → Reply
-search_reply query journal = Found (length query.keys) (answer (live journal) query.keys query.k query.except) (length journal)
+search_reply query journal = Found (length query.keys) (answer (live journal) query.keys query.k query.except) (shown_layout journal)
 
 abbrev pub excepting : Text → ℕ → List Text → Query
 excepting name k keys = record { keys = keys; k = k; except = Some name }

@@ -5,7 +5,7 @@ use Rattle.script_model.specs.declared.Reason.{Reason}
 use Rattle.script_model.specs.declared.Reason.TheVariants as reason
 use Rattle.lake_model.specs.Texts.{Text}
 use Rattle.lake_model.specs.Tables.{is_name}
-use Rattle.script_model.specs.Commands.{Task, Load, Search}
+use Rattle.script_model.specs.Commands.{Task, Load, DropTable, Tables, Search}
 use Rattle.script_model.specs.Numbers.{number}
 
 -- the front of a command that has a block
@@ -36,14 +36,21 @@ abbrev pub search_said : Option ℕ → Said
 search_said None = Wrong reason.Unknown
 search_said (Some k) = Opens 1 (SearchBlock k)
 
-abbrev pub said_by : Option Text → Option Text → Said
-said_by (Some name) k = load_said name
-said_by None (Some k) = search_said (number 1 10000 k)
-said_by None None = Wrong reason.Unknown
+abbrev pub drop_said : Text → Said
+drop_said name = if is_name name then Does 1 (DropTable name) else Wrong reason.Unknown
 
--- The commands are `load NAME` and `search K`, each with one space and followed by a block; K is 1 to 10,000.
+abbrev pub said_by : Option Text → Option Text → Option Text → Said
+said_by (Some loaded) dropped k = load_said loaded
+said_by None (Some dropped) k = drop_said dropped
+said_by None None (Some k) = search_said (number 1 10000 k)
+said_by None None None = Wrong reason.Unknown
+
+-- The commands are `load NAME` and `search K`, each followed by a block, `drop NAME`, and `tables`; between words stands one space, and K
+-- is 1 to 10,000.
 abbrev pub command_said : Text → Said
-command_said text = said_by (behind (codes "load ") text) (behind (codes "search ") text)
+command_said text =
+    if bytes_eq text (codes "tables") then Does 1 Tables
+    else said_by (behind (codes "load ") text) (behind (codes "drop ") text) (behind (codes "search ") text)
 
 -- a line that is empty, has only spaces, or begins with `#`
 abbrev pub is_skipped : Text → Bool

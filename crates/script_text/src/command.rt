@@ -11,6 +11,10 @@ use std::marker::Model;
 pub enum Task {
     /// The table of the name is loaded from the body, which is CSV.
     Load { name: Name, body: Body },
+    /// The live table of the name is dropped.
+    Drop { name: Name },
+    /// The live tables are listed.
+    Tables,
     /// The `k` columns with the greatest overlap with the lines of the body are searched for, `k` from 1 to 10,000.
     Search { k: u32, body: Body },
 }

@@ -1,11 +1,12 @@
-//! The front of a command that has a block: what the line says that opens the block.
+//! What a line says that is a command: the whole of it, or the front of one that has a block.
 ghost use Rattle.std.specs.Prelude.{◌≡◌, ◌-◌, ◌^◌, IfSome, MatchOption, codes, min, option_copied};
 ghost use Rattle.std.specs.List.{list_all};
 ghost use Rattle.script_model.specs.declared.Reason.TheVariants as reason;
 ghost use Rattle.script_model.specs.Numbers.{digits_value, is_digit, is_number, number};
-ghost use Rattle.script_model.specs.Saying.{Opens, Wrong, behind, command_said};
-ghost use Rattle.script_text.specs.Fronts.{IsFrontInRange, front_of};
+ghost use Rattle.script_model.specs.Saying.{Wrong, behind, command_said};
+ghost use Rattle.script_text.specs.Fronts.{IsSaidInRange, said_of};
 
+use crate::command::Task;
 use column_set::Name;
 
 /// The greatest `k` that a search may ask for.
@@ -18,18 +19,33 @@ pub(crate) enum Front {
     Search { k: u32 },
 }
 
-// What the line says that opens a block: `load NAME` or `search K`, with one space.
-pub(crate) fn read_front(line: &[u8]) -> Option<Front>
-    ensures said { MatchOption result (command_said line.now ≡ Wrong reason.Unknown) (λ front. command_said line.now ≡ Opens 1 (front_of front)) }
-    ensures in_range { IfSome result IsFrontInRange }
+/// What a line says that is a command.
+#[derive(Drop)]
+pub(crate) enum Said {
+    /// It opens the block of a command.
+    Opens(Front),
+    /// It is a whole command.
+    Does(Task),
+}
+
+// What the line says: `load NAME`, `drop NAME` or `search K`, with one space, or `tables`.
+pub(crate) fn read_command(line: &[u8]) -> Option<Said>
+    ensures said { MatchOption result (command_said line.now ≡ Wrong reason.Unknown) (λ said. command_said line.now ≡ said_of said) }
+    ensures in_range { IfSome result IsSaidInRange }
 {
+    if line == b"tables" {
+        return Some(Said::Does(Task::Tables));
+    }
     if let Some(name) = behind(b"load ", line) {
-        return Some(Front::Load {
-            name: Name::read(name)?,
-        });
+        let name = Name::read(name)?;
+        return Some(Said::Opens(Front::Load { name }));
+    }
+    if let Some(name) = behind(b"drop ", line) {
+        let name = Name::read(name)?;
+        return Some(Said::Does(Task::Drop { name }));
     }
     let k = read_k(behind(b"search ", line)?)?;
-    Some(Front::Search { k })
+    Some(Said::Opens(Front::Search { k }))
 }
 
 // What stands behind this beginning of the text.

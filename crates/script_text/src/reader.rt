@@ -1,18 +1,18 @@
 //! How far a script was read, and what each line does.
 ghost use Rattle.std.specs.Prelude.{false, ◌≡◌, ◌+◌, ◌++◌, ◌∷◌, ◌≤◌, ◌⊎◌, IfErr, IfOk, IfSome, IsSome, None, OnOk, [], drop, length};
 ghost use Rattle.script_model.specs.Numbers.{without_return};
-ghost use Rattle.script_model.specs.Reading.{Goes, block_ended, body_after, does, turn_of};
+ghost use Rattle.script_model.specs.Reading.{Goes, block_ended, body_after, does, turn_of, with_command};
 ghost use Rattle.script_model.specs.Saying.{closed, said};
 ghost use Rattle.script_model.specs.Script.{Whole, commands_with, end_turned, last_batch, last_turn, script_grammar, start};
-ghost use Rattle.script_text.specs.Fronts.{IsFrontInRange, front_of};
+ghost use Rattle.script_text.specs.Fronts.{IsFrontInRange, IsSaidInRange, front_of, said_of};
 ghost use Rattle.script_model.specs.Merges.{HasNoMerge, is_merge};
-ghost use Rattle.script_text.specs.Readings.{IsInLaneOne, open_with};
+ghost use Rattle.script_text.specs.Readings.{IsInLaneOne, body_size, open_with};
 ghost use Rattle.script_text.specs.Refusals.{Faults, FaultsTurn};
 ghost use Rattle.script_text.specs.Tasks.{IsTaskInRange, task_of};
 
 use crate::body::Body;
 use crate::command::{Batch, Command, Task};
-use crate::front::{Front, read_front};
+use crate::front::{Front, Said, read_command};
 use crate::line::{is_end, is_skipped, undotted, without_return};
 use crate::refused::ScriptRefused;
 use no_memory::NoMemory;
@@ -157,7 +157,7 @@ impl Reader {
         self.lines += 1;
         self.used += line.len() + 1;
         let Some(block) = &mut self.block else {
-            return self.open_block(line);
+            return self.read_command(line);
         };
         if is_end(line) {
             self.close_block()?;
@@ -202,7 +202,7 @@ impl Reader {
         if self.block.is_none() {
             self.lines += 1;
             self.used += line.len();
-            return self.open_block(line);
+            return self.read_command(line);
         }
         if is_end(line) {
             self.close_block()?;
@@ -210,23 +210,52 @@ impl Reader {
         Ok(())
     }
 
-    // Reads a line outside a block, which opens one where it is not skipped.
-    fn open_block(&mut self, line: &[u8]) -> Result<(), ScriptRefused>
+    // Reads a line outside a block, which is a command where it is not skipped.
+    fn read_command(&mut self, line: &[u8]) -> Result<(), ScriptRefused>
         requires { self.old.block ≡ None }
         ensures goes { OnOk result (does script_grammar (said (without_return line.now)) self.old ≡ Goes self.new) }
-        ensures refused { IfErr result (FaultsTurn self.old.lines (does script_grammar (said (without_return line.now)) self.old)) }
+        ensures refused { IfErr result (λ e. (e ≡ ScriptRefused.NoMemory) ⊎ FaultsTurn self.old.lines (does script_grammar (said (without_return line.now)) self.old) e) }
     {
         let line = without_return(line);
         if is_skipped(line) {
             return Ok(());
         }
-        let Some(front) = read_front(line) else {
-            return Err(ScriptRefused::Script {
+        match read_command(line) {
+            None => Err(ScriptRefused::Script {
                 line: self.lines,
                 reason: Reason::Unknown,
-            });
-        };
-        self.block = Some(OpenBlock::new(self.alloc, self.lines, front));
+            }),
+            Some(said) => Ok(self.obey(said)?),
+        }
+    }
+
+    // Does what a command's line says.
+    fn obey(&mut self, said: Said) -> Result<(), NoMemory>
+        requires block { self.old.block ≡ None }
+        requires in_range { IsSaidInRange said }
+        ensures { OnOk result (does script_grammar (said_of said) self.old ≡ Goes self.new) }
+    {
+        match said {
+            Said::Opens(front) => {
+                self.block = Some(OpenBlock::new(self.alloc, self.lines, front));
+                Ok(())
+            }
+            Said::Does(task) => self.push_command(task),
+        }
+    }
+
+    // One more command, which has no block.
+    fn push_command(&mut self, task: Task) -> Result<(), NoMemory>
+        requires in_range { IsTaskInRange task }
+        requires no_merge { is_merge (task_of task) ≡ false }
+        requires no_body { body_size (task_of task) ≡ 0 }
+        ensures { OnOk result (self.new ≡ with_command 1 (task_of task) 0 self.old) }
+    {
+        self.commands.push(Command {
+            number: self.commands.len() as u64 + 1,
+            lane: 1,
+            task,
+        })?;
         Ok(())
     }
 

@@ -1,0 +1,64 @@
+//! Drops: the entry that takes a table out of the lake.
+ghost use Rattle.std.specs.Prelude.{◌≡◌, ◌<◌, ◌+◌, ◌≤◌, Bool};
+ghost use Rattle.script_model.specs.Commands.{DropTable};
+ghost use Rattle.script_model.specs.Replies.{drop_reply};
+ghost use Rattle.script_model.specs.Answered.{adds};
+ghost use Rattle.script_model.specs.Play.{reply_or_denied};
+ghost use Rattle.reply_text.specs.Replies.{reply_of};
+ghost use Rattle.lake_core.specs.Drops.{drop_refusal_reply};
+ghost use Rattle.lake_core.specs.Loads.{with_added};
+
+use catalogue::{Catalogue, DropRefused, Entry, Who};
+use column_set::Name;
+use reply_text::{Reply, RunRecord};
+
+// The reply to the drop of this name that the catalogue refuses.
+fn reply_to_drop(refused: DropRefused, name: Name) -> Reply
+    ensures { reply_of result ≡ drop_refusal_reply name refused }
+{
+    match refused {
+        DropRefused::Unknown { at } => Reply::Unknown { name, at },
+        DropRefused::Full {
+            which,
+            count,
+            more,
+            at,
+        } => Reply::Full {
+            which,
+            count,
+            more,
+            at,
+        },
+        DropRefused::NoMemory => Reply::NoMemory,
+    }
+}
+
+/// Answers a drop: the live table of the name leaves the lake, with an entry of this caller and command in the catalogue's journal and
+/// in the record's.
+pub(crate) fn drop_table(
+    catalogue: &mut Catalogue,
+    who: Who,
+    name: &Name,
+    out: &mut RunRecord,
+) -> Reply
+    requires journal { out.old.made.journal ≡ catalogue.old.journal }
+    requires room { 0 < out.old.entries_room }
+    ensures answered { (denied : Bool) × (reply_of result ≡ reply_or_denied denied (drop_reply catalogue.old.limits name.now catalogue.old.journal)) }
+    ensures made { out.new.made ≡ with_added who (adds (DropTable name.now) out.old.made.journal (reply_of result)) out.old.made }
+    ensures journal { out.new.made.journal ≡ catalogue.new.journal }
+    ensures limits { catalogue.new.limits ≡ catalogue.old.limits }
+    ensures answers_room { out.new.answers_room ≡ out.old.answers_room }
+    ensures entries_room { out.old.entries_room ≤ out.new.entries_room + 1 }
+    ensures syncs_room { out.new.syncs_room ≡ out.old.syncs_room }
+{
+    match catalogue.drop_table(who, name) {
+        Ok(at) => {
+            out.add_entry(Entry::dropped(who, name.copy()));
+            Reply::Dropped {
+                name: name.copy(),
+                at,
+            }
+        }
+        Err(refused) => reply_to_drop(refused, name.copy()),
+    }
+}
