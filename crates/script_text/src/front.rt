@@ -33,7 +33,7 @@ pub(crate) fn read_command(line: &[u8]) -> Option<Said>
     ensures said { MatchOption result (command_said line.now ≡ Wrong reason.Unknown) (λ said. command_said line.now ≡ said_of said) }
     ensures in_range { IfSome result IsSaidInRange }
 {
-    if line == b"tables" {
+    if matches!(line, b"tables") {
         return Some(Said::Does(Task::Tables));
     }
     if let Some(name) = behind(b"load ", line) {

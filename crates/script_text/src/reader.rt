@@ -79,6 +79,7 @@ impl OpenBlock {
         ensures task { task_of result ≡ closed self.front self.body }
         ensures in_range { IsTaskInRange result }
         ensures no_merge { is_merge (task_of result) ≡ false }
+        ensures size { body_size (task_of result) ≡ length self.body }
     {
         let OpenBlock { front, body, .. } = self;
         let Some(body) = Body::new(body) else {
@@ -244,12 +245,11 @@ impl Reader {
         }
     }
 
-    // One more command, which has no block.
+    // One more command.
     fn push_command(&mut self, task: Task) -> Result<(), NoMemory>
         requires in_range { IsTaskInRange task }
         requires no_merge { is_merge (task_of task) ≡ false }
-        requires no_body { body_size (task_of task) ≡ 0 }
-        ensures { OnOk result (self.new ≡ with_command 1 (task_of task) 0 self.old) }
+        ensures { OnOk result (self.new ≡ with_command 1 (task_of task) (body_size (task_of task)) self.old) }
     {
         self.commands.push(Command {
             number: self.commands.len() as u64 + 1,
@@ -267,11 +267,6 @@ impl Reader {
         let Some(block) = self.block.take() else {
             unreachable!()
         };
-        self.commands.push(Command {
-            number: self.commands.len() as u64 + 1,
-            lane: 1,
-            task: block.into_task(),
-        })?;
-        Ok(())
+        self.push_command(block.into_task())
     }
 }

@@ -1,0 +1,7 @@
+use Rattle.std.proofs.Common.{◌≡◌, ◌++◌, flat_map, map, take}
+use Rattle.script_model.specs.Texts.{line_text, table_line}
+use Rattle.segment_core.specs.Lines.{line_from}
+use Rattle.reply_text.proofs.text.push_tables.Given as goal
+
+abbrev pub invariant-loop : goal.invariant-loop
+invariant-loop l = l.into.items ≡ l.initial.into.items ++ flat_map line_text (map table_line (map line_from (take l.index l.tables)))
