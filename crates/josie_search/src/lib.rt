@@ -2,6 +2,8 @@
 //! posting lists of the query's tokens each column stands.
 #![tactic(auto)]
 
+mod counters;
+mod part;
 mod search;
 
 pub use search::{Answer, Prepared, prepare};
