@@ -1,15 +1,16 @@
 -- A column stands in the list of a token where it has the token, so over the lists of the query's tokens it is counted as often as
 -- it shares keys with the query.
-use Rattle.std.proofs.Common.{◌≡◌, refl, ap, sym, ◌∙◌, subst, ℕ, zero, suc, ◌+◌, ◌<◌, ◌≤◌, List, [], ◌∷◌, ◌++◌, Bool, true, false, ◌||◌, cond, map, length, get_or, take, arith, set, eqb as nat_eq, ltb as nat_lt}
+use Rattle.std.proofs.Common.{◌≡◌, refl, ap, sym, ◌∙◌, subst, inl, inr, ℕ, zero, suc, ◌+◌, ◌<◌, ◌≤◌, List, [], ◌∷◌, ◌++◌, Bool, true, false, ◌||◌, cond, map, length, get_or, take, arith, set, eqb as nat_eq, le-ltb}
 use Rattle.std.specs.List.{All, AllByRecursion, filter, count_by, enumerate_from, list_any, sum_by}
+use Rattle.std.proofs.lemmas.Bool.{cases_lt}
 use Rattle.std.proofs.lemmas.Bool.Decides.{nat_tests}
-use Rattle.std.proofs.lemmas.List.{get_or-set_same, get_or-set_other}
+use Rattle.std.proofs.lemmas.List.{get_or-set_same, get_or-set_other, get_or_past}
 use Rattle.std.proofs.lemmas.List.Elements.{All-from_recursion}
 use Rattle.std.proofs.lemmas.List.Sums.{sum_by-cons, sum_by_more, sum_by-take-le, sum_by_push}
 use Rattle.lake_model.specs.Layout.{is_among}
 use Rattle.search_model.specs.declared.Posting.{Posting}
 use Rattle.search_model.specs.Segment.{posting, postings_of}
-use Rattle.josie_search.specs.Counts.{standing, held}
+use Rattle.josie_search.specs.Counts.{standing, held, ListsRaised}
 
 abbrev once : Bool → ℕ
 once b = cond b 1 0
@@ -88,10 +89,10 @@ counted_more counts initial list j p h is within so_far column =
     ] refl
 
 -- so far the postings of a column are within all
-pub standing_within : (list : List Posting) (j : ℕ) (p : Posting) → j < length list → p ≡ get_or list j p → standing (take j list) p.column + 1 ≤ standing list p.column
-standing_within list j p h is =
+pub standing_within : (list : List Posting) (j : ℕ) (d p : Posting) → j < length list → p ≡ get_or list j d → standing (take j list) p.column + 1 ≤ standing list p.column
+standing_within list j d p h is =
     let more : standing (take (j + 1) list) p.column ≡ standing (take j list) p.column + once (nat_eq p.column p.column) =
-    sum_by_more (λ (q : Posting). once (nat_eq q.column p.column)) list j p h ∙ ap (λ (q : Posting). standing (take j list) p.column + once (nat_eq q.column p.column)) (sym is) in
+    sum_by_more (λ (q : Posting). once (nat_eq q.column p.column)) list j d h ∙ ap (λ (q : Posting). standing (take j list) p.column + once (nat_eq q.column p.column)) (sym is) in
     omega (arith, more, ap once (same p.column p.column refl), sum_by-take-le (λ (q : Posting). once (nat_eq q.column p.column)) list (j + 1))
 
 -- one more list counted
@@ -118,3 +119,28 @@ pub postings_within : (sets : List (List ℕ)) (token bound : ℕ) → length se
 postings_within sets token bound h i d b =
     let p = All-from_recursion (λ (p : Posting). p.column < 0 + length sets) (postings_of sets token) (postings_below 0 token sets) i d b in
     omega arith
+
+-- there is no column behind the last
+pub held_beyond : (sets : List (List ℕ)) (tokens : List ℕ) (column : ℕ) → length sets ≤ column → held sets tokens column ≡ 0
+held_beyond sets tokens column h = ap (λ (s : List ℕ). count_by (is_among s) tokens) (get_or_past sets column [] h) ∙ none tokens
+  where
+    none : (tokens : List ℕ) → count_by (is_among []) tokens ≡ 0
+    none [] = refl
+    none (t ∷ ts) = sum_by-cons (λ (x : ℕ). 0) t ts ∙ (let e : 0 + count_by (is_among []) ts ≡ 0 = omega (arith, none ts) in e)
+
+-- what is listed last is raised
+pub last_raised : (counts raised rest : List ℕ) (column : ℕ) → ListsRaised counts raised → raised ≡ rest ++ column ∷ [] → 0 < get_or counts column 0
+last_raised counts raised rest column lists e = elim (cases_lt 0 (get_or counts column 0)) [
+  | inl h ↦ h
+  | inr h ↦
+      let none : count_by (nat_eq column) raised ≡ 0 = lists column ∙ ap once (le-ltb 0 (get_or counts column 0) h) in
+      let split : count_by (nat_eq column) (rest ++ column ∷ []) ≡ count_by (nat_eq column) rest + once (nat_eq column column) = sum_by_push (λ (c : ℕ). once (nat_eq column c)) rest column in
+      absurd (omega (arith, none, split, ap (count_by (nat_eq column)) e, ap once (same column column refl)))
+]
+
+pub raised_within : (counts : List ℕ) (column : ℕ) → 0 < get_or counts column 0 → column < length counts
+raised_within counts column h = elim (cases_lt column (length counts)) [ inl b ↦ b | inr b ↦ absurd (omega (arith, get_or_past counts column 0 b)) ]
+
+-- what was counted is within the columns
+pub held_inside : (sets : List (List ℕ)) (tokens : List ℕ) (column : ℕ) → 0 < held sets tokens column → column < length sets
+held_inside sets tokens column h = elim (cases_lt column (length sets)) [ inl b ↦ b | inr b ↦ absurd (omega (arith, held_beyond sets tokens column b)) ]

@@ -3,3 +3,5 @@ pub mod RowLemmas
 pub mod PartRowLemmas
 pub mod SegmentLists
 pub mod SharedLemmas
+pub mod ReadLemmas
+pub mod RunLemmas

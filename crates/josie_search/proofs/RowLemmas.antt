@@ -1,9 +1,8 @@
 -- The rows of counted columns, where these are taken in whatever order.
-use Rattle.std.proofs.Common.{◌≡◌, refl, ap, sym, ◌∙◌, subst, ℕ, zero, suc, ◌+◌, ◌<◌, List, [], ◌∷◌, ◌++◌, Bool, true, false, ◌&&◌, cond, length, get_or, arith, set, append_assoc, ltb as nat_lt, lt-ltb, not, inl, inr, Option}
+use Rattle.std.proofs.Common.{◌≡◌, refl, ap, sym, ◌∙◌, subst, ℕ, zero, suc, ◌+◌, ◌<◌, List, [], ◌∷◌, ◌++◌, Bool, true, false, ◌&&◌, cond, length, get_or, arith, set, append_assoc, ltb as nat_lt, lt-ltb, not, Option}
 use Rattle.std.specs.List.{flat_map, enumerate_from}
 use Rattle.std.specs.List.Sorted.{IsPermutation}
-use Rattle.std.proofs.lemmas.Bool.{cases_lt}
-use Rattle.std.proofs.lemmas.List.{get_or-set_same, get_or-set_other, get_or_past}
+use Rattle.std.proofs.lemmas.List.{get_or-set_same, get_or-set_other}
 use Rattle.std.proofs.lemmas.List.Sorted.{IsPermutation-refl, IsPermutation-trans, IsPermutation-append_left, IsPermutation-append_right, IsPermutation-append_comm}
 use Rattle.lake_model.specs.Answer.{Row, is_excepted}
 use Rattle.lake_model.specs.Layout.{Part}
@@ -14,6 +13,7 @@ use Rattle.search_model.specs.Segment.{Titled}
 use Rattle.segment_core.specs.Versions.{marks_of, segment_of, tables_of}
 use Rattle.segment_core.proofs.SegmentLemmas.{length-sets}
 use Rattle.josie_search.specs.Rows.{counted_row, counted_rows}
+use Rattle.josie_search.proofs.CountLemmas.{raised_within}
 
 -- a column whose table is excepted, and one that has a row
 pub row_excepted : (except : Option Text) (marks : List Bool) (n : ℕ) (c : Titled) → is_excepted except c.table ≡ true → counted_row except marks n c ≡ []
@@ -75,9 +75,6 @@ module _ (except : Option Text) (marks : List Bool) where
       let kept : get_or counts n 0 ≡ get_or (set counts (n + suc i) 0) n 0 = sym (get_or-set_other counts (n + suc i) n 0 0 (λ k. omega arith)) in
       let moved = front_moves (counted_row except marks (get_or counts n 0) c) _ _ _ deeper in
       subst (λ (m : ℕ). IsPermutation (rows_from (λ c. get_or counts c 0) n (c ∷ columns)) (counted_row except marks (get_or counts (n + suc i) 0) (get_or columns i d) ++ (counted_row except marks m c ++ rows_from (λ c. get_or (set counts (n + suc i) 0) c 0) (n + 1) columns))) kept moved
-
-raised_within : (counts : List ℕ) (column : ℕ) → 0 < get_or counts column 0 → column < length counts
-raised_within counts column h = elim (cases_lt column (length counts)) [ inl b ↦ b | inr b ↦ absurd (omega (arith, get_or_past counts column 0 b)) ]
 
 -- a loop's step: a column is taken out of the counts, and its row, if it has one, goes to the rows
 pub take_more_rows : (except : Option Text) (part : Part) (counts : List ℕ) (column : ℕ) (start rows row : List Row) → column < length (segment_of part).sets → 0 < get_or counts column 0

@@ -9,6 +9,8 @@ use Rattle.lake_model.specs.Texts.{Text}
 use Rattle.search_model.specs.Looks.{row_with}
 use Rattle.search_model.specs.Segment.{Titled, Token, titled, columns_of, postings_of, segment, tokens_in}
 use Rattle.search_model.specs.Arrays.{no_titled, table_at, titled_at, token_with}
+use Rattle.search_model.specs.declared.Posting.{Posting}
+use Rattle.segment_core.specs.Versions.{part_at, segment_at, tables_of, VersionOf}
 use Rattle.segment_core.proofs.PartLemmas.{all_at}
 use Rattle.segment_core.proofs.SegmentLemmas.{length-sets}
 
@@ -23,6 +25,11 @@ list_from sets tokens token h =
 pub list_is : (tables : List Table) (token : ℕ) → token < length (segment tables).tokens → get_or (segment tables).lists token [] ≡ postings_of (segment tables).sets token
 unfolding segment
 list_is tables token h = list_from (segment tables).sets (segment tables).tokens token h
+
+-- what is read of a version that has not changed
+pub list_read : (now version : VersionOf) (part token : ℕ) (list : List Posting) → now ≡ version → token < length (segment_at version.parts part).tokens → list ≡ get_or (segment_at now.parts part).lists token []
+    → list ≡ postings_of (segment_at version.parts part).sets token
+list_read now version part token list same h is = is ∙ (λ i. get_or (segment_at (same i).parts part).lists token []) ∙ list_is (tables_of (part_at version.parts part)) token h
 
 -- the tokens of a set are tokens
 tokens_below : (n : ℕ) (tokens : List Token) (keys : List Text) → AllByRecursion (λ t. t < n + length tokens) (map (λ t. t.0) (filter (λ t. has_key keys t.1.key) (enumerate_from n tokens)))

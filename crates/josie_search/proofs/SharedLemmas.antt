@@ -4,9 +4,9 @@ use Rattle.std.specs.Prelude.{bytes_eq}
 use Rattle.std.specs.List.{AllByRecursion, IsDistinct, count_by, flat_map, list_any}
 use Rattle.std.specs.Ordering.{is_lt}
 use Rattle.std.proofs.lemmas.Bool.{cases_lt}
-use Rattle.std.proofs.lemmas.List.{get_or-map, get_or_past}
+use Rattle.std.proofs.lemmas.List.{get_or-map}
 use Rattle.std.proofs.lemmas.List.Folds.{list_any-append}
-use Rattle.std.proofs.lemmas.List.Sums.{length-filter, count_by-le-length, sum_by-cons}
+use Rattle.std.proofs.lemmas.List.Sums.{length-filter, count_by-le-length}
 use Rattle.lake_model.specs.Layout.{is_among}
 use Rattle.lake_model.specs.Sorting.{in_order, put_in_order}
 use Rattle.lake_model.specs.Tables.{Table, has_key, overlap, distinct}
@@ -18,6 +18,7 @@ use Rattle.search_model.proofs.TokenLemmas.{distinct_has}
 use Rattle.segment_core.proofs.FoundLemmas.{tokens_differ}
 use Rattle.segment_core.proofs.SegmentLemmas.{length-sets}
 use Rattle.josie_search.specs.Counts.{held}
+use Rattle.josie_search.proofs.CountLemmas.{held_beyond}
 
 none_among : (x : Text) (xs : List Text) → AllByRecursion (λ y. bytes_eq x y ≡ false) xs → has_key xs x ≡ false
 none_among x [] h = refl
@@ -92,15 +93,8 @@ shared_is tables query set d h =
     (λ x e. has_token x (columns_of tables) (any_here x (columns_of tables) set h e))
 
 -- no column has more of them than the query has keys
-beyond : (sets : List (List ℕ)) (tokens : List ℕ) (set : ℕ) → length sets ≤ set → held sets tokens set ≡ 0
-beyond sets tokens set h = ap (λ (s : List ℕ). count_by (is_among s) tokens) (get_or_past sets set [] h) ∙ none tokens
-  where
-    none : (tokens : List ℕ) → count_by (is_among []) tokens ≡ 0
-    none [] = refl
-    none (t ∷ ts) = sum_by-cons (λ (x : ℕ). 0) t ts ∙ (let e : 0 + count_by (is_among []) ts ≡ 0 = omega (arith, none ts) in e)
-
 pub held_few : (tables : List Table) (query : List Text) (set : ℕ) → IsDistinct bytes_eq query → held (segment tables).sets (tokens_in (segment tables).tokens query) set ≤ length query
 held_few tables query set d = elim (cases_lt set (length (segment tables).columns)) [
   | inl h ↦ omega (arith, shared_is tables query set d h, count_by-le-length (has_key (titled_at (segment tables).columns set).column.keys) query)
-  | inr h ↦ omega (arith, beyond (segment tables).sets (tokens_in (segment tables).tokens query) set (omega (arith, length-sets tables)))
+  | inr h ↦ omega (arith, held_beyond (segment tables).sets (tokens_in (segment tables).tokens query) set (omega (arith, length-sets tables)))
 ]

@@ -95,9 +95,27 @@ fn take_rows<'a>(
     ensures rows { OnOk result (IsPermutation (rows.old.items ++ counted_rows (option_copied except.entry) (part_at looks.now.version.parts part) (slice_index counters.old)) rows.new.items) }
 {
     while let Some((column, overlap)) = counters.take() {
-        if let Some(row) = row_of(looks, part, column, overlap, except) {
-            rows.push(row)?;
-        }
+        add_row(looks, part, column, overlap, except, rows)?;
+    }
+    Ok(())
+}
+
+// Adds the row of a column, where its table is unmarked and not excepted.
+fn add_row<'a>(
+    looks: &Looks<'a>,
+    part: u32,
+    column: u32,
+    overlap: u32,
+    except: Option<&Name>,
+    rows: &mut Vec<Row<'a>>,
+) -> Result<(), NoMemory>
+    requires part { part < length looks.now.version.parts }
+    requires column { column < length (segment_at looks.now.version.parts part).sets }
+    requires overlap { 0 < overlap }
+    ensures { OnOk result (rows.new.items ≡ rows.old.items ++ counted_row (option_copied except.entry) (marks_of (part_at looks.now.version.parts part)) overlap (titled_at (segment_at looks.now.version.parts part).columns column)) }
+{
+    if let Some(row) = row_of(looks, part, column, overlap, except) {
+        rows.push(row)?;
     }
     Ok(())
 }

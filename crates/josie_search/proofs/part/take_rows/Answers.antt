@@ -1,10 +1,24 @@
+use Rattle.std.proofs.Common.{◌≡◌, ◌∙◌, sym, ap, subst, ℕ, ◌<◌, ◌++◌, ◌∷◌, [], List, length, get_or, set, option_copied, arith, append-nil}
+use Rattle.std.specs.List.Sorted.{IsPermutation}
+use Rattle.lake_model.specs.Answer.{Row}
+use Rattle.segment_core.specs.Versions.{marks_of, part_at, segment_of}
+use Rattle.josie_search.specs.Rows.{counted_rows}
+use Rattle.josie_search.proofs.RowLemmas.{rows_none, take_more_rows}
 use Rattle.josie_search.proofs.part.take_rows.Goals as goal
 
-pub loop-column-preserved-in-Continue-1 : goal.loop-column-preserved-in-Continue-1
-loop-column-preserved-in-Continue-1 c = ?
-
 pub loop-column-preserved : goal.loop-column-preserved
-loop-column-preserved c = ?
+loop-column-preserved c =
+    let part = part_at c.args.looks.now.version.parts c.args.part in
+    record {
+      wide = ?;
+      within = ?;
+      rows = ?;
+    }
 
 pub returns-clause-rows : goal.returns-clause-rows
-returns-clause-rows c = ?
+returns-clause-rows c =
+    let part = part_at c.args.looks.now.version.parts c.args.part in
+    let zeros : (column : ℕ) → get_or c.loop-column.counters column 0 ≡ 0 = λ column. ap (λ (counts : List ℕ). get_or counts column 0) (sym c.in_default.ensures.same) ∙ c.in_default.ensures.none column in
+    let none : counted_rows (option_copied c.args.except) part (λ column. get_or c.loop-column.counters column 0) ≡ [] = rows_none (option_copied c.args.except) (marks_of part) (λ column. get_or c.loop-column.counters column 0) 0 (segment_of part).columns zeros in
+    subst (λ (rows : List Row). IsPermutation (c.args.rows.now.items ++ counted_rows (option_copied c.args.except) part (λ column. get_or c.args.counters.now column 0)) rows)
+    (ap (λ (rows : List Row). c.loop-column.rows.items ++ rows) none ∙ append-nil c.loop-column.rows.items) c.loop-column.invariant.rows
