@@ -144,3 +144,12 @@ raised_within counts column h = elim (cases_lt column (length counts)) [ inl b �
 -- what was counted is within the columns
 pub held_inside : (sets : List (List ℕ)) (tokens : List ℕ) (column : ℕ) → 0 < held sets tokens column → column < length sets
 held_inside sets tokens column h = elim (cases_lt column (length sets)) [ inl b ↦ b | inr b ↦ absurd (omega (arith, held_beyond sets tokens column b)) ]
+
+-- a column set back to 0 leaves those that are raised within their bound
+pub still_within : (counts emptied : List ℕ) (column bound : ℕ) → emptied ≡ set counts column 0 → ((c : ℕ) → 0 < get_or counts c 0 → c < bound) → 0 < get_or counts column 0 → (c : ℕ) → 0 < get_or emptied c 0 → c < bound
+still_within counts emptied column bound e h some c raised = elim (nat_eq c column) as (λ b. nat_eq c column ≡ b → c < bound) [
+  | true ↦ λ t. let at : c ≡ column = grind (arith, nat_tests) in omega (arith, h column some)
+  | false ↦ λ f.
+      let apart : c ≡ column → ⊥ = λ k. (let t : nat_eq c column ≡ true = same c column k in let g : true ≡ false = sym t ∙ f in cc) in
+      h c (omega (arith, ap (λ (ns : List ℕ). get_or ns c 0) e, get_or-set_other counts column c 0 0 apart))
+] refl

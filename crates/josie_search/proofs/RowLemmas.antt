@@ -77,15 +77,19 @@ module _ (except : Option Text) (marks : List Bool) where
       subst (λ (m : ℕ). IsPermutation (rows_from (λ c. get_or counts c 0) n (c ∷ columns)) (counted_row except marks (get_or counts (n + suc i) 0) (get_or columns i d) ++ (counted_row except marks m c ++ rows_from (λ c. get_or (set counts (n + suc i) 0) c 0) (n + 1) columns))) kept moved
 
 -- a loop's step: a column is taken out of the counts, and its row, if it has one, goes to the rows
-pub take_more_rows : (except : Option Text) (part : Part) (counts : List ℕ) (column : ℕ) (start rows row : List Row) → column < length (segment_of part).sets → 0 < get_or counts column 0
-    → row ≡ counted_row except (marks_of part) (get_or counts column 0) (titled_at (segment_of part).columns column)
-    → IsPermutation start (rows ++ counted_rows except part (λ c. get_or counts c 0)) → IsPermutation start ((rows ++ row) ++ counted_rows except part (λ c. get_or (set counts column 0) c 0))
-take_more_rows except part counts column start rows row b some is so_far =
+pub take_more_rows : (except : Option Text) (part : Part) (counts emptied : List ℕ) (column overlap : ℕ) (start rows more : List Row) → column < length (segment_of part).sets → 0 < overlap → overlap ≡ get_or counts column 0
+    → emptied ≡ set counts column 0 → more ≡ rows ++ counted_row except (marks_of part) overlap (titled_at (segment_of part).columns column)
+    → IsPermutation start (rows ++ counted_rows except part (λ c. get_or counts c 0)) → IsPermutation start (more ++ counted_rows except part (λ c. get_or emptied c 0))
+take_more_rows except part counts emptied column overlap start rows more b some is e m so_far =
     let z : 0 + column ≡ column = omega arith in
-    let within = raised_within counts column some in
-    let later : List Row = counted_rows except part (λ c. get_or (set counts column 0) c 0) in
-    let taken : IsPermutation (counted_rows except part (λ c. get_or counts c 0)) (counted_row except (marks_of part) (get_or counts column 0) (titled_at (segment_of part).columns column) ++ later) =
-    subst (λ (m : ℕ). IsPermutation (counted_rows except part (λ c. get_or counts c 0)) (counted_row except (marks_of part) (get_or counts m 0) (titled_at (segment_of part).columns column) ++ counted_rows except part (λ c. get_or (set counts m 0) c 0))) z
-    (rows_taken except (marks_of part) counts 0 column (segment_of part).columns no_titled (omega (arith, length-sets (tables_of part))) (omega arith)) in
-    let one : IsPermutation (counted_rows except part (λ c. get_or counts c 0)) (row ++ later) = subst (λ (us : List Row). IsPermutation (counted_rows except part (λ c. get_or counts c 0)) (us ++ later)) (sym is) taken in
-    IsPermutation-trans _ _ _ so_far (subst (λ (us : List Row). IsPermutation (rows ++ counted_rows except part (λ c. get_or counts c 0)) us) (sym (append_assoc rows row later)) (IsPermutation-append_right rows _ _ one))
+    let counted : 0 < get_or counts column 0 = omega arith in
+    let within = raised_within counts column counted in
+    let row = counted_row except (marks_of part) overlap (titled_at (segment_of part).columns column) in
+    let before = counted_rows except part (λ c. get_or counts c 0) in
+    let later = counted_rows except part (λ c. get_or emptied c 0) in
+    let taken : IsPermutation before (row ++ later) =
+    subst (λ (rest : List ℕ). IsPermutation before (row ++ counted_rows except part (λ c. get_or rest c 0))) (sym e)
+    (subst (λ (n : ℕ). IsPermutation before (counted_row except (marks_of part) n (titled_at (segment_of part).columns column) ++ counted_rows except part (λ c. get_or (set counts column 0) c 0))) (sym is)
+    (subst (λ (k : ℕ). IsPermutation before (counted_row except (marks_of part) (get_or counts k 0) (titled_at (segment_of part).columns column) ++ counted_rows except part (λ c. get_or (set counts k 0) c 0))) z
+    (rows_taken except (marks_of part) counts 0 column (segment_of part).columns no_titled (omega (arith, length-sets (tables_of part))) (omega arith)))) in
+    IsPermutation-trans _ _ _ so_far (subst (λ (us : List Row). IsPermutation (rows ++ before) us) (sym (ap (λ (us : List Row). us ++ later) m ∙ append_assoc rows row later)) (IsPermutation-append_right rows _ _ taken))

@@ -1,25 +1,27 @@
 -- The rows of a search, part by part.
-use Rattle.std.proofs.Common.{◌≡◌, refl, ap, sym, ◌∙◌, subst, ℕ, suc, ◌+◌, ◌<◌, List, [], ◌∷◌, ◌++◌, Bool, false, not, map, length, get_or, take, arith, append-nil, Option}
+use Rattle.std.proofs.Common.{◌≡◌, refl, ap, sym, ◌∙◌, subst, ℕ, suc, ◌+◌, ◌<◌, ◌≤◌, List, [], ◌∷◌, ◌++◌, Bool, false, not, map, length, get_or, take, drop, arith, append-nil, Option, Vec, Global}
 use Rattle.std.specs.Prelude.{bytes_eq}
-use Rattle.std.specs.List.{filter, flat_map, enumerate_from, IsDistinct}
+use Rattle.std.specs.List.{All, filter, flat_map, IsDistinct, sum_by}
 use Rattle.std.specs.List.Sorted.{IsPermutation}
-use Rattle.std.proofs.lemmas.List.{get_or-map, map-append, take_more}
+use Rattle.std.proofs.lemmas.List.{get_or-map, length-map, map-append, take_more}
 use Rattle.std.proofs.lemmas.List.Concat.{flat_map-append}
 use Rattle.std.proofs.lemmas.List.Elements.{filter-append}
+use Rattle.std.proofs.lemmas.List.Sums.{sum_by-drop_more}
 use Rattle.std.proofs.lemmas.List.Sorted.{IsPermutation-append_left, IsPermutation-trans}
-use Rattle.lake_model.specs.Answer.{Row, all_rows, is_excepted, rows_of_table}
+use Rattle.lake_model.specs.Answer.{Query, Row, all_rows, is_excepted, rows_of_table}
 use Rattle.lake_model.specs.Layout.{Part, Place, unmarked_of}
 use Rattle.lake_model.specs.Tables.{Table, overlap}
 use Rattle.lake_model.specs.Texts.{Text}
 use Rattle.search_model.specs.Arrays.{no_titled, titled_at}
 use Rattle.search_model.specs.Segment.{Titled, columns_of, segment}
-use Rattle.segment_core.specs.Versions.{live_of, marks_of, part_at, part_with, segment_of, tables_of}
+use Rattle.segment_core.specs.Versions.{live_of, marks_of, part_at, part_with, segment_at, segment_of, tables_of, VersionOf}
 use Rattle.josie_search.specs.Counts.{held}
 use Rattle.josie_search.specs.Reads.{asked_in}
 use Rattle.josie_search.specs.Rows.{counted_row, counted_rows}
 use Rattle.josie_search.proofs.PartRowLemmas.{part_rows, shared_row}
 use Rattle.josie_search.proofs.RowLemmas.{rows_from}
-use Rattle.josie_search.proofs.SharedLemmas.{shared_is}
+use Rattle.josie_search.proofs.SegmentLists.{token_within}
+use Rattle.josie_search.proofs.SharedLemmas.{held_few, shared_is}
 
 -- counts that are overlaps
 rows_shared : (query : List Text) (except : Option Text) (marks : List Bool) (count : ℕ → ℕ) (n : ℕ) (columns : List Titled) → ((i : ℕ) → i < length columns → count (n + i) ≡ overlap query (titled_at columns i).column.keys)
@@ -70,3 +72,43 @@ rows_more query except parts i rows new h d so_far more =
     ∙ ap (λ (ts : List Table). all_rows ts query except) (live-append (take i parts) (part ∷ []))
     ∙ rows-append query except (live_of (take i parts)) (live_of (part ∷ []))) in
     IsPermutation-trans _ _ _ (subst (λ (us : List Row). IsPermutation us (rows ++ here)) all (IsPermutation-append_left here _ _ so_far)) more
+
+-- the same, of a version that has not changed, and of tokens and a name that are known by other names
+pub rows_more_read : (now version : VersionOf) (query : Query) (except : Option Text) (part : ℕ) (tokens : List ℕ) (rows new : List Row) → now ≡ version → except ≡ query.except → tokens ≡ asked_in query.keys (part_at version.parts part)
+    → part < length version.parts → IsDistinct bytes_eq query.keys → IsPermutation (all_rows (live_of (take part version.parts)) query.keys query.except) rows
+    → IsPermutation (rows ++ counted_rows except (part_at now.parts part) (held (segment_at now.parts part).sets tokens)) new → IsPermutation (all_rows (live_of (take (part + 1) version.parts)) query.keys query.except) new
+rows_more_read now version query except part tokens rows new same x is h d so_far more =
+    let e : counted_rows except (part_at now.parts part) (held (segment_at now.parts part).sets tokens) ≡ counted_rows query.except (part_at version.parts part) (held (segment_at version.parts part).sets (asked_in query.keys (part_at version.parts part))) =
+    (λ i. counted_rows (x i) (part_at (same i).parts part) (held (segment_at (same i).parts part).sets (is i))) in
+    rows_more query.keys query.except version.parts part rows new h d so_far (subst (λ (us : List Row). IsPermutation (rows ++ us) new) e more)
+
+-- ---- what the search of a part asks
+
+pub asked_at : (keys : List Text) (parts : List Part) (lists : List (List ℕ)) (i : ℕ) → lists ≡ map (asked_in keys) parts → i < length parts → get_or lists i [] ≡ asked_in keys (part_at parts i)
+asked_at keys parts lists i e h = ap (λ (ls : List (List ℕ)). get_or ls i []) e ∙ get_or-map (asked_in keys) parts i (part_with 0 []) [] h
+
+-- the tokens that are held for a part
+pub asked_there : (keys : List Text) (parts : List Part) (asked : List (Vec ℕ Global)) (part : ℕ) (vector : Vec ℕ Global) (tokens : List ℕ) → map (λ v. v.items) asked ≡ map (asked_in keys) parts → part < length parts
+    → vector ≡ get_or asked part vector → tokens ≡ vector.items → tokens ≡ asked_in keys (part_at parts part)
+asked_there keys parts asked part vector tokens e h at is =
+    let items : Vec ℕ Global → List ℕ = λ v. v.items in
+    let within : part < length asked = omega (arith, ap length e, length-map asked items, length-map parts (asked_in keys)) in
+    is ∙ ap items at ∙ sym (get_or-map items asked part vector [] within) ∙ asked_at keys parts (map items asked) part e h
+
+pub tokens_within : (now version : VersionOf) (keys : List Text) (part : ℕ) (tokens : List ℕ) → now ≡ version → tokens ≡ asked_in keys (part_at version.parts part) → All (λ token. token < length (segment_at now.parts part).tokens) tokens
+tokens_within now version keys part tokens same is k d b =
+    let few : k < length (asked_in keys (part_at version.parts part)) = omega (arith, ap length is) in
+    let at = token_within (segment_at version.parts part).tokens keys k d few in
+    omega (arith, at, ap (λ (ts : List ℕ). get_or ts k d) is, ap (λ (v : VersionOf). length (segment_at v.parts part).tokens) same)
+
+pub counts_small : (now version : VersionOf) (keys : List Text) (part : ℕ) (tokens : List ℕ) (bound : ℕ) → now ≡ version → tokens ≡ asked_in keys (part_at version.parts part) → IsDistinct bytes_eq keys → length keys < bound
+    → (column : ℕ) → held (segment_at now.parts part).sets tokens column < bound
+counts_small now version keys part tokens bound same is d few column =
+    let e : held (segment_at now.parts part).sets tokens column ≡ held (segment_at version.parts part).sets (asked_in keys (part_at version.parts part)) column = (λ i. held (segment_at (same i).parts part).sets (is i) column) in
+    omega (arith, e, held_few (tables_of (part_at version.parts part)) keys column d)
+
+pub room_here : (keys : List Text) (parts : List Part) (i : ℕ) (tokens : List ℕ) (spare : ℕ) → i < length parts → tokens ≡ asked_in keys (part_at parts i) → sum_by length (drop i (map (asked_in keys) parts)) ≤ spare
+    → length tokens + sum_by length (drop (i + 1) (map (asked_in keys) parts)) ≤ spare
+room_here keys parts i tokens spare h is room =
+    let step = sum_by-drop_more (length {A = ℕ}) (map (asked_in keys) parts) i [] (omega (arith, length-map parts (asked_in keys))) in
+    omega (arith, step, ap length is, ap length (asked_at keys parts (map (asked_in keys) parts) i refl h))

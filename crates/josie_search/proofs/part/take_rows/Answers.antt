@@ -1,18 +1,24 @@
 use Rattle.std.proofs.Common.{◌≡◌, ◌∙◌, sym, ap, subst, ℕ, ◌<◌, ◌++◌, ◌∷◌, [], List, length, get_or, set, option_copied, arith, append-nil}
+use Rattle.std.proofs.Math.ListN.{length-set}
 use Rattle.std.specs.List.Sorted.{IsPermutation}
 use Rattle.lake_model.specs.Answer.{Row}
 use Rattle.segment_core.specs.Versions.{marks_of, part_at, segment_of}
 use Rattle.josie_search.specs.Rows.{counted_rows}
+use Rattle.josie_search.proofs.CountLemmas.{still_within}
 use Rattle.josie_search.proofs.RowLemmas.{rows_none, take_more_rows}
 use Rattle.josie_search.proofs.part.take_rows.Goals as goal
 
 pub loop-column-preserved : goal.loop-column-preserved
 loop-column-preserved c =
     let part = part_at c.args.looks.now.version.parts c.args.part in
+    let taken = c.in-Some.ensures in
+    let some : 0 < get_or c.loop-column.counters c.in-Some.column 0 = omega (arith, taken.count, taken.raised) in
     record {
-      wide = ?;
-      within = ?;
-      rows = ?;
+      wide = ap length taken.emptied ∙ length-set c.loop-column.counters c.in-Some.column 0 ∙ c.loop-column.invariant.wide;
+      within = still_within c.loop-column.counters c.take.new.self c.in-Some.column _ taken.emptied c.loop-column.invariant.within some;
+      rows =
+      take_more_rows (option_copied c.args.except) part c.loop-column.counters c.take.new.self c.in-Some.column c.in-Some.overlap _ c.loop-column.rows.items c.add_row.new.rows.items (c.loop-column.invariant.within c.in-Some.column some) taken.raised
+      taken.count taken.emptied c.in_ok-add_row.ensures c.loop-column.invariant.rows;
     }
 
 pub returns-clause-rows : goal.returns-clause-rows
