@@ -5,3 +5,4 @@ pub mod SegmentLists
 pub mod SharedLemmas
 pub mod ReadLemmas
 pub mod RunLemmas
+pub mod SortLemmas

@@ -24,8 +24,8 @@ row_excepted except marks n c e = ap (λ b. cond (nat_lt 0 n && (not (get_or mar
     by true false = refl
     by false b = refl
 
-pub row_asked : (except : Option Text) (marks : List Bool) (n : ℕ) (c : Titled) → 0 < n → not (get_or marks c.from false) ≡ true → is_excepted except c.table ≡ false → counted_row except marks n c ≡ row_with n c ∷ []
-row_asked except marks n c some live kept = (λ i. cond (lt-ltb 0 n some i && (live i && not (kept i))) (row_with n c ∷ []) [])
+pub row_searched : (except : Option Text) (marks : List Bool) (n : ℕ) (c : Titled) → 0 < n → not (get_or marks c.from false) ≡ true → is_excepted except c.table ≡ false → counted_row except marks n c ≡ row_with n c ∷ []
+row_searched except marks n c some live kept = (λ i. cond (lt-ltb 0 n some i && (live i && not (kept i))) (row_with n c ∷ []) [])
 
 module _ (except : Option Text) (marks : List Bool) where
   abbrev rows_by : (ℕ → ℕ) → ℕ × Titled → List Row

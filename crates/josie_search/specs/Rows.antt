@@ -9,12 +9,12 @@ use Rattle.search_model.specs.Segment.{Titled}
 use Rattle.segment_core.specs.Versions.{marks_of, segment_of}
 
 -- the column's table is unmarked, and is not the excepted one
-abbrev pub is_asked : Option Text → List Bool → Titled → Bool
-is_asked except marks column = not (get_or marks column.from false) && not (is_excepted except column.table)
+abbrev pub is_searched : Option Text → List Bool → Titled → Bool
+is_searched except marks column = not (get_or marks column.from false) && not (is_excepted except column.table)
 
 -- a row for a column that is counted
 abbrev pub counted_row : Option Text → List Bool → ℕ → Titled → List Row
-counted_row except marks count column = if nat_lt 0 count && is_asked except marks column then row_with count column ∷ [] else []
+counted_row except marks count column = if nat_lt 0 count && is_searched except marks column then row_with count column ∷ [] else []
 
 -- a row for each column of the part that is counted
 abbrev pub counted_rows : Option Text → Part → (ℕ → ℕ) → List Row

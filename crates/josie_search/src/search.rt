@@ -130,7 +130,7 @@ impl<'a, 'q> Prepared<'a, 'q> {
             let tokens = &asked[part as usize];
             search_part(&mut looks, part, tokens, except, &mut counters, &mut rows)?;
         }
-        rows.sort_by(|a, b| a.order(b))?;
+        rows.sort_unstable_by(|a, b| a.order(b));
         rows.truncate(k as usize);
         Ok(Answer {
             rows: Rows::new(rows),

@@ -33,10 +33,10 @@ loop-token-preserved c =
     record {
       version = c.list.ensures.version ∙ c.loop-token.invariant.version;
       log =
-      reads_more c.args.looks.now.log c.loop-token.looks.log c.list.new.self.log (part_at parts c.args.part).number c.args.tokens.now i c.loop-token-test.true c.loop-token.invariant.log
-      (c.list.ensures.log ∙ (λ j. c.loop-token.looks.log ++ Read (part_at (c.loop-token.invariant.version j).parts c.args.part).number token ∷ []));
+          reads_more c.args.looks.now.log c.loop-token.looks.log c.list.new.self.log (part_at parts c.args.part).number c.args.tokens.now i c.loop-token-test.true c.loop-token.invariant.log
+          (c.list.ensures.log ∙ (λ j. c.loop-token.looks.log ++ Read (part_at (c.loop-token.invariant.version j).parts c.args.part).number token ∷ []));
       room = omega (arith, c.list.ensures.spare, c.loop-token.invariant.room);
       wide = c.in_ok-count_list.ensures.wide ∙ c.loop-token.invariant.wide;
       counts = λ column.
-      c.in_ok-count_list.ensures.counts column ∙ (λ j. c.loop-token.invariant.counts column j + standing (list j) column) ∙ sym (held_more (segment_at parts c.args.part).sets c.args.tokens.now i column c.loop-token-test.true);
+          c.in_ok-count_list.ensures.counts column ∙ (λ j. c.loop-token.invariant.counts column j + standing (list j) column) ∙ sym (held_more (segment_at parts c.args.part).sets c.args.tokens.now i column c.loop-token-test.true);
     }

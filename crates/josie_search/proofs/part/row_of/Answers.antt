@@ -3,7 +3,7 @@ use Rattle.lake_model.specs.Answer.{Row, is_excepted}
 use Rattle.lake_model.specs.Tables.{Titles}
 use Rattle.search_model.specs.Arrays.{titled_at}
 use Rattle.segment_core.specs.Versions.{marks_of, part_at, segment_of, tables_of}
-use Rattle.josie_search.proofs.RowLemmas.{row_asked, row_excepted}
+use Rattle.josie_search.proofs.RowLemmas.{row_searched, row_excepted}
 use Rattle.josie_search.proofs.SegmentLists.{placed, row_placed, titles_within}
 use Rattle.josie_search.proofs.part.row_of.Goals as goal
 
@@ -29,4 +29,4 @@ returns c =
     let name : c.table.result.now ≡ column.table = c.table.ensures ∙ ap (λ (t : Titles). t.table) (c.deref.ensures ∙ c.table_of-place.ensures.titles) ∙ stands.table in
     let kept = ap (is_excepted (option_copied c.args.except)) (sym name) ∙ sym c.if-is_excepted.ensures in
     ap (λ (row : Row). row ∷ []) (row_placed c.args.overlap (tables_of part) column _ _ stands c.table_of-place.ensures.titles c.table_of-place.ensures.place)
-    ∙ sym (row_asked (option_copied c.args.except) (marks_of part) c.args.overlap column c.requires.overlap (sym c.if-not-live.ensures) kept)
+    ∙ sym (row_searched (option_copied c.args.except) (marks_of part) c.args.overlap column c.requires.overlap (sym c.if-not-live.ensures) kept)

@@ -17,8 +17,8 @@ loop-column-preserved c =
       wide = ap length taken.emptied ∙ length-set c.loop-column.counters c.in-Some.column 0 ∙ c.loop-column.invariant.wide;
       within = still_within c.loop-column.counters c.take.new.self c.in-Some.column _ taken.emptied c.loop-column.invariant.within some;
       rows =
-      take_more_rows (option_copied c.args.except) part c.loop-column.counters c.take.new.self c.in-Some.column c.in-Some.overlap _ c.loop-column.rows.items c.add_row.new.rows.items (c.loop-column.invariant.within c.in-Some.column some) taken.raised
-      taken.count taken.emptied c.in_ok-add_row.ensures c.loop-column.invariant.rows;
+          take_more_rows (option_copied c.args.except) part c.loop-column.counters c.take.new.self c.in-Some.column c.in-Some.overlap _ c.loop-column.rows.items c.add_row.new.rows.items (c.loop-column.invariant.within c.in-Some.column some) taken.raised
+          taken.count taken.emptied c.in_ok-add_row.ensures c.loop-column.invariant.rows;
     }
 
 pub returns-clause-rows : goal.returns-clause-rows

@@ -9,7 +9,9 @@ use Rattle.josie_search.proofs.search.Prepared.run.Given as goal
 
 abbrev pub invariant-loop-part : goal.invariant-loop-part
 invariant-loop-part l = record {
+  end : l.part-end ≡ length l.fn.self.version.parts;
   version : l.looks.version ≡ l.fn.self.version;
+  asked : map (λ tokens. tokens.items) l.asked.items ≡ map (asked_in l.fn.self.query.keys) l.fn.self.version.parts;
   log : l.looks.log ≡ all_lists l.fn.self.query (take l.part l.fn.self.version.parts);
   room : sum_by length (drop l.part (map (asked_in l.fn.self.query.keys) l.fn.self.version.parts)) ≤ l.looks.spare;
   wide : IsMost l.fn.self.version.parts (length l.counters);
