@@ -7,3 +7,6 @@ mod part;
 mod search;
 
 pub use search::{Answer, Prepared, prepare};
+
+#[cfg(test)]
+mod tests;
