@@ -1,0 +1,5 @@
+pub mod Search
+pub mod Reads
+pub mod Counts
+pub mod Rows
+pub mod Ready

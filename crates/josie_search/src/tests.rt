@@ -1,65 +1,174 @@
-//! What the order of an answer means on small lakes whose answers were worked out by hand, and that a search succeeds.
-use crate::search;
+//! What a search answers and reads, on a version made by hand, and that it succeeds.
+ghost use Rattle.std.specs.Prelude.{◌≡◌, ◌∷◌, [], false, true, IfOk};
+ghost use Rattle.lake_model.specs.Tables.{Table};
+ghost use Rattle.segment_core.specs.Versions.{part_with, places_with, version_with};
+
+use crate::prepare;
 use column_set::{Name, QuerySet, Rows, SharedTable, TableSets};
 use csv_table::read_table;
+use segment_core::{Look, Marks, Numbers, Owner, Part, Pin, Posting, Segment, TokenAt, Version};
 use std::alloc::Global;
 use std::process::Abort;
+use std::sync::Arc;
 use std::test::Fail;
 
-// The table of a name with the columns of a CSV text.
-fn table(alloc: Global, name: &str, text: &str) -> Result<SharedTable, Fail> {
-    let name = Name::read(name.as_bytes()).ok_or("no name")?;
-    let raw = read_table(alloc, text.as_bytes())?;
-    Ok(SharedTable::new(alloc, TableSets::build(alloc, name, &raw)?)?)
+// The table of CSV bytes.
+fn table(alloc: Global, name: &[u8], bytes: &[u8]) -> Result<TableSets, Fail> {
+    let Some(name) = Name::read(name) else {
+        return Err(Fail::from("no name"));
+    };
+    let Ok(raw) = read_table(alloc, bytes) else {
+        return Err(Fail::from("no fields"));
+    };
+    let Ok(table) = TableSets::build(alloc, name, &raw) else {
+        return Err(Fail::from("no sets"));
+    };
+    Ok(table)
 }
 
-// Compares rows with those that are wanted: overlap, table, column and place of each.
-fn expect_rows(rt: &impl Abort, rows: &Rows<'_>, want: &[(u32, &str, &str, u32)]) {
+// The segment of the table `t`, of which the column `p` has the keys z and a, and the column `q` has a: the token 0 is z, which one
+// column holds, and the token 1 is a, which both hold.
+fn worked_segment(alloc: Global) -> Result<Segment, Fail>
+    ensures { IfOk result (λ segment. (table : Table) × (segment ≡ table ∷ [])) }
+{
+    let table = table(alloc, b"t", b"p,q\nz,a\na,\n")?;
+    if table.name().text() != "t"
+        || table.columns() != 2
+        || table.column_name(1) != "p"
+        || table.column_name(2) != "q"
+        || table.size(1) != 2
+        || table.size(2) != 1
+        || table.key(1, 0) != "z"
+        || table.key(1, 1) != "a"
+        || table.key(2, 0) != "a"
+    {
+        return Err(Fail::from("another table"));
+    }
+    let shared = SharedTable::new(alloc, table)?;
+    let tables = vec![in alloc; shared]?;
+    let owners = vec![in alloc; Owner { table: 0, place: 1 }, Owner { table: 0, place: 2 }]?;
+    let z = TokenAt {
+        table: 0,
+        place: 1,
+        index: 0,
+        frequency: 1,
+    };
+    let a = TokenAt {
+        table: 0,
+        place: 1,
+        index: 1,
+        frequency: 2,
+    };
+    let tokens = vec![in alloc; z, a]?;
+    let by_key = vec![in alloc; 1, 0]?;
+    let list_starts = vec![in alloc; 0, 1, 3]?;
+    let postings = vec![in alloc;
+        Posting {
+            column: 0,
+            position: 0,
+            size: 2
+        },
+        Posting {
+            column: 0,
+            position: 1,
+            size: 2
+        },
+        Posting {
+            column: 1,
+            position: 0,
+            size: 1
+        },
+    ]?;
+    let set_starts = vec![in alloc; 0, 2, 3]?;
+    let set_tokens = vec![in alloc; 0, 1, 1]?;
+    Ok(Segment::new(
+        tables,
+        owners,
+        tokens,
+        by_key,
+        list_starts,
+        postings,
+        set_starts,
+        set_tokens,
+    ))
+}
+
+// A part over the segment, of which the one table was loaded at this position.
+fn worked_part(
+    alloc: Global,
+    segment: &Arc<Segment>,
+    position: u64,
+    marked: bool,
+) -> Result<Part, Fail>
+    ensures { IfOk result (λ part. part ≡ part_with position (places_with (position ∷ []) segment.now.value (marked ∷ []))) }
+{
+    Ok(Part {
+        number: position,
+        segment: Arc::try_clone(segment)?,
+        positions: Numbers::new(vec![in alloc; position]?),
+        marked: Marks::new(vec![in alloc; marked]?),
+    })
+}
+
+// The version where that table was loaded at position 7, dropped, and loaded again at position 9.
+fn worked_version(alloc: Global) -> Result<Arc<Version>, Fail> {
+    let segment = Arc::new(alloc, worked_segment(alloc)?)?;
+    let dropped = worked_part(alloc, &segment, 7, true)?;
+    let live = worked_part(alloc, &segment, 9, false)?;
+    let mut version = Arc::new(alloc, Version::empty(alloc))?;
+    Version::add(&mut version, 8, dropped)?;
+    Version::add(&mut version, 9, live)?;
+    Ok(version)
+}
+
+fn query(alloc: Global, body: &[u8]) -> Result<QuerySet, Fail> {
+    let Ok(query) = QuerySet::read(alloc, body) else {
+        return Err(Fail::from("no query"));
+    };
+    Ok(query)
+}
+
+// Compares rows with those that are wanted: overlap, column and place of each.
+fn expect_rows(rt: &impl Abort, rows: &Rows<'_>, want: &[(u32, &str, u32)]) {
     assert_eq!(rt; rows.list().len(), want.len());
-    for (row, (overlap, table, column, place)) in rows.list().iter().zip(want) {
+    for (row, (overlap, column, place)) in rows.list().iter().zip(want) {
         assert_eq!(rt; row.overlap, *overlap);
-        assert_eq!(rt; row.table().text(), *table);
+        assert_eq!(rt; row.table().text(), "t");
         assert_eq!(rt; row.column(), *column);
         assert_eq!(rt; row.place, *place);
     }
 }
 
-// Equal overlaps in one table go by the column's name, of which the empty one is the least, and then by the place.
+// Both columns share a key or two with the query, in the live part alone, and each list of both parts is read once.
 #[test]
-fn ties_in_one_table(rt: HostRuntime) -> Result<(), Fail> {
+fn counted(rt: HostRuntime) -> Result<(), Fail> {
     let alloc = rt.alloc();
-    let tables = [table(alloc, "d", "x,x,\n1,1,1\n")?];
-    let query = QuerySet::read(alloc, b"1\n")?;
-    let rows = search(alloc, &tables, &query, 10, None)?;
-    expect_rows(
-        &rt,
-        &rows,
-        &[(1, "d", "", 3), (1, "d", "x", 1), (1, "d", "x", 2)],
-    );
-    let rows = search(alloc, &tables, &query, 2, None)?;
-    expect_rows(&rt, &rows, &[(1, "d", "", 3), (1, "d", "x", 1)]);
+    let pin = Pin::new(worked_version(alloc)?);
+    let query = query(alloc, b"a\nz\nb\n")?;
+    let answer = prepare(alloc, pin.looks(alloc), &query, 10, None)?.run()?;
+    expect_rows(&rt, &answer.rows, &[(2, "p", 1), (1, "q", 2)]);
+    let log = [
+        Look::Read { part: 7, token: 0 },
+        Look::Read { part: 7, token: 1 },
+        Look::Read { part: 9, token: 0 },
+        Look::Read { part: 9, token: 1 },
+    ];
+    assert_eq!(rt; answer.looks.log(), log.as_slice());
     Ok(())
 }
 
-// The greater overlap comes first, whatever the names; equal ones go by the table's name, whatever the order of the loads. A
-// column that shares nothing has no row, and neither has the table that is left out.
+// Equal overlaps go by the column's name, also where only one row is wanted; an excepted table has no row.
 #[test]
-fn greater_overlap_then_table_name(rt: HostRuntime) -> Result<(), Fail> {
+fn ties(rt: HostRuntime) -> Result<(), Fail> {
     let alloc = rt.alloc();
-    let tables = [
-        table(alloc, "zz", "k,other\nRome,1\nOslo,2\n")?,
-        table(alloc, "m", "k\nrome\n")?,
-        table(alloc, "aa", "k\nROME\nParis\n")?,
-    ];
-    let query = QuerySet::read(alloc, b"Rome\nOslo\nBern\n")?;
-    let rows = search(alloc, &tables, &query, 10, None)?;
-    expect_rows(
-        &rt,
-        &rows,
-        &[(2, "zz", "k", 1), (1, "aa", "k", 1), (1, "m", "k", 1)],
-    );
-    let except = Name::read(b"aa").ok_or("no name")?;
-    let rows = search(alloc, &tables, &query, 10, Some(&except))?;
-    expect_rows(&rt, &rows, &[(2, "zz", "k", 1), (1, "m", "k", 1)]);
+    let pin = Pin::new(worked_version(alloc)?);
+    let query = query(alloc, b"a\n")?;
+    let answer = prepare(alloc, pin.looks(alloc), &query, 10, None)?.run()?;
+    expect_rows(&rt, &answer.rows, &[(1, "p", 1), (1, "q", 2)]);
+    let answer = prepare(alloc, pin.looks(alloc), &query, 1, None)?.run()?;
+    expect_rows(&rt, &answer.rows, &[(1, "p", 1)]);
+    let except = Name::read(b"t").ok_or("no name")?;
+    let answer = prepare(alloc, pin.looks(alloc), &query, 10, Some(&except))?.run()?;
+    expect_rows(&rt, &answer.rows, &[]);
     Ok(())
 }

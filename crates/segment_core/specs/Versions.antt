@@ -1,7 +1,7 @@
 -- Versions: the parts that are searched at a position of the journal; and what a search asks of one, with its log.
 use Rattle.std.specs.Prelude.{ℕ, zero, suc, true, List, [], ◌∷◌, map, get_or, Bool}
 use Rattle.lake_model.specs.Tables.{Table}
-use Rattle.lake_model.specs.Layout.{Place, Part}
+use Rattle.lake_model.specs.Layout.{Place, Part, unmarked_of}
 use Rattle.search_model.specs.Segment.{Segment, segment}
 use Rattle.search_model.specs.declared.Look.{Look}
 
@@ -34,6 +34,10 @@ tables_of part = map (λ place. place.table) part.places
 
 abbrev pub marks_of : Part → List Bool
 marks_of part = map (λ place. place.marked) part.places
+
+-- the tables that are unmarked, part by part
+abbrev pub live_of : List Part → List Table
+live_of parts = map (λ place. place.table) (unmarked_of parts)
 
 -- the segment of a part: that of all its tables, the marked ones too
 abbrev pub segment_of : Part → Segment
