@@ -1,1 +1,5 @@
+pub mod ListLemmas
+pub mod PlaceLemmas
+pub mod KeptLemmas
 pub mod LoadLemmas
+pub mod DropLemmas

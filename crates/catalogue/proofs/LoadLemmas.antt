@@ -1,9 +1,8 @@
 -- A load that nothing refuses: what a catalogue keeps is kept.
-use Rattle.std.proofs.Common.{◌≡◌, refl, ap, sym, ◌∙◌, subst, ℕ, ◌+◌, ◌≤◌, List, [], ◌∷◌, ◌++◌, Bool, true, false, not, ◌||◌, ◌&&◌, cond, length, Option, Some, None, arith, length-append, append_assoc, append-nil}
-use Rattle.std.specs.Prelude.{bytes_eq, sum_by, count_by, find, nat_lt, option_map}
-use Rattle.std.specs.List.{AllByRecursion, list_any}
-use Rattle.std.proofs.lemmas.Bool.Decides.{nat_tests}
-use Rattle.std.proofs.lemmas.List.Folds.{list_any-append}
+use Rattle.std.proofs.Common.{◌≡◌, refl, ap, sym, ◌∙◌, subst, ℕ, ◌+◌, ◌<◌, ◌≤◌, ◌^◌, List, [], ◌∷◌, ◌++◌, Bool, true, false, not, ◌||◌, cond, map, length, Option, Some, None, is_some, arith, length-append}
+use Rattle.std.specs.Prelude.{bytes_eq, sum_by, count_by, find, option_map}
+use Rattle.std.specs.List.{AllByRecursion, list_any, flat_map, filter}
+use Rattle.std.proofs.lemmas.List.{map-append}
 use Rattle.std.proofs.lemmas.List.Concat.{flat_map-append}
 use Rattle.std.proofs.lemmas.List.Sums.{sum_by_push}
 use Rattle.lake_model.specs.declared.Counts.{Counts}
@@ -11,102 +10,157 @@ use Rattle.lake_model.specs.declared.Who.{Who}
 use Rattle.lake_model.specs.Texts.{Text}
 use Rattle.lake_model.specs.Tables.{Table, members, key_bytes}
 use Rattle.lake_model.specs.Journal.{Entry, Loaded, is_live, live, counts, loads_of, is_update, has_name, entry_with}
-use Rattle.lake_model.specs.Layout.{is_legal_behind, may_follow}
+use Rattle.lake_model.specs.Layout.{Place, Part, layout, positions_of, unmarked_of}
 use Rattle.lake_model.specs.Limits.{Bounded, is_passed, load_bounds}
-use Rattle.lake_model.proofs.LayoutLemmas.{live_more}
+use Rattle.lake_model.proofs.LayoutLemmas.{live_more, layout_more, searchable-load}
+use Rattle.segment_core.specs.Distinct.{AreDistinct, Lacks, unmarked_names}
+use Rattle.segment_core.specs.Versions.{VersionOf, version_with, part_with, place_with, places_with}
 use Rattle.catalogue.specs.declared.refusal.LoadRefused.TheVariants.{Full}
 use Rattle.catalogue.specs.Kept.{IsKept, IsWithin}
+use Rattle.catalogue.specs.Parts.{live_of, load_of, is_of, HasPlaces, Rises}
 use Rattle.catalogue.specs.Refusals.{load_refusal}
+use Rattle.catalogue.proofs.ListLemmas.{le_from, all_append, all_weaker, filter-append, distinct_push, rises_push, open_by, map_none, find_none, find_push, none_from}
+use Rattle.catalogue.proofs.PlaceLemmas.{places_of, unmarked, names_append, name_same, name_is, names_in, positions_in}
+use Rattle.catalogue.proofs.KeptLemmas.{counts_with, is_legal_behind-push, parts_kept, named_kept, names_kept, names_differ, positions_differ}
 
-both : (a b : Bool) → (a && b) ≡ true → (a ≡ true) × (b ≡ true)
-both true b h = (refl, h)
-both false b h = cc
+-- the part of one load
+abbrev pub loaded_part : ℕ → Table → Part
+loaded_part at table = part_with at (place_with at table false ∷ [])
 
-joined : (a b : Bool) → a ≡ true → b ≡ true → (a && b) ≡ true
-joined a b h k = ap (λ (x : Bool). x && b) h ∙ k
+abbrev first_of : ℕ → Table → Place
+first_of at table = place_with at table false
 
-swapped : (a b : Bool) → (a || b) ≡ (b || (a || false))
-swapped true true = refl
-swapped true false = refl
-swapped false true = refl
-swapped false false = refl
+places_push : (parts : List Part) (at : ℕ) (table : Table) → places_of (parts ++ loaded_part at table ∷ []) ≡ places_of parts ++ first_of at table ∷ []
+places_push parts at table = flat_map-append (λ (part : Part). part.places) parts (loaded_part at table ∷ [])
 
-le_from : (a b : ℕ) → nat_lt a b ≡ false → b ≤ a
-le_from a b h = grind (arith, nat_tests)
+positions_push : (parts : List Part) (at : ℕ) (table : Table) → positions_of (parts ++ loaded_part at table ∷ []) ≡ positions_of parts ++ at ∷ []
+positions_push parts at table = ap (map (λ (place : Place). place.position)) (places_push parts at table) ∙ map-append (λ (place : Place). place.position) (places_of parts) (first_of at table ∷ [])
 
--- one more entry that may follow
-pub is_legal_behind-push : (before journal : List Entry) (e : Entry) → is_legal_behind before journal ≡ true → may_follow (before ++ journal) e.what ≡ true → is_legal_behind before (journal ++ e ∷ []) ≡ true
-is_legal_behind-push before [] e h k = joined (may_follow before e.what) true (subst (λ (b : List Entry). may_follow b e.what ≡ true) (append-nil before) k) refl
-is_legal_behind-push before (first ∷ journal) e h k =
-    let p = both (may_follow before first.what) (is_legal_behind (before ++ first ∷ []) journal) h in
-    joined (may_follow before first.what) (is_legal_behind (before ++ first ∷ []) (journal ++ e ∷ [])) p.0
-    (is_legal_behind-push (before ++ first ∷ []) journal e p.1 (subst (λ (b : List Entry). may_follow b e.what ≡ true) (sym (append_assoc before (first ∷ []) journal)) k))
+names_push : (parts : List Part) (at : ℕ) (table : Table) → unmarked_names (parts ++ loaded_part at table ∷ []) ≡ unmarked_names parts ++ table.name ∷ []
+names_push parts at table = ap (λ (places : List Place). names_in places) (places_push parts at table) ∙ names_append (places_of parts) (first_of at table ∷ [])
 
-open_by : {X : Type 0} (b : Bool) (x : X) (rest : Option X) → cond b (Some x) rest ≡ None → (b ≡ false) × (rest ≡ None)
-open_by true x rest h = cc
-open_by false x rest h = (refl, h)
+unmarked_push : (parts : List Part) (at : ℕ) (table : Table) → unmarked_of (parts ++ loaded_part at table ∷ []) ≡ unmarked_of parts ++ first_of at table ∷ []
+unmarked_push parts at table = ap (λ (places : List Place). unmarked places) (places_push parts at table) ∙ filter-append (λ (place : Place). not place.marked) (places_of parts) (first_of at table ∷ [])
 
-map_none : {X Y : Type 0} (f : X → Y) (o : Option X) → option_map f o ≡ None → o ≡ None
-map_none f None h = refl
-map_none f (Some x) h = cc
+map_cond : (b : Bool) (place : Place) (rest : Option Place) → option_map (λ (p : Place). p.position) (cond b (Some place) rest) ≡ cond b (Some place.position) (option_map (λ (p : Place). p.position) rest)
+map_cond true place rest = refl
+map_cond false place rest = refl
 
-find_none : {X : Type 0} (p : X → Bool) (xs : List X) → find p xs ≡ None → AllByRecursion (λ x. p x ≡ false) xs
-find_none p [] h = tt
-find_none p (x ∷ xs) h = let o = open_by (p x) x (find p xs) h in (o.0, find_none p xs o.1)
+load_push : (parts : List Part) (at : ℕ) (table : Table) (q : Text) → (has_name q table ≡ true → load_of parts q ≡ None) → load_of (parts ++ loaded_part at table ∷ []) q ≡ cond (has_name q table) (Some at) (load_of parts q)
+load_push parts at table q h =
+    ap (λ (places : List Place). option_map (λ (p : Place). p.position) (find (is_of q) places)) (unmarked_push parts at table)
+    ∙ ap (option_map (λ (p : Place). p.position)) (find_push (is_of q) (unmarked_of parts) (first_of at table) (λ e. map_none (λ (p : Place). p.position) (find (is_of q) (unmarked_of parts)) (h e)))
+    ∙ map_cond (has_name q table) (first_of at table) (find (is_of q) (unmarked_of parts))
 
-abbrev pub counts_with : ℕ → ℕ → ℕ → ℕ → Counts
-counts_with live updates members key_bytes = record { live = live; updates = updates; members = members; key_bytes = key_bytes }
+apart : (a b : Bool) → (a || b) ≡ false → (a ≡ false) × (b ≡ false)
+apart true b h = cc
+apart false b h = (refl, h)
 
-module _ (limits : Counts) (journal : List Entry) (table : Table) (accepted : load_refusal limits table journal ≡ None) where
+lacks_names : (tables : List Table) (name : Text) → list_any (has_name name) tables ≡ false → Lacks (map (λ table. table.name) tables) name
+lacks_names [] name h = tt
+lacks_names (table ∷ tables) name h =
+    let p = apart (has_name name table) (list_any (has_name name) tables) h in
+    ((λ (e : table.name ≡ name). let f : true ≡ false = sym (name_is table.name name e) ∙ p.0 in cc), lacks_names tables name p.1)
+
+module _ (limits : Counts) (journal : List Entry) (version : VersionOf) (counted : Counts) (position : Text → Option ℕ) (kept : IsKept limits journal version counted position)
+    (table : Table) (accepted : load_refusal limits table journal ≡ None) where
   opened : (is_live journal table.name ≡ false) × (option_map (λ (b : Bounded). Full b.which b.count b.more (length journal)) (find is_passed (load_bounds limits table (counts journal))) ≡ None)
   opened = open_by (is_live journal table.name) _ _ accepted
 
-  fits : IsWithin limits (counts_with ((counts journal).live + 1) ((counts journal).updates + 1) ((counts journal).members + members table) ((counts journal).key_bytes + key_bytes table))
+  loads_none : (q : Text) → bytes_eq table.name q ≡ true → load_of (layout journal) q ≡ None
+  loads_none q h = none_from (load_of (layout journal) q) (named_kept limits journal version counted position kept q ∙ ap (is_live journal) (sym (name_same table.name q h)) ∙ opened.0)
+
+  -- a name that is added and taken out again
+  pub unadded : (added removed : Option ℕ) (at : ℕ) (q : Text) → added ≡ cond (bytes_eq table.name q) (Some at) (position q) → removed ≡ cond (bytes_eq table.name q) None added → removed ≡ position q
+  unadded added removed at q e f = f ∙ ap (λ (o : Option ℕ). cond (bytes_eq table.name q) None o) e ∙ by (bytes_eq table.name q) refl
+    where
+      by : (b : Bool) → bytes_eq table.name q ≡ b → cond b None (cond b (Some at) (position q)) ≡ position q
+      by true h = sym (kept.placed q ∙ loads_none q h)
+      by false h = refl
+
+  pub fits : IsWithin limits (counts_with (counted.live + 1) (counted.updates + 1) (counted.members + members table) (counted.key_bytes + key_bytes table))
   fits =
       let n = find_none is_passed (load_bounds limits table (counts journal)) (map_none _ _ opened.1) in
-      record { live = le_from _ _ n.0; updates = le_from _ _ n.1.0; members = le_from _ _ n.1.1.0; key_bytes = le_from _ _ n.1.1.1.0 }
+      record {
+        live = omega (arith, le_from _ _ n.0, ap (λ (c : Counts). c.live) kept.count);
+        updates = omega (arith, le_from _ _ n.1.0, ap (λ (c : Counts). c.updates) kept.count);
+        members = omega (arith, le_from _ _ n.1.1.0, ap (λ (c : Counts). c.members) kept.count);
+        key_bytes = omega (arith, le_from _ _ n.1.1.1.0, ap (λ (c : Counts). c.key_bytes) kept.count);
+      }
+
+  abbrev pub grown : List Part
+  grown = layout journal ++ loaded_part (length journal + 1) table ∷ []
+
+  rising_more : AllByRecursion (λ n. n < length journal + 1) (positions_of (layout journal))
+  rising_more = all_weaker (λ n. n ≤ length journal) (λ n. n < length journal + 1) (positions_of (layout journal)) (λ n le. omega arith) kept.past
+
+  grown_lacks : Lacks (unmarked_names (layout journal)) table.name
+  grown_lacks = subst (λ (names : List Text). Lacks names table.name) (sym (names_kept limits journal version counted position kept)) (lacks_names (live journal) table.name opened.0)
+
+  pub few_more : length version.parts + 1 < 2 ^ 32
+  few_more = omega (arith, ap (λ (ps : List Part). length ps) (parts_kept limits journal version counted position kept), kept.few, fits.updates, kept.narrow, ap (λ (c : Counts). c.updates) kept.count)
+
+  pub positions_more : AreDistinct (positions_of grown)
+  positions_more =
+      subst AreDistinct (sym (positions_push (layout journal) (length journal + 1) table)) (distinct_push (positions_of (layout journal)) (length journal + 1) (positions_differ limits journal version counted position kept)
+      (all_weaker (λ n. n ≤ length journal) (λ n. n ≡ length journal + 1 → ⊥) (positions_of (layout journal)) (λ n le e. omega arith) kept.past))
+
+  pub names_more : AreDistinct (unmarked_names grown)
+  names_more = subst AreDistinct (sym (names_push (layout journal) (length journal + 1) table)) (distinct_push (unmarked_names (layout journal)) table.name (names_differ limits journal version counted position kept) grown_lacks)
 
   module _ (who : Who) where
     abbrev longer : List Entry
     longer = journal ++ entry_with who (Loaded table) ∷ []
 
+    long : length longer ≡ length journal + 1
+    long = length-append journal (entry_with who (Loaded table) ∷ [])
+
     lived : live longer ≡ live journal ++ table ∷ []
     lived = live_more journal (entry_with who (Loaded table))
+
+    laid : layout longer ≡ grown
+    laid =
+        let one : 1 + length journal ≡ length journal + 1 = omega arith in
+        layout_more journal (entry_with who (Loaded table)) ∙ ap (λ (n : ℕ). layout journal ++ loaded_part n table ∷ []) one
 
     loads : loads_of longer ≡ loads_of journal ++ table ∷ []
     loads = flat_map-append _ journal (entry_with who (Loaded table) ∷ [])
 
-    count_live : (counts journal).live + 1 ≡ length (live longer)
-    count_live = sym (ap (λ (ts : List Table). length ts) lived ∙ length-append (live journal) (table ∷ []))
+    count_live : counted.live + 1 ≡ length (live longer)
+    count_live = omega (arith, ap (λ (c : Counts). c.live) kept.count, ap (λ (ts : List Table). length ts) lived, length-append (live journal) (table ∷ []))
 
-    count_updates : (counts journal).updates + 1 ≡ count_by (λ (e : Entry). is_update e.what) longer
-    count_updates = sym (sum_by_push _ journal (entry_with who (Loaded table)))
+    count_updates : counted.updates + 1 ≡ count_by (λ (e : Entry). is_update e.what) longer
+    count_updates = ap (λ (c : Counts). c.updates + 1) kept.count ∙ sym (sum_by_push _ journal (entry_with who (Loaded table)))
 
-    count_members : (counts journal).members + members table ≡ sum_by members (loads_of longer)
-    count_members = sym (sum_by_push members (loads_of journal) table) ∙ ap (sum_by members) (sym loads)
+    count_members : counted.members + members table ≡ sum_by members (loads_of longer)
+    count_members = ap (λ (c : Counts). c.members + members table) kept.count ∙ sym (sum_by_push members (loads_of journal) table) ∙ ap (sum_by members) (sym loads)
 
-    count_bytes : (counts journal).key_bytes + key_bytes table ≡ sum_by key_bytes (loads_of longer)
-    count_bytes = sym (sum_by_push key_bytes (loads_of journal) table) ∙ ap (sum_by key_bytes) (sym loads)
+    count_bytes : counted.key_bytes + key_bytes table ≡ sum_by key_bytes (loads_of longer)
+    count_bytes = ap (λ (c : Counts). c.key_bytes + key_bytes table) kept.count ∙ sym (sum_by_push key_bytes (loads_of journal) table) ∙ ap (sum_by key_bytes) (sym loads)
 
-    counted_more : counts_with ((counts journal).live + 1) ((counts journal).updates + 1) ((counts journal).members + members table) ((counts journal).key_bytes + key_bytes table) ≡ counts longer
-    counted_more = λ i. counts_with (count_live i) (count_updates i) (count_members i) (count_bytes i)
+    names_longer : AreDistinct (map (λ table. table.name) (live longer))
+    names_longer =
+        let names : map (λ (t : Table). t.name) (live longer) ≡ map (λ (t : Table). t.name) (live journal) ++ table.name ∷ [] = ap (map (λ (t : Table). t.name)) lived ∙ map-append (λ (t : Table). t.name) (live journal) (table ∷ []) in
+        subst AreDistinct (sym names) (distinct_push (map (λ (t : Table). t.name) (live journal)) table.name kept.names (lacks_names (live journal) table.name opened.0))
 
-    pub is_kept-push : (tables : List Table) (counted : Counts) (has : Text → Bool) → IsKept limits journal tables counted has
-        → (journal' : List Entry) (tables' : List Table) (counted' : Counts) (has' : Text → Bool)
-        → journal' ≡ longer
-        → tables' ≡ tables ++ table ∷ []
-        → counted' ≡ counts_with (counted.live + 1) (counted.updates + 1) (counted.members + members table) (counted.key_bytes + key_bytes table)
-        → ((name : Text) → has' name ≡ (bytes_eq table.name name || has name))
-        → IsKept limits journal' tables' counted' has'
-    is_kept-push tables counted has kept journal' tables' counted' has' more loaded counts' names =
-        let here : counted' ≡ counts_with ((counts journal).live + 1) ((counts journal).updates + 1) ((counts journal).members + members table) ((counts journal).key_bytes + key_bytes table) =
-        counts' ∙ ap (λ (c : Counts). counts_with (c.live + 1) (c.updates + 1) (c.members + members table) (c.key_bytes + key_bytes table)) kept.count in
-        subst (λ (entries : List Entry). IsKept limits entries tables' counted' has') (sym more) (record {
-          current = loaded ∙ ap (λ (ts : List Table). ts ++ table ∷ []) kept.current ∙ sym lived;
-          named = λ name. names name ∙ ap (λ (b : Bool). bytes_eq table.name name || b) (kept.named name) ∙ swapped (bytes_eq table.name name) (is_live journal name)
-              ∙ sym (list_any-append (has_name name) (live journal) (table ∷ [])) ∙ ap (list_any (has_name name)) (sym lived);
-          count = here ∙ counted_more;
-          within = subst (IsWithin limits) (sym here) fits;
-          narrow = kept.narrow;
-          legal = is_legal_behind-push [] journal (entry_with who (Loaded table)) kept.legal (ap not opened.0);
-        })
+    pub kept_load : (position' : Text → Option ℕ) → ((q : Text) → position' q ≡ cond (bytes_eq table.name q) (Some (length journal + 1)) (position q))
+        → IsKept limits longer (version_with (length journal + 1) grown) (counts_with (counted.live + 1) (counted.updates + 1) (counted.members + members table) (counted.key_bytes + key_bytes table)) position'
+    kept_load position' h = record {
+      current = λ i. version_with (sym long i) (sym laid i);
+      count = λ i. counts_with (count_live i) (count_updates i) (count_members i) (count_bytes i);
+      placed = λ q. h q ∙ ap (cond (bytes_eq table.name q) (Some (length journal + 1))) (kept.placed q) ∙ sym (load_push (layout journal) (length journal + 1) table q (loads_none q)) ∙ ap (λ (parts : List Part). load_of parts q) (sym laid);
+      legal = is_legal_behind-push [] journal (entry_with who (Loaded table)) kept.legal (ap not opened.0);
+      within = fits;
+      narrow = kept.narrow;
+      searched = ap (λ (parts : List Part). live_of parts) (layout_more journal (entry_with who (Loaded table))) ∙ searchable-load (1 + length journal) (layout journal) table
+          ∙ ap (λ (ts : List Table). ts ++ table ∷ []) kept.searched ∙ sym lived;
+      names = names_longer;
+      rising = subst Rises (sym (ap (λ (parts : List Part). positions_of parts) laid ∙ positions_push (layout journal) (length journal + 1) table)) (rises_push (positions_of (layout journal)) (length journal + 1) kept.rising rising_more);
+      past = subst (AllByRecursion (λ n. n ≤ length longer)) (sym (ap (λ (parts : List Part). positions_of parts) laid ∙ positions_push (layout journal) (length journal + 1) table))
+          (all_append (λ n. n ≤ length longer) (positions_of (layout journal)) ((length journal + 1) ∷ []) (all_weaker (λ n. n ≤ length journal) (λ n. n ≤ length longer) (positions_of (layout journal)) (λ n le. omega (arith, long)) kept.past) (omega (arith, long), tt));
+      filled = subst (AllByRecursion HasPlaces) (sym laid) (all_append HasPlaces (layout journal) (loaded_part (length journal + 1) table ∷ []) kept.filled (omega arith, tt));
+      few = omega (arith, ap (λ (ps : List Part). length ps) laid, length-append (layout journal) (loaded_part (length journal + 1) table ∷ []), kept.few, count_updates, ap (λ (c : Counts). c.updates) kept.count);
+    }
+
+pub part_is : (part : Part) (at n : ℕ) (tables : List Table) (table : Table) → part ≡ part_with at (places_with (at ∷ []) tables (false ∷ [])) → tables ≡ table ∷ [] → at ≡ n → part ≡ loaded_part n table
+part_is part at n tables table e f g = e ∙ ap (λ (ts : List Table). part_with at (places_with (at ∷ []) ts (false ∷ []))) f ∙ ap (λ (m : ℕ). loaded_part m table) g

@@ -1,7 +1,8 @@
 -- What an entry says, as the definitions have it.
 use Rattle.lake_model.specs.Journal as journal
 use Rattle.catalogue.specs.declared.entry.What.{What}
-use Rattle.catalogue.specs.declared.entry.What.TheVariants.{Loaded}
+use Rattle.catalogue.specs.declared.entry.What.TheVariants.{Loaded, Dropped}
 
 abbrev pub what_of : What → journal.What
 what_of (Loaded table) = journal.Loaded table
+what_of (Dropped name) = journal.Dropped name

@@ -1,10 +1,13 @@
 -- What a catalogue is, and what it keeps beside its journal.
-use Rattle.std.specs.Prelude.{◌≡◌, ◌≤◌, ◌<◌, ◌^◌, ℕ, List, Bool, true}
+use Rattle.std.specs.Prelude.{◌≡◌, ◌≤◌, ◌<◌, ◌^◌, ℕ, List, true, length, map, Option}
+use Rattle.std.specs.List.{AllByRecursion}
 use Rattle.lake_model.specs.declared.Counts.{Counts}
 use Rattle.lake_model.specs.Texts.{Text}
-use Rattle.lake_model.specs.Tables.{Table}
-use Rattle.lake_model.specs.Journal.{Entry, is_live, live, counts}
-use Rattle.lake_model.specs.Layout.{is_legal}
+use Rattle.lake_model.specs.Journal.{Entry, live, counts}
+use Rattle.lake_model.specs.Layout.{layout, is_legal, positions_of}
+use Rattle.segment_core.specs.Distinct.{AreDistinct}
+use Rattle.segment_core.specs.Versions.{VersionOf, version_with}
+use Rattle.catalogue.specs.Parts.{live_of, load_of, Rises, HasPlaces}
 
 -- a catalogue: the limits of its lake, and its journal
 pub record CatalogueOf : Type 0 where
@@ -21,11 +24,18 @@ pub record IsWithin (limits counted : Counts) : Type 0 where
   pub members : counted.members ≤ limits.members
   pub key_bytes : counted.key_bytes ≤ limits.key_bytes
 
--- The list of tables, the counts and the test of a name are those of the journal, which is legal and within the limits.
-pub record IsKept (limits : Counts) (journal : List Entry) (tables : List Table) (counted : Counts) (has : Text → Bool) : Type 0 where
-  pub current : tables ≡ live journal
-  pub named : (name : Text) → has name ≡ is_live journal name
+-- The version, the counts and the positions by name are those of the journal, which is legal and within the limits. The positions
+-- of the layout rise; its tables that are not marked are the live ones, no two of one name; and no part is empty.
+pub record IsKept (limits : Counts) (journal : List Entry) (version : VersionOf) (counted : Counts) (position : Text → Option ℕ) : Type 0 where
+  pub current : version ≡ version_with (length journal) (layout journal)
   pub count : counted ≡ counts journal
+  pub placed : (name : Text) → position name ≡ load_of (layout journal) name
+  pub legal : is_legal journal ≡ true
   pub within : IsWithin limits counted
   pub narrow : limits.updates < 2 ^ 32
-  pub legal : is_legal journal ≡ true
+  pub searched : live_of (layout journal) ≡ live journal
+  pub names : AreDistinct (map (λ table. table.name) (live journal))
+  pub rising : Rises (positions_of (layout journal))
+  pub past : AllByRecursion (λ n. n ≤ length journal) (positions_of (layout journal))
+  pub filled : AllByRecursion HasPlaces (layout journal)
+  pub few : length (layout journal) ≤ (counts journal).updates

@@ -1,35 +1,42 @@
 //! The catalogue of a lake.
-ghost use Rattle.std.specs.Prelude.{◌≡◌, ◌≤◌, ◌<◌, ◌+◌, ◌^◌, ◌++◌, ◌∷◌, ◌⊎◌, [], length, nat_lt, true, vec_capacity, vec_len, IfErr, IfOk, None, OnErr, Some};
-ghost use Rattle.lake_model.specs.Journal.{Loaded, counts, entry_with, is_live, live};
-ghost use Rattle.lake_model.specs.Layout.{is_legal};
+ghost use Rattle.std.specs.Prelude.{◌≡◌, ◌≤◌, ◌<◌, ◌+◌, ◌^◌, ◌++◌, ◌∷◌, ◌⊎◌, [], false, length, map, nat_lt, slice_set, true, vec_capacity, vec_len, IfErr, IfOk, None, OnErr, Some};
+ghost use Rattle.lake_model.specs.Journal.{counts, entry_with, is_live, live, Dropped, Loaded};
+ghost use Rattle.lake_model.specs.Layout.{is_legal, layout, mark};
 ghost use Rattle.lake_model.specs.Tables.{key_bytes, members};
+ghost use Rattle.segment_core.specs.Versions.{marked_at, part_at, part_with, places_with, version_with};
 ghost use Rattle.catalogue.specs.Kept.{catalogue_with, IsWithin};
-ghost use Rattle.catalogue.specs.Refusals.{load_refusal};
+ghost use Rattle.catalogue.specs.Parts.{live_of};
+ghost use Rattle.catalogue.specs.Refusals.{drop_refusal, load_refusal};
 
 use crate::entry::Entry;
-use crate::names::add_name;
-use crate::refusal::LoadRefused;
+use crate::find::find_load;
+use crate::names::{add_name, remove_name};
+use crate::refusal::{DropRefused, LoadRefused};
 use column_set::{Name, SharedTable, TableSets};
 use lake_model::{Counts, Which, Who};
 use no_memory::NoMemory;
+use segment_core::{Marks, Numbers, Part, Pin, Segment, Version};
 use std::alloc::Global;
 use std::collections::BTreeMap;
 use std::marker::Model;
+use std::sync::Arc;
 
-/// The journal of a lake and the limits that it keeps. A contract sees both. Beside them it keeps the live tables, the positions
-/// of their loads by name, and the counts.
+/// The journal of a lake and the limits that it keeps. A contract sees both. Beside them it keeps the newest version, which is the
+/// layout of the journal, the positions of the loads of the live tables by name, and the counts.
+///
+/// A load or a drop changes the newest version in place, and costs its own table and a logarithm, but where a pin holds that
+/// version: then the list of its parts is copied once. No table and no segment ever is.
 #[derive(Drop)]
 pub struct Catalogue {
     alloc: Global,
     limits: Counts,
     journal: Vec<Entry>,
-    tables: Vec<SharedTable>,
+    version: Arc<Version>,
     positions: BTreeMap<String, u64>,
     counts: Counts,
 }
 
 impl Model for Catalogue {
-    ghost use Rattle.std.specs.Prelude.{is_some};
     ghost use Rattle.std.specs.BTreeMap.{get_by_text};
     ghost use Rattle.catalogue.specs.Kept.{CatalogueOf, catalogue_with, IsKept};
 
@@ -37,7 +44,7 @@ impl Model for Catalogue {
 
     ghost view = { λ c. catalogue_with c.limits c.journal.items };
 
-    ghost invariant = { λ c. IsKept c.limits c.journal.items c.tables.items c.counts (λ name. is_some (get_by_text c.positions name)) };
+    ghost invariant = { λ c. IsKept c.limits c.journal.items c.version.value c.counts (λ name. get_by_text c.positions name) };
 }
 
 impl Catalogue {
@@ -50,7 +57,7 @@ impl Catalogue {
             alloc,
             limits,
             journal: Vec::new(alloc),
-            tables: Vec::new(alloc),
+            version: Arc::new(alloc, Version::empty(alloc))?,
             positions: BTreeMap::new(alloc),
             counts: Counts {
                 live: 0,
@@ -69,18 +76,19 @@ impl Catalogue {
         &self.journal
     }
 
-    /// The live tables, in the order of their loads.
-    pub fn tables(&self) -> &[SharedTable]
-        ensures { result.now ≡ live self.now.journal }
-    {
-        &self.tables
-    }
-
     /// How many entries the journal has.
     pub fn at(&self) -> u64
         ensures { result ≡ length self.now.journal }
     {
         self.journal.len() as u64
+    }
+
+    /// Holds the newest version, which what comes later leaves as it is.
+    pub fn pin(&self) -> Result<Pin, NoMemory>
+        ensures version { IfOk result (λ pin. pin ≡ version_with (length self.now.journal) (layout self.now.journal)) }
+        ensures live { IfOk result (λ pin. live_of pin.parts ≡ live self.now.journal) }
+    {
+        Ok(Pin::new(Arc::try_clone(&self.version)?))
     }
 
     /// Whether a table of the name is live, in the time of a logarithm of how many are.
@@ -98,12 +106,18 @@ impl Catalogue {
         self.counts
     }
 
-    /// Loads a table: puts an entry of this caller and command behind the journal, and answers its position, counted from 1. No
-    /// table is copied.
+    /// Loads a table: puts an entry of this caller and command behind the journal, and answers its position, counted from 1. The
+    /// segment is that of the table alone. No table is copied.
     ///
     /// It is refused where a table of its name is live, else at the first limit of the lake that would be passed, and where memory
     /// is wanting. Then nothing has changed.
-    pub fn load(&mut self, who: Who, table: SharedTable) -> Result<u64, LoadRefused>
+    pub fn load(
+        &mut self,
+        who: Who,
+        table: SharedTable,
+        segment: Arc<Segment>,
+    ) -> Result<u64, LoadRefused>
+        requires segment { segment.value ≡ table ∷ [] }
         ensures accepted { IfOk result (λ at. (load_refusal self.old.limits table self.old.journal ≡ None) × (self.new ≡ catalogue_with self.old.limits (self.old.journal ++ entry_with who (Loaded table) ∷ [])) × (at ≡ length self.new.journal)) }
         ensures err { OnErr result (self.new ≡ self.old) }
         ensures refused { IfErr result (λ e. (e ≡ LoadRefused.NoMemory) ⊎ (load_refusal self.old.limits table self.old.journal ≡ Some e)) }
@@ -111,7 +125,7 @@ impl Catalogue {
         if let Some(refused) = self.load_refused(table.table()) {
             return Err(refused);
         }
-        match self.accept(who, table) {
+        match self.accept_load(who, table, segment) {
             Ok(at) => Ok(at),
             Err(NoMemory) => Err(LoadRefused::NoMemory),
         }
@@ -153,21 +167,113 @@ impl Catalogue {
     }
 
     // Puts a load that nothing refuses behind the journal. What can want memory comes first.
-    fn accept(&mut self, who: Who, table: SharedTable) -> Result<u64, NoMemory>
-        requires { load_refusal self.old.limits table self.old.journal ≡ None }
+    fn accept_load(
+        &mut self,
+        who: Who,
+        table: SharedTable,
+        segment: Arc<Segment>,
+    ) -> Result<u64, NoMemory>
+        requires segment { segment.value ≡ table ∷ [] }
+        requires accepted { load_refusal self.old.limits table self.old.journal ≡ None }
         ensures ok { IfOk result (λ at. (self.new ≡ catalogue_with self.old.limits (self.old.journal ++ entry_with who (Loaded table) ∷ [])) × (at ≡ length self.new.journal)) }
         ensures err { OnErr result (self.new ≡ self.old) }
     {
         let at = self.journal.len() as u64 + 1;
-        let live = table.share()?;
+        let part = loaded_part(self.alloc, at, segment)?;
         self.journal.reserve(1)?;
-        self.tables.reserve(1)?;
-        add_name(self.alloc, &mut self.positions, live.table().name(), at)?;
-        self.counts = counts_with(self.counts, live.table());
-        push_reserved(&mut self.tables, live);
+        add_name(self.alloc, &mut self.positions, table.table().name(), at)?;
+        let Ok(()) = Version::add(&mut self.version, at, part) else {
+            remove_name(&mut self.positions, table.table().name());
+            return Err(NoMemory);
+        };
+        self.counts = counts_with(self.counts, table.table());
         push_reserved(&mut self.journal, Entry::loaded(who, table));
         Ok(at)
     }
+
+    /// Drops the live table of a name: puts an entry of this caller and command behind the journal, and answers its position,
+    /// counted from 1. Pins that were made before keep the table.
+    ///
+    /// It is refused where no table of the name is live, else where one more load or drop would pass their limit, and where memory
+    /// is wanting. Then nothing has changed.
+    pub fn drop_table(&mut self, who: Who, name: &Name) -> Result<u64, DropRefused>
+        ensures accepted { IfOk result (λ at. (drop_refusal self.old.limits name.now self.old.journal ≡ None) × (self.new ≡ catalogue_with self.old.limits (self.old.journal ++ entry_with who (Dropped name.now) ∷ [])) × (at ≡ length self.new.journal)) }
+        ensures err { OnErr result (self.new ≡ self.old) }
+        ensures refused { IfErr result (λ e. (e ≡ DropRefused.NoMemory) ⊎ (drop_refusal self.old.limits name.now self.old.journal ≡ Some e)) }
+    {
+        if let Some(refused) = self.drop_refused(name) {
+            return Err(refused);
+        }
+        match self.accept_drop(who, name) {
+            Ok(at) => Ok(at),
+            Err(NoMemory) => Err(DropRefused::NoMemory),
+        }
+    }
+
+    // What refuses a drop of the table of this name.
+    fn drop_refused(&self, name: &Name) -> Option<DropRefused>
+        ensures { result ≡ drop_refusal self.now.limits name.now self.now.journal }
+    {
+        let at = self.at();
+        if !self.live(name) {
+            return Some(DropRefused::Unknown { at });
+        }
+        let updates = self.counts.updates;
+        if is_passed(updates, 1, self.limits.updates) {
+            return Some(DropRefused::Full {
+                which: Which::Updates,
+                count: updates,
+                more: 1,
+                at,
+            });
+        }
+        None
+    }
+
+    // Where the newest version has the live table of a name: the index of its part, and its index in the part, both from 0.
+    fn place_of(&self, name: &Name) -> (u32, u32)
+        requires { is_live self.now.journal name.now ≡ true }
+        ensures part { result.0 < length (layout self.now.journal) }
+        ensures place { result.1 < length (part_at (layout self.now.journal) result.0).places }
+        ensures marks { map (mark name.now) (layout self.now.journal) ≡ slice_set (layout self.now.journal) result.0 (marked_at result.1 (part_at (layout self.now.journal) result.0)) }
+    {
+        let Some(position) = self.positions.get(name.text()) else {
+            unreachable!()
+        };
+        let Some(place) = find_load(&self.version, *position) else {
+            unreachable!()
+        };
+        place
+    }
+
+    // Puts a drop that nothing refuses behind the journal. What can want memory comes first.
+    fn accept_drop(&mut self, who: Who, name: &Name) -> Result<u64, NoMemory>
+        requires { drop_refusal self.old.limits name.now self.old.journal ≡ None }
+        ensures ok { IfOk result (λ at. (self.new ≡ catalogue_with self.old.limits (self.old.journal ++ entry_with who (Dropped name.now) ∷ [])) × (at ≡ length self.new.journal)) }
+        ensures err { OnErr result (self.new ≡ self.old) }
+    {
+        let at = self.journal.len() as u64 + 1;
+        let (part, place) = self.place_of(name);
+        self.journal.reserve(1)?;
+        Version::mark(&mut self.version, at, part, place)?;
+        remove_name(&mut self.positions, name);
+        self.counts = counts_without(self.counts);
+        push_reserved(&mut self.journal, Entry::dropped(who, name.copy()));
+        Ok(at)
+    }
+}
+
+// The part of one load: its number is the position of the load.
+fn loaded_part(alloc: Global, at: u64, segment: Arc<Segment>) -> Result<Part, NoMemory>
+    requires { length segment.value ≡ 1 }
+    ensures { IfOk result (λ part. part ≡ part_with at (places_with (at ∷ []) segment.value (false ∷ []))) }
+{
+    Ok(Part {
+        number: at,
+        segment,
+        positions: Numbers::new(vec![in alloc; at]?),
+        marked: Marks::new(vec![in alloc; false]?),
+    })
 }
 
 // Pushes where there is room.
@@ -197,6 +303,22 @@ fn counts_with(counts: Counts, table: &TableSets) -> Counts
         updates: counts.updates + 1,
         members: counts.members + table.members(),
         key_bytes: counts.key_bytes + table.key_bytes(),
+    }
+}
+
+// The counts behind a drop.
+fn counts_without(counts: Counts) -> Counts
+    requires live { 1 ≤ counts.live }
+    requires updates { counts.updates + 1 < 2 ^ 64 }
+    ensures live { result.live + 1 ≡ counts.live }
+    ensures updates { result.updates ≡ counts.updates + 1 }
+    ensures members { result.members ≡ counts.members }
+    ensures key_bytes { result.key_bytes ≡ counts.key_bytes }
+{
+    Counts {
+        live: counts.live - 1,
+        updates: counts.updates + 1,
+        ..counts
     }
 }
 

@@ -1,16 +1,18 @@
 //! An entry of the journal.
 ghost use Rattle.std.specs.Prelude.{◌≡◌, IfOk};
-ghost use Rattle.lake_model.specs.Journal.{entry_with, Loaded};
+ghost use Rattle.lake_model.specs.Journal.{entry_with, Dropped, Loaded};
 
-use column_set::SharedTable;
+use column_set::{Name, SharedTable};
 use lake_model::Who;
 use no_memory::NoMemory;
 use std::marker::Model;
 
-/// What an entry of the journal says: the table that was loaded, of which it keeps a share.
+/// What an entry of the journal says: the table that was loaded, of which it keeps a share, or the name of the table that was
+/// dropped.
 #[derive(Drop)]
 pub enum What {
     Loaded(SharedTable),
+    Dropped(Name),
 }
 
 /// An entry of the journal: who made it, and what it says. A contract sees it as an entry of the definitions.
@@ -40,12 +42,23 @@ impl Entry {
         }
     }
 
+    /// The entry of a drop.
+    pub fn dropped(who: Who, name: Name) -> Entry
+        ensures { result ≡ entry_with who (Dropped name) }
+    {
+        Entry {
+            who,
+            what: What::Dropped(name),
+        }
+    }
+
     /// The same entry, with a share of its table. It copies no table.
     pub fn share(&self) -> Result<Entry, NoMemory>
         ensures { IfOk result (λ other. other ≡ self.now) }
     {
         match &self.what {
             What::Loaded(table) => Ok(Entry::loaded(self.who, table.share()?)),
+            What::Dropped(name) => Ok(Entry::dropped(self.who, name.copy())),
         }
     }
 }

@@ -1,5 +1,5 @@
-//! The journal of a lake, entry by entry, with what follows from it: the tables that are live, their names, and what counts
-//! against the limits of the lake. A load that is refused changes nothing.
+//! The journal of a lake, entry by entry, with what follows from it: the version in which its live tables are searched, their names,
+//! and what counts against the limits of the lake. A load or a drop that is refused changes nothing.
 #![tactic(auto)]
 
 ghost use Rattle.std.specs.Prelude.{◌≡◌};
@@ -7,13 +7,14 @@ ghost use Rattle.lake_model.specs.Journal.{standard_limits};
 
 mod catalogue;
 mod entry;
+mod find;
 mod names;
 mod refusal;
 
 pub use catalogue::Catalogue;
 pub use entry::{Entry, What};
 pub use lake_model::{Counts, Which, Who};
-pub use refusal::LoadRefused;
+pub use refusal::{DropRefused, LoadRefused};
 
 /// The limits of a lake as it is shipped: 65,536 live tables, 1,048,576 loads and drops, and, of all loads together, 16,777,216
 /// members and 1,073,741,824 bytes of keys.

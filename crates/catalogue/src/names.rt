@@ -1,5 +1,5 @@
 //! The names of the live tables. They lie in order, so that no choice of names makes a look-up slow.
-ghost use Rattle.std.specs.Prelude.{◌≡◌, ◌||◌, List, ℕ, bytes_eq, is_some, OnErr, OnOk};
+ghost use Rattle.std.specs.Prelude.{◌≡◌, List, ℕ, bytes_eq, if◌then◌else◌, None, OnErr, OnOk, Some};
 ghost use Rattle.std.specs.BTreeMap.{get_by_text};
 
 use column_set::Name;
@@ -14,10 +14,17 @@ pub fn add_name(
     name: &Name,
     at: u64,
 ) -> Result<(), NoMemory>
-    ensures ok { OnOk result ((q : List ℕ) → is_some (get_by_text positions.new q) ≡ (bytes_eq name.now q || is_some (get_by_text positions.old q))) }
-    ensures err { OnErr result ((q : List ℕ) → is_some (get_by_text positions.new q) ≡ is_some (get_by_text positions.old q)) }
+    ensures ok { OnOk result ((q : List ℕ) → get_by_text positions.new q ≡ (if bytes_eq name.now q then Some at else get_by_text positions.old q)) }
+    ensures err { OnErr result ((q : List ℕ) → get_by_text positions.new q ≡ get_by_text positions.old q) }
 {
     let key = String::from_str(alloc, name.text())?;
     positions.insert(key, at)?;
     Ok(())
+}
+
+/// Takes a name out.
+pub fn remove_name(positions: &mut BTreeMap<String, u64>, name: &Name)
+    ensures { (q : List ℕ) → get_by_text positions.new q ≡ (if bytes_eq name.now q then None else get_by_text positions.old q) }
+{
+    positions.remove(name.text());
 }

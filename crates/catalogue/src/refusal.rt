@@ -1,4 +1,4 @@
-//! Why a load is refused.
+//! Why a load or a drop is refused.
 use lake_model::Which;
 
 /// Why a load is refused. In each of the first two, `at` is how many entries the journal has.
@@ -10,6 +10,25 @@ pub enum LoadRefused {
     },
     /// What counts against a limit of the lake is `count`, and with `more`, which the load would add, it would pass the limit. Of
     /// the limits that would be passed it is the first, in the order of `Which`.
+    Full {
+        which: Which,
+        count: u64,
+        more: u64,
+        at: u64,
+    },
+    /// Memory was wanting.
+    NoMemory,
+}
+
+/// Why a drop is refused. In each of the first two, `at` is how many entries the journal has.
+#[derive(Clone, Copy, Debug, PartialEq, Eq)]
+pub enum DropRefused {
+    /// No table of the name is live.
+    Unknown {
+        at: u64,
+    },
+    /// What counts against a limit of the lake is `count`, and with `more`, which the drop would add, it would pass the limit. A
+    /// drop can pass that of the loads and drops alone.
     Full {
         which: Which,
         count: u64,
