@@ -3,7 +3,7 @@ ghost use Rattle.std.specs.Prelude.{◌≡◌, ◌-◌, ◌^◌, IfSome, MatchOp
 ghost use Rattle.std.specs.List.{list_all};
 ghost use Rattle.script_model.specs.declared.Reason.TheVariants as reason;
 ghost use Rattle.script_model.specs.Numbers.{digits_value, is_digit, is_number, number};
-ghost use Rattle.script_model.specs.Saying.{Opens, Wrong, behind, said};
+ghost use Rattle.script_model.specs.Saying.{Opens, Wrong, behind, command_said};
 ghost use Rattle.script_text.specs.Fronts.{IsFrontInRange, front_of};
 
 use column_set::Name;
@@ -20,7 +20,7 @@ pub(crate) enum Front {
 
 // What the line says that opens a block: `load NAME` or `search K`, with one space.
 pub(crate) fn read_front(line: &[u8]) -> Option<Front>
-    ensures said { MatchOption result (said line.now ≡ Wrong reason.Unknown) (λ front. said line.now ≡ Opens 1 (front_of front)) }
+    ensures said { MatchOption result (command_said line.now ≡ Wrong reason.Unknown) (λ front. command_said line.now ≡ Opens 1 (front_of front)) }
     ensures in_range { IfSome result IsFrontInRange }
 {
     if let Some(name) = behind(b"load ", line) {

@@ -3,6 +3,7 @@ ghost use Rattle.std.specs.Prelude.{◌≡◌, ◌+◌, ◌==◌, ◌≤◌, IfN
 ghost use Rattle.lake_model.specs.Texts.{lines_of, lines_with};
 ghost use Rattle.script_model.specs.Numbers.{without_return};
 ghost use Rattle.script_model.specs.Reading.{is_end, undotted};
+ghost use Rattle.script_model.specs.Saying.{is_skipped};
 ghost use Rattle.script_text.specs.Scripts.{with_line};
 
 // The first line of the text, without the line feed that ends it, and `None` where no line feed is left.
@@ -47,4 +48,11 @@ pub(crate) fn undotted(line: &[u8]) -> &[u8]
         [b'.', rest @ ..] => rest,
         _ => line,
     }
+}
+
+// Whether the line is skipped: it is empty, has only spaces, or begins with `#`.
+pub(crate) fn is_skipped(line: &[u8]) -> bool
+    ensures { result ≡ is_skipped line.now }
+{
+    line.iter().all(|byte| *byte == b' ') || matches!(line, [b'#', ..])
 }

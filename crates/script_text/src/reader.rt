@@ -13,7 +13,7 @@ ghost use Rattle.script_text.specs.Tasks.{IsTaskInRange, task_of};
 use crate::body::Body;
 use crate::command::{Batch, Command, Task};
 use crate::front::{Front, read_front};
-use crate::line::{is_end, undotted, without_return};
+use crate::line::{is_end, is_skipped, undotted, without_return};
 use crate::refused::ScriptRefused;
 use no_memory::NoMemory;
 use script_model::Reason;
@@ -210,13 +210,17 @@ impl Reader {
         Ok(())
     }
 
-    // Reads a line outside a block, which opens one.
+    // Reads a line outside a block, which opens one where it is not skipped.
     fn open_block(&mut self, line: &[u8]) -> Result<(), ScriptRefused>
         requires { self.old.block ≡ None }
         ensures goes { OnOk result (does script_grammar (said (without_return line.now)) self.old ≡ Goes self.new) }
         ensures refused { IfErr result (FaultsTurn self.old.lines (does script_grammar (said (without_return line.now)) self.old)) }
     {
-        let Some(front) = read_front(without_return(line)) else {
+        let line = without_return(line);
+        if is_skipped(line) {
+            return Ok(());
+        }
+        let Some(front) = read_front(line) else {
             return Err(ScriptRefused::Script {
                 line: self.lines,
                 reason: Reason::Unknown,

@@ -21,12 +21,13 @@ const MOST_BYTES: usize = 1048576;
 /// The commands of a whole script, or the first line at fault.
 ///
 /// Lines end at a line feed, and what stands behind the last line feed is a line where it has a byte. Outside blocks one carriage
-/// return at the end of a line is dropped, and the lines are `load NAME` and `search K`, each with one space: NAME is 1 to 255
-/// bytes from `!` to `~`, K is 1 to 10,000 in decimal digits of which the first is not 0. Any other line is `Unknown`, an empty one
-/// too. A block follows each, up to a line that is `.`, alone or followed by one carriage return. A line of a block that begins with
-/// `.` loses that byte, and keeps its carriage return and its line feed. Where the script ends inside a block, `NoEnd` names the line of
-/// its command. More than 1,048,576 bytes are `InputTooLong` at the line that holds the first byte past them, where a line feed counts to
-/// the line that it ends; a fault of a line within the limit comes before. Commands are numbered from 1, and all are of lane 1.
+/// return at the end of a line is dropped, and a line that is empty, has only spaces, or begins with `#` is skipped. The others are
+/// `load NAME` and `search K`, each with one space: NAME is 1 to 255 bytes from `!` to `~`, K is 1 to 10,000 in decimal digits of which
+/// the first is not 0. Any other line is `Unknown`. A block follows each, up to a line that is `.`, alone or followed by one carriage
+/// return. A line of a block that begins with `.` loses that byte, and keeps its carriage return and its line feed. Where the script
+/// ends inside a block, `NoEnd` names the line of its command. More than 1,048,576 bytes are `InputTooLong` at the line that holds the
+/// first byte past them, where a line feed counts to the line that it ends; a fault of a line within the limit comes before. Commands
+/// are numbered from 1, and all are of lane 1.
 pub fn read_script(alloc: Global, bytes: &[u8]) -> Result<Batch, ScriptRefused>
     ensures commands { IfOk result (λ batch. commands_of bytes.now ≡ commands_with (last_batch batch) Whole []) }
     ensures lanes { IfOk result (λ batch. AllByRecursion (λ c. c.lane ≡ 1) batch) }

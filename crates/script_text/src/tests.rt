@@ -33,7 +33,7 @@ fn shown(alloc: Global, outcome: &Result<Batch, ScriptRefused>) -> Result<String
     Ok(text)
 }
 
-const WORKED: [(&str, &str); 36] = [
+const WORKED: [(&str, &str); 39] = [
     (
         "load t1\nid,city\n1,Rome\n2,Oslo\n.\nsearch 1\nrome\nOSLO\nParis\n.\n",
         "1@1 load t1 \"id,city\\n1,Rome\\n2,Oslo\\n\";2@1 search 1 \"rome\\nOSLO\\nParis\\n\";",
@@ -59,12 +59,17 @@ const WORKED: [(&str, &str); 36] = [
     ("load a\nx\ny", "line 1 NoEnd"),
     ("load a\n.\nsearch 2\nx\n..\n", "line 3 NoEnd"),
     // the first line at fault
-    ("\n", "line 1 Unknown"),
     (".\n", "line 1 Unknown"),
-    ("load a\n.\n\nload b\n.\n", "line 3 Unknown"),
     ("load a\n.\nx\ny\n", "line 3 Unknown"),
     ("x\nload a\n", "line 1 Unknown"),
-    ("load a\n.\n\r", "line 3 Unknown"),
+    ("load a\n.\n\r\r", "line 3 Unknown"),
+    // outside blocks an empty line, one of spaces, and one that begins with `#` are skipped, and have no number among the commands
+    ("\n\r\n  \n#\n# load b\r\n#", ""),
+    ("load a\n.\n\nload b\n.\n\r", "1@1 load a \"\";2@1 load b \"\";"),
+    ("load a\n# b\n.\n", "1@1 load a \"# b\\n\";"),
+    (" #\n", "line 1 Unknown"),
+    ("\t\n", "line 1 Unknown"),
+    ("# x\n#y\n?\n", "line 3 Unknown"),
     // one space, and nothing more
     ("load  a\n.\n", "line 1 Unknown"),
     ("load a \n.\n", "line 1 Unknown"),
