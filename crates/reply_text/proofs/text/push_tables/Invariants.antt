@@ -3,5 +3,5 @@ use Rattle.script_model.specs.Texts.{line_text, table_line}
 use Rattle.segment_core.specs.Lines.{line_from}
 use Rattle.reply_text.proofs.text.push_tables.Given as goal
 
-abbrev pub invariant-loop : goal.invariant-loop
-invariant-loop l = l.into.items ≡ l.initial.into.items ++ flat_map line_text (map table_line (map line_from (take l.index l.tables)))
+abbrev pub invariant-loop-name : goal.invariant-loop-name
+invariant-loop-name l = l.into.items ≡ l.initial.into.items ++ flat_map line_text (map table_line (map line_from (take l.name-index l.tables)))
