@@ -1,5 +1,5 @@
 -- What one line outside a block says, by its words alone.
-use Rattle.std.specs.Prelude.{ℕ, Bool, ◌||◌, ◌==◌, nat_eq, if◌then◌else◌, List, length, take, drop, get_or, bytes_eq, codes, Option, Some, None}
+use Rattle.std.specs.Prelude.{ℕ, Bool, ◌||◌, ◌==◌, if◌then◌else◌, List, length, take, drop, get_or, bytes_eq, codes, Option, Some, None}
 use Rattle.std.specs.List.{list_all}
 use Rattle.script_model.specs.declared.Reason.{Reason}
 use Rattle.script_model.specs.declared.Reason.TheVariants as reason
@@ -54,7 +54,7 @@ command_said text =
 
 -- a line that is empty, has only spaces, or begins with `#`
 abbrev pub is_skipped : Text → Bool
-is_skipped text = list_all (nat_eq 0x20) text || get_or text 0 0 == 0x23
+is_skipped text = list_all (λ byte. byte == 0x20) text || get_or text 0 0 == 0x23
 
 abbrev pub said : Text → Said
 said text = if is_skipped text then Nothing else command_said text

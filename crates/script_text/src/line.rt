@@ -1,5 +1,6 @@
 //! Lines, as they are cut from a script and from a block.
 ghost use Rattle.std.specs.Prelude.{◌≡◌, ◌+◌, ◌==◌, ◌≤◌, IfNone, IfSome, [], drop, length, position};
+ghost use Rattle.std.specs.List.{list_all};
 ghost use Rattle.lake_model.specs.Texts.{lines_of, lines_with};
 ghost use Rattle.script_model.specs.Numbers.{without_return};
 ghost use Rattle.script_model.specs.Reading.{is_end, undotted};
@@ -54,5 +55,12 @@ pub(crate) fn undotted(line: &[u8]) -> &[u8]
 pub(crate) fn is_skipped(line: &[u8]) -> bool
     ensures { result ≡ is_skipped line.now }
 {
-    line.iter().all(|byte| *byte == b' ') || matches!(line, [b'#', ..])
+    is_blank(line) || matches!(line, [b'#', ..])
+}
+
+// Whether the line is empty or has only spaces.
+fn is_blank(line: &[u8]) -> bool
+    ensures { result ≡ list_all (λ byte. byte == 0x20) line.now }
+{
+    line.iter().all(|byte| *byte == b' ')
 }
