@@ -2,7 +2,9 @@
 ghost use Rattle.std.specs.Prelude.{◌≡◌, ◌∷◌, [], length, IfOk};
 ghost use Rattle.lake_model.specs.Tables.{keys_at};
 
-use crate::{Catalogue, Counts, DropRefused, Entry, LoadRefused, What, Which, Who, standard_limits};
+use crate::{
+    Catalogue, Counts, DropRefused, Entry, LoadRefused, What, Which, Who, standard_limits,
+};
 use column_set::{Name, SharedTable, TableSets};
 use csv_table::read_table;
 use segment_core::{Owner, Segment};
@@ -94,7 +96,10 @@ fn loads_up_to_the_limit_of_updates(rt: HostRuntime) -> Result<(), Fail> {
         at: 2,
     };
     assert_eq!(rt; load(&mut lake, alloc, "c")?, Err(full));
-    assert_eq!(rt; load(&mut lake, alloc, "a")?, Err(LoadRefused::Repeated { at: 2 }));
+    assert_eq!(rt;
+        load(&mut lake, alloc, "a")?,
+        Err(LoadRefused::Repeated { at: 2 })
+    );
     assert_eq!(rt; lake.journal().len(), 2);
     Ok(())
 }
