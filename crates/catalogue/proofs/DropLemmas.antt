@@ -18,10 +18,10 @@ use Rattle.segment_core.specs.Versions.{VersionOf, version_with}
 use Rattle.catalogue.specs.declared.refusal.DropRefused.{DropRefused}
 use Rattle.catalogue.specs.declared.refusal.DropRefused.TheVariants.{Unknown, Full}
 use Rattle.catalogue.specs.Kept.{IsKept, IsWithin}
-use Rattle.catalogue.specs.Parts.{live_of, load_of, is_of, HasPlaces, Rises}
+use Rattle.catalogue.specs.Parts.{live_of, load_of, is_of, positions_in, HasPlaces, Rises}
 use Rattle.catalogue.specs.Refusals.{drop_refusal}
 use Rattle.catalogue.proofs.ListLemmas.{le_from, all_weaker, all_map, distinct_filter, map_none, find_none}
-use Rattle.catalogue.proofs.PlaceLemmas.{places_of, unmarked, name_same, name_is, name_differs, names_of_tables, positions_in}
+use Rattle.catalogue.proofs.PlaceLemmas.{places_of, unmarked, name_same, name_is, name_differs, names_of_tables}
 use Rattle.catalogue.proofs.KeptLemmas.{counts_with, is_legal_behind-push}
 
 places_mark : (name : Text) (parts : List Part) → places_of (map (mark name) parts) ≡ map (mark_place name) (places_of parts)
@@ -66,12 +66,12 @@ mark_step false false true false old new n e f g = refl
 mark_step false false false true old new n e f g = e
 mark_step false false false false old new n e f g = e
 
-none_is : (b : Bool) → None {A = ℕ} ≡ cond b None None
-none_is true = refl
-none_is false = refl
+none_is : (b : Bool) (o : Option ℕ) → o ≡ None → o ≡ cond b None o
+none_is true o h = h
+none_is false o h = refl
 
 load_mark : (name q : Text) (places : List Place) → load_in q (map (mark_place name) places) ≡ cond (bytes_eq name q) None (load_in q places)
-load_mark name q [] = none_is (bytes_eq name q)
+load_mark name q [] = none_is (bytes_eq name q) (load_in q []) refl
 load_mark name q (place ∷ places) =
     let h : has_name name place.table ≡ true → has_name q place.table ≡ bytes_eq name q = λ e. ap (λ (x : Text). bytes_eq x q) (name_same place.table.name name e) in
     let g : has_name q place.table ≡ true → bytes_eq name q ≡ true → has_name name place.table ≡ true = λ e f. name_is place.table.name name (name_same place.table.name q e ∙ sym (name_same name q f)) in
@@ -178,6 +178,7 @@ module _ (limits : Counts) (journal : List Entry) (version : VersionOf) (counted
       rising = subst Rises (sym positions_stay) kept.rising;
       past = subst (AllByRecursion (λ n. n ≤ length longer)) (sym positions_stay) (all_weaker (λ n. n ≤ length journal) (λ n. n ≤ length longer) (positions_of (layout journal)) (λ n le. omega (arith, long)) kept.past);
       filled = subst (AllByRecursion HasPlaces) (sym laid) (filled_mark name (layout journal) kept.filled);
+      room = omega (arith, ap (λ (ns : List ℕ). length ns) positions_stay, kept.room, count_updates, ap (λ (c : Counts). c.updates) kept.count);
       few = omega (arith, ap (λ (ps : List Part). length ps) laid, length-map (layout journal) (mark name), kept.few, count_updates, ap (λ (c : Counts). c.updates) kept.count);
     }
 

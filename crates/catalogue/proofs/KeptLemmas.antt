@@ -63,6 +63,7 @@ kept_same limits journal journal' version version' counted position position' ke
       rising = kept.rising;
       past = kept.past;
       filled = kept.filled;
+      room = kept.room;
       few = kept.few;
     } in
     kept_equal limits journal journal' version version' counted counted position' here j v refl

@@ -20,27 +20,27 @@ use Rattle.catalogue.specs.Kept.{IsKept, IsWithin}
 use Rattle.catalogue.specs.Parts.{live_of, load_of, is_of, HasPlaces, Rises}
 use Rattle.catalogue.specs.Refusals.{load_refusal}
 use Rattle.catalogue.proofs.ListLemmas.{le_from, all_append, all_weaker, filter-append, distinct_push, rises_push, open_by, map_none, find_none, find_push, none_from}
-use Rattle.catalogue.proofs.PlaceLemmas.{places_of, unmarked, names_append, name_same, name_is, names_in, positions_in}
+use Rattle.catalogue.proofs.PlaceLemmas.{places_of, unmarked, names_append, name_same, name_is, names_in}
 use Rattle.catalogue.proofs.KeptLemmas.{counts_with, is_legal_behind-push, parts_kept, named_kept, names_kept, names_differ, positions_differ}
 
 -- the part of one load
 abbrev pub loaded_part : ℕ → Table → Part
 loaded_part at table = part_with at (place_with at table false ∷ [])
 
-abbrev first_of : ℕ → Table → Place
-first_of at table = place_with at table false
+abbrev lone_place : ℕ → Table → Place
+lone_place at table = place_with at table false
 
-places_push : (parts : List Part) (at : ℕ) (table : Table) → places_of (parts ++ loaded_part at table ∷ []) ≡ places_of parts ++ first_of at table ∷ []
+places_push : (parts : List Part) (at : ℕ) (table : Table) → places_of (parts ++ loaded_part at table ∷ []) ≡ places_of parts ++ lone_place at table ∷ []
 places_push parts at table = flat_map-append (λ (part : Part). part.places) parts (loaded_part at table ∷ [])
 
 positions_push : (parts : List Part) (at : ℕ) (table : Table) → positions_of (parts ++ loaded_part at table ∷ []) ≡ positions_of parts ++ at ∷ []
-positions_push parts at table = ap (map (λ (place : Place). place.position)) (places_push parts at table) ∙ map-append (λ (place : Place). place.position) (places_of parts) (first_of at table ∷ [])
+positions_push parts at table = ap (map (λ (place : Place). place.position)) (places_push parts at table) ∙ map-append (λ (place : Place). place.position) (places_of parts) (lone_place at table ∷ [])
 
 names_push : (parts : List Part) (at : ℕ) (table : Table) → unmarked_names (parts ++ loaded_part at table ∷ []) ≡ unmarked_names parts ++ table.name ∷ []
-names_push parts at table = ap (λ (places : List Place). names_in places) (places_push parts at table) ∙ names_append (places_of parts) (first_of at table ∷ [])
+names_push parts at table = ap (λ (places : List Place). names_in places) (places_push parts at table) ∙ names_append (places_of parts) (lone_place at table ∷ [])
 
-unmarked_push : (parts : List Part) (at : ℕ) (table : Table) → unmarked_of (parts ++ loaded_part at table ∷ []) ≡ unmarked_of parts ++ first_of at table ∷ []
-unmarked_push parts at table = ap (λ (places : List Place). unmarked places) (places_push parts at table) ∙ filter-append (λ (place : Place). not place.marked) (places_of parts) (first_of at table ∷ [])
+unmarked_push : (parts : List Part) (at : ℕ) (table : Table) → unmarked_of (parts ++ loaded_part at table ∷ []) ≡ unmarked_of parts ++ lone_place at table ∷ []
+unmarked_push parts at table = ap (λ (places : List Place). unmarked places) (places_push parts at table) ∙ filter-append (λ (place : Place). not place.marked) (places_of parts) (lone_place at table ∷ [])
 
 map_cond : (b : Bool) (place : Place) (rest : Option Place) → option_map (λ (p : Place). p.position) (cond b (Some place) rest) ≡ cond b (Some place.position) (option_map (λ (p : Place). p.position) rest)
 map_cond true place rest = refl
@@ -49,8 +49,8 @@ map_cond false place rest = refl
 load_push : (parts : List Part) (at : ℕ) (table : Table) (q : Text) → (has_name q table ≡ true → load_of parts q ≡ None) → load_of (parts ++ loaded_part at table ∷ []) q ≡ cond (has_name q table) (Some at) (load_of parts q)
 load_push parts at table q h =
     ap (λ (places : List Place). option_map (λ (p : Place). p.position) (find (is_of q) places)) (unmarked_push parts at table)
-    ∙ ap (option_map (λ (p : Place). p.position)) (find_push (is_of q) (unmarked_of parts) (first_of at table) (λ e. map_none (λ (p : Place). p.position) (find (is_of q) (unmarked_of parts)) (h e)))
-    ∙ map_cond (has_name q table) (first_of at table) (find (is_of q) (unmarked_of parts))
+    ∙ ap (option_map (λ (p : Place). p.position)) (find_push (is_of q) (unmarked_of parts) (lone_place at table) (λ e. map_none (λ (p : Place). p.position) (find (is_of q) (unmarked_of parts)) (h e)))
+    ∙ map_cond (has_name q table) (lone_place at table) (find (is_of q) (unmarked_of parts))
 
 apart : (a b : Bool) → (a || b) ≡ false → (a ≡ false) × (b ≡ false)
 apart true b h = cc
@@ -159,6 +159,7 @@ module _ (limits : Counts) (journal : List Entry) (version : VersionOf) (counted
       past = subst (AllByRecursion (λ n. n ≤ length longer)) (sym (ap (λ (parts : List Part). positions_of parts) laid ∙ positions_push (layout journal) (length journal + 1) table))
           (all_append (λ n. n ≤ length longer) (positions_of (layout journal)) ((length journal + 1) ∷ []) (all_weaker (λ n. n ≤ length journal) (λ n. n ≤ length longer) (positions_of (layout journal)) (λ n le. omega (arith, long)) kept.past) (omega (arith, long), tt));
       filled = subst (AllByRecursion HasPlaces) (sym laid) (all_append HasPlaces (layout journal) (loaded_part (length journal + 1) table ∷ []) kept.filled (omega arith, tt));
+      room = omega (arith, ap (λ (parts : List Part). length (positions_of parts)) laid, ap (λ (ns : List ℕ). length ns) (positions_push (layout journal) (length journal + 1) table), length-append (positions_of (layout journal)) ((length journal + 1) ∷ []), kept.room, count_updates, ap (λ (c : Counts). c.updates) kept.count);
       few = omega (arith, ap (λ (ps : List Part). length ps) laid, length-append (layout journal) (loaded_part (length journal + 1) table ∷ []), kept.few, count_updates, ap (λ (c : Counts). c.updates) kept.count);
     }
 

@@ -11,7 +11,7 @@ use Rattle.lake_model.specs.Journal.{has_name}
 use Rattle.lake_model.specs.Layout.{Place, Part, mark, mark_place, positions_of, unmarked_of}
 use Rattle.segment_core.specs.Distinct.{AreDistinct, Lacks, unmarked_names}
 use Rattle.segment_core.specs.Versions.{place_with, part_with, part_at, mark_nth, marked_at}
-use Rattle.catalogue.specs.Parts.{live_of, load_of, is_of, HasPlaces}
+use Rattle.catalogue.specs.Parts.{load_of, is_of, positions_in}
 use Rattle.catalogue.proofs.ListLemmas.{all_left, all_right, all_weaker, all_map, all_at, all_filter, all_passed, filter-append, distinct_left, distinct_right, distinct_apart, find_all, find_passed, map_some}
 
 abbrev pub places_of : List Part → List Place
@@ -22,9 +22,6 @@ unmarked places = filter (λ place. not place.marked) places
 
 abbrev pub names_in : List Place → List Text
 names_in places = map (λ place. place.table.name) (unmarked places)
-
-abbrev pub positions_in : List Place → List ℕ
-positions_in places = map (λ place. place.position) places
 
 pub name_same : (a b : Text) → bytes_eq a b ≡ true → a ≡ b
 name_same a b h = (bytes_eq-Decides a b).0 h
@@ -162,3 +159,9 @@ drop_marks name parts i j position d positions names loaded lt within at =
     not_true : (b : Bool) → not b ≡ true → b ≡ false
     not_true true h = cc
     not_true false h = refl
+
+-- where no place has a position, no load of a live table has it
+pub load_lacks : (parts : List Part) (name : Text) (n : ℕ) → Lacks (positions_of parts) n → load_of parts name ≡ Some n → ⊥
+load_lacks parts name n lacks e =
+    let f = map_some (λ (p : Place). p.position) (find (is_of name) (unmarked (places_of parts))) n e in
+    find_all (λ (p : Place). p.position ≡ n → ⊥) (is_of name) (unmarked (places_of parts)) f.0 (all_filter (λ (p : Place). p.position ≡ n → ⊥) (λ (p : Place). not p.marked) (places_of parts) (all_map (λ (m : ℕ). m ≡ n → ⊥) (λ (p : Place). p.position) (places_of parts) lacks)) f.1 f.2

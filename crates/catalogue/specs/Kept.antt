@@ -25,7 +25,8 @@ pub record IsWithin (limits counted : Counts) : Type 0 where
   pub key_bytes : counted.key_bytes ≤ limits.key_bytes
 
 -- The version, the counts and the positions by name are those of the journal, which is legal and within the limits. The positions
--- of the layout rise; its tables that are not marked are the live ones, no two of one name; and no part is empty.
+-- of the layout rise; its tables that are not marked are the live ones, no two of one name; no part is empty; and there are at most as
+-- many tables, and parts, as loads and drops.
 pub record IsKept (limits : Counts) (journal : List Entry) (version : VersionOf) (counted : Counts) (position : Text → Option ℕ) : Type 0 where
   pub current : version ≡ version_with (length journal) (layout journal)
   pub count : counted ≡ counts journal
@@ -38,4 +39,5 @@ pub record IsKept (limits : Counts) (journal : List Entry) (version : VersionOf)
   pub rising : Rises (positions_of (layout journal))
   pub past : AllByRecursion (λ n. n ≤ length journal) (positions_of (layout journal))
   pub filled : AllByRecursion HasPlaces (layout journal)
+  pub room : length (positions_of (layout journal)) ≤ (counts journal).updates
   pub few : length (layout journal) ≤ (counts journal).updates

@@ -1,5 +1,5 @@
 -- What the parts of a layout have: their live tables, and of each the position of its load.
-use Rattle.std.specs.Prelude.{◌<◌, ℕ, Bool, false, List, [], ◌∷◌, map, length, get_or, find, option_map, Option}
+use Rattle.std.specs.Prelude.{◌<◌, ℕ, Bool, false, List, [], ◌∷◌, map, length, get_or, slice_index, find, option_map, Option}
 use Rattle.std.specs.List.{AllByRecursion}
 use Rattle.lake_model.specs.Texts.{Text}
 use Rattle.lake_model.specs.Tables.{Table}
@@ -25,9 +25,20 @@ abbrev pub Rises : List ℕ → Type 0
 Rises [] = Unit {0}
 Rises (n ∷ ns) = AllByRecursion (λ later. n < later) ns × Rises ns
 
+-- the positions of places
+abbrev pub positions_in : List Place → List ℕ
+positions_in places = map (λ place. place.position) places
+
+-- the position of the first load of a part
+abbrev pub first_of : Part → ℕ
+first_of part = slice_index (positions_in part.places) 0
+
 abbrev pub HasPlaces : Part → Type 0
 HasPlaces part = 0 < length part.places
 
+abbrev pub no_place : Place
+no_place = place_with 0 no_table false
+
 -- the place of an index in the part of an index
 abbrev pub place_at : List Part → ℕ → ℕ → Place
-place_at parts i j = get_or (part_at parts i).places j (place_with 0 no_table false)
+place_at parts i j = get_or (part_at parts i).places j no_place

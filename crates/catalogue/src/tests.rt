@@ -1,16 +1,16 @@
 //! What the clauses mean on small lakes whose answers were worked out by hand, and that the calls succeed.
-use crate::{Catalogue, Counts, Entry, LoadRefused, What, Which, Who, standard_limits};
+ghost use Rattle.std.specs.Prelude.{◌≡◌, ◌∷◌, [], length, IfOk};
+ghost use Rattle.lake_model.specs.Tables.{keys_at};
+
+use crate::{
+    Catalogue, Counts, DropRefused, Entry, LoadRefused, What, Which, Who, standard_limits,
+};
 use column_set::{Name, SharedTable, TableSets};
 use csv_table::read_table;
+use segment_core::{Owner, Segment};
 use std::alloc::Global;
+use std::sync::Arc;
 use std::test::Fail;
-
-// The table of a name with the columns of a CSV text.
-fn table(alloc: Global, name: &str, text: &str) -> Result<SharedTable, Fail> {
-    let name = Name::read(name.as_bytes()).ok_or("no name")?;
-    let raw = read_table(alloc, text.as_bytes())?;
-    Ok(SharedTable::new(alloc, TableSets::build(alloc, name, &raw)?)?)
-}
 
 const FIRST: Who = Who {
     caller: 1,
@@ -22,117 +22,148 @@ const SECOND: Who = Who {
     command: 8,
 };
 
-#[test]
-fn loads_up_to_the_limit_of_updates(rt: HostRuntime) -> Result<(), Fail> {
-    let alloc = rt.alloc();
+fn name(text: &str) -> Result<Name, Fail> {
+    let Some(name) = Name::read(text.as_bytes()) else {
+        return Err(Fail::from("no name"));
+    };
+    Ok(name)
+}
+
+// The table of a name whose one column has no key.
+fn table(alloc: Global, text: &str) -> Result<SharedTable, Fail>
+    ensures columns { IfOk result (λ table. length table.columns ≡ 1) }
+    ensures keys { IfOk result (λ table. length (keys_at table 1) ≡ 0) }
+{
+    let raw = read_table(alloc, b"x\n")?;
+    let sets = TableSets::build(alloc, name(text)?, &raw)?;
+    if sets.columns() != 1 || sets.size(1) != 0 {
+        return Err(Fail::from("another table"));
+    }
+    Ok(SharedTable::new(alloc, sets)?)
+}
+
+// The segment of such a table.
+fn segment(alloc: Global, table: SharedTable) -> Result<Arc<Segment>, Fail>
+    requires columns { length table.columns ≡ 1 }
+    requires keys { length (keys_at table 1) ≡ 0 }
+    ensures { IfOk result (λ segment. segment.value ≡ table ∷ []) }
+{
+    let tables = vec![in alloc; table]?;
+    let owners = vec![in alloc; Owner { table: 0, place: 1 }]?;
+    let list_starts = vec![in alloc; 0]?;
+    let set_starts = vec![in alloc; 0, 0]?;
+    let segment = Segment::new(
+        tables,
+        owners,
+        Vec::new(alloc),
+        Vec::new(alloc),
+        list_starts,
+        Vec::new(alloc),
+        set_starts,
+        Vec::new(alloc),
+    );
+    Ok(Arc::new(alloc, segment)?)
+}
+
+// Loads such a table.
+fn load(lake: &mut Catalogue, alloc: Global, name: &str) -> Result<Result<u64, LoadRefused>, Fail> {
+    let table = table(alloc, name)?;
+    let segment = segment(alloc, table.share()?)?;
+    Ok(lake.load(FIRST, table, segment))
+}
+
+// An empty lake of at most two loads and drops.
+fn small_lake(alloc: Global) -> Result<Catalogue, Fail> {
     let limits = Counts {
         live: 10,
         updates: 2,
         members: 100,
         key_bytes: 1_000,
     };
-    let mut lake = Catalogue::new(alloc, limits)?;
-    assert_eq!(rt; lake.load(FIRST, table(alloc, "a", "x\n1\n")?), Ok(1));
-    assert_eq!(rt; lake.load(SECOND, table(alloc, "b", "x\n1\n")?), Ok(2));
+    Ok(Catalogue::new(alloc, limits)?)
+}
+
+#[test]
+fn loads_up_to_the_limit_of_updates(rt: HostRuntime) -> Result<(), Fail> {
+    let alloc = rt.alloc();
+    let mut lake = small_lake(alloc)?;
+    assert_eq!(rt; load(&mut lake, alloc, "a")?, Ok(1));
+    assert_eq!(rt; load(&mut lake, alloc, "b")?, Ok(2));
     let full = LoadRefused::Full {
         which: Which::Updates,
         count: 2,
         more: 1,
         at: 2,
     };
-    assert_eq!(rt; lake.load(FIRST, table(alloc, "c", "x\n1\n")?), Err(full));
-    let repeated = LoadRefused::Repeated { at: 2 };
+    assert_eq!(rt; load(&mut lake, alloc, "c")?, Err(full));
     assert_eq!(rt;
-        lake.load(FIRST, table(alloc, "a", "x\n2\n")?),
-        Err(repeated)
+        load(&mut lake, alloc, "a")?,
+        Err(LoadRefused::Repeated { at: 2 })
     );
-    assert_eq!(rt; lake.at(), 2);
     assert_eq!(rt; lake.journal().len(), 2);
-    for (entry, who) in lake.journal().iter().zip([FIRST, SECOND]) {
-        assert_eq!(rt; entry.who, who);
-    }
     Ok(())
 }
 
 #[test]
-fn live_tables_and_counts_of_loads(rt: HostRuntime) -> Result<(), Fail> {
+fn drops_up_to_the_limit_of_updates(rt: HostRuntime) -> Result<(), Fail> {
+    let alloc = rt.alloc();
+    let mut lake = small_lake(alloc)?;
+    assert_eq!(rt; load(&mut lake, alloc, "a")?, Ok(1));
+    assert_eq!(rt; load(&mut lake, alloc, "b")?, Ok(2));
+    let full = DropRefused::Full {
+        which: Which::Updates,
+        count: 2,
+        more: 1,
+        at: 2,
+    };
+    assert_eq!(rt; lake.drop_table(SECOND, &name("a")?), Err(full));
+    let unknown = DropRefused::Unknown { at: 2 };
+    assert_eq!(rt; lake.drop_table(SECOND, &name("c")?), Err(unknown));
+    Ok(())
+}
+
+#[test]
+fn a_name_is_loaded_dropped_and_loaded_again(rt: HostRuntime) -> Result<(), Fail> {
     let alloc = rt.alloc();
     let mut lake = Catalogue::new(alloc, standard_limits())?;
-    assert_eq!(rt;
-        lake.load(FIRST, table(alloc, "b", "x,y\none,1\ntwo,1\n")?),
-        Ok(1)
-    );
-    assert_eq!(rt; lake.load(FIRST, table(alloc, "a", "x\n1\n")?), Ok(2));
-    assert_eq!(rt; lake.tables().len(), 2);
-    assert_eq!(rt; lake.tables()[0].table().name().text(), "b");
-    assert_eq!(rt; lake.tables()[1].table().name().text(), "a");
+    assert_eq!(rt; load(&mut lake, alloc, "a")?, Ok(1));
+    assert_eq!(rt; lake.drop_table(SECOND, &name("a")?), Ok(2));
+    assert!(rt; !lake.live(&name("a")?));
+    assert_eq!(rt; load(&mut lake, alloc, "a")?, Ok(3));
+    assert!(rt; lake.live(&name("a")?));
     let counts = Counts {
-        live: 2,
-        updates: 2,
-        members: 4,
-        key_bytes: 8,
+        live: 1,
+        updates: 3,
+        members: 0,
+        key_bytes: 0,
     };
     assert_eq!(rt; lake.counts(), counts);
-    assert!(rt; lake.live(&Name::read(b"b").ok_or("no name")?));
-    assert!(rt; !lake.live(&Name::read(b"c").ok_or("no name")?));
+    assert_eq!(rt; lake.at(), 3);
     Ok(())
 }
 
-// A limit is named where it alone would be passed, with what counts against it and what the load would add.
 #[test]
-fn each_limit_once(rt: HostRuntime) -> Result<(), Fail> {
+fn a_pin_keeps_what_is_dropped_later(rt: HostRuntime) -> Result<(), Fail> {
     let alloc = rt.alloc();
-    let cases = [
-        (1, 9, 9, 9, Which::Live, 1, 1),
-        (9, 1, 9, 9, Which::Updates, 1, 1),
-        (9, 9, 4, 9, Which::Members, 2, 3),
-        (9, 9, 9, 6, Which::KeyBytes, 4, 3),
-    ];
-    for (live, updates, members, key_bytes, which, count, more) in cases {
-        let limits = Counts {
-            live,
-            updates,
-            members,
-            key_bytes,
-        };
-        let mut lake = Catalogue::new(alloc, limits)?;
-        let first = lake.load(FIRST, table(alloc, "a", "x\n12\n34\n")?);
-        assert_eq!(rt; first, Ok(1), "{which:?}");
-        let second = lake.load(FIRST, table(alloc, "b", "x\n5\n6\n7\n")?);
-        let full = LoadRefused::Full {
-            which,
-            count,
-            more,
-            at: 1,
-        };
-        assert_eq!(rt; second, Err(full), "{which:?}");
-    }
-    Ok(())
-}
-
-// A load that comes up to each limit passes none.
-#[test]
-fn limits_may_be_reached(rt: HostRuntime) -> Result<(), Fail> {
-    let alloc = rt.alloc();
-    let exact = Counts {
-        live: 1,
-        updates: 1,
-        members: 2,
-        key_bytes: 4,
-    };
-    let mut lake = Catalogue::new(alloc, exact)?;
-    assert_eq!(rt; lake.load(FIRST, table(alloc, "a", "x\n12\n34\n")?), Ok(1));
-    assert_eq!(rt; lake.counts(), exact);
+    let mut lake = Catalogue::new(alloc, standard_limits())?;
+    assert_eq!(rt; load(&mut lake, alloc, "a")?, Ok(1));
+    let before = lake.pin()?;
+    assert_eq!(rt; lake.drop_table(SECOND, &name("a")?), Ok(2));
+    let behind = lake.pin()?;
+    assert_eq!(rt; before.at(), 1);
+    assert_eq!(rt; behind.at(), 2);
+    assert_eq!(rt; before.tables(alloc)?.list().len(), 1);
+    assert_eq!(rt; behind.tables(alloc)?.list().len(), 0);
     Ok(())
 }
 
 #[test]
 fn a_shared_entry_is_the_entry(rt: HostRuntime) -> Result<(), Fail> {
-    let entry = Entry::loaded(SECOND, table(rt.alloc(), "a", "x\n1\n")?);
-    let other = entry.share()?;
-    assert_eq!(rt; other.who, SECOND);
-    let What::Loaded(loaded) = &other.what;
-    assert_eq!(rt; loaded.table().name().text(), "a");
-    assert_eq!(rt; loaded.table().members(), 1);
+    let entry = Entry::dropped(SECOND, name("a")?).share()?;
+    assert_eq!(rt; entry.who, SECOND);
+    match &entry.what {
+        What::Loaded(_) => assert!(rt; false),
+        What::Dropped(name) => assert_eq!(rt; name.text(), "a"),
+    }
     Ok(())
 }
