@@ -1,3 +1,4 @@
 pub mod Versions
 pub mod Distinct
 pub mod Lines
+pub mod Worked
