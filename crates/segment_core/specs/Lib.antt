@@ -2,3 +2,4 @@ pub mod Versions
 pub mod Distinct
 pub mod Lines
 pub mod Worked
+pub mod Positions

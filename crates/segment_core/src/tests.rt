@@ -293,6 +293,23 @@ fn logged(rt: HostRuntime) -> Result<(), Fail> {
     Ok(())
 }
 
+// Where the load of a position stands in the worked version.
+fn found(version: &Version, position: u64) -> Option<(u32, u32)>
+    requires { version.now ≡ worked_version }
+{
+    version.find(position)
+}
+
+// The load at position 7 is found, and none before or behind it.
+#[test]
+fn positions(rt: HostRuntime) -> Result<(), Fail> {
+    let version = version(rt.alloc())?;
+    assert_eq!(rt; found(&version, 7), Some((0, 0)));
+    assert_eq!(rt; found(&version, 6), None);
+    assert_eq!(rt; found(&version, 8), None);
+    Ok(())
+}
+
 // What a pin shows: its position, and the layout of the one part, in which the table is marked or not.
 fn expect_layout(
     rt: &impl Abort,
