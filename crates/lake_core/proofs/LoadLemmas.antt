@@ -13,18 +13,21 @@ use Rattle.lake_model.specs.Texts.{Text}
 use Rattle.lake_model.specs.Tables.{Table, members}
 use Rattle.lake_model.specs.Records.{Record, records_of, csv_fault, sets_fault, table_of}
 use Rattle.lake_model.specs.Queries.{query_of, query_fault}
-use Rattle.lake_model.specs.Answer.{answer}
 use Rattle.lake_model.specs.Journal.{What, Entry, entry_with, is_live, live, counts}
-use Rattle.lake_model.specs.Limits.{Bounded, is_passed, load_bounds}
+use Rattle.lake_model.specs.Journal as entries
+use Rattle.lake_model.specs.Limits.{Bounded, is_passed, load_bounds, drop_bounds}
 use Rattle.catalogue.specs.declared.refusal.LoadRefused.{LoadRefused}
 use Rattle.catalogue.specs.declared.refusal.LoadRefused.TheVariants as refused
-use Rattle.catalogue.specs.Refusals.{load_refusal}
-use Rattle.script_model.specs.Commands.{Task, Load, Search}
-use Rattle.script_model.specs.Replies.{Reply, Loaded, Found, Repeated, Full, NoMemory, Fault, OfCsv, OfSets, OfQuery, fault_reply, csv_reply, sets_reply, query_reply, load_reply, unless_lake_full}
-use Rattle.script_model.specs.Answered.{TableRead, IsTable, NoTable, QueryRead, IsQuery, table_read, query_read, records_read, sets_read, keys_read, load_answer, search_answer, loads, adds, is_accepted, standing, Nowhere}
+use Rattle.catalogue.specs.declared.refusal.DropRefused.{DropRefused}
+use Rattle.catalogue.specs.declared.refusal.DropRefused.TheVariants as dropping
+use Rattle.catalogue.specs.Refusals.{load_refusal, drop_refusal}
+use Rattle.script_model.specs.Commands.{Task, Load, DropTable, Tables, Search}
+use Rattle.script_model.specs.Replies.{Reply, Loaded, Dropped, Listed, Unknown, Repeated, Full, NoMemory, Fault, OfCsv, OfSets, OfQuery, fault_reply, csv_reply, sets_reply, query_reply, load_reply, drop_reply, tables_reply, search_reply, unless_lake_full}
+use Rattle.script_model.specs.Answered.{plain_query, TableRead, IsTable, NoTable, QueryRead, IsQuery, table_read, query_read, records_read, sets_read, keys_read, load_answer, search_answer, loads, adds, is_accepted, standing, Nowhere}
 use Rattle.script_model.specs.Play.{reply_or_denied}
 use Rattle.script_model.specs.Record.{RunRecord}
 use Rattle.script_model.proofs.PlayLemmas.{fault_nowhere}
+use Rattle.lake_core.specs.Drops.{drop_refusal_reply}
 use Rattle.lake_core.specs.Loads.{IsRefusal, refusal_reply, loaded_by, with_added}
 
 -- the reply is this one, or the one for want of memory
@@ -102,7 +105,7 @@ query_refused k bytes journal e (inl none) = (true, ap query_reply none)
 query_refused k bytes journal e (inr h) = (false, ap (λ fault. search_answer k (keys_read bytes fault) journal) (sym h))
 
 pub query_found : (k : ℕ) (bytes : List ℕ) (journal : List Entry) (keys : List Text) → query_fault bytes ≡ None → keys ≡ query_of bytes
-    → Answers (Found (length keys) (answer (live journal) keys k None) (length journal)) (search_answer k (query_read bytes) journal)
+    → Answers (search_reply (plain_query k keys) journal) (search_answer k (query_read bytes) journal)
 unfolding query_read
 query_found k bytes journal keys none same =
     (false, ap (λ ks. search_answer k (IsQuery ks) journal) same ∙ ap (λ fault. search_answer k (keys_read bytes fault) journal) (sym none))
@@ -113,3 +116,31 @@ either_none false = refl
 
 pub search_adds : (who : Who) (k : ℕ) (bytes : List ℕ) (reply : Reply) (made : RunRecord) → made ≡ with_added who (adds (Search k bytes) made.journal reply) made
 search_adds who k bytes reply made = added_none who made ∙ ap (λ whats. with_added who whats made) (sym (either_none (is_accepted (standing reply))))
+
+pub tables_add : (who : Who) (reply : Reply) (made : RunRecord) → made ≡ with_added who (adds Tables made.journal reply) made
+tables_add who reply made = added_none who made ∙ ap (λ whats. with_added who whats made) (sym (either_none (is_accepted (standing reply))))
+
+-- ---- drops
+
+drop_said : (name : Text) (n : ℕ) (accepted : Reply) (b : Bool) (o : Option Bounded) (e : DropRefused)
+    → cond b (option_map (λ x. dropping.Full x.which x.count x.more n) o) (Some (dropping.Unknown n)) ≡ Some e
+    → drop_refusal_reply name e ≡ cond b (unless_lake_full n accepted o) (Unknown name n)
+drop_said name n accepted false o e h = let same : e ≡ dropping.Unknown n = cc in ap (drop_refusal_reply name) same
+drop_said name n accepted true None e h = absurd (let f : None ≡ Some e = h in cc)
+drop_said name n accepted true (Some x) e h = let same : e ≡ dropping.Full x.which x.count x.more n = cc in ap (drop_refusal_reply name) same
+
+-- a drop that the catalogue refuses
+pub refused_drop : (limits : Counts) (name : Text) (journal : List Entry) (e : DropRefused) → (e ≡ dropping.NoMemory) ⊎ (drop_refusal limits name journal ≡ Some e)
+    → Answers (drop_refusal_reply name e) (drop_reply limits name journal)
+refused_drop limits name journal e (inl none) = (true, ap (drop_refusal_reply name) none)
+refused_drop limits name journal e (inr h) =
+    (false, drop_said name (length journal) _ (is_live journal name) (find is_passed (drop_bounds limits (counts journal))) e h)
+
+refusal_adds_none : (name : Text) (e : DropRefused) → is_accepted (standing (drop_refusal_reply name e)) ≡ false
+refusal_adds_none name (dropping.Unknown at) = refl
+refusal_adds_none name (dropping.Full which count more at) = refl
+refusal_adds_none name dropping.NoMemory = refl
+
+pub refused_drop_adds : (who : Who) (name : Text) (e : DropRefused) (made : RunRecord) → made ≡ with_added who (adds (DropTable name) made.journal (drop_refusal_reply name e)) made
+refused_drop_adds who name e made =
+    added_none who made ∙ ap (λ (b : Bool). with_added who (cond b (entries.Dropped name ∷ []) []) made) (sym (refusal_adds_none name e))

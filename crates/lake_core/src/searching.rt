@@ -3,6 +3,7 @@ ghost use Rattle.std.specs.Prelude.{◌≡◌, ◌≤◌, Bool, IfOk};
 ghost use Rattle.script_model.specs.Replies.{query_reply, search_reply, tables_reply};
 ghost use Rattle.script_model.specs.Answered.{plain_query, query_read, search_answer};
 ghost use Rattle.script_model.specs.Play.{reply_or_denied};
+ghost use Rattle.lake_core.specs.Searches.{found_at};
 ghost use Rattle.reply_text.specs.Replies.{reply_of};
 
 use catalogue::Catalogue;

@@ -4,7 +4,7 @@ use Rattle.script_model.specs.Replies.{csv_reply, sets_reply}
 use Rattle.script_model.specs.Answered.{table_read, IsTable}
 use Rattle.lake_core.specs.Loads.{IsRefusal}
 use Rattle.lake_core.proofs.LoadLemmas.{csv_refusal, sets_refusal, table_made}
-use Rattle.lake_core.proofs.loading.make_table.Goals as goal
+use Rattle.lake_core.proofs.loading.read_sets.Goals as goal
 
 pub returns-in-Err-clause-refused : goal.returns-in-Err-clause-refused
 returns-in-Err-clause-refused c =
