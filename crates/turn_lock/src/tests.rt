@@ -2,9 +2,10 @@
 //! and that a taker waits for the holder. No clause says that memory is there, nor that anyone ever gets a turn.
 ghost use Rattle.std.specs.Prelude.{◌≡◌, [], false, true, None, Some, IfOk};
 ghost use Rattle.turn_lock.specs.Passes.{known, after_seeing};
+ghost use Rattle.turn_lock.specs.Roll.{signer_of};
 
 use crate::roll::{Roll, note_and_sign, sign, take_roll};
-use crate::{HistoryLock, Pass};
+use crate::{HistoryLock, Kept, Pass};
 use no_memory::NoMemory;
 use std::alloc::Global;
 use std::sync::Wait;
@@ -198,5 +199,48 @@ fn one_caller_signs_twice(rt: HostRuntime) -> Result<(), Fail> {
     lock.meet(&mut second, note);
     lock.end(&mut opening, second);
     assert_eq!(rt; counts(&rt, &lock, &mut opening), (2, 2, 0));
+    Ok(())
+}
+
+/// A value with no entries, which sets its flag when it is dropped.
+struct Watched<'a> {
+    dropped: &'a AtomicBool,
+}
+
+impl<'a> Drop for Watched<'a> {
+    fn drop(self) {
+        let Watched { dropped } = self;
+        dropped.store(true, Ordering::SeqCst);
+    }
+}
+
+impl<'a> Kept for Watched<'a> {
+    type Entry = u32;
+
+    ghost list = { λ _. [] };
+
+    ghost caller_of = { signer_of };
+
+    fn entries(&self) -> u64 {
+        0
+    }
+}
+
+// Nothing makes the allocator refuse in a plain run, which finds a lock. `rt try --test --fail-alloc N` refuses the Nth
+// allocation: `new` then says so, and has dropped the value.
+#[test]
+fn a_lock_or_want_of_memory(rt: HostRuntime) -> Result<(), Fail> {
+    let dropped = AtomicBool::new(false);
+    let watched = Watched { dropped: &dropped };
+    match HistoryLock::new(rt.alloc(), watched, 3) {
+        Ok((lock, opening)) => {
+            assert_eq!(rt; (opening.caller(), lock.left(&opening)), (0, 2));
+            assert!(rt; !dropped.load(Ordering::SeqCst));
+        }
+        Err(NoMemory) => {
+            println!(rt; "want of memory")?;
+            assert!(rt; dropped.load(Ordering::SeqCst));
+        }
+    }
     Ok(())
 }
