@@ -109,7 +109,7 @@ fn names_the_first_line_at_fault(rt: HostRuntime) -> Result<(), Fail> {
         ("load t\nc\nx\n.\nfind\nfind\n", 5, Reason::Unknown),
         ("load p\nv\n..\n.\nsearch 1\na", 5, Reason::NoEnd),
         ("search 10001\n", 1, Reason::Unknown),
-        ("\n", 1, Reason::Unknown),
+        ("# no command\n\n \n?\n", 4, Reason::Unknown),
     ] {
         let (status, same) = ends(&rt, rt.alloc(), script, 5, 0, 64, 0, b"")?;
         assert!(rt; status == Status::Script { line, reason } && same);
