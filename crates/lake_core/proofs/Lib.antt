@@ -1,2 +1,3 @@
 mod LoadLemmas
 mod DriveLemmas
+mod SearchLemmas

@@ -1,9 +1,6 @@
-use Rattle.std.proofs.Common.{◌≡◌, ap, sym, ◌∙◌, subst, length}
-use Rattle.script_model.specs.Replies.{Found, query_reply}
-use Rattle.script_model.specs.Answered.{query_read, search_answer}
-use Rattle.std.specs.Prelude.{None}
-use Rattle.lake_model.specs.Answer.{answer}
-use Rattle.lake_model.specs.Journal.{live}
+use Rattle.std.proofs.Common.{◌≡◌, sym, subst}
+use Rattle.script_model.specs.Replies.{query_reply, search_reply}
+use Rattle.script_model.specs.Answered.{plain_query, query_read, search_answer}
 use Rattle.lake_core.proofs.LoadLemmas.{Answers, query_refused, query_found}
 use Rattle.lake_core.proofs.searching.search.Goals as goal
 
@@ -16,15 +13,12 @@ returns-in-Err c =
     subst (λ reply. Answers reply (search_answer k (query_read c.args.body.now) journal)) (sym c.reply_to_query.ensures)
     (subst (λ bytes. Answers (query_reply refused) (search_answer k (query_read bytes) journal)) c.bytes.ensures.value here)
 
-pub returns-in-Ok-rows_of : goal.returns-in-Ok-rows_of
-returns-in-Ok-rows_of c =
+pub returns-in-Ok-find_now : goal.returns-in-Ok-find_now
+returns-in-Ok-find_now c =
     let k = c.args.k in
     let journal = c.args.catalogue.now.journal in
     let query = c.in-Ok.query in
-    let many : c.len.result ≡ length query = c.len.ensures.value in
-    let rows : c.in-Ok-rows_of.rows ≡ answer (live journal) query k None = c.in-Ok-rows_of.ensures in
-    let at : c.at.result ≡ length journal = c.at.ensures in
-    let here : Answers (Found (length query) (answer (live journal) query k None) (length journal)) (search_answer k (query_read c.bytes.result.now) journal) =
+    let here : Answers (search_reply (plain_query k query) journal) (search_answer k (query_read c.bytes.result.now) journal) =
     query_found k c.bytes.result.now journal query c.in-Ok.ensures.sound c.in-Ok.ensures.keys in
-    subst (λ reply. Answers reply (search_answer k (query_read c.args.body.now) journal)) (λ i. Found (sym many i) (sym rows i) (sym at i))
-    (subst (λ bytes. Answers (Found (length query) (answer (live journal) query k None) (length journal)) (search_answer k (query_read bytes) journal)) c.bytes.ensures.value here)
+    subst (λ reply. Answers reply (search_answer k (query_read c.args.body.now) journal)) (sym c.in-Ok-find_now.ensures)
+    (subst (λ bytes. Answers (search_reply (plain_query k query) journal) (search_answer k (query_read bytes) journal)) c.bytes.ensures.value here)
