@@ -1,7 +1,7 @@
 -- Lists of texts one behind another in one list: where each begins and ends, and one list more.
 use Rattle.std.proofs.Common.{◌≡◌, refl, ap, sym, ◌∙◌, subst, ℕ, zero, suc, ◌+◌, ◌-◌, ◌<◌, ◌≤◌, List, [], ◌∷◌, ◌++◌, length, get_or, take, drop, arith, add-one, length-append, length-drop}
 use Rattle.std.specs.List.{slice_index, slice_range}
-use Rattle.std.proofs.lemmas.List.{drop-append-le, get_or-drop, get_or-take, length-take-le, take-append-le}
+use Rattle.std.proofs.lemmas.List.{drop-append-le, get_or-drop, get_or-take, length-take-le, take-append-le, take_more}
 use Rattle.std.proofs.lemmas.List.FromFn.{length-range_with_len}
 use Rattle.std.proofs.lemmas.List.Sorted.{length_permutation}
 use Rattle.std.proofs.Math.ListN.{get_or-eq_default}
@@ -93,9 +93,28 @@ pub lists_more : (starts : List ℕ) (texts : List Text) (numbers : List ℕ) (k
 lists_more [] texts numbers keys sorted end held k e = absurd held
 lists_more (from ∷ ends) texts numbers keys sorted end held k e = parts_more from ends texts numbers keys sorted end held k e
 
--- one list
-pub one_list : (keys : List Text) (sorted : List ℕ) → IsByKey keys sorted → AreLists (0 ∷ length keys ∷ []) keys sorted × (parts_of (0 ∷ length keys ∷ []) keys ≡ keys ∷ [])
-one_list keys sorted k = let n : length keys ≡ 0 + length keys = omega arith in parts_more 0 [] [] [] keys sorted (length keys) (refl, refl) k n
+lists_at : (starts read : List ℕ) (texts held : List Text) (numbers sorted : List ℕ) → read ≡ starts → held ≡ texts → sorted ≡ numbers → AreLists starts texts numbers → AreLists read held sorted
+lists_at starts read texts held numbers sorted e f g h =
+    subst (λ (s : List ℕ). AreLists s held sorted) (sym e) (subst (λ (t : List Text). AreLists starts t sorted) (sym f) (subst (AreLists starts texts) (sym g) h))
+
+-- the same, as a loop adds the list at i
+pub lists_step : (starts : List ℕ) (texts : List Text) (numbers : List ℕ) (lists : List (List Text)) (i : ℕ) → AreLists starts texts numbers → parts_of starts texts ≡ take i lists → i < length lists
+    → (keys : List Text) → keys ≡ get_or lists i keys → (sorted : List ℕ) → IsByKey keys sorted
+    → (new_texts : List Text) → new_texts ≡ texts ++ keys → (end : ℕ) → end ≡ length new_texts → (new_starts : List ℕ) → new_starts ≡ starts ++ end ∷ [] → (new_numbers : List ℕ) → new_numbers ≡ numbers ++ sorted
+    → AreLists new_starts new_texts new_numbers × (parts_of new_starts new_texts ≡ take (i + 1) lists)
+lists_step starts texts numbers lists i held read within keys here sorted by_key new_texts texts_are end end_is new_starts starts_are new_numbers numbers_are =
+    let more = lists_more starts texts numbers keys sorted end held by_key (end_is ∙ ap length texts_are ∙ length-append texts keys) in (
+      lists_at _ new_starts _ new_texts _ new_numbers starts_are texts_are numbers_are more.0,
+      (λ j. parts_of (starts_are j) (texts_are j)) ∙ more.1 ∙ (λ j. read j ++ here j ∷ []) ∙ sym (take_more lists i keys within),
+    )
+
+-- one list alone
+pub one_list : (list keys : List Text) (sorted : List ℕ) → keys ≡ list → IsByKey list sorted → (end : ℕ) → end ≡ length keys → (starts : List ℕ) → starts ≡ 0 ∷ end ∷ [] → (numbers : List ℕ) → numbers ≡ sorted
+    → AreLists starts keys numbers × (parts_of starts keys ≡ list ∷ [])
+one_list list keys sorted same by_key end end_is starts starts_are numbers numbers_are =
+    let long : end ≡ 0 + length list = omega (arith, ap length same) in
+    let one = parts_more 0 [] [] [] list sorted end (refl, refl) by_key long in
+    (lists_at _ starts _ keys _ numbers starts_are same numbers_are one.0, (λ j. parts_of (starts_are j) (same j)) ∙ one.1)
 
 -- ---- an element of a part
 
