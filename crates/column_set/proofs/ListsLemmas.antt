@@ -74,16 +74,14 @@ parts_more from [] texts numbers keys sorted end h k e =
     let many : length numbers ≡ length texts = h.1 in
     let back = slice_back texts keys from end start e in
     let both = length-append texts keys in
-    let total = length-append numbers sorted in
-    (
+    let total = length-append numbers sorted in (
       (omega arith, by_key_at _ _ _ _ back (slice_back numbers sorted from end (omega arith) (omega arith)) k, (omega arith, omega arith)),
       ap (λ (ks : List Text). ks ∷ []) back,
     )
 parts_more from (to ∷ ends) texts numbers keys sorted end h k e =
     let rest = parts_more to ends texts numbers keys sorted end h.2 k e in
     let bound = within_texts to ends texts numbers h.2 in
-    let front = slice_front texts keys from to h.0 bound.0 in
-    (
+    let front = slice_front texts keys from to h.0 bound.0 in (
       (h.0, by_key_at _ _ _ _ front (slice_front numbers sorted from to h.0 (omega (arith, bound.0, bound.1))) h.1, rest.0),
       (λ j. front j ∷ rest.1 j),
     )

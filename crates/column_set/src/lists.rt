@@ -32,7 +32,12 @@ impl Model for KeyLists {
 
 impl KeyLists {
     /// The keys of these sets, of which there are so many, with so many bytes, in all sets together.
-    pub fn of_sets(alloc: Global, sets: &[KeySet], count: usize, bytes: usize) -> Result<KeyLists, NoMemory>
+    pub fn of_sets(
+        alloc: Global,
+        sets: &[KeySet],
+        count: usize,
+        bytes: usize,
+    ) -> Result<KeyLists, NoMemory>
         ensures { IfOk result (λ lists. lists ≡ sets.now) }
     {
         let mut keys = Texts::with_room(alloc, count, bytes)?;

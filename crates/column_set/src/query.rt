@@ -12,8 +12,7 @@ use lake_model::QueryRefused;
 use no_memory::NoMemory;
 use std::alloc::Global;
 use std::marker::Model;
-use std::slice;
-use std::str;
+use std::{slice, str};
 
 /// The keys of a query, none twice and at most 4,194,304. A contract sees the list of them, in order of first sight.
 #[derive(Drop)]
