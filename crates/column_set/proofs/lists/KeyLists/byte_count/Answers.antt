@@ -1,4 +1,4 @@
-use Rattle.std.proofs.Common.{◌≡◌, ◌≤◌, ◌<◌, ◌^◌, [], IfNone, None, Option, Some, ap, arith, get_or, length, ℕ}
+use Rattle.std.proofs.Common.{◌<◌, [], IfNone, None, Option, Some, ap, arith, get_or, length, ℕ}
 use Rattle.std.proofs.lemmas.List.Sums.{sum_by_more_le}
 use Rattle.column_set.proofs.lists.KeyLists.byte_count.Goals as goal
 

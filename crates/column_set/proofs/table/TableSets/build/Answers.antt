@@ -1,11 +1,10 @@
-use Rattle.std.proofs.Common.{◌≡◌, ◌≤◌, ◌∙◌, List, ap, arith, length, map, string_bytes, subst, sym}
+use Rattle.std.proofs.Common.{◌≡◌, ◌≤◌, ◌∙◌, ap, arith, length, map, string_bytes, subst, sym}
 use Rattle.std.specs.Prelude.{sum_by}
 use Rattle.std.specs.List.{AllByRecursion}
 use Rattle.std.specs.declared.alloc.Global.{Global}
 use Rattle.std.proofs.lemmas.List.{length-map}
 use Rattle.lake_model.specs.Records.{table_of, text_size}
 use Rattle.lake_model.specs.Tables.{Table, Titles, members, titles_with}
-use Rattle.lake_model.specs.Texts.{Text}
 use Rattle.column_set.specs.Columns.{IsSmall, table_from}
 use Rattle.column_set.proofs.ColumnLemmas.{as_many_read, held_read, table_read}
 use Rattle.column_set.proofs.SizeLemmas.{members-size}

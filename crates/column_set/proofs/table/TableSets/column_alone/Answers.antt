@@ -1,4 +1,4 @@
-use Rattle.std.proofs.Common.{◌≡◌, ◌≤◌, ◌∷◌, [], IfOk, List, arith, length, subst}
+use Rattle.std.proofs.Common.{◌≤◌, List, arith, length, subst}
 use Rattle.std.specs.Prelude.{bytes_eq}
 use Rattle.std.specs.List.{IsDistinct}
 use Rattle.lake_model.specs.Texts.{Text}

@@ -1,4 +1,4 @@
-use Rattle.std.proofs.Common.{◌≡◌, ◌∙◌, ◌+◌, ◌++◌, ◌∷◌, [], List, ap, arith, length-append, map}
+use Rattle.std.proofs.Common.{◌≡◌, ◌∙◌, ◌++◌, ◌∷◌, [], ap, arith, length-append, map}
 use Rattle.std.proofs.lemmas.List.{map-append}
 use Rattle.text_region.specs.Spans.{IsSpan, text_at}
 use Rattle.column_set.proofs.ReadLemmas.{all-more}
