@@ -52,11 +52,6 @@ all-at P [] i d h within = absurd (omega arith)
 all-at P (x ∷ xs) zero d h within = h.0
 all-at P (x ∷ xs) (suc i) d h within = all-at P xs i d h.1 (omega arith)
 
-any_default : {X : Type 0} (xs : List X) (i : ℕ) (d e : X) → i < length xs → get_or xs i d ≡ get_or xs i e
-any_default [] i d e h = absurd (omega arith)
-any_default (x ∷ xs) zero d e h = refl
-any_default (x ∷ xs) (suc i) d e h = any_default xs i d e (omega arith)
-
 members-table_from : (titles : Titles) (sets : List (List Text)) → length titles.columns ≡ length sets → members (table_from titles sets) ≡ sum_by (λ keys. length keys) sets
 members-table_from titles sets as_many = sum_by-columns_with (λ keys. length keys) titles.columns sets as_many
 
@@ -81,12 +76,14 @@ module _ {titles : Titles} {sets : List (List Text)} {members key_bytes : ℕ} (
     pub name_held : place ≤ length titles.columns
     name_held = omega (arith, columns_held, held.as_many)
 
-    module _ (keys : List Text) (e : keys ≡ get_or sets (place - 1) keys) where
-      pub keys_held : keys ≡ keys_at table place
-      keys_held = e ∙ any_default sets (place - 1) keys [] place_held ∙ ap (λ ss. get_or ss (place - 1) []) (sym (sets-columns_with titles.columns sets held.as_many)) ∙ ap (λ t. keys_at t place) is
+    pub keys_held : get_or sets (place - 1) [] ≡ keys_at table place
+    keys_held = ap (λ ss. get_or ss (place - 1) []) (sym (sets-columns_with titles.columns sets held.as_many)) ∙ ap (λ t. keys_at t place) is
 
-      pub small_held : length keys ≤ 4194304
-      small_held = rw e (all-at IsSmall sets (place - 1) keys held.small place_held)
+    pub small_held : length (get_or sets (place - 1) []) ≤ 4194304
+    small_held = all-at IsSmall sets (place - 1) [] held.small place_held
+
+    pub different_at : IsDistinct bytes_eq (get_or sets (place - 1) [])
+    different_at = all-at (IsDistinct bytes_eq) sets (place - 1) [] held.different place_held
 
 -- the table that was read: its titles and its sets are of the same places
 module _ (name : Text) (rows : List Record) (names : List Text) (sets : List (List Text)) (named : names ≡ map (field_at rows 0) (places_of rows)) (read : sets ≡ map (λ place. (column_at rows place).keys) (places_of rows)) where

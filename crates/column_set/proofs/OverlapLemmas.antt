@@ -14,7 +14,7 @@ count_by-cons : {X : Type 0} (p : X → Bool) (x : X) (xs : List X) → count_by
 count_by-cons p x xs = sum_by-cons (λ y. once (p y)) x xs
 
 -- the test of two texts, the other way round
-flipped : (a b : Text) (r : Bool) → bytes_eq a b ≡ r → bytes_eq b a ≡ r
+pub flipped : (a b : Text) (r : Bool) → bytes_eq a b ≡ r → bytes_eq b a ≡ r
 flipped a b true e = (bytes_eq-Decides b a).1 (sym ((bytes_eq-Decides a b).0 e))
 flipped a b false e = other (bytes_eq b a) refl
   where

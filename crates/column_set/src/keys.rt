@@ -1,11 +1,13 @@
-//! A set of keys, each once and in order of first sight, which the sets of columns and of queries are made of.
-ghost use Rattle.std.specs.Prelude.{◌≡◌, ◌^◌, ◌<◌, ◌≤◌, List, [], bytes_eq, count_by, get_or, length, map, string_bytes, sum_by, IfNone, IfSome, OnOk};
-ghost use Rattle.std.specs.List.{list_any, IsDistinct};
+//! A set of keys, each once and in order of first sight, in which the values of a column or a query are gathered.
+ghost use Rattle.std.specs.Prelude.{◌≡◌, ◌^◌, ◌<◌, ◌≤◌, List, [], bytes_eq, get_or, length, map, string_bytes, sum_by, IfNone, IfOk, IfSome, OnOk};
+ghost use Rattle.std.specs.List.{IsDistinct, range_with_len};
 ghost use Rattle.std.specs.Option.{option_map_or};
 ghost use Rattle.lake_model.specs.Keys.{key};
 ghost use Rattle.lake_model.specs.Tables.{add_key, distinct, has_key, overlap};
 ghost use Rattle.lake_model.specs.Texts.{Text};
+ghost use Rattle.column_set.specs.Lists.{IsByKey};
 
+use crate::texts::byte_count;
 use indexmap::IndexSet;
 use no_memory::NoMemory;
 use std::alloc::Global;
@@ -30,8 +32,6 @@ impl Model for KeySet {
 }
 
 impl KeySet {
-    ghost use Rattle.lake_model.specs.Tables.{overlap as overlap_of};
-
     /// No keys. It takes no memory.
     pub fn new(alloc: Global) -> KeySet
         ensures { result ≡ [] }
@@ -70,33 +70,21 @@ impl KeySet {
         }
     }
 
-    /// Whether the key is there.
-    pub fn has(&self, key: &str) -> bool
-        ensures { result ≡ has_key self.now key.now }
+    /// The keys, in order of first sight.
+    pub fn strings(&self) -> &[String]
+        ensures { map string_bytes result.now ≡ self.now }
     {
-        self.keys.contains(key)
+        self.keys.as_slice()
     }
 
-    /// How many of these keys are among others.
-    fn count_among(&self, others: &KeySet) -> u32
+    /// The numbers of the keys, from 0 in order of first sight, by the bytes of the keys.
+    pub fn numbers(&self, alloc: Global) -> Result<Vec<u32>, NoMemory>
         requires { length self.now < 2 ^ 32 }
-        ensures { result ≡ overlap_of self.now others.now }
+        ensures { IfOk result (λ numbers. IsByKey self.now numbers.items) }
     {
-        count_in(self.keys.as_slice(), others)
-    }
-
-    /// How many of these keys are among others, in the time that the smaller set takes to walk: as many of these are among the
-    /// others as of the others among these.
-    pub fn overlap(&self, others: &KeySet) -> u32
-        requires few { length self.now < 2 ^ 32 }
-        requires few_others { length others.now < 2 ^ 32 }
-        ensures { result ≡ overlap_of self.now others.now }
-    {
-        if others.len() < self.len() {
-            others.count_among(self)
-        } else {
-            self.count_among(others)
-        }
+        let mut numbers = first_numbers(alloc, self.len() as u32)?;
+        numbers.sort_unstable_by(|a, b| self.key(*a).cmp(self.key(*b)));
+        Ok(numbers)
     }
 
     /// How many bytes all keys have together, and `None` only where these are 2^64 or more.
@@ -108,24 +96,15 @@ impl KeySet {
     }
 }
 
-// How many of the texts are among the keys.
-fn count_in(texts: &[String], keys: &KeySet) -> u32
-    requires { length texts.now < 2 ^ 32 }
-    ensures { result ≡ count_by (λ text. has_key keys.now (string_bytes text)) texts.now }
+// The first numbers from 0, so many of them.
+fn first_numbers(alloc: Global, count: u32) -> Result<Vec<u32>, NoMemory>
+    ensures { IfOk result (λ numbers. numbers.items ≡ range_with_len 0 count) }
 {
-    texts.iter().filter(|text| keys.has(text.as_str())).count() as u32
-}
-
-// How many bytes the texts have together, and `None` only where these are 2^64 or more.
-fn byte_count(texts: &[String]) -> Option<u64>
-    ensures count { IfSome result (λ count. count ≡ sum_by (λ text. length (string_bytes text)) texts.now) }
-    ensures too_many { IfNone result (2 ^ 64 ≤ sum_by (λ text. length (string_bytes text)) texts.now) }
-{
-    let mut count = 0u64;
-    for text in texts {
-        count = count.checked_add(text.len() as u64)?;
+    let mut numbers = Vec::with_capacity(alloc, count as usize)?;
+    for number in 0..count {
+        numbers.push(number)?;
     }
-    Some(count)
+    Ok(numbers)
 }
 
 /// Making texts distinct leaves none of them twice, and leaves out none.

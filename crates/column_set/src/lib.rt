@@ -1,12 +1,15 @@
 //! The sets of keys of a table's columns and of a query, how many keys two of them share, and the rows of an answer, which
-//! borrow the titles of a table or own a share of them.
+//! borrow the titles of a table or own a share of them. The keys of a table stand in one region of bytes, those of a query in
+//! another, and a key is found by a binary search.
 #![tactic(auto)]
 
 mod keys;
+mod lists;
 mod name;
 mod query;
 mod row;
 mod table;
+mod texts;
 mod titles;
 
 pub use keys::{distinct_law, overlap_law};

@@ -2,29 +2,33 @@
 ghost use Rattle.std.specs.Prelude.{◌≡◌, ◌⊎◌, ◌<◌, ◌≤◌, ◌==◌, ◌∷◌, [], bytes_eq, get_or, length, position, IfErr, IfOk, None, OnOk, Some};
 ghost use Rattle.std.specs.List.{IsDistinct};
 ghost use Rattle.lake_model.specs.Queries.{query_fault, query_of};
-ghost use Rattle.lake_model.specs.Tables.{has_key, overlap};
+ghost use Rattle.lake_model.specs.Tables.{has_key, keys_at, overlap};
 ghost use Rattle.lake_model.specs.Texts.{all_lines};
 
 use crate::keys::{KeySet, MOST_KEYS};
+use crate::lists::KeyLists;
+use crate::table::TableSets;
 use lake_model::QueryRefused;
+use no_memory::NoMemory;
 use std::alloc::Global;
 use std::marker::Model;
-use std::str;
+use std::{slice, str};
 
 /// The keys of a query, none twice and at most 4,194,304. A contract sees the list of them, in order of first sight.
 #[derive(Drop)]
 pub struct QuerySet {
-    keys: KeySet,
+    keys: KeyLists,
 }
 
 impl Model for QuerySet {
-    ghost use Rattle.std.specs.Prelude.{◌≤◌, List, ℕ, length};
+    ghost use Rattle.std.specs.Prelude.{List, ℕ, [], get_or};
+    ghost use Rattle.column_set.specs.Lists.{IsQuery};
 
     ghost Value = { List (List ℕ) };
 
-    ghost view = { λ q. q.keys };
+    ghost view = { λ q. get_or q.keys 0 [] };
 
-    ghost invariant = { λ q. length q.keys ≤ 4194304 };
+    ghost invariant = { λ q. IsQuery q.keys };
 }
 
 impl QuerySet {
@@ -38,25 +42,35 @@ impl QuerySet {
         ensures sound { OnOk result (query_fault body.now ≡ None) }
         ensures refused { IfErr result (λ e. (e ≡ QueryRefused.NoMemory) ⊎ (query_fault body.now ≡ Some e)) }
     {
-        let mut keys = KeySet::new(alloc);
-        let mut rest = body;
-        for number in 1..u64::MAX {
-            if rest.is_empty() {
-                if keys.len() > MOST_KEYS {
-                    return Err(QueryRefused::TooManyValues);
-                }
-                return Ok(QuerySet { keys });
-            }
-            let (line, after) = next_line(rest);
-            let Ok(value) = str::from_utf8(line) else {
-                return Err(QueryRefused::NotUtf8 { line: number });
-            };
-            if keys.add(alloc, value).is_err() {
-                return Err(QueryRefused::NoMemory);
-            }
-            rest = after;
+        let keys = read_keys(alloc, body)?;
+        match QuerySet::of_set(alloc, keys) {
+            Ok(query) => Ok(query),
+            Err(_) => Err(QueryRefused::NoMemory),
         }
-        Err(QueryRefused::NoMemory)
+    }
+
+    /// The keys of the column of a table at a place, counted from 1, as a query.
+    pub fn of_column(alloc: Global, table: &TableSets, place: u32) -> Result<QuerySet, NoMemory>
+        requires low { 0 < place }
+        requires high { place ≤ length table.now.columns }
+        ensures { IfOk result (λ q. q ≡ keys_at table.now place) }
+    {
+        Ok(QuerySet {
+            keys: table.column_alone(alloc, place)?,
+        })
+    }
+
+    // The keys of a set as a query.
+    fn of_set(alloc: Global, keys: KeySet) -> Result<QuerySet, NoMemory>
+        requires { length keys ≤ 4194304 }
+        ensures { IfOk result (λ q. q ≡ keys) }
+    {
+        let Some(bytes) = keys.byte_count() else {
+            return Err(NoMemory);
+        };
+        let count = keys.len();
+        let keys = KeyLists::of_sets(alloc, slice::from_ref(&keys), count, bytes as usize)?;
+        Ok(QuerySet { keys })
     }
 
     /// How many keys there are. They differ from each other.
@@ -65,7 +79,7 @@ impl QuerySet {
         ensures small { result ≤ 4194304 }
         ensures different { IsDistinct bytes_eq self.now }
     {
-        self.keys.len() as u32
+        self.keys.size(0)
     }
 
     /// A key, by its index in order of first sight, from 0.
@@ -73,23 +87,52 @@ impl QuerySet {
         requires { i < length self.now }
         ensures { result.now ≡ get_or self.now i [] }
     {
-        self.keys.key(i)
+        self.keys.key(0, i)
     }
 
-    /// How many keys of the query are among others.
-    pub(crate) fn shared_with(&self, keys: &KeySet) -> u32
-        requires { length keys.now ≤ 4194304 }
-        ensures { result ≡ overlap self.now keys.now }
+    /// How many keys of the query are in a list of keys.
+    pub(crate) fn shared_with(&self, lists: &KeyLists, list: u32) -> u32
+        requires there { list < length lists.now }
+        requires different { IsDistinct bytes_eq (get_or lists.now list []) }
+        ensures { result ≡ overlap self.now (get_or lists.now list []) }
     {
-        self.keys.overlap(keys)
+        self.keys.overlap(0, lists, list)
     }
 
     /// Whether the key is one of the query's.
     pub fn has(&self, key: &str) -> bool
         ensures { result ≡ has_key self.now key.now }
     {
-        self.keys.has(key)
+        self.keys.has(0, key)
     }
+}
+
+// The distinct keys of the lines of a body.
+fn read_keys(alloc: Global, body: &[u8]) -> Result<KeySet, QueryRefused>
+    ensures keys { IfOk result (λ keys. keys ≡ query_of body.now) }
+    ensures small { IfOk result (λ keys. length keys ≤ 4194304) }
+    ensures sound { OnOk result (query_fault body.now ≡ None) }
+    ensures refused { IfErr result (λ e. (e ≡ QueryRefused.NoMemory) ⊎ (query_fault body.now ≡ Some e)) }
+{
+    let mut keys = KeySet::new(alloc);
+    let mut rest = body;
+    for number in 1..u64::MAX {
+        if rest.is_empty() {
+            if keys.len() > MOST_KEYS {
+                return Err(QueryRefused::TooManyValues);
+            }
+            return Ok(keys);
+        }
+        let (line, after) = next_line(rest);
+        let Ok(value) = str::from_utf8(line) else {
+            return Err(QueryRefused::NotUtf8 { line: number });
+        };
+        if keys.add(alloc, value).is_err() {
+            return Err(QueryRefused::NoMemory);
+        }
+        rest = after;
+    }
+    Err(QueryRefused::NoMemory)
 }
 
 // Where the first line feed is.

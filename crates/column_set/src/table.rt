@@ -1,11 +1,13 @@
 //! A table as its titles and the sets of keys of its columns, and the same table shared.
-ghost use Rattle.std.specs.Prelude.{◌≡◌, ◌⊎◌, ◌<◌, ◌≤◌, ◌^◌, [], bytes_eq, get_or, length, map, string_bytes, sum_by, IfErr, IfNone, IfOk, IfSome, None, OnOk, Some};
+ghost use Rattle.std.specs.Prelude.{◌≡◌, ◌⊎◌, ◌<◌, ◌≤◌, ◌^◌, ◌∷◌, [], bytes_eq, get_or, length, map, string_bytes, sum_by, IfErr, IfNone, IfOk, IfSome, None, OnOk, Some};
 ghost use Rattle.std.specs.List.{AllByRecursion, IsDistinct};
 ghost use Rattle.lake_model.specs.Records.{column_at, column_count, field_at, places_of, sets_fault, table_of, text_size};
-ghost use Rattle.lake_model.specs.Tables.{column_name, has_key, keys_at, titles_of};
+ghost use Rattle.lake_model.specs.Tables.{column_name, has_key, keys_at, titles_of, titles_with};
 ghost use Rattle.column_set.specs.Columns.{HasDistinctKeys, IsSmall};
+ghost use Rattle.column_set.specs.Lists.{IsQuery};
 
 use crate::keys::{KeySet, MOST_KEYS};
+use crate::lists::KeyLists;
 use crate::name::Name;
 use crate::query::QuerySet;
 use crate::titles::Titles;
@@ -21,7 +23,7 @@ use std::sync::Arc;
 #[derive(Drop)]
 pub struct TableSets {
     titles: Arc<Titles>,
-    sets: Vec<KeySet>,
+    sets: KeyLists,
     members: u64,
     key_bytes: u64,
 }
@@ -32,9 +34,9 @@ impl Model for TableSets {
 
     ghost Value = { Table };
 
-    ghost view = { λ t. table_from t.titles.value t.sets.items };
+    ghost view = { λ t. table_from t.titles.value t.sets };
 
-    ghost invariant = { λ t. IsHeld t.titles.value t.sets.items t.members t.key_bytes };
+    ghost invariant = { λ t. IsHeld t.titles.value t.sets t.members t.key_bytes };
 }
 
 impl TableSets {
@@ -54,11 +56,14 @@ impl TableSets {
         let Ok(names) = read_names(alloc, raw) else {
             return Err(SetRefused::NoMemory);
         };
+        let Ok(titles) = shared_titles(alloc, name, &names) else {
+            return Err(SetRefused::NoMemory);
+        };
         let members = member_count(&sets);
         let Some(key_bytes) = key_byte_count(&sets) else {
             return Err(SetRefused::NoMemory);
         };
-        let Ok(titles) = Arc::new(alloc, Titles::new(name, names)) else {
+        let Ok(sets) = KeyLists::of_sets(alloc, &sets, members as usize, key_bytes as usize) else {
             return Err(SetRefused::NoMemory);
         };
         Ok(TableSets {
@@ -127,7 +132,7 @@ impl TableSets {
         ensures small { result ≤ 4194304 }
         ensures different { IsDistinct bytes_eq (keys_at self.now place) }
     {
-        self.sets[place as usize - 1].len() as u32
+        self.sets.size(place - 1)
     }
 
     /// A key of the column at a place, counted from 1, by its index in order of first sight, from 0, and an empty text past the
@@ -137,7 +142,7 @@ impl TableSets {
         requires high { place ≤ length self.now.columns }
         ensures { result.now ≡ get_or (keys_at self.now place) i [] }
     {
-        self.sets[place as usize - 1].key(i)
+        self.sets.key(place - 1, i)
     }
 
     /// Whether the column at a place, counted from 1, has the key.
@@ -146,7 +151,7 @@ impl TableSets {
         requires high { place ≤ length self.now.columns }
         ensures { result ≡ has_key (keys_at self.now place) key.now }
     {
-        self.sets[place as usize - 1].has(key)
+        self.sets.has(place - 1, key)
     }
 
     /// How many keys of the query the column at a place, counted from 1, has. It takes the time to walk the smaller of the two
@@ -156,8 +161,27 @@ impl TableSets {
         requires high { place ≤ length self.now.columns }
         ensures value { result ≡ overlap_of query.now (keys_at self.now place) }
     {
-        query.shared_with(&self.sets[place as usize - 1])
+        query.shared_with(&self.sets, place - 1)
     }
+
+    /// The keys of the column at a place, counted from 1, in a list alone.
+    pub(crate) fn column_alone(&self, alloc: Global, place: u32) -> Result<KeyLists, NoMemory>
+        requires low { 0 < place }
+        requires high { place ≤ length self.now.columns }
+        ensures keys { IfOk result (λ lists. lists ≡ keys_at self.now place ∷ []) }
+        ensures query { IsQuery (keys_at self.now place ∷ []) }
+    {
+        self.sets.alone(alloc, place - 1)
+    }
+}
+
+// The titles of a table of this name, with columns of these names, to be shared.
+fn shared_titles(alloc: Global, name: Name, names: &[String]) -> Result<Arc<Titles>, NoMemory>
+    requires { length names.now ≤ 1024 }
+    ensures { IfOk result (λ titles. titles.value ≡ titles_with name (map string_bytes names.now)) }
+{
+    let titles = Titles::new(alloc, name, names)?;
+    Ok(Arc::new(alloc, titles)?)
 }
 
 // The names of the columns: the fields of the header.

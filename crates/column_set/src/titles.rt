@@ -1,35 +1,41 @@
 //! The titles of a table: its name, and the names of its columns.
-ghost use Rattle.std.specs.Prelude.{◌≡◌, ◌≤◌, ◌<◌, length, map, string_bytes};
+ghost use Rattle.std.specs.Prelude.{◌≡◌, ◌≤◌, ◌<◌, length, map, string_bytes, IfOk};
 ghost use Rattle.lake_model.specs.Tables.{column_name, titles_with};
 
 use crate::name::Name;
+use crate::texts::Texts;
+use no_memory::NoMemory;
+use std::alloc::Global;
 use std::marker::Model;
 
 /// A table's name and its columns' names, at most 1,024 of them, each a text that may be empty or that of another column.
 #[derive(Drop)]
 pub struct Titles {
     table: Name,
-    columns: Vec<String>,
+    columns: Texts,
 }
 
 impl Model for Titles {
-    ghost use Rattle.std.specs.Prelude.{◌≤◌, length, map, string_bytes};
+    ghost use Rattle.std.specs.Prelude.{◌≤◌, length};
     ghost use Rattle.lake_model.specs.Tables.{Titles as TitlesOf, titles_with};
 
     ghost Value = { TitlesOf };
 
-    ghost view = { λ t. titles_with t.table (map string_bytes t.columns.items) };
+    ghost view = { λ t. titles_with t.table t.columns };
 
-    ghost invariant = { λ t. length t.columns.items ≤ 1024 };
+    ghost invariant = { λ t. length t.columns ≤ 1024 };
 }
 
 impl Titles {
-    /// The titles of a table of this name, with columns of these names from the first place on.
-    pub fn new(table: Name, columns: Vec<String>) -> Titles
-        requires { length columns.items ≤ 1024 }
-        ensures { result ≡ titles_with table (map string_bytes columns.items) }
+    /// The titles of a table of this name, with columns of these names from the first place on, in the room that they take.
+    pub fn new(alloc: Global, table: Name, columns: &[String]) -> Result<Titles, NoMemory>
+        requires { length columns.now ≤ 1024 }
+        ensures { IfOk result (λ titles. titles ≡ titles_with table (map string_bytes columns.now)) }
     {
-        Titles { table, columns }
+        Ok(Titles {
+            table,
+            columns: Texts::of_strings(alloc, columns)?,
+        })
     }
 
     /// The table's name.
@@ -44,7 +50,7 @@ impl Titles {
         ensures value { result ≡ length self.now.columns }
         ensures narrow { result ≤ 1024 }
     {
-        self.columns.len() as u32
+        self.columns.len()
     }
 
     /// The name of the column at a place, counted from 1.
@@ -53,6 +59,6 @@ impl Titles {
         requires high { place ≤ length self.now.columns }
         ensures { result.now ≡ column_name self.now place }
     {
-        self.columns[place as usize - 1].as_str()
+        self.columns.text(place - 1)
     }
 }

@@ -25,7 +25,7 @@ fn row(alloc: Global, overlap: u32, table: Name, column: &str) -> Result<KeptRow
     let mut columns = Vec::new(alloc);
     columns.push(String::from_str(alloc, "id")?)?;
     columns.push(String::from_str(alloc, column)?)?;
-    let titles = Arc::new(alloc, Titles::new(table, columns))?;
+    let titles = Arc::new(alloc, Titles::new(alloc, table, &columns)?)?;
     let row = Row {
         overlap,
         titles: &titles,

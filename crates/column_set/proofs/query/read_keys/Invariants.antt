@@ -5,7 +5,7 @@ use Rattle.lake_model.specs.Texts.{all_lines}
 use Rattle.lake_model.specs.Keys.{key}
 use Rattle.lake_model.specs.Tables.{add_key}
 use Rattle.lake_model.specs.Queries.{query_of, line_fault}
-use Rattle.column_set.proofs.query.QuerySet.read.Given as goal
+use Rattle.column_set.proofs.query.read_keys.Given as goal
 
 -- the keys so far with those of the lines that are left are the query's, and no line so far is at fault
 abbrev pub invariant-loop-number : goal.invariant-loop-number

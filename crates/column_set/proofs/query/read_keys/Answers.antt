@@ -12,7 +12,7 @@ use Rattle.lake_model.specs.Tables.{add_key}
 use Rattle.lake_model.specs.Queries.{count_fault, line_fault, query_fault, query_of}
 use Rattle.column_set.proofs.LineLemmas.{line_fault-end, line_fault-other, line_fault-text, no_lines}
 use Rattle.column_set.proofs.ReadLemmas.{fold-next}
-use Rattle.column_set.proofs.query.QuerySet.read.Goals as goal
+use Rattle.column_set.proofs.query.read_keys.Goals as goal
 
 nothing_left : (rest : Text) (empty : Bool) → empty ≡ (length rest == 0) → empty ≡ true → all_lines rest ≡ []
 nothing_left [] empty e t = no_lines

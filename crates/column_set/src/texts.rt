@@ -1,0 +1,102 @@
+//! Texts in one region, which the keys of columns and queries and the names of columns are kept in.
+ghost use Rattle.std.specs.Prelude.{◌≡◌, ◌<◌, ◌≤◌, ◌^◌, ◌++◌, ◌∷◌, [], get_or, length, map, string_bytes, sum_by, IfNone, IfOk, IfSome, OnOk};
+
+use no_memory::NoMemory;
+use std::alloc::Global;
+use std::marker::Model;
+use text_region::{Region, Span};
+
+/// Texts one behind the other in one region, fewer than 2^32. A contract sees the list of them.
+#[derive(Drop)]
+pub struct Texts {
+    region: Region,
+    spans: Vec<Span>,
+}
+
+impl Model for Texts {
+    ghost use Rattle.std.specs.Prelude.{List, ℕ, map};
+    ghost use Rattle.text_region.specs.Spans.{text_at};
+    ghost use Rattle.column_set.specs.Lists.{AreTexts};
+
+    ghost Value = { List (List ℕ) };
+
+    ghost view = { λ t. map (text_at t.region) t.spans.items };
+
+    ghost invariant = { λ t. AreTexts t.region t.spans.items };
+}
+
+impl Texts {
+    /// No texts, and the room for so many texts with so many bytes together.
+    pub fn with_room(alloc: Global, texts: usize, bytes: usize) -> Result<Texts, NoMemory>
+        ensures { IfOk result (λ texts. texts ≡ []) }
+    {
+        let region = Region::new(alloc, bytes)?;
+        let spans = Vec::with_capacity(alloc, texts)?;
+        Ok(Texts { region, spans })
+    }
+
+    /// These texts, in the room that they take.
+    pub fn of_strings(alloc: Global, strings: &[String]) -> Result<Texts, NoMemory>
+        ensures { IfOk result (λ texts. texts ≡ map string_bytes strings.now) }
+    {
+        let Some(bytes) = byte_count(strings) else {
+            return Err(NoMemory);
+        };
+        let mut texts = Texts::with_room(alloc, strings.len(), bytes as usize)?;
+        texts.push_all(strings)?;
+        Ok(texts)
+    }
+
+    /// How many texts there are.
+    pub fn len(&self) -> u32
+        ensures value { result ≡ length self.now }
+        ensures few { length self.now < 2 ^ 32 }
+    {
+        self.spans.len() as u32
+    }
+
+    /// A text by its index, from 0, and an empty text past the last.
+    pub fn text(&self, i: u32) -> &str
+        ensures { result.now ≡ get_or self.now i [] }
+    {
+        match self.spans.get(i as usize) {
+            Some(span) => self.region.text(*span),
+            None => "",
+        }
+    }
+
+    /// Puts a text behind the others. It is refused where the bytes that room was made for do not hold it, and where memory is
+    /// wanting.
+    pub fn push(&mut self, text: &str) -> Result<(), NoMemory>
+        ensures { OnOk result (self.new ≡ self.old ++ text.now ∷ []) }
+    {
+        if self.spans.len() >= u32::MAX as usize || self.region.spare() < text.len() {
+            return Err(NoMemory);
+        }
+        let span = self.region.put(text);
+        self.spans.push(span)?;
+        Ok(())
+    }
+
+    /// Puts these texts behind the others.
+    pub fn push_all(&mut self, strings: &[String]) -> Result<(), NoMemory>
+        ensures { OnOk result (self.new ≡ self.old ++ map string_bytes strings.now) }
+    {
+        for string in strings {
+            self.push(string.as_str())?;
+        }
+        Ok(())
+    }
+}
+
+/// How many bytes the texts have together, and `None` only where these are 2^64 or more.
+pub fn byte_count(strings: &[String]) -> Option<u64>
+    ensures count { IfSome result (λ count. count ≡ sum_by (λ string. length (string_bytes string)) strings.now) }
+    ensures too_many { IfNone result (2 ^ 64 ≤ sum_by (λ string. length (string_bytes string)) strings.now) }
+{
+    let mut count = 0u64;
+    for string in strings {
+        count = count.checked_add(string.len() as u64)?;
+    }
+    Some(count)
+}
