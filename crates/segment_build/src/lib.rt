@@ -1,0 +1,7 @@
+//! The segment of a list of tables: the inverted index, built from the tables by one sort of their keys and one pass that counts.
+#![tactic(auto)]
+
+mod columns;
+mod lists;
+
+pub use segment_core::Segment;
