@@ -21,17 +21,20 @@ pub struct ColumnSets {
 }
 
 /// The columns of the tables, with the tokens of each, rising. It takes the time to look up each key of each column, and to sort each
-/// set; and 4 bytes for each key of each column, and 12 for each column.
+/// set; and 4 bytes for each key of each column, and 12 for each column. It is refused for want of memory where there are 2^32 tables
+/// or more.
 pub fn column_sets(
     alloc: Global,
     tables: &[SharedTable],
     vocab: &Vocab,
 ) -> Result<ColumnSets, NoMemory>
     requires vocab { vocab.now ≡ tables.now }
-    requires tables { length tables.now < 2 ^ 32 }
     requires members { sum_by members tables.now < 2 ^ 32 }
     ensures { IfOk result (λ sets. HasMore (all_tokens tables.now) (held_with [] (0 ∷ []) []) (held_with sets.owners.items sets.starts.items sets.tokens.items) (columns_of tables.now)) }
 {
+    if tables.len() > 0xFFFF_FFFF {
+        return Err(NoMemory);
+    }
     let mut sets = ColumnSets {
         owners: Vec::new(alloc),
         starts: vec![in alloc; 0]?,

@@ -3,5 +3,7 @@
 
 mod columns;
 mod lists;
+mod segment;
 
+pub use segment::build;
 pub use segment_core::Segment;

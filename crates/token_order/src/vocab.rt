@@ -96,6 +96,7 @@ impl<'a> Vocab<'a> {
         ensures within { All (IsAt self.entry) result.0.items }
         ensures by_key { IsByKey (tokens_of (columns_of self.entry)) result.1.items }
         ensures counted { sum_by (λ at. at.frequency) result.0.items ≡ sum_by members self.entry }
+        ensures few { length result.0.items < 2 ^ 32 }
     {
         (self.tokens, self.by_key)
     }
