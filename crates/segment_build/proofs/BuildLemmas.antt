@@ -166,28 +166,43 @@ length-columns_from n (t ∷ tables) =
       length-columns_from (n + 1) tables, sum_by-cons (λ (t : Table). length t.columns) t tables
     )
 
-module _ (tables : List Table) (owners : List Owner) (tokens : List TokenAt) (list_starts set_starts set_tokens : List ℕ) (more : HasMore (all_tokens tables) (held_with [] (0 ∷ []) []) (held_with owners set_starts set_tokens) (columns_of tables))
-    (named : map (token_at tables) tokens ≡ all_tokens tables) (starts : list_starts ≡ sums_from 0 (map (λ at. at.frequency) tokens)) where
+-- what the columns, the tokens and the starts of the lists are, where all are of the tables
+pub record IsMade (tables : List Table) (owners : List Owner) (tokens : List TokenAt) (list_starts set_starts set_tokens : List ℕ) : Type 0 where
+  pub more : HasMore (all_tokens tables) (held_with [] (0 ∷ []) []) (held_with owners set_starts set_tokens) (columns_of tables)
+  pub named : map (token_at tables) tokens ≡ all_tokens tables
+  pub starts : list_starts ≡ sums_from 0 (map (λ at. at.frequency) tokens)
+
+pub is_made : (tables : List Table) (owners : List Owner) (tokens : List TokenAt) (list_starts set_starts set_tokens : List ℕ) (held given : List Table) (counted : List TokenAt) → held ≡ tables → given ≡ tables → counted ≡ tokens
+    → HasMore (all_tokens given) (held_with [] (0 ∷ []) []) (held_with owners set_starts set_tokens) (columns_of given) → map (token_at held) tokens ≡ all_tokens held → list_starts ≡ sums_from 0 (map (λ at. at.frequency) counted)
+    → IsMade tables owners tokens list_starts set_starts set_tokens
+is_made tables owners tokens list_starts set_starts set_tokens held given counted e f g more named starts =
+    record {
+      more = subst (λ (ts : List Table). HasMore (all_tokens ts) (held_with [] (0 ∷ []) []) (held_with owners set_starts set_tokens) (columns_of ts)) f more;
+      named = subst (λ (ts : List Table). map (token_at ts) tokens ≡ all_tokens ts) e named;
+      starts = starts ∙ ap (λ (ats : List TokenAt). sums_from 0 (map (λ at. at.frequency) ats)) g;
+    }
+
+module _ (tables : List Table) (owners : List Owner) (tokens : List TokenAt) (list_starts set_starts set_tokens : List ℕ) (made : IsMade tables owners tokens list_starts set_starts set_tokens) where
   abbrev sets : List (List ℕ)
   sets = sets_for (all_tokens tables) (columns_of tables)
 
   token_count : length tokens ≡ length (all_tokens tables)
-  token_count = sym (length-map tokens (token_at tables)) ∙ ap length named
+  token_count = sym (length-map tokens (token_at tables)) ∙ ap length made.named
 
   set_bounds : set_starts ≡ starts_of 0 sets
-  set_bounds = more.bounds ∙ starts_ends 0 sets
+  set_bounds = made.more.bounds ∙ starts_ends 0 sets
 
   pub sets_are : sets_in set_starts set_tokens ≡ sets
-  sets_are = (λ i. sets_in (set_bounds i) (more.held i)) ∙ sets_in_is sets
+  sets_are = (λ i. sets_in (set_bounds i) (made.more.held i)) ∙ sets_in_is sets
 
   list_bounds : list_starts ≡ starts_of 0 (lists_from sets 0 (length (all_tokens tables)))
   list_bounds =
       let lists = lists_from sets 0 (length (all_tokens tables)) in
       let lengths : map (λ l. length l) lists ≡ map (λ t. t.frequency) (all_tokens tables) =
       lengths_from sets 0 (all_tokens tables) (λ m d h. (let z : 0 + m ≡ m = omega arith in ap (λ (k : ℕ). length (postings_of sets k)) z) ∙ frequency_at (columns_of tables) m d h) in
-      starts
+      made.starts
       ∙ ap (sums_from 0) (sym (frequencies_of tables tokens))
-      ∙ ap (λ (ts : List Token). sums_from 0 (map (λ t. t.frequency) ts)) named
+      ∙ ap (λ (ts : List Token). sums_from 0 (map (λ t. t.frequency) ts)) made.named
       ∙ ap (sums_from 0) (sym lengths)
       ∙ sym (starts_sums 0 lists)
 
@@ -202,7 +217,7 @@ module _ (tables : List Table) (owners : List Owner) (tokens : List TokenAt) (li
 
   pub sets_ready : AreSets (length list_starts - 1) (sets_in set_starts set_tokens) set_starts set_tokens
   sets_ready =
-      let flat : AreFlat sets set_starts set_tokens = record { bounds = set_bounds; held = more.held } in
+      let flat : AreFlat sets set_starts set_tokens = record { bounds = set_bounds; held = made.more.held } in
       let are : AreSets (length (all_tokens tables)) sets set_starts set_tokens = record { lists = flat; each = each_set (all_tokens tables) (columns_of tables) } in
       subst (λ (n : ℕ). AreSets n (sets_in set_starts set_tokens) set_starts set_tokens) counted (subst (λ (ls : List (List ℕ)). AreSets (length (all_tokens tables)) ls set_starts set_tokens) (sym sets_are) are)
 
@@ -215,14 +230,14 @@ module _ (tables : List Table) (owners : List Owner) (tokens : List TokenAt) (li
   arrays by_key postings within sorted small few posted =
       let lists_are : lists_from sets 0 (length (all_tokens tables)) ≡ map (λ t. postings_of sets t.0) (enumerate_from 0 (all_tokens tables)) = lists_enumerated sets 0 (all_tokens tables) in
       record {
-        owned = more.owned;
-        named = named;
+        owned = made.more.owned;
+        named = made.named;
         within = within;
         sorted = sorted;
         list_bounds = list_bounds ∙ ap (starts_of 0) lists_are;
         posted = posted ∙ (λ i. all_of (lists_from (sets_are i) 0 (sym counted i))) ∙ ap all_of lists_are;
         set_bounds = set_bounds;
-        held = more.held;
+        held = made.more.held;
         small = omega (arith, length-columns_from 0 tables, small);
         few = few;
       }
