@@ -1,9 +1,9 @@
 -- The arrays of a segment, from the columns' sets and the posting lists.
-use Rattle.std.proofs.Common.{◌≡◌, refl, ap, sym, ◌∙◌, subst, ℕ, zero, suc, ◌+◌, ◌-◌, ◌<◌, ◌≤◌, ◌^◌, ◌||◌, List, [], ◌∷◌, ◌++◌, Bool, true, false, cond, map, length, get_or, take, arith, append-nil, length-append, eqb as nat_eq}
+use Rattle.std.proofs.Common.{◌≡◌, refl, ap, sym, ◌∙◌, subst, ℕ, zero, suc, ◌+◌, ◌-◌, ◌<◌, ◌≤◌, ◌^◌, ◌||◌, List, [], ◌∷◌, ◌++◌, Bool, true, false, cond, map, length, get_or, take, arith, length-append, eqb as nat_eq}
 use Rattle.std.specs.Prelude.{sum_by}
 use Rattle.std.specs.List.{All, AllByRecursion, count_by, flat_map, enumerate_from, list_any}
 use Rattle.std.proofs.lemmas.Bool.Decides.{nat_tests}
-use Rattle.std.proofs.lemmas.List.{get_or-map, length-map, map_more, map_push}
+use Rattle.std.proofs.lemmas.List.{get_or-map, length-map, map_more}
 use Rattle.std.proofs.lemmas.List.FromFn.{length-enumerate_from}
 use Rattle.std.proofs.lemmas.List.Sums.{sum_by-cons}
 use Rattle.lake_model.specs.Texts.{Text}
@@ -12,8 +12,8 @@ use Rattle.lake_model.proofs.SortingLemmas.{all_in_order}
 use Rattle.search_model.specs.declared.Owner.{Owner}
 use Rattle.search_model.specs.declared.Posting.{Posting}
 use Rattle.search_model.specs.declared.TokenAt.{TokenAt}
-use Rattle.search_model.specs.Arrays.{all_of, key_of, owner_of, starts_of, token_at, token_with, AreArrays, IsAt, IsByKey}
-use Rattle.search_model.specs.Segment.{Titled, Token, columns_of, postings_of, segment, titled, token_cmp, token_of, tokens_in, tokens_of}
+use Rattle.search_model.specs.Arrays.{all_of, key_of, starts_of, token_at, AreArrays, IsAt, IsByKey}
+use Rattle.search_model.specs.Segment.{Titled, Token, columns_of, postings_of, segment, titled, token_of, tokens_in, tokens_of}
 use Rattle.search_model.proofs.FilterLemmas.{rising}
 use Rattle.search_model.proofs.OverlapLemmas.{front, tokens_from, tokens_from-cons}
 use Rattle.search_model.proofs.TokenLemmas.{token_cmp_total}
@@ -162,8 +162,12 @@ length-columns_from : (n : ℕ) (tables : List Table) → length (flat_map (λ t
 length-columns_from n [] = refl
 length-columns_from n (t ∷ tables) =
     omega (
-      arith, length-append (columns_in n t) (flat_map (λ t. columns_in t.0 t.1) (enumerate_from (n + 1) tables)), length-map (enumerate_from 1 t.columns) (λ (c : ℕ × Column). titled n t.name c.0 c.1), length-enumerate_from 1 t.columns,
-      length-columns_from (n + 1) tables, sum_by-cons (λ (t : Table). length t.columns) t tables
+      arith,
+      length-append (columns_in n t) (flat_map (λ t. columns_in t.0 t.1) (enumerate_from (n + 1) tables)),
+      length-map (enumerate_from 1 t.columns) (λ (c : ℕ × Column). titled n t.name c.0 c.1),
+      length-enumerate_from 1 t.columns,
+      length-columns_from (n + 1) tables,
+      sum_by-cons (λ (t : Table). length t.columns) t tables,
     )
 
 -- what the columns, the tokens and the starts of the lists are, where all are of the tables

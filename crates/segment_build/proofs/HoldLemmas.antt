@@ -1,5 +1,5 @@
 -- Columns that are added behind others, one at a time and one table at a time.
-use Rattle.std.proofs.Common.{◌≡◌, refl, ap, sym, ◌∙◌, subst, ℕ, zero, suc, ◌+◌, ◌-◌, ◌<◌, ◌≤◌, List, [], ◌∷◌, ◌++◌, map, length, get_or, take, arith, append-nil, append_assoc, length-append}
+use Rattle.std.proofs.Common.{◌≡◌, refl, ap, sym, ◌∙◌, ℕ, zero, suc, ◌+◌, ◌-◌, ◌<◌, ◌≤◌, List, [], ◌∷◌, ◌++◌, map, length, get_or, take, arith, append-nil, append_assoc, length-append}
 use Rattle.std.specs.Prelude.{bytes_eq, sum_by}
 use Rattle.std.specs.List.{flat_map, enumerate_from, IsDistinct}
 use Rattle.std.proofs.lemmas.List.{get_or-map, length-map, map-append, take_all, take_more}
@@ -117,8 +117,10 @@ count_in : (number : ℕ) (name : List ℕ) (n : ℕ) (columns : List Column) �
 count_in number name n [] = refl
 count_in number name n (c ∷ columns) =
     omega (
-      arith, count_in number name (n + 1) columns, sum_by-cons (λ (c : Column). length c.keys) c columns,
-      sum_by-cons (λ (c : Titled). length c.column.keys) (titled number name n c) (map (λ (c : ℕ × Column). titled number name c.0 c.1) (enumerate_from (n + 1) columns))
+      arith,
+      count_in number name (n + 1) columns,
+      sum_by-cons (λ (c : Column). length c.keys) c columns,
+      sum_by-cons (λ (c : Titled). length c.column.keys) (titled number name n c) (map (λ (c : ℕ × Column). titled number name c.0 c.1) (enumerate_from (n + 1) columns)),
     )
 
 pub count_columns_in : (number : ℕ) (table : Table) → key_count (columns_in number table) ≡ members table
@@ -139,7 +141,12 @@ room_in number table i h =
     let at = column_at number table i h in
     let there = keys_there table (i + 1) (omega arith) (omega arith) in
     omega (
-      arith, sum_by_more size (columns_in number table) i no_titled (omega (arith, length-columns_in number table)), sum_by-take-le size (columns_in number table) (i + 1), count_columns_in number table, ap size at, ap length there
+      arith,
+      sum_by_more size (columns_in number table) i no_titled (omega (arith, length-columns_in number table)),
+      sum_by-take-le size (columns_in number table) (i + 1),
+      count_columns_in number table,
+      ap size at,
+      ap length there,
     )
 
 -- and for one more table

@@ -1,7 +1,7 @@
-use Rattle.std.proofs.Common.{◌≡◌, ap, sym, subst, ◌<◌, List, [], ◌∷◌, length, take, arith}
+use Rattle.std.proofs.Common.{ap, sym, subst, ◌<◌, List, [], ◌∷◌, length, take, arith}
 use Rattle.lake_model.specs.Tables.{Table, members}
 use Rattle.search_model.specs.Arrays.{table_at}
-use Rattle.search_model.specs.Segment.{Titled, columns_of}
+use Rattle.search_model.specs.Segment.{columns_of}
 use Rattle.segment_build.specs.Holding.{all_tokens, columns_in, held_with, HasMore}
 use Rattle.segment_build.proofs.HoldLemmas.{columns_of_more, more_more, room_of}
 use Rattle.segment_build.proofs.columns.column_sets.Goals as goal

@@ -1,5 +1,4 @@
-use Rattle.std.proofs.Common.{sym, subst, ◌+◌, ◌<◌, List, [], ◌∷◌, length, take, arith}
-use Rattle.search_model.specs.Segment.{Titled}
+use Rattle.std.proofs.Common.{sym, subst, ◌+◌, ◌<◌, [], ◌∷◌, length, take, arith}
 use Rattle.segment_build.specs.Holding.{all_tokens, columns_in, held_with, titled_in, HasMore}
 use Rattle.segment_build.proofs.HoldLemmas.{columns_in_all, columns_in_more, more_more, room_in}
 use Rattle.segment_build.proofs.columns.push_table.Goals as goal

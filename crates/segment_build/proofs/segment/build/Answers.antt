@@ -1,4 +1,4 @@
-use Rattle.std.proofs.Common.{◌∙◌, ap, subst, ◌-◌, ◌<◌, List, length, arith}
+use Rattle.std.proofs.Common.{◌∙◌, ap, subst, ◌-◌, List, length, arith}
 use Rattle.std.specs.List.{All}
 use Rattle.lake_model.specs.Tables.{Table}
 use Rattle.search_model.specs.Arrays.{all_of, IsAt, IsByKey}
