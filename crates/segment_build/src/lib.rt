@@ -1,19 +1,9 @@
-//! Builds the inverted index of a list of tables.
+//! The segment of a list of tables: the inverted index, built from the tables by one sort of their keys and one pass that counts.
 #![tactic(auto)]
 
-ghost use Rattle.std.specs.Prelude.{◌≡◌, ◌<◌, ◌^◌, length, sum_by, IfOk};
-ghost use Rattle.lake_model.specs.Tables.{members};
+mod columns;
+mod lists;
+mod segment;
 
-use column_set::SharedTable;
-use no_memory::NoMemory;
-use segment_core::Segment;
-use std::alloc::Global;
-
-/// The segment of these tables.
-pub fn build(_alloc: Global, _tables: Vec<SharedTable>) -> Result<Segment, NoMemory>
-    requires columns { sum_by (λ t. length t.columns) _tables.items < 2 ^ 32 }
-    requires members { sum_by members _tables.items < 2 ^ 32 }
-    ensures { IfOk result (λ segment. segment ≡ _tables.items) }
-{
-    Err(NoMemory)
-}
+pub use segment::build;
+pub use segment_core::Segment;

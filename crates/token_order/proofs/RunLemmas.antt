@@ -1,6 +1,6 @@
 -- The runs of sorted keys: each key has one run, as long as the key is often.
-use Rattle.std.proofs.Common.{◌≡◌, refl, ap, sym, ◌∙◌, ℕ, ◌+◌, List, [], ◌∷◌, map, Bool, true, false, ◌||◌, cond, arith}
-use Rattle.std.specs.Prelude.{bytes_eq}
+use Rattle.std.proofs.Common.{◌≡◌, refl, ap, sym, ◌∙◌, ℕ, ◌+◌, List, [], ◌∷◌, map, length, Bool, true, false, ◌||◌, cond, arith}
+use Rattle.std.specs.Prelude.{bytes_eq, sum_by}
 use Rattle.std.specs.List.{AllByRecursion, IsDistinct, count_by, list_any}
 use Rattle.std.proofs.lemmas.List.Sums.{sum_by-cons}
 use Rattle.std.proofs.lemmas.Slice.Eq.{bytes_eq-Decides}
@@ -139,3 +139,18 @@ runs_counted [] r = tt
 runs_counted (key ∷ keys) r =
     all_both (λ (t : Token). t.frequency ≡ often (token_with key 1) keys t.key) (λ (t : Token). t.frequency ≡ often (token_with key 1) keys t.key) (λ (t : Token). t.frequency ≡ count_by (bytes_eq t.key) (key ∷ keys))
     (λ t h g. h ∙ sym (sum_by-cons (λ (y : Text). once (bytes_eq t.key y)) key keys)) (runs_from (token_with key 1) keys) (counted_from (token_with key 1) keys r) (counted_from (token_with key 1) keys r)
+
+-- ---- all runs together are as long as the keys
+
+long_from : (first : Token) (keys : List Text) → sum_by (λ t. t.frequency) (runs_from first keys) ≡ first.frequency + length keys
+long_from first [] = omega (arith, sum_by-cons (λ (t : Token). t.frequency) first [])
+long_from first (key ∷ keys) = by (bytes_eq key first.key) (long_from (longer first) keys) (long_from (token_with key 1) keys)
+  where
+    by : (b : Bool) → sum_by (λ t. t.frequency) (runs_from (longer first) keys) ≡ first.frequency + 1 + length keys → sum_by (λ t. t.frequency) (runs_from (token_with key 1) keys) ≡ 1 + length keys
+        → sum_by (λ t. t.frequency) (runs_then b first key keys) ≡ first.frequency + length (key ∷ keys)
+    by true u v = omega (arith, u)
+    by false u v = omega (arith, v, sum_by-cons (λ (t : Token). t.frequency) first (runs_from (token_with key 1) keys))
+
+pub runs_long : (keys : List Text) → sum_by (λ t. t.frequency) (runs_of keys) ≡ length keys
+runs_long [] = refl
+runs_long (key ∷ keys) = omega (arith, long_from (token_with key 1) keys)

@@ -1,7 +1,7 @@
 -- What a vocabulary holds: the places of its tables' tokens in the order of tokens, and the tokens' numbers by key.
-use Rattle.std.specs.Prelude.{◌≡◌, ℕ, ◌<◌, ◌^◌, List, map, length, get_or}
+use Rattle.std.specs.Prelude.{◌≡◌, ℕ, ◌<◌, ◌^◌, List, map, length, get_or, sum_by}
 use Rattle.std.specs.List.{All}
-use Rattle.lake_model.specs.Tables.{Table}
+use Rattle.lake_model.specs.Tables.{Table, members}
 use Rattle.search_model.specs.declared.TokenAt.{TokenAt}
 use Rattle.search_model.specs.Segment.{Token, columns_of, tokens_of}
 use Rattle.search_model.specs.Arrays.{token_at, IsAt, IsByKey}
@@ -15,3 +15,4 @@ pub record IsVocabulary (tables : List Table) (places : List TokenAt) (by_key : 
   pub within : All (IsAt tables) places
   pub sorted : IsByKey (map (token_at tables) places) by_key
   pub few : length places < 2 ^ 32
+  pub counted : sum_by (λ at. at.frequency) places ≡ sum_by members tables

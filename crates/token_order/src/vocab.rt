@@ -90,11 +90,13 @@ impl<'a> Vocab<'a> {
     }
 
     /// Where the key of each token stands and how many columns hold it, in the order of the tokens, and the tokens' numbers by the
-    /// bytes of their keys.
+    /// bytes of their keys. All frequencies together are the members of all columns.
     pub fn into_lists(self) -> (Vec<TokenAt>, Vec<u32>)
         ensures tokens { map (token_at self.entry) result.0.items ≡ tokens_of (columns_of self.entry) }
         ensures within { All (IsAt self.entry) result.0.items }
         ensures by_key { IsByKey (tokens_of (columns_of self.entry)) result.1.items }
+        ensures counted { sum_by (λ at. at.frequency) result.0.items ≡ sum_by members self.entry }
+        ensures few { length result.0.items < 2 ^ 32 }
     {
         (self.tokens, self.by_key)
     }
@@ -106,6 +108,7 @@ fn tokens_in_order(alloc: Global, tables: &[SharedTable]) -> Result<Vec<TokenAt>
     ensures named { IfOk result (λ tokens. map (token_at tables.now) tokens.items ≡ tokens_of (columns_of tables.now)) }
     ensures within { IfOk result (λ tokens. All (IsAt tables.now) tokens.items) }
     ensures few { IfOk result (λ tokens. length tokens.items < 2 ^ 32) }
+    ensures counted { IfOk result (λ tokens. sum_by (λ at. at.frequency) tokens.items ≡ sum_by members tables.now) }
 {
     let places = places_by_key(alloc, tables)?;
     let mut tokens = count_runs(alloc, tables, &places)?;

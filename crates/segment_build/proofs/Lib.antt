@@ -1,0 +1,5 @@
+pub mod FillLemmas
+pub mod InverseLemmas
+pub mod AddLemmas
+pub mod HoldLemmas
+pub mod BuildLemmas

@@ -1,0 +1,26 @@
+use Rattle.std.proofs.Common.{ap, sym, subst, ◌<◌, List, [], ◌∷◌, length, take, arith}
+use Rattle.lake_model.specs.Tables.{Table, members}
+use Rattle.search_model.specs.Arrays.{table_at}
+use Rattle.search_model.specs.Segment.{columns_of}
+use Rattle.segment_build.specs.Holding.{all_tokens, columns_in, held_with, HasMore}
+use Rattle.segment_build.proofs.HoldLemmas.{columns_of_more, more_more, room_of}
+use Rattle.segment_build.proofs.columns.column_sets.Goals as goal
+
+pub push_table-requires : goal.push_table-requires
+push_table-requires c =
+    let i = c.loop-table.table in
+    let within : i < length c.args.tables.now = omega arith in
+    omega (arith, c.loop-table.invariant.few, room_of c.args.tables.now i within, c.requires.members, ap members c.table_of.ensures)
+
+pub loop-table-preserved : goal.loop-table-preserved
+loop-table-preserved c =
+    let tables = c.args.tables.now in
+    let i = c.loop-table.table in
+    let within : i < length tables = omega arith in
+    let tokens = all_tokens tables in
+    let old = held_with [] (0 ∷ []) [] in
+    let mid = held_with c.loop-table.sets.owners.items c.loop-table.sets.starts.items c.loop-table.sets.tokens.items in
+    let new = held_with c.push_table.new.sets.owners.items c.push_table.new.sets.starts.items c.push_table.new.sets.tokens.items in
+    let added : HasMore tokens mid new (columns_in i (table_at tables i)) =
+    subst (λ (t : Table). HasMore tokens mid new (columns_in i t)) c.table_of.ensures (subst (λ (ts : List Table). HasMore (all_tokens ts) mid new (columns_in i c.table_of.result.now)) c.requires.vocab c.in_ok-push_table.ensures) in
+    subst (HasMore tokens old new) (sym (columns_of_more tables i within)) (more_more tokens old mid new (columns_of (take i tables)) (columns_in i (table_at tables i)) c.loop-table.invariant added)

@@ -1,0 +1,27 @@
+use Rattle.std.proofs.Common.{sym, subst, ◌+◌, ◌<◌, [], ◌∷◌, length, take, arith}
+use Rattle.segment_build.specs.Holding.{all_tokens, columns_in, held_with, titled_in, HasMore}
+use Rattle.segment_build.proofs.HoldLemmas.{columns_in_all, columns_in_more, more_more, room_in}
+use Rattle.segment_build.proofs.columns.push_table.Goals as goal
+
+pub push_column-requires-clause-room : goal.push_column-requires-clause-room
+push_column-requires-clause-room c =
+    let within : c.loop-i.i < length c.args.table.now.columns = omega (arith, c.columns-i-end.ensures.value) in
+    omega (arith, c.loop-i.invariant.few, room_in c.args.number c.args.table.now c.loop-i.i within, c.requires)
+
+pub loop-i-preserved : goal.loop-i-preserved
+loop-i-preserved c =
+    let number = c.args.number in
+    let table = c.args.table.now in
+    let tokens = all_tokens c.args.vocab.now in
+    let old = held_with c.args.sets.now.owners.items c.args.sets.now.starts.items c.args.sets.now.tokens.items in
+    let mid = held_with c.loop-i.sets.owners.items c.loop-i.sets.starts.items c.loop-i.sets.tokens.items in
+    let new = held_with c.push_column.new.sets.owners.items c.push_column.new.sets.starts.items c.push_column.new.sets.tokens.items in
+    let within : c.loop-i.i < length table.columns = omega (arith, c.columns-i-end.ensures.value) in
+    subst (HasMore tokens old new) (sym (columns_in_more number table c.loop-i.i within)) (more_more tokens old mid new (take c.loop-i.i (columns_in number table)) (titled_in number table (c.loop-i.i + 1) ∷ []) c.loop-i.invariant c.in_ok-push_column.ensures)
+
+pub returns : goal.returns
+returns c =
+    let tokens = all_tokens c.args.vocab.now in
+    let old = held_with c.args.sets.now.owners.items c.args.sets.now.starts.items c.args.sets.now.tokens.items in
+    let new = held_with c.loop-i.sets.owners.items c.loop-i.sets.starts.items c.loop-i.sets.tokens.items in
+    subst (HasMore tokens old new) (columns_in_all c.args.number c.args.table.now c.loop-i.i (omega (arith, c.columns-i-end.ensures.value))) c.loop-i.invariant

@@ -1,0 +1,47 @@
+-- Columns that are added behind others, with their tokens.
+use Rattle.std.specs.Prelude.{◌≡◌, ℕ, ◌+◌, ◌-◌, ◌≤◌, List, [], ◌∷◌, ◌++◌, get_or, length, map, sum_by}
+use Rattle.std.specs.List.{enumerate_from}
+use Rattle.lake_model.specs.Tables.{Table, column_with}
+use Rattle.search_model.specs.declared.Owner.{Owner}
+use Rattle.search_model.specs.Arrays.{all_of, owner_of}
+use Rattle.search_model.specs.Segment.{Titled, Token, columns_of, titled, tokens_in, tokens_of}
+
+-- the columns of the table of a number
+abbrev pub columns_in : ℕ → Table → List Titled
+columns_in number table = map (λ c. titled number table.name c.0 c.1) (enumerate_from 1 table.columns)
+
+-- the column at a place of the table of a number
+abbrev pub titled_in : ℕ → Table → ℕ → Titled
+titled_in number table place = titled number table.name place (get_or table.columns (place - 1) (column_with [] []))
+
+-- the columns' tokens
+abbrev pub sets_for : List Token → List Titled → List (List ℕ)
+sets_for tokens columns = map (λ c. tokens_in tokens c.column.keys) columns
+
+-- where each of these lists ends in the list of all, where the first begins at n
+abbrev pub ends_of : {X : Type 0} → ℕ → List (List X) → List ℕ
+ends_of n [] = []
+ends_of n (l ∷ ls) = (n + length l) ∷ ends_of (n + length l) ls
+
+-- the sizes of the columns' sets of keys, summed
+abbrev pub key_count : List Titled → ℕ
+key_count columns = sum_by (λ c. length c.column.keys) columns
+
+abbrev pub all_tokens : List Table → List Token
+all_tokens tables = tokens_of (columns_of tables)
+
+-- the arrays of columns and their sets
+pub record Held : Type 0 where
+  pub owners : List Owner
+  pub starts : List ℕ
+  pub tokens : List ℕ
+
+abbrev pub held_with : List Owner → List ℕ → List ℕ → Held
+held_with owners starts tokens = record { owners = owners; starts = starts; tokens = tokens }
+
+-- these columns were added behind others
+pub record HasMore (tokens : List Token) (old new : Held) (columns : List Titled) : Type 0 where
+  pub owned : new.owners ≡ old.owners ++ map owner_of columns
+  pub bounds : new.starts ≡ old.starts ++ ends_of (length old.tokens) (sets_for tokens columns)
+  pub held : new.tokens ≡ old.tokens ++ all_of (sets_for tokens columns)
+  pub few : length new.tokens ≤ length old.tokens + key_count columns

@@ -1,0 +1,134 @@
+//! The columns of tables and their sets of tokens.
+ghost use Rattle.std.specs.Prelude.{◌≡◌, ◌+◌, ◌<◌, ◌≤◌, ◌^◌, [], ◌∷◌, length, sum_by, IfOk, OnOk};
+ghost use Rattle.std.specs.List.Sorted.{IsPermutation};
+ghost use Rattle.lake_model.specs.Tables.{keys_at, members};
+ghost use Rattle.search_model.specs.Arrays.{no_titled, table_at};
+ghost use Rattle.search_model.specs.Segment.{columns_of, tokens_in};
+ghost use Rattle.segment_build.specs.Holding.{all_tokens, columns_in, held_with, titled_in, HasMore};
+
+use column_set::{SharedTable, TableSets};
+use no_memory::NoMemory;
+use search_model::Owner;
+use std::alloc::Global;
+use token_order::Vocab;
+
+/// Where columns stand, and their sets of tokens, one behind another, with where each begins and the end.
+#[derive(Drop)]
+pub struct ColumnSets {
+    pub owners: Vec<Owner>,
+    pub starts: Vec<u32>,
+    pub tokens: Vec<u32>,
+}
+
+/// The columns of the tables, with the tokens of each, rising. It takes the time to look up each key of each column, and to sort each
+/// set; and 4 bytes for each key of each column, and 12 for each column. It is refused for want of memory where there are 2^32 tables
+/// or more.
+pub fn column_sets(
+    alloc: Global,
+    tables: &[SharedTable],
+    vocab: &Vocab,
+) -> Result<ColumnSets, NoMemory>
+    requires vocab { vocab.now ≡ tables.now }
+    requires members { sum_by members tables.now < 2 ^ 32 }
+    ensures { IfOk result (λ sets. HasMore (all_tokens tables.now) (held_with [] (0 ∷ []) []) (held_with sets.owners.items sets.starts.items sets.tokens.items) (columns_of tables.now)) }
+{
+    if tables.len() > 0xFFFF_FFFF {
+        return Err(NoMemory);
+    }
+    let mut sets = ColumnSets {
+        owners: Vec::new(alloc),
+        starts: vec![in alloc; 0]?,
+        tokens: Vec::new(alloc),
+    };
+    for table in 0..tables.len() as u32 {
+        push_table(alloc, &mut sets, table_of(tables, table), table, vocab)?;
+    }
+    Ok(sets)
+}
+
+// The table of a number.
+fn table_of(tables: &[SharedTable], number: u32) -> &TableSets
+    requires { number < length tables.now }
+    ensures { result.now ≡ table_at tables.now number }
+{
+    tables[number as usize].table()
+}
+
+// Adds the columns of the table of a number.
+fn push_table(
+    alloc: Global,
+    sets: &mut ColumnSets,
+    table: &TableSets,
+    number: u32,
+    vocab: &Vocab,
+) -> Result<(), NoMemory>
+    requires { length sets.old.tokens.items + members table.now < 2 ^ 32 }
+    ensures { OnOk result (HasMore (all_tokens vocab.now) (held_with sets.old.owners.items sets.old.starts.items sets.old.tokens.items) (held_with sets.new.owners.items sets.new.starts.items sets.new.tokens.items) (columns_in number table.now)) }
+{
+    for i in 0..table.columns() {
+        push_column(alloc, sets, table, number, i + 1, vocab)?;
+    }
+    Ok(())
+}
+
+// Adds the column at a place of the table of a number.
+fn push_column(
+    alloc: Global,
+    sets: &mut ColumnSets,
+    table: &TableSets,
+    number: u32,
+    place: u32,
+    vocab: &Vocab,
+) -> Result<(), NoMemory>
+    requires low { 0 < place }
+    requires high { place ≤ length table.now.columns }
+    requires room { length sets.old.tokens.items + length (keys_at table.now place) < 2 ^ 32 }
+    ensures { OnOk result (HasMore (all_tokens vocab.now) (held_with sets.old.owners.items sets.old.starts.items sets.old.tokens.items) (held_with sets.new.owners.items sets.new.starts.items sets.new.tokens.items) (titled_in number table.now place ∷ [])) }
+{
+    let tokens = tokens_of_column(alloc, table, place, vocab)?;
+    sets.owners.push(Owner {
+        table: number,
+        place,
+    })?;
+    sets.tokens.extend_from_slice(&tokens)?;
+    sets.starts.push(sets.tokens.len() as u32)?;
+    Ok(())
+}
+
+// The tokens of the column at a place of a table, rising.
+fn tokens_of_column(
+    alloc: Global,
+    table: &TableSets,
+    place: u32,
+    vocab: &Vocab,
+) -> Result<Vec<u32>, NoMemory>
+    requires low { 0 < place }
+    requires high { place ≤ length table.now.columns }
+    ensures value { IfOk result (λ tokens. tokens.items ≡ tokens_in (all_tokens vocab.now) (keys_at table.now place)) }
+    ensures few { IfOk result (λ tokens. length tokens.items ≤ length (keys_at table.now place)) }
+{
+    let mut tokens = found_tokens(alloc, table, place, vocab)?;
+    tokens.sort_unstable();
+    Ok(tokens)
+}
+
+// The tokens of the column at a place of a table, in the order of its keys.
+fn found_tokens(
+    alloc: Global,
+    table: &TableSets,
+    place: u32,
+    vocab: &Vocab,
+) -> Result<Vec<u32>, NoMemory>
+    requires low { 0 < place }
+    requires high { place ≤ length table.now.columns }
+    ensures same { IfOk result (λ tokens. IsPermutation (tokens_in (all_tokens vocab.now) (keys_at table.now place)) tokens.items) }
+    ensures few { IfOk result (λ tokens. length tokens.items ≤ length (keys_at table.now place)) }
+{
+    let mut tokens = Vec::new(alloc);
+    for i in 0..table.size(place) {
+        if let Some(token) = vocab.find(table.key(place, i)) {
+            tokens.push(token)?;
+        }
+    }
+    Ok(tokens)
+}

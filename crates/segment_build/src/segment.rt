@@ -1,0 +1,40 @@
+//! The segment of a list of tables.
+ghost use Rattle.std.specs.Prelude.{◌≡◌, ◌<◌, ◌^◌, length, sum_by, IfOk};
+ghost use Rattle.lake_model.specs.Tables.{members};
+
+use crate::columns::column_sets;
+use crate::lists::{list_starts, postings_of};
+use column_set::SharedTable;
+use no_memory::NoMemory;
+use segment_core::Segment;
+use std::alloc::Global;
+use token_order::Vocab;
+
+/// The segment of these tables. Its index is that of Zhu, Deng, Nargesian and Miller, "JOSIE: Overlap Set Similarity Search for Finding
+/// Joinable Tables in Data Lakes", SIGMOD 2019.
+///
+/// It takes the time to sort all keys of all columns by their bytes and to look each of them up once; what is left is one pass over
+/// the sets, which counts. A segment takes 16 bytes for each key of each column, 24 for each distinct key and 12 for each column; while
+/// it is built, no more than 16 bytes for each key of each column while the keys are sorted, and then 4 more for each distinct key. It
+/// is refused only for want of memory.
+pub fn build(alloc: Global, tables: Vec<SharedTable>) -> Result<Segment, NoMemory>
+    requires columns { sum_by (λ t. length t.columns) tables.items < 2 ^ 32 }
+    requires members { sum_by members tables.items < 2 ^ 32 }
+    ensures { IfOk result (λ segment. segment ≡ tables.items) }
+{
+    let vocab = Vocab::build(alloc, &tables)?;
+    let sets = column_sets(alloc, &tables, &vocab)?;
+    let (tokens, by_key) = vocab.into_lists();
+    let list_starts = list_starts(alloc, &tokens)?;
+    let postings = postings_of(alloc, &sets.starts, &sets.tokens, &list_starts)?;
+    Ok(Segment::new(
+        tables,
+        sets.owners,
+        tokens,
+        by_key,
+        list_starts,
+        postings,
+        sets.starts,
+        sets.tokens,
+    ))
+}
