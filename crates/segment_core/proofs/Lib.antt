@@ -5,3 +5,4 @@ pub mod AmongLemmas
 pub mod FoundLemmas
 pub mod ShownLemmas
 pub mod WorkedSegment
+pub mod PositionLemmas

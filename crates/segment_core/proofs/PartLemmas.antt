@@ -5,6 +5,7 @@ use Rattle.lake_model.specs.Texts.{Text}
 use Rattle.lake_model.specs.Tables.{Table, Column}
 use Rattle.search_model.specs.Segment.{Titled, titled, columns_of, segment}
 use Rattle.search_model.specs.Arrays.{titled_at, no_titled}
+use Rattle.segment_core.specs.Positions.{loads_of}
 use Rattle.segment_core.specs.Versions.{places_with, part_with, tables_of, marks_of, mark_nth, place_with}
 
 pub tables_with : (number : ℕ) (ns : List ℕ) (ts : List Table) (ms : List Bool) → length ns ≡ length ts → length ms ≡ length ts → tables_of (part_with number (places_with ns ts ms)) ≡ ts
@@ -22,7 +23,7 @@ marks_with number (n ∷ ns) [] ms h k = absurd (omega arith)
 marks_with number (n ∷ ns) (t ∷ ts) [] h k = absurd (omega arith)
 marks_with number (n ∷ ns) (t ∷ ts) (m ∷ ms) h k = ap (λ us. m ∷ us) (marks_with number ns ts ms (omega arith) (omega arith))
 
-all_append : {X : Type 0} (P : X → Type 0) (xs ys : List X) → AllByRecursion P xs → AllByRecursion P ys → AllByRecursion P (xs ++ ys)
+pub all_append : {X : Type 0} (P : X → Type 0) (xs ys : List X) → AllByRecursion P xs → AllByRecursion P ys → AllByRecursion P (xs ++ ys)
 all_append P [] ys h k = k
 all_append P (x ∷ xs) ys h k = (h.0, all_append P xs ys h.1 k)
 
@@ -58,3 +59,11 @@ length_places [] (t ∷ ts) ms h k = absurd (omega arith)
 length_places (n ∷ ns) [] ms h k = absurd (omega arith)
 length_places (n ∷ ns) (t ∷ ts) [] h k = absurd (omega arith)
 length_places (n ∷ ns) (t ∷ ts) (m ∷ ms) h k = omega (arith, length_places ns ts ms (omega arith) (omega arith))
+
+pub positions_with : (number : ℕ) (ns : List ℕ) (ts : List Table) (ms : List Bool) → length ns ≡ length ts → length ms ≡ length ts → loads_of (part_with number (places_with ns ts ms)) ≡ ns
+positions_with number [] [] [] h k = refl
+positions_with number [] [] (m ∷ ms) h k = absurd (omega arith)
+positions_with number [] (t ∷ ts) ms h k = absurd (omega arith)
+positions_with number (n ∷ ns) [] ms h k = absurd (omega arith)
+positions_with number (n ∷ ns) (t ∷ ts) [] h k = absurd (omega arith)
+positions_with number (n ∷ ns) (t ∷ ts) (m ∷ ms) h k = ap (λ us. n ∷ us) (positions_with number ns ts ms (omega arith) (omega arith))

@@ -1,8 +1,7 @@
 -- What replies show of a version, from the lists that its parts keep.
 use Rattle.std.proofs.Common.{◌≡◌, refl, ap, ◌∙◌, ℕ, zero, suc, ◌+◌, ◌<◌, List, [], ◌∷◌, ◌++◌, Bool, true, false, cond, length, get_or, take, arith}
 use Rattle.std.specs.List.{zip}
-use Rattle.lake_model.specs.Tables.{Table}
-use Rattle.lake_model.specs.Tables.{Line, line_of}
+use Rattle.lake_model.specs.Tables.{Table, Line, line_of}
 use Rattle.search_model.specs.Arrays.{table_at}
 use Rattle.segment_core.specs.Lines.{lines_without, shown_places, unmarked_lines}
 use Rattle.segment_core.specs.Versions.{places_with}

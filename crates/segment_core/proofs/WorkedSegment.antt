@@ -10,19 +10,15 @@ use Rattle.lake_model.specs.Sorting.{in_order, put_in_order}
 use Rattle.lake_model.specs.Tables.{Column, Table, column_name, column_with, keys_at, table_with, titles_of}
 use Rattle.search_model.specs.Arrays.{AreArrays, IsAt, IsByKey, key_of, token_with}
 use Rattle.search_model.specs.Segment.{segment, Token, tokens_of}
-use Rattle.search_model.specs.declared.Owner.{Owner}
-use Rattle.search_model.specs.declared.Posting.{Posting}
 use Rattle.search_model.specs.declared.TokenAt.{TokenAt}
+use Rattle.segment_core.specs.Worked.{worked_owners, worked_postings, worked_table, worked_tokens}
 
-abbrev pub worked : Table
-worked = table_with (codes "t") (column_with (codes "p") (codes "z" ∷ codes "a" ∷ []) ∷ column_with (codes "q") (codes "a" ∷ []) ∷ [])
-
-one_key : (keys : List Text) (a : Text) → length keys ≡ 1 → get_or keys 0 [] ≡ a → keys ≡ a ∷ []
+pub one_key : (keys : List Text) (a : Text) → length keys ≡ 1 → get_or keys 0 [] ≡ a → keys ≡ a ∷ []
 one_key [] a n e = absurd (omega arith)
 one_key (k ∷ []) a n e = ap (λ (t : Text). t ∷ []) e
 one_key (k ∷ l ∷ keys) a n e = absurd (omega arith)
 
-two_keys : (keys : List Text) (a b : Text) → length keys ≡ 2 → get_or keys 0 [] ≡ a → get_or keys 1 [] ≡ b → keys ≡ a ∷ b ∷ []
+pub two_keys : (keys : List Text) (a b : Text) → length keys ≡ 2 → get_or keys 0 [] ≡ a → get_or keys 1 [] ≡ b → keys ≡ a ∷ b ∷ []
 two_keys [] a b n e f = absurd (omega arith)
 two_keys (k ∷ keys) a b n e f = (λ i. e i ∷ one_key keys b (omega arith) f i)
 
@@ -35,26 +31,12 @@ two_columns (x ∷ y ∷ []) c d n h = (λ i. column_with (h.0 i) (h.2 i) ∷ co
 two_columns (x ∷ y ∷ z ∷ columns) c d n h = absurd (omega arith)
 
 pub is_worked : (t : Table) → t.name ≡ codes "t" → length t.columns ≡ 2 → column_name (titles_of t) 1 ≡ codes "p" → column_name (titles_of t) 2 ≡ codes "q"
-    → length (keys_at t 1) ≡ 2 → length (keys_at t 2) ≡ 1 → get_or (keys_at t 1) 0 [] ≡ codes "z" → get_or (keys_at t 1) 1 [] ≡ codes "a" → get_or (keys_at t 2) 0 [] ≡ codes "a" → t ≡ worked
-is_worked t name n p q few one z a b =
-    let first : keys_at t 1 ≡ codes "z" ∷ codes "a" ∷ [] = two_keys (keys_at t 1) (codes "z") (codes "a") few z a in
-    let second : keys_at t 2 ≡ codes "a" ∷ [] = one_key (keys_at t 2) (codes "a") one b in
+    → keys_at t 1 ≡ codes "z" ∷ codes "a" ∷ [] → keys_at t 2 ≡ codes "a" ∷ [] → t ≡ worked_table
+is_worked t name n p q first second =
     let columns = two_columns t.columns (column_with (codes "p") (codes "z" ∷ codes "a" ∷ [])) (column_with (codes "q") (codes "a" ∷ [])) n (p, q, first, second) in
     (λ i. table_with (name i) (columns i))
 
-abbrev owner : ℕ → ℕ → Owner
-owner table place = record { table = table; place = place }
-
-abbrev at : ℕ → ℕ → ℕ → ℕ → TokenAt
-at table place index frequency = record { table = table; place = place; index = index; frequency = frequency }
-
-abbrev held : ℕ → ℕ → ℕ → Posting
-held column position size = record { column = column; position = position; size = size }
-
-abbrev tokens : List TokenAt
-tokens = at 0 1 0 1 ∷ at 0 1 1 2 ∷ []
-
-within : (i : ℕ) (d : TokenAt) → i < 2 → IsAt (worked ∷ []) (get_or tokens i d)
+within : (i : ℕ) (d : TokenAt) → i < 2 → IsAt (worked_table ∷ []) (get_or worked_tokens i d)
 within zero d h = record { table = lit< tt; low = lit< tt; high = lit≤ tt; index = lit< tt }
 within (suc zero) d h = record { table = lit< tt; low = lit< tt; high = lit≤ tt; index = lit< tt }
 within (suc (suc i)) d h = absurd (omega arith)
@@ -70,7 +52,7 @@ rising (suc k) d low h = absurd (omega arith)
 by_key : IsByKey named (1 ∷ 0 ∷ [])
 by_key = record { rising = rising; same = IsPermutation-middle (0 ∷ []) 1 [] }
 
-pub worked_arrays : AreArrays (worked ∷ []) (owner 0 1 ∷ owner 0 2 ∷ []) tokens (1 ∷ 0 ∷ []) (0 ∷ 1 ∷ 3 ∷ []) (held 0 0 2 ∷ held 0 1 2 ∷ held 1 0 1 ∷ []) (0 ∷ 2 ∷ 3 ∷ []) (0 ∷ 1 ∷ 1 ∷ [])
+pub worked_arrays : AreArrays (worked_table ∷ []) worked_owners worked_tokens (1 ∷ 0 ∷ []) (0 ∷ 1 ∷ 3 ∷ []) worked_postings (0 ∷ 2 ∷ 3 ∷ []) (0 ∷ 1 ∷ 1 ∷ [])
 unfolding in_order put_in_order tokens_of segment
 worked_arrays = record {
   owned = refl;

@@ -1,9 +1,7 @@
 -- What replies show of a version.
 use Rattle.std.specs.Prelude.{ℕ, Bool, List, [], ◌∷◌, map, filter, not, if◌then◌else◌}
 use Rattle.lake_model.specs.Texts.{Text}
-use Rattle.lake_model.specs.Tables.{Table}
-use Rattle.lake_model.specs.Tables.{Line, line_of}
-use Rattle.lake_model.specs.Tables.{line_with}
+use Rattle.lake_model.specs.Tables.{Table, Line, line_of, line_with}
 use Rattle.lake_model.specs.Layout.{Place, Part, unmarked_of}
 
 -- the positions of places, with their marks

@@ -46,8 +46,7 @@ pub struct Layout {
 }
 
 impl Model for Layout {
-    ghost use Rattle.lake_model.specs.Layout.{Shown};
-    ghost use Rattle.lake_model.specs.Layout.{shown_with};
+    ghost use Rattle.lake_model.specs.Layout.{Shown, shown_with};
 
     ghost Value = { Shown };
 

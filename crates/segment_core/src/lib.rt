@@ -1,6 +1,7 @@
 //! Segments of a lake, the versions that hold them, and all that a search may ask of a version, with a log of what it reads.
 #![tactic(auto)]
 
+mod find;
 mod layout;
 mod looks;
 mod numbers;

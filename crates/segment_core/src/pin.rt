@@ -1,7 +1,6 @@
 //! Pins, which hold a version while it is searched.
 ghost use Rattle.std.specs.Prelude.{◌≡◌, ◌<◌, [], length, map, IfOk};
-ghost use Rattle.lake_model.specs.Layout.{shown};
-ghost use Rattle.lake_model.specs.Layout.{shown_with};
+ghost use Rattle.lake_model.specs.Layout.{shown, shown_with};
 ghost use Rattle.segment_core.specs.Lines.{line_from, live_lines};
 
 use crate::layout::{Layout, Places, TableLines};

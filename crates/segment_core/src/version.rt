@@ -4,6 +4,7 @@ ghost use Rattle.std.specs.List.{zip};
 ghost use Rattle.lake_model.specs.Layout.{positions_of};
 ghost use Rattle.segment_core.specs.Distinct.{unmarked_names, AreDistinct};
 ghost use Rattle.segment_core.specs.Lines.{line_from, lines_without, shown_places, unmarked_lines};
+ghost use Rattle.segment_core.specs.Positions.{loads_of};
 ghost use Rattle.segment_core.specs.Versions.{marked_at, marks_of, part_at, tables_of, version_with};
 
 use crate::layout::Places;
@@ -44,6 +45,13 @@ impl Part {
         ensures { result.now ≡ tables_of self.now }
     {
         &self.segment
+    }
+
+    /// The position of the load of each of its tables, in their order.
+    pub fn loads(&self) -> &[u64]
+        ensures { result.now ≡ loads_of self.now }
+    {
+        self.positions.list()
     }
 
     /// The marks of its tables, in their order.

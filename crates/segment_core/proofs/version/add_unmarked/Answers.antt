@@ -1,8 +1,6 @@
 use Rattle.std.proofs.Common.{◌≡◌, ◌∙◌, sym, ap, ◌<◌, List, [], ◌∷◌, ◌++◌, Bool, true, false, cond, map, length, get_or, take, arith, append-nil, append_assoc}
 use Rattle.std.proofs.lemmas.List.{map-append, get_or_default}
-use Rattle.lake_model.specs.Tables.{Table, members}
-use Rattle.lake_model.specs.Tables.{Line, line_of}
-use Rattle.lake_model.specs.Tables.{line_with}
+use Rattle.lake_model.specs.Tables.{Table, members, Line, line_of, line_with}
 use Rattle.search_model.specs.Arrays.{no_table, table_at}
 use Rattle.segment_core.specs.Lines.{line_from, lines_without}
 use Rattle.segment_core.proofs.ShownLemmas.{without_more}

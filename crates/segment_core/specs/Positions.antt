@@ -1,0 +1,27 @@
+-- Where loads stand in the parts of a layout.
+use Rattle.std.specs.Prelude.{◌≡◌, ℕ, ◌<◌, List, length, map, slice_index}
+use Rattle.std.specs.List.{AllByRecursion}
+use Rattle.std.specs.List.Sorted.{IsStrictlyIncreasing}
+use Rattle.lake_model.specs.Layout.{Part, positions_of}
+use Rattle.segment_core.specs.Versions.{part_at}
+
+-- the positions of a part's loads, and that of its first
+abbrev pub loads_of : Part → List ℕ
+loads_of part = map (λ place. place.position) part.places
+
+abbrev pub first_load : Part → ℕ
+first_load part = slice_index (loads_of part) 0
+
+-- the positions rise over all parts, one behind another
+abbrev pub Rises : List Part → Type 0
+Rises parts = IsStrictlyIncreasing (positions_of parts)
+
+-- each part has a place
+abbrev pub AreFull : List Part → Type 0
+AreFull parts = AllByRecursion (λ part. 0 < length part.places) parts
+
+-- the load of a position is that of a place of a part, both by their index from 0
+pub record StandsAt (parts : List Part) (position part place : ℕ) : Type 0 where
+  pub part_there : part < length parts
+  pub place_there : place < length (part_at parts part).places
+  pub position_is : slice_index (loads_of (part_at parts part)) place ≡ position
