@@ -18,10 +18,10 @@ use Rattle.segment_core.specs.Versions.{VersionOf, version_with}
 use Rattle.catalogue.specs.declared.refusal.DropRefused.{DropRefused}
 use Rattle.catalogue.specs.declared.refusal.DropRefused.TheVariants.{Unknown, Full}
 use Rattle.catalogue.specs.Kept.{IsKept, IsWithin}
-use Rattle.catalogue.specs.Parts.{live_of, load_of, is_of, positions_in, HasPlaces, Rises}
+use Rattle.catalogue.specs.Parts.{live_of, load_of, is_of, Rises}
 use Rattle.catalogue.specs.Refusals.{drop_refusal}
 use Rattle.catalogue.proofs.ListLemmas.{le_from, all_weaker, all_map, distinct_filter, map_none, find_none}
-use Rattle.catalogue.proofs.PlaceLemmas.{places_of, unmarked, name_same, name_is, name_differs, names_of_tables}
+use Rattle.catalogue.proofs.PlaceLemmas.{places_of, unmarked, positions_in, HasPlaces, name_same, name_is, name_differs, names_of_tables}
 use Rattle.catalogue.proofs.KeptLemmas.{counts_with, is_legal_behind-push}
 
 places_mark : (name : Text) (parts : List Part) → places_of (map (mark name) parts) ≡ map (mark_place name) (places_of parts)
