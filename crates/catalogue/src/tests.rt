@@ -50,17 +50,21 @@ fn segment(alloc: Global, table: SharedTable) -> Result<Arc<Segment>, Fail>
 {
     let tables = vec![in alloc; table]?;
     let owners = vec![in alloc; Owner { table: 0, place: 1 }]?;
+    let tokens = Vec::new(alloc);
+    let by_key = Vec::new(alloc);
     let list_starts = vec![in alloc; 0]?;
+    let postings = Vec::new(alloc);
     let set_starts = vec![in alloc; 0, 0]?;
+    let set_tokens = Vec::new(alloc);
     let segment = Segment::new(
         tables,
         owners,
-        Vec::new(alloc),
-        Vec::new(alloc),
+        tokens,
+        by_key,
         list_starts,
-        Vec::new(alloc),
+        postings,
         set_starts,
-        Vec::new(alloc),
+        set_tokens,
     );
     Ok(Arc::new(alloc, segment)?)
 }
