@@ -1,14 +1,13 @@
 -- The places of a layout: how a mark changes them, and what the positions and the names tell of them.
-use Rattle.std.proofs.Common.{◌≡◌, refl, ap, sym, ◌∙◌, subst, inl, inr, ◌⊎◌, ℕ, zero, suc, ◌+◌, ◌<◌, ◌≤◌, List, [], ◌∷◌, ◌++◌, Bool, true, false, not, ◌||◌, cond, map, length, get_or, slice_set, Option, Some, None, is_some, arith}
+use Rattle.std.proofs.Common.{◌≡◌, refl, ap, sym, ◌∙◌, subst, inl, inr, ◌⊎◌, ℕ, zero, suc, ◌<◌, List, [], ◌∷◌, ◌++◌, Bool, true, false, not, ◌||◌, cond, map, length, get_or, slice_set, Some, is_some, arith}
 use Rattle.std.specs.Prelude.{find, option_map, bytes_eq}
 use Rattle.std.specs.List.{AllByRecursion, list_any, flat_map, filter}
 use Rattle.std.proofs.lemmas.Bool.{false_from_ne_true}
 use Rattle.std.proofs.lemmas.List.{map-append, get_or-map}
 use Rattle.std.proofs.lemmas.Slice.Eq.{bytes_eq-Decides}
 use Rattle.lake_model.specs.Texts.{Text}
-use Rattle.lake_model.specs.Tables.{Table}
 use Rattle.lake_model.specs.Journal.{has_name}
-use Rattle.lake_model.specs.Layout.{Place, Part, mark, mark_place, positions_of, unmarked_of}
+use Rattle.lake_model.specs.Layout.{Place, Part, mark, mark_place, positions_of}
 use Rattle.search_model.specs.Arrays.{no_table}
 use Rattle.segment_core.specs.Distinct.{AreDistinct, Lacks, unmarked_names}
 use Rattle.segment_core.specs.Positions.{StandsAt}
