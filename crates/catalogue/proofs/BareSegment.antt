@@ -1,5 +1,5 @@
 -- The arrays of the segment of one table whose only column has no key.
-use Rattle.std.proofs.Common.{◌≡◌, refl, ap, sym, subst, ℕ, ◌+◌, ◌<◌, ◌≤◌, List, [], ◌∷◌, length, get_or, arith, lit<}
+use Rattle.std.proofs.Common.{◌≡◌, refl, sym, subst, List, [], ◌∷◌, length, arith, lit<}
 use Rattle.std.proofs.lemmas.List.Sorted.{IsPermutation-refl}
 use Rattle.lake_model.specs.Texts.{Text}
 use Rattle.lake_model.specs.Sorting.{in_order}

@@ -1,7 +1,7 @@
 -- A drop that nothing refuses: what a catalogue keeps is kept.
 use Rattle.std.proofs.Common.{◌≡◌, refl, ap, sym, ◌∙◌, subst, ℕ, ◌+◌, ◌-◌, ◌<◌, ◌≤◌, List, [], ◌∷◌, ◌++◌, Bool, true, false, not, ◌||◌, cond, map, length, Option, Some, None, arith, length-append, append-nil}
 use Rattle.std.specs.Prelude.{bytes_eq, sum_by, count_by, find, option_map}
-use Rattle.std.specs.List.{AllByRecursion, list_any, flat_map, filter}
+use Rattle.std.specs.List.{AllByRecursion, list_any, filter}
 use Rattle.std.proofs.lemmas.List.{map-append, length-map}
 use Rattle.std.proofs.lemmas.List.Concat.{flat_map-append}
 use Rattle.std.proofs.lemmas.List.Sums.{sum_by_push}
@@ -15,13 +15,12 @@ use Rattle.lake_model.specs.Limits.{Bounded, is_passed, drop_bounds}
 use Rattle.lake_model.proofs.LayoutLemmas.{live_more, layout_more, searchable-drop}
 use Rattle.segment_core.specs.Distinct.{AreDistinct, Lacks, unmarked_names}
 use Rattle.segment_core.specs.Versions.{VersionOf, version_with}
-use Rattle.catalogue.specs.declared.refusal.DropRefused.{DropRefused}
 use Rattle.catalogue.specs.declared.refusal.DropRefused.TheVariants.{Unknown, Full}
-use Rattle.catalogue.specs.Kept.{IsKept, IsWithin}
-use Rattle.catalogue.specs.Parts.{live_of, load_of, is_of, positions_in, HasPlaces, Rises}
+use Rattle.catalogue.specs.Kept.{IsKept}
+use Rattle.catalogue.specs.Parts.{live_of, load_of, is_of, Rises}
 use Rattle.catalogue.specs.Refusals.{drop_refusal}
-use Rattle.catalogue.proofs.ListLemmas.{le_from, all_weaker, all_map, distinct_filter, map_none, find_none}
-use Rattle.catalogue.proofs.PlaceLemmas.{places_of, unmarked, name_same, name_is, name_differs, names_of_tables}
+use Rattle.catalogue.proofs.ListLemmas.{le_from, all_weaker, distinct_filter, map_none, find_none}
+use Rattle.catalogue.proofs.PlaceLemmas.{places_of, unmarked, positions_in, HasPlaces, name_same, name_is, name_differs, names_of_tables}
 use Rattle.catalogue.proofs.KeptLemmas.{counts_with, is_legal_behind-push}
 
 places_mark : (name : Text) (parts : List Part) → places_of (map (mark name) parts) ≡ map (mark_place name) (places_of parts)

@@ -1,12 +1,11 @@
 -- What follows from what a catalogue keeps, and what keeps it for one more entry.
-use Rattle.std.proofs.Common.{◌≡◌, refl, ap, sym, ◌∙◌, subst, ℕ, ◌+◌, ◌≤◌, List, [], ◌∷◌, ◌++◌, Bool, true, false, ◌&&◌, map, length, Option, None, is_some, append_assoc, append-nil}
-use Rattle.std.specs.Prelude.{bytes_eq}
-use Rattle.std.specs.List.{AllByRecursion, list_any}
+use Rattle.std.proofs.Common.{◌≡◌, refl, ap, sym, ◌∙◌, subst, ℕ, List, [], ◌∷◌, ◌++◌, true, map, Option, is_some, append_assoc, append-nil}
+use Rattle.std.specs.List.{list_any}
 use Rattle.lake_model.specs.declared.Counts.{Counts}
 use Rattle.lake_model.specs.Texts.{Text}
 use Rattle.lake_model.specs.Tables.{Table}
-use Rattle.lake_model.specs.Journal.{Entry, is_live, live, counts, has_name}
-use Rattle.lake_model.specs.Layout.{Part, layout, positions_of, unmarked_of, is_legal_behind, may_follow}
+use Rattle.lake_model.specs.Journal.{Entry, is_live, live, has_name}
+use Rattle.lake_model.specs.Layout.{layout, positions_of, unmarked_of, is_legal_behind, may_follow}
 use Rattle.segment_core.specs.Distinct.{AreDistinct, unmarked_names}
 use Rattle.segment_core.specs.Versions.{VersionOf}
 use Rattle.catalogue.specs.Kept.{IsKept}

@@ -1,7 +1,8 @@
 -- Lists whose numbers rise, lists in which nothing stands twice, and what a search finds.
-use Rattle.std.proofs.Common.{◌≡◌, refl, ap, sym, ◌∙◌, subst, ℕ, zero, suc, ◌+◌, ◌<◌, ◌≤◌, List, [], ◌∷◌, ◌++◌, Bool, true, false, ◌||◌, ◌&&◌, not, cond, map, length, get_or, Option, Some, None, is_some, arith}
-use Rattle.std.specs.Prelude.{find, option_map, nat_lt}
+use Rattle.std.proofs.Common.{◌≡◌, refl, ap, sym, ◌∙◌, subst, ℕ, zero, suc, ◌+◌, ◌<◌, ◌≤◌, List, [], ◌∷◌, ◌++◌, Bool, true, false, ◌&&◌, cond, map, length, get_or, Option, Some, None, is_some, arith}
+use Rattle.std.specs.Prelude.{find, option_map, nat_lt, slice_index}
 use Rattle.std.specs.List.{AllByRecursion, filter}
+use Rattle.std.specs.List.Sorted.{IsStrictlyIncreasing}
 use Rattle.std.proofs.lemmas.Bool.Decides.{nat_tests}
 use Rattle.segment_core.specs.Distinct.{AreDistinct, Lacks}
 use Rattle.catalogue.specs.Parts.{Rises}
@@ -112,6 +113,13 @@ rises_push (m ∷ ns) n h k = (all_append (λ later. m < later) ns (n ∷ []) h.
 pub rises_distinct : (ns : List ℕ) → Rises ns → AreDistinct ns
 rises_distinct [] h = tt
 rises_distinct (n ∷ ns) h = (all_weaker (λ later. n < later) (λ m. m ≡ n → ⊥) ns (λ m lt e. omega arith) h.0, rises_distinct ns h.1)
+
+pub rises_increasing : (ns : List ℕ) → Rises ns → IsStrictlyIncreasing ns
+rises_increasing [] h k lt = absurd (omega arith)
+rises_increasing (n ∷ ns) h zero lt = all_at (λ later. n < later) ns 0 0 h.0 (omega arith)
+rises_increasing (n ∷ ns) h (suc k) lt =
+    let next : suc k + 1 ≡ suc (k + 1) = omega arith in
+    subst (λ (j : ℕ). slice_index (n ∷ ns) (suc k) < slice_index (n ∷ ns) j) (sym next) (rises_increasing ns h.1 k (omega arith))
 
 -- what a search finds
 pub open_by : {X : Type 0} (b : Bool) (x : X) (rest : Option X) → cond b (Some x) rest ≡ None → (b ≡ false) × (rest ≡ None)

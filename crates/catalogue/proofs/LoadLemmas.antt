@@ -1,7 +1,7 @@
 -- A load that nothing refuses: what a catalogue keeps is kept.
-use Rattle.std.proofs.Common.{◌≡◌, refl, ap, sym, ◌∙◌, subst, ℕ, ◌+◌, ◌<◌, ◌≤◌, ◌^◌, List, [], ◌∷◌, ◌++◌, Bool, true, false, not, ◌||◌, cond, map, length, Option, Some, None, is_some, arith, length-append}
+use Rattle.std.proofs.Common.{◌≡◌, refl, ap, sym, ◌∙◌, subst, ℕ, ◌+◌, ◌<◌, ◌≤◌, ◌^◌, List, [], ◌∷◌, ◌++◌, Bool, true, false, not, ◌||◌, cond, map, length, Option, Some, None, arith, length-append}
 use Rattle.std.specs.Prelude.{bytes_eq, sum_by, count_by, find, option_map}
-use Rattle.std.specs.List.{AllByRecursion, list_any, flat_map, filter}
+use Rattle.std.specs.List.{AllByRecursion, list_any}
 use Rattle.std.proofs.lemmas.List.{map-append}
 use Rattle.std.proofs.lemmas.List.Concat.{flat_map-append}
 use Rattle.std.proofs.lemmas.List.Sums.{sum_by_push}
@@ -17,10 +17,10 @@ use Rattle.segment_core.specs.Distinct.{AreDistinct, Lacks, unmarked_names}
 use Rattle.segment_core.specs.Versions.{VersionOf, version_with, part_with, place_with, places_with}
 use Rattle.catalogue.specs.declared.refusal.LoadRefused.TheVariants.{Full}
 use Rattle.catalogue.specs.Kept.{IsKept, IsWithin}
-use Rattle.catalogue.specs.Parts.{live_of, load_of, is_of, HasPlaces, Rises}
+use Rattle.catalogue.specs.Parts.{live_of, load_of, is_of, Rises}
 use Rattle.catalogue.specs.Refusals.{load_refusal}
 use Rattle.catalogue.proofs.ListLemmas.{le_from, all_append, all_weaker, filter-append, distinct_push, rises_push, open_by, map_none, find_none, find_push, none_from}
-use Rattle.catalogue.proofs.PlaceLemmas.{places_of, unmarked, names_append, name_same, name_is, names_in}
+use Rattle.catalogue.proofs.PlaceLemmas.{places_of, unmarked, HasPlaces, names_append, name_same, name_is, names_in}
 use Rattle.catalogue.proofs.KeptLemmas.{counts_with, is_legal_behind-push, parts_kept, named_kept, names_kept, names_differ, positions_differ}
 
 -- the part of one load

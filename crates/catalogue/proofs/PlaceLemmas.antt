@@ -1,17 +1,18 @@
 -- The places of a layout: how a mark changes them, and what the positions and the names tell of them.
-use Rattle.std.proofs.Common.{◌≡◌, refl, ap, sym, ◌∙◌, subst, inl, inr, ◌⊎◌, ℕ, zero, suc, ◌+◌, ◌<◌, ◌≤◌, List, [], ◌∷◌, ◌++◌, Bool, true, false, not, ◌||◌, cond, map, length, get_or, slice_set, Option, Some, None, is_some, arith}
+use Rattle.std.proofs.Common.{◌≡◌, refl, ap, sym, ◌∙◌, subst, inl, inr, ◌⊎◌, ℕ, zero, suc, ◌<◌, List, [], ◌∷◌, ◌++◌, Bool, true, false, not, ◌||◌, cond, map, length, get_or, slice_set, Some, is_some, arith}
 use Rattle.std.specs.Prelude.{find, option_map, bytes_eq}
 use Rattle.std.specs.List.{AllByRecursion, list_any, flat_map, filter}
 use Rattle.std.proofs.lemmas.Bool.{false_from_ne_true}
-use Rattle.std.proofs.lemmas.List.{map-append, length-map}
+use Rattle.std.proofs.lemmas.List.{map-append, get_or-map}
 use Rattle.std.proofs.lemmas.Slice.Eq.{bytes_eq-Decides}
 use Rattle.lake_model.specs.Texts.{Text}
-use Rattle.lake_model.specs.Tables.{Table}
 use Rattle.lake_model.specs.Journal.{has_name}
-use Rattle.lake_model.specs.Layout.{Place, Part, mark, mark_place, positions_of, unmarked_of}
+use Rattle.lake_model.specs.Layout.{Place, Part, mark, mark_place, positions_of}
+use Rattle.search_model.specs.Arrays.{no_table}
 use Rattle.segment_core.specs.Distinct.{AreDistinct, Lacks, unmarked_names}
+use Rattle.segment_core.specs.Positions.{StandsAt}
 use Rattle.segment_core.specs.Versions.{place_with, part_with, part_at, mark_nth, marked_at}
-use Rattle.catalogue.specs.Parts.{load_of, is_of, positions_in}
+use Rattle.catalogue.specs.Parts.{load_of, is_of}
 use Rattle.catalogue.proofs.ListLemmas.{all_left, all_right, all_weaker, all_map, all_at, all_filter, all_passed, filter-append, distinct_left, distinct_right, distinct_apart, find_all, find_passed, map_some}
 
 abbrev pub places_of : List Part → List Place
@@ -22,6 +23,15 @@ unmarked places = filter (λ place. not place.marked) places
 
 abbrev pub names_in : List Place → List Text
 names_in places = map (λ place. place.table.name) (unmarked places)
+
+abbrev pub positions_in : List Place → List ℕ
+positions_in places = map (λ place. place.position) places
+
+abbrev pub HasPlaces : Part → Type 0
+HasPlaces part = 0 < length part.places
+
+abbrev no_place : Place
+no_place = place_with 0 no_table false
 
 pub name_same : (a b : Text) → bytes_eq a b ≡ true → a ≡ b
 name_same a b h = (bytes_eq-Decides a b).0 h
@@ -147,14 +157,15 @@ one_part_marked name (part ∷ parts) (suc i) j d lt within m n h =
     λ k. part_with part.number (none_marked name part.places lacks k) ∷ one_part_marked name parts i j d (omega arith) within m n (distinct_right (names_in part.places) (names_in (places_of parts)) split) k
 
 -- A drop marks the place at the position of the load of the name.
-pub drop_marks : (name : Text) (parts : List Part) (i j position : ℕ) (d : Place) → AreDistinct (positions_of parts) → AreDistinct (unmarked_names parts) → load_of parts name ≡ Some position
-    → i < length parts → j < length (part_at parts i).places → (get_or (part_at parts i).places j d).position ≡ position → map (mark name) parts ≡ slice_set parts i (marked_at j (part_at parts i))
-drop_marks name parts i j position d positions names loaded lt within at =
+pub drop_marks : (name : Text) (parts : List Part) (i j position : ℕ) → AreDistinct (positions_of parts) → AreDistinct (unmarked_names parts) → load_of parts name ≡ Some position → StandsAt parts position i j
+    → map (mark name) parts ≡ slice_set parts i (marked_at j (part_at parts i))
+drop_marks name parts i j position positions names loaded stands =
+    let at : (get_or (part_at parts i).places j no_place).position ≡ position = sym (get_or-map (λ (p : Place). p.position) (part_at parts i).places j no_place 0 stands.place_there) ∙ stands.position_is in
     let f = map_some (λ (p : Place). p.position) (find (is_of name) (unmarked (places_of parts))) position loaded in
     let free : not f.0.marked ≡ true = find_all (λ (p : Place). not p.marked ≡ true) (is_of name) (unmarked (places_of parts)) f.0 (all_passed (λ (p : Place). not p.marked) (places_of parts)) f.1 in
     let called = name_same f.0.table.name name (find_passed (is_of name) (unmarked (places_of parts)) f.0 f.1) in
-    let same = all_in (Only f.0) parts i j d lt within (found_only name (places_of parts) f.0 positions f.1) (at ∙ sym f.2) in
-    one_part_marked name parts i j d lt within (ap (λ (p : Place). p.marked) same ∙ not_true f.0.marked free) (ap (λ (p : Place). p.table.name) same ∙ called) names
+    let same = all_in (Only f.0) parts i j no_place stands.part_there stands.place_there (found_only name (places_of parts) f.0 positions f.1) (at ∙ sym f.2) in
+    one_part_marked name parts i j no_place stands.part_there stands.place_there (ap (λ (p : Place). p.marked) same ∙ not_true f.0.marked free) (ap (λ (p : Place). p.table.name) same ∙ called) names
   where
     not_true : (b : Bool) → not b ≡ true → b ≡ false
     not_true true h = cc

@@ -6,8 +6,9 @@ use Rattle.lake_model.specs.Texts.{Text}
 use Rattle.lake_model.specs.Journal.{Entry, live, counts}
 use Rattle.lake_model.specs.Layout.{layout, is_legal, positions_of}
 use Rattle.segment_core.specs.Distinct.{AreDistinct}
+use Rattle.segment_core.specs.Positions.{AreFull}
 use Rattle.segment_core.specs.Versions.{VersionOf, version_with}
-use Rattle.catalogue.specs.Parts.{live_of, load_of, Rises, HasPlaces}
+use Rattle.catalogue.specs.Parts.{live_of, load_of, Rises}
 
 -- a catalogue: the limits of its lake, and its journal
 pub record CatalogueOf : Type 0 where
@@ -38,6 +39,6 @@ pub record IsKept (limits : Counts) (journal : List Entry) (version : VersionOf)
   pub names : AreDistinct (map (λ table. table.name) (live journal))
   pub rising : Rises (positions_of (layout journal))
   pub past : AllByRecursion (λ n. n ≤ length journal) (positions_of (layout journal))
-  pub filled : AllByRecursion HasPlaces (layout journal)
+  pub filled : AreFull (layout journal)
   pub room : length (positions_of (layout journal)) ≤ (counts journal).updates
   pub few : length (layout journal) ≤ (counts journal).updates

@@ -1,6 +1,6 @@
 -- What refuses a load: a live table of its name, or else the first limit that it would pass. What refuses a drop: that no table of
 -- its name is live, or else the limit that it would pass.
-use Rattle.std.specs.Prelude.{List, length, Option, Some, None, option_map, find, if◌then◌else◌}
+use Rattle.std.specs.Prelude.{List, length, Option, Some, option_map, find, if◌then◌else◌}
 use Rattle.lake_model.specs.declared.Counts.{Counts}
 use Rattle.lake_model.specs.Texts.{Text}
 use Rattle.lake_model.specs.Tables.{Table}

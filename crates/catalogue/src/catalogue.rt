@@ -9,7 +9,6 @@ ghost use Rattle.catalogue.specs.Parts.{live_of};
 ghost use Rattle.catalogue.specs.Refusals.{drop_refusal, load_refusal};
 
 use crate::entry::Entry;
-use crate::find::find_load;
 use crate::names::{add_name, remove_name};
 use crate::refusal::{DropRefused, LoadRefused};
 use column_set::{Name, SharedTable, TableSets};
@@ -240,7 +239,7 @@ impl Catalogue {
         let Some(position) = self.positions.get(name.text()) else {
             unreachable!()
         };
-        let Some(place) = find_load(&self.version, *position) else {
+        let Some(place) = self.version.find(*position) else {
             unreachable!()
         };
         place

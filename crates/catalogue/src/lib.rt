@@ -7,7 +7,6 @@ ghost use Rattle.lake_model.specs.Journal.{standard_limits};
 
 mod catalogue;
 mod entry;
-mod find;
 mod names;
 mod refusal;
 

@@ -7,7 +7,7 @@ use crate::{
 };
 use column_set::{Name, SharedTable, TableSets};
 use csv_table::read_table;
-use segment_core::{Owner, Segment};
+use segment_core::{Owner, Pin, Segment};
 use std::alloc::Global;
 use std::sync::Arc;
 use std::test::Fail;
@@ -50,26 +50,66 @@ fn segment(alloc: Global, table: SharedTable) -> Result<Arc<Segment>, Fail>
 {
     let tables = vec![in alloc; table]?;
     let owners = vec![in alloc; Owner { table: 0, place: 1 }]?;
+    let tokens = Vec::new(alloc);
+    let by_key = Vec::new(alloc);
     let list_starts = vec![in alloc; 0]?;
+    let postings = Vec::new(alloc);
     let set_starts = vec![in alloc; 0, 0]?;
+    let set_tokens = Vec::new(alloc);
     let segment = Segment::new(
         tables,
         owners,
-        Vec::new(alloc),
-        Vec::new(alloc),
+        tokens,
+        by_key,
         list_starts,
-        Vec::new(alloc),
+        postings,
         set_starts,
-        Vec::new(alloc),
+        set_tokens,
     );
     Ok(Arc::new(alloc, segment)?)
 }
 
-// Loads such a table.
-fn load(lake: &mut Catalogue, alloc: Global, name: &str) -> Result<Result<u64, LoadRefused>, Fail> {
-    let table = table(alloc, name)?;
+// Loads such a table, and expects this answer.
+fn loads(
+    lake: &mut Catalogue,
+    alloc: Global,
+    text: &str,
+    answer: Result<u64, LoadRefused>,
+) -> Result<(), Fail> {
+    let table = table(alloc, text)?;
     let segment = segment(alloc, table.share()?)?;
-    Ok(lake.load(FIRST, table, segment))
+    if lake.load(FIRST, table, segment) != answer {
+        return Err(Fail::from("another answer to a load"));
+    }
+    Ok(())
+}
+
+// Drops a table, and expects this answer.
+fn drops(lake: &mut Catalogue, text: &str, answer: Result<u64, DropRefused>) -> Result<(), Fail> {
+    if lake.drop_table(SECOND, &name(text)?) != answer {
+        return Err(Fail::from("another answer to a drop"));
+    }
+    Ok(())
+}
+
+// Expects that a pin stands at a position, with so many live tables.
+fn holds(alloc: Global, pin: &Pin, at: u64, tables: usize) -> Result<(), Fail> {
+    if pin.at() != at || pin.tables(alloc)?.list().len() != tables {
+        return Err(Fail::from("another version"));
+    }
+    Ok(())
+}
+
+// Expects so many live tables, and so many loads and drops, which are all the entries.
+fn counts(lake: &Catalogue, live: u32, updates: u64) -> Result<(), Fail> {
+    let counts = lake.counts();
+    if counts.live != live || counts.updates != updates {
+        return Err(Fail::from("other counts"));
+    }
+    if lake.at() != updates || lake.journal().len() as u64 != updates {
+        return Err(Fail::from("another journal"));
+    }
+    Ok(())
 }
 
 // An empty lake of at most two loads and drops.
@@ -84,86 +124,60 @@ fn small_lake(alloc: Global) -> Result<Catalogue, Fail> {
 }
 
 #[test]
-fn loads_up_to_the_limit_of_updates(rt: HostRuntime) -> Result<(), Fail> {
+fn loads_and_drops_up_to_their_limit(rt: HostRuntime) -> Result<(), Fail> {
     let alloc = rt.alloc();
     let mut lake = small_lake(alloc)?;
-    assert_eq!(rt; load(&mut lake, alloc, "a")?, Ok(1));
-    assert_eq!(rt; load(&mut lake, alloc, "b")?, Ok(2));
-    let full = LoadRefused::Full {
+    loads(&mut lake, alloc, "a", Ok(1))?;
+    loads(&mut lake, alloc, "b", Ok(2))?;
+    let no_load = LoadRefused::Full {
         which: Which::Updates,
         count: 2,
         more: 1,
         at: 2,
     };
-    assert_eq!(rt; load(&mut lake, alloc, "c")?, Err(full));
-    assert_eq!(rt;
-        load(&mut lake, alloc, "a")?,
-        Err(LoadRefused::Repeated { at: 2 })
-    );
-    assert_eq!(rt; lake.journal().len(), 2);
-    Ok(())
-}
-
-#[test]
-fn drops_up_to_the_limit_of_updates(rt: HostRuntime) -> Result<(), Fail> {
-    let alloc = rt.alloc();
-    let mut lake = small_lake(alloc)?;
-    assert_eq!(rt; load(&mut lake, alloc, "a")?, Ok(1));
-    assert_eq!(rt; load(&mut lake, alloc, "b")?, Ok(2));
-    let full = DropRefused::Full {
+    loads(&mut lake, alloc, "c", Err(no_load))?;
+    let no_drop = DropRefused::Full {
         which: Which::Updates,
         count: 2,
         more: 1,
         at: 2,
     };
-    assert_eq!(rt; lake.drop_table(SECOND, &name("a")?), Err(full));
-    let unknown = DropRefused::Unknown { at: 2 };
-    assert_eq!(rt; lake.drop_table(SECOND, &name("c")?), Err(unknown));
-    Ok(())
+    drops(&mut lake, "a", Err(no_drop))
 }
 
 #[test]
-fn a_name_is_loaded_dropped_and_loaded_again(rt: HostRuntime) -> Result<(), Fail> {
+fn a_live_name_is_repeated_and_another_unknown(rt: HostRuntime) -> Result<(), Fail> {
     let alloc = rt.alloc();
     let mut lake = Catalogue::new(alloc, standard_limits())?;
-    assert_eq!(rt; load(&mut lake, alloc, "a")?, Ok(1));
-    assert_eq!(rt; lake.drop_table(SECOND, &name("a")?), Ok(2));
-    assert!(rt; !lake.live(&name("a")?));
-    assert_eq!(rt; load(&mut lake, alloc, "a")?, Ok(3));
+    loads(&mut lake, alloc, "a", Ok(1))?;
+    loads(&mut lake, alloc, "a", Err(LoadRefused::Repeated { at: 1 }))?;
+    drops(&mut lake, "b", Err(DropRefused::Unknown { at: 1 }))
+}
+
+#[test]
+fn a_pin_keeps_what_is_dropped_and_loaded_later(rt: HostRuntime) -> Result<(), Fail> {
+    let alloc = rt.alloc();
+    let mut lake = Catalogue::new(alloc, standard_limits())?;
+    loads(&mut lake, alloc, "a", Ok(1))?;
+    let loaded = lake.pin()?;
+    drops(&mut lake, "a", Ok(2))?;
+    let dropped = lake.pin()?;
+    loads(&mut lake, alloc, "a", Ok(3))?;
+    holds(alloc, &loaded, 1, 1)?;
+    holds(alloc, &dropped, 2, 0)?;
+    holds(alloc, &lake.pin()?, 3, 1)?;
     assert!(rt; lake.live(&name("a")?));
-    let counts = Counts {
-        live: 1,
-        updates: 3,
-        members: 0,
-        key_bytes: 0,
-    };
-    assert_eq!(rt; lake.counts(), counts);
-    assert_eq!(rt; lake.at(), 3);
-    Ok(())
+    counts(&lake, 1, 3)
 }
 
 #[test]
-fn a_pin_keeps_what_is_dropped_later(rt: HostRuntime) -> Result<(), Fail> {
-    let alloc = rt.alloc();
-    let mut lake = Catalogue::new(alloc, standard_limits())?;
-    assert_eq!(rt; load(&mut lake, alloc, "a")?, Ok(1));
-    let before = lake.pin()?;
-    assert_eq!(rt; lake.drop_table(SECOND, &name("a")?), Ok(2));
-    let behind = lake.pin()?;
-    assert_eq!(rt; before.at(), 1);
-    assert_eq!(rt; behind.at(), 2);
-    assert_eq!(rt; before.tables(alloc)?.list().len(), 1);
-    assert_eq!(rt; behind.tables(alloc)?.list().len(), 0);
-    Ok(())
-}
-
-#[test]
-fn a_shared_entry_is_the_entry(rt: HostRuntime) -> Result<(), Fail> {
+fn a_shared_drop_is_the_drop(rt: HostRuntime) -> Result<(), Fail> {
     let entry = Entry::dropped(SECOND, name("a")?).share()?;
-    assert_eq!(rt; entry.who, SECOND);
     match &entry.what {
-        What::Loaded(_) => assert!(rt; false),
-        What::Dropped(name) => assert_eq!(rt; name.text(), "a"),
+        What::Loaded(_) => Err(Fail::from("a load")),
+        What::Dropped(name) => {
+            assert!(rt; name.text() == "a");
+            Ok(())
+        }
     }
-    Ok(())
 }

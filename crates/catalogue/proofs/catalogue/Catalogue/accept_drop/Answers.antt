@@ -1,4 +1,4 @@
-use Rattle.std.proofs.Common.{◌≡◌, ◌∙◌, sym, ap, subst, arith, ℕ, List, length, map, slice_set, ◌+◌, ◌-◌, ◌++◌, ◌∷◌, [], None, cond}
+use Rattle.std.proofs.Common.{◌≡◌, ◌∙◌, sym, ap, subst, arith, List, length, map, slice_set, ◌+◌, ◌-◌, ◌++◌, ◌∷◌, [], None, cond}
 use Rattle.std.specs.Prelude.{bytes_eq}
 use Rattle.std.specs.BTreeMap.{get_by_text}
 use Rattle.lake_model.specs.Texts.{Text}

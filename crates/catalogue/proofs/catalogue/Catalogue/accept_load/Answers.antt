@@ -1,10 +1,10 @@
-use Rattle.std.proofs.Common.{◌≡◌, ◌∙◌, sym, ap, subst, arith, ℕ, List, length, ◌+◌, ◌++◌, ◌∷◌, [], Option, Some, None, cond}
+use Rattle.std.proofs.Common.{◌≡◌, ◌∙◌, sym, ap, subst, arith, length, ◌+◌, ◌++◌, ◌∷◌, [], Some, None, cond}
 use Rattle.std.specs.Prelude.{bytes_eq}
 use Rattle.std.specs.BTreeMap.{get_by_text}
 use Rattle.lake_model.specs.Texts.{Text}
 use Rattle.lake_model.specs.Tables.{Table, members, key_bytes}
-use Rattle.lake_model.specs.Journal.{Entry, entry_with, Loaded}
-use Rattle.lake_model.specs.Layout.{Part, layout}
+use Rattle.lake_model.specs.Journal.{entry_with, Loaded}
+use Rattle.lake_model.specs.Layout.{layout}
 use Rattle.segment_core.specs.Versions.{version_with}
 use Rattle.catalogue.specs.Refusals.{load_refusal}
 use Rattle.catalogue.proofs.KeptLemmas.{counts_with, kept_equal, kept_same, parts_kept}

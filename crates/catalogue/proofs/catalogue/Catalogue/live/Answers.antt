@@ -1,4 +1,4 @@
-use Rattle.std.proofs.Common.{◌≡◌, ◌∙◌, ap, List, Option, ℕ, is_some}
+use Rattle.std.proofs.Common.{◌∙◌, ap, List, Option, ℕ, is_some}
 use Rattle.std.specs.List.{list_any}
 use Rattle.std.specs.BTreeMap.{get_by_text}
 use Rattle.lake_model.specs.Texts.{Text}
