@@ -1,7 +1,7 @@
 -- A column stands in the list of a token where it has the token, so over the lists of the query's tokens it is counted as often as
 -- it shares keys with the query.
-use Rattle.std.proofs.Common.{◌≡◌, refl, ap, sym, ◌∙◌, subst, inl, inr, ℕ, zero, suc, ◌+◌, ◌<◌, ◌≤◌, List, [], ◌∷◌, ◌++◌, Bool, true, false, ◌||◌, cond, map, length, get_or, take, arith, set, eqb as nat_eq, le-ltb}
-use Rattle.std.specs.List.{All, AllByRecursion, filter, count_by, enumerate_from, list_any, sum_by}
+use Rattle.std.proofs.Common.{◌≡◌, refl, ap, sym, ◌∙◌, subst, inl, inr, ℕ, zero, suc, ◌+◌, ◌<◌, ◌≤◌, List, [], ◌∷◌, ◌++◌, Bool, true, false, cond, map, length, get_or, take, arith, set, eqb as nat_eq, le-ltb}
+use Rattle.std.specs.List.{All, AllByRecursion, filter, count_by, enumerate_from, list_any}
 use Rattle.std.proofs.lemmas.Bool.{cases_lt}
 use Rattle.std.proofs.lemmas.Bool.Decides.{nat_tests}
 use Rattle.std.proofs.lemmas.List.{get_or-set_same, get_or-set_other, get_or_past}

@@ -1,12 +1,11 @@
 -- The rows of a part's columns, counted by what they share with a query, are those of its tables that are unmarked and not excepted.
-use Rattle.std.proofs.Common.{◌≡◌, refl, ap, sym, ◌∙◌, subst, ℕ, zero, suc, ◌+◌, ◌<◌, ◌≤◌, List, [], ◌∷◌, ◌++◌, Bool, true, false, not, ◌&&◌, cond, map, length, get_or, arith, ltb as nat_lt, Option, append_assoc}
+use Rattle.std.proofs.Common.{◌≡◌, refl, ap, sym, ◌∙◌, ℕ, suc, ◌+◌, ◌<◌, List, [], ◌∷◌, ◌++◌, Bool, true, false, not, ◌&&◌, cond, map, length, get_or, arith, ltb as nat_lt, Option}
 use Rattle.std.specs.List.{filter, flat_map, enumerate_from}
 use Rattle.std.proofs.lemmas.List.Concat.{flat_map-append}
 use Rattle.lake_model.specs.Answer.{Row, all_rows, is_excepted, row_of, rows_from as table_rows, rows_of_table}
 use Rattle.lake_model.specs.Layout.{Place}
 use Rattle.lake_model.specs.Tables.{Column, Table, overlap}
 use Rattle.lake_model.specs.Texts.{Text}
-use Rattle.search_model.specs.Looks.{row_with}
 use Rattle.search_model.specs.Segment.{Titled, titled, columns_of}
 use Rattle.josie_search.specs.Rows.{counted_row}
 

@@ -12,7 +12,7 @@ use Rattle.lake_model.specs.Answer.{Query, Row, all_rows, is_excepted, rows_of_t
 use Rattle.lake_model.specs.Layout.{Part, Place, unmarked_of}
 use Rattle.lake_model.specs.Tables.{Table, overlap}
 use Rattle.lake_model.specs.Texts.{Text}
-use Rattle.search_model.specs.Arrays.{no_titled, titled_at}
+use Rattle.search_model.specs.Arrays.{titled_at}
 use Rattle.search_model.specs.Segment.{Titled, columns_of, segment}
 use Rattle.segment_core.specs.Versions.{live_of, marks_of, part_at, part_with, segment_at, segment_of, tables_of, VersionOf}
 use Rattle.josie_search.specs.Counts.{held}

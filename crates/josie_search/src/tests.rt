@@ -1,5 +1,5 @@
 //! What a search answers and reads, on a version made by hand, and that it succeeds.
-ghost use Rattle.std.specs.Prelude.{◌≡◌, ◌∷◌, [], false, true, IfOk};
+ghost use Rattle.std.specs.Prelude.{◌≡◌, ◌∷◌, [], false, IfOk};
 ghost use Rattle.lake_model.specs.Tables.{Table};
 ghost use Rattle.segment_core.specs.Versions.{part_with, places_with, version_with};
 
@@ -93,31 +93,18 @@ fn worked_segment(alloc: Global) -> Result<Segment, Fail>
     ))
 }
 
-// A part over the segment, of which the one table was loaded at this position.
-fn worked_part(
-    alloc: Global,
-    segment: &Arc<Segment>,
-    position: u64,
-    marked: bool,
-) -> Result<Part, Fail>
-    ensures { IfOk result (λ part. part ≡ part_with position (places_with (position ∷ []) segment.now.value (marked ∷ []))) }
+// The version behind the load of that table at position 7.
+fn worked_version(alloc: Global) -> Result<Arc<Version>, Fail>
+    ensures { IfOk result (λ version. (table : Table) × (version.value ≡ version_with 7 (part_with 7 (places_with (7 ∷ []) (table ∷ []) (false ∷ [])) ∷ []))) }
 {
-    Ok(Part {
-        number: position,
-        segment: Arc::try_clone(segment)?,
-        positions: Numbers::new(vec![in alloc; position]?),
-        marked: Marks::new(vec![in alloc; marked]?),
-    })
-}
-
-// The version where that table was loaded at position 7, dropped, and loaded again at position 9.
-fn worked_version(alloc: Global) -> Result<Arc<Version>, Fail> {
-    let segment = Arc::new(alloc, worked_segment(alloc)?)?;
-    let dropped = worked_part(alloc, &segment, 7, true)?;
-    let live = worked_part(alloc, &segment, 9, false)?;
+    let part = Part {
+        number: 7,
+        segment: Arc::new(alloc, worked_segment(alloc)?)?,
+        positions: Numbers::new(vec![in alloc; 7]?),
+        marked: Marks::new(vec![in alloc; false]?),
+    };
     let mut version = Arc::new(alloc, Version::empty(alloc))?;
-    Version::add(&mut version, 8, dropped)?;
-    Version::add(&mut version, 9, live)?;
+    Version::add(&mut version, 7, part)?;
     Ok(version)
 }
 
@@ -133,42 +120,26 @@ fn expect_rows(rt: &impl Abort, rows: &Rows<'_>, want: &[(u32, &str, u32)]) {
     assert_eq!(rt; rows.list().len(), want.len());
     for (row, (overlap, column, place)) in rows.list().iter().zip(want) {
         assert_eq!(rt; row.overlap, *overlap);
-        assert_eq!(rt; row.table().text(), "t");
         assert_eq!(rt; row.column(), *column);
         assert_eq!(rt; row.place, *place);
     }
 }
 
-// Both columns share a key or two with the query, in the live part alone, and each list of both parts is read once.
+// Each list of the query's tokens is read once. Equal overlaps go by the column's name, also where only one row is wanted.
 #[test]
 fn counted(rt: HostRuntime) -> Result<(), Fail> {
     let alloc = rt.alloc();
     let pin = Pin::new(worked_version(alloc)?);
-    let query = query(alloc, b"a\nz\nb\n")?;
-    let answer = prepare(alloc, pin.looks(alloc), &query, 10, None)?.run()?;
+    let both = query(alloc, b"a\nz\n")?;
+    let answer = prepare(alloc, pin.looks(alloc), &both, 10, None)?.run()?;
     expect_rows(&rt, &answer.rows, &[(2, "p", 1), (1, "q", 2)]);
     let log = [
         Look::Read { part: 7, token: 0 },
         Look::Read { part: 7, token: 1 },
-        Look::Read { part: 9, token: 0 },
-        Look::Read { part: 9, token: 1 },
     ];
     assert_eq!(rt; answer.looks.log(), log.as_slice());
-    Ok(())
-}
-
-// Equal overlaps go by the column's name, also where only one row is wanted; an excepted table has no row.
-#[test]
-fn ties(rt: HostRuntime) -> Result<(), Fail> {
-    let alloc = rt.alloc();
-    let pin = Pin::new(worked_version(alloc)?);
-    let query = query(alloc, b"a\n")?;
-    let answer = prepare(alloc, pin.looks(alloc), &query, 10, None)?.run()?;
-    expect_rows(&rt, &answer.rows, &[(1, "p", 1), (1, "q", 2)]);
-    let answer = prepare(alloc, pin.looks(alloc), &query, 1, None)?.run()?;
+    let one = query(alloc, b"a\n")?;
+    let answer = prepare(alloc, pin.looks(alloc), &one, 1, None)?.run()?;
     expect_rows(&rt, &answer.rows, &[(1, "p", 1)]);
-    let except = Name::read(b"t").ok_or("no name")?;
-    let answer = prepare(alloc, pin.looks(alloc), &query, 10, Some(&except))?.run()?;
-    expect_rows(&rt, &answer.rows, &[]);
     Ok(())
 }

@@ -1,4 +1,4 @@
-use Rattle.std.proofs.Common.{◌≡◌, ◌∙◌, sym, ap, subst, ◌+◌, ◌<◌, ◌++◌, ◌∷◌, [], List, length, get_or, take, arith}
+use Rattle.std.proofs.Common.{◌∙◌, sym, ap, subst, ◌+◌, ◌<◌, ◌++◌, ◌∷◌, [], List, length, get_or, arith}
 use Rattle.std.specs.List.{All}
 use Rattle.search_model.specs.declared.Look.TheVariants.{Read}
 use Rattle.search_model.specs.declared.Posting.{Posting}

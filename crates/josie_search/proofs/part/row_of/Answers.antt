@@ -1,4 +1,4 @@
-use Rattle.std.proofs.Common.{◌≡◌, ◌∙◌, sym, ap, true, false, ◌∷◌, [], List, arith, option_copied}
+use Rattle.std.proofs.Common.{◌≡◌, ◌∙◌, sym, ap, ◌∷◌, [], option_copied}
 use Rattle.lake_model.specs.Answer.{Row, is_excepted}
 use Rattle.lake_model.specs.Tables.{Titles}
 use Rattle.search_model.specs.Arrays.{titled_at}

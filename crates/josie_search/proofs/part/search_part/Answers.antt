@@ -1,4 +1,4 @@
-use Rattle.std.proofs.Common.{◌≡◌, ap, ◌<◌, length, arith}
+use Rattle.std.proofs.Common.{ap, length, arith}
 use Rattle.segment_core.specs.Versions.{segment_at, VersionOf}
 use Rattle.josie_search.proofs.CountLemmas.{held_inside}
 use Rattle.josie_search.proofs.part.search_part.Goals as goal

@@ -1,4 +1,4 @@
-use Rattle.std.proofs.Common.{◌≡◌, ◌∙◌, sym, ap, subst, ℕ, ◌<◌, ◌++◌, ◌∷◌, [], List, length, get_or, set, option_copied, arith, append-nil}
+use Rattle.std.proofs.Common.{◌≡◌, ◌∙◌, sym, ap, subst, ℕ, ◌<◌, ◌++◌, [], List, length, get_or, option_copied, arith, append-nil}
 use Rattle.std.proofs.Math.ListN.{length-set}
 use Rattle.std.specs.List.Sorted.{IsPermutation}
 use Rattle.lake_model.specs.Answer.{Row}

@@ -1,4 +1,4 @@
-use Rattle.std.proofs.Common.{get_or, arith}
+use Rattle.std.proofs.Common.{arith}
 use Rattle.std.proofs.lemmas.Grind.{get_or_default_zero}
 use Rattle.josie_search.proofs.CountLemmas.{last_raised, raised_within}
 use Rattle.josie_search.proofs.counters.Counters.take.Goals as goal
