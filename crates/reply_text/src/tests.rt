@@ -3,6 +3,7 @@ use crate::{Answered, By, Reply, RunRecord, write_replies};
 use column_set::{KeptRow, KeptRows, Name, Row, Titles};
 use lake_model::Which;
 use no_memory::NoMemory;
+use segment_core::{Layout, TableLines};
 use std::alloc::Global;
 use std::process::Abort;
 use std::sync::Arc;
@@ -62,11 +63,28 @@ fn rows_are_lines_and_column_names_are_quoted(rt: HostRuntime) -> Result<(), Fai
     let found = Reply::Found {
         query: 3,
         rows: KeptRows::new(rows),
-        at: 18446744073709551615,
+        layout: Layout::new(18446744073709551615, Vec::new(alloc)),
     };
     let wanted =
         "7 answer 2 of 3 at 18446744073709551615\n  2 t1 2 \"city\"\n  1 zz 2 \"\\\"\\\\\\n\\r\\t\\x01\\x7fé\"\n";
     shows(&rt, found, wanted)?;
+    Ok(())
+}
+
+#[test]
+fn a_drop_shows_its_name_and_a_list_its_tables(rt: HostRuntime) -> Result<(), Fail> {
+    let name = Name::read(b"t1").ok_or("no name")?;
+    let dropped = Reply::Dropped { name, at: 3 };
+    shows(&rt, dropped, "7 dropped t1 at 3\n")?;
+    let mut lines = Vec::new(rt.alloc());
+    lines.push((Name::read(b"t2").ok_or("no name")?, 2, 5))?;
+    lines.push((Name::read(b"t0").ok_or("no name")?, 1, 0))?;
+    let tables = TableLines::new(lines);
+    shows(
+        &rt,
+        Reply::Listed { tables, at: 9 },
+        "7 tables 2 at 9\n  t2 columns 2 members 5\n  t0 columns 1 members 0\n",
+    )?;
     Ok(())
 }
 
@@ -95,6 +113,11 @@ fn refused_loads_and_queries(rt: HostRuntime) -> Result<(), Fail> {
         at: 4,
     };
     shows(&rt, repeated, "7 refused repeated t1 at 4\n")?;
+    let unknown = Reply::Unknown {
+        name: Name::read(b"t9").ok_or("no name")?,
+        at: 0,
+    };
+    shows(&rt, unknown, "7 refused unknown t9 at 0\n")?;
     let full = Reply::Full {
         which: Which::KeyBytes,
         count: 1073741820,

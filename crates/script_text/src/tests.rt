@@ -24,6 +24,11 @@ fn shown(alloc: Global, outcome: &Result<Batch, ScriptRefused>) -> Result<String
                 let body = str::from_utf8(body.bytes()).unwrap_or("?");
                 write!(text, "{number}@{lane} load {name} {body:?};")?;
             }
+            Task::Drop { name } => {
+                let name = name.text();
+                write!(text, "{number}@{lane} drop {name};")?;
+            }
+            Task::Tables => write!(text, "{number}@{lane} tables;")?,
             Task::Search { k, body } => {
                 let body = str::from_utf8(body.bytes()).unwrap_or("?");
                 write!(text, "{number}@{lane} search {k} {body:?};")?;
@@ -33,7 +38,7 @@ fn shown(alloc: Global, outcome: &Result<Batch, ScriptRefused>) -> Result<String
     Ok(text)
 }
 
-const WORKED: [(&str, &str); 39] = [
+const WORKED: [(&str, &str); 43] = [
     (
         "load t1\nid,city\n1,Rome\n2,Oslo\n.\nsearch 1\nrome\nOSLO\nParis\n.\n",
         "1@1 load t1 \"id,city\\n1,Rome\\n2,Oslo\\n\";2@1 search 1 \"rome\\nOSLO\\nParis\\n\";",
@@ -79,6 +84,14 @@ const WORKED: [(&str, &str); 39] = [
     ("Load a\n.\n", "line 1 Unknown"),
     ("load é\n.\n", "line 1 Unknown"),
     ("load !~\n.\n", "1@1 load !~ \"\";"),
+    // commands without a block
+    (
+        "drop a\ntables\r\ndrop !~",
+        "1@1 drop a;2@1 tables;3@1 drop !~;",
+    ),
+    ("drop\n", "line 1 Unknown"),
+    ("tables \n", "line 1 Unknown"),
+    ("drop a b\n", "line 1 Unknown"),
     // 1 to 10,000
     ("search 1\n.\n", "1@1 search 1 \"\";"),
     ("search 10000\n.\n", "1@1 search 10000 \"\";"),
