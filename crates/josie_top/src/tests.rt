@@ -12,9 +12,6 @@ const SCRIPT: &str =
 const WRITTEN: &str =
     "1 loaded stations columns 3 members 9 at 1\n2 answer 1 of 3 at 1\n  2 stations 2 \"city\"\n3 answer 1 of 2 at 1\n  2 stations 3 \"country\"\n";
 
-// A script so short that it can be read byte by byte often.
-const SHORT: &str = "load t\nv\nx\n.\nsearch 1\nX\n.\n";
-
 // How a run of the word ends, and whether it wrote this.
 fn ends<R: Threads + Wait + Sync>(
     rt: &R,
@@ -77,14 +74,44 @@ fn writes_nothing_for_an_empty_input(rt: HostRuntime) -> Result<(), Fail> {
 // The calls are one for each piece, and one that finds the end.
 #[test]
 fn ends_at_each_failing_read_with_nothing_written(rt: HostRuntime) -> Result<(), Fail> {
-    for (script, piece, calls) in [(SHORT, 1usize, 27u64), (SCRIPT, 7, 25), (SCRIPT, 64, 4)] {
+    for (piece, calls) in [(7usize, 25u64), (64, 4)] {
         for failing in 1..=calls {
-            let (status, same) = ends(&rt, rt.alloc(), script, piece, failing, 64, 0, b"")?;
+            let (status, same) = ends(&rt, rt.alloc(), SCRIPT, piece, failing, 64, 0, b"")?;
             assert!(rt; status == Status::ReadFault && same);
         }
-        let (status, _) = ends(&rt, rt.alloc(), script, piece, calls + 1, 64, 0, b"")?;
+        let (status, _) = ends(&rt, rt.alloc(), SCRIPT, piece, calls + 1, 64, 0, b"")?;
         assert!(rt; status == Status::Done);
     }
+    Ok(())
+}
+
+// The same byte by byte, which are 163 calls. They are spread over tests, since a read of a byte clears as much room as a read of many.
+#[test]
+fn ends_at_the_first_failing_reads_of_a_byte(rt: HostRuntime) -> Result<(), Fail> {
+    for failing in 1u64..=92 {
+        let (status, same) = ends(&rt, rt.alloc(), SCRIPT, 1, failing, 64, 0, b"")?;
+        assert!(rt; status == Status::ReadFault && same);
+    }
+    Ok(())
+}
+
+#[test]
+fn ends_at_the_middle_failing_reads_of_a_byte(rt: HostRuntime) -> Result<(), Fail> {
+    for failing in 93u64..=131 {
+        let (status, same) = ends(&rt, rt.alloc(), SCRIPT, 1, failing, 64, 0, b"")?;
+        assert!(rt; status == Status::ReadFault && same);
+    }
+    Ok(())
+}
+
+#[test]
+fn ends_at_the_last_failing_reads_of_a_byte(rt: HostRuntime) -> Result<(), Fail> {
+    for failing in 132u64..=163 {
+        let (status, same) = ends(&rt, rt.alloc(), SCRIPT, 1, failing, 64, 0, b"")?;
+        assert!(rt; status == Status::ReadFault && same);
+    }
+    let (status, _) = ends(&rt, rt.alloc(), SCRIPT, 1, 164, 64, 0, b"")?;
+    assert!(rt; status == Status::Done);
     Ok(())
 }
 
