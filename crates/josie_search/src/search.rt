@@ -48,7 +48,7 @@ pub struct Answer<'a> {
 /// for each column of the part that has most. The search leaves out the columns of the table named `except`, if any.
 pub fn prepare<'a, 'q>(
     alloc: Global,
-    looks: Looks<'a>,
+    mut looks: Looks<'a>,
     query: &'q QuerySet,
     k: u32,
     except: Option<&'q Name>,
@@ -58,7 +58,6 @@ pub fn prepare<'a, 'q>(
     requires high { k ≤ 10000 }
     ensures { IfOk result (λ prepared. prepared ≡ search_with looks.entry.version (query_with k query.now (option_copied except.entry))) }
 {
-    let mut looks = looks;
     let asked = ask_parts(alloc, &mut looks, query)?;
     let counters = Counters::zeros(alloc, most_columns(&looks))?;
     // No counter is raised past the number of the query's keys.
