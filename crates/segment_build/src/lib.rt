@@ -7,3 +7,6 @@ mod segment;
 
 pub use segment::build;
 pub use segment_core::Segment;
+
+#[cfg(test)]
+mod tests;

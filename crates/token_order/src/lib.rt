@@ -8,3 +8,6 @@ mod vocab;
 
 pub use search_model::TokenAt;
 pub use vocab::Vocab;
+
+#[cfg(test)]
+mod tests;
