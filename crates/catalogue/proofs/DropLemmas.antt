@@ -14,10 +14,10 @@ use Rattle.lake_model.specs.Layout.{Place, Part, layout, mark, mark_place, posit
 use Rattle.lake_model.specs.Limits.{Bounded, is_passed, drop_bounds}
 use Rattle.lake_model.proofs.LayoutLemmas.{live_more, layout_more, searchable-drop}
 use Rattle.segment_core.specs.Distinct.{AreDistinct, Lacks, unmarked_names}
-use Rattle.segment_core.specs.Versions.{VersionOf, version_with}
+use Rattle.segment_core.specs.Versions.{VersionOf, live_of, version_with}
 use Rattle.catalogue.specs.declared.refusal.DropRefused.TheVariants.{Unknown, Full}
 use Rattle.catalogue.specs.Kept.{IsKept}
-use Rattle.catalogue.specs.Parts.{live_of, load_of, is_of, Rises}
+use Rattle.catalogue.specs.Parts.{load_of, is_of, Rises}
 use Rattle.catalogue.specs.Refusals.{drop_refusal}
 use Rattle.catalogue.proofs.ListLemmas.{le_from, all_weaker, distinct_filter, map_none, find_none}
 use Rattle.catalogue.proofs.PlaceLemmas.{places_of, unmarked, positions_in, HasPlaces, name_same, name_is, name_differs, names_of_tables}

@@ -14,10 +14,10 @@ use Rattle.lake_model.specs.Layout.{Place, Part, layout, positions_of, unmarked_
 use Rattle.lake_model.specs.Limits.{Bounded, is_passed, load_bounds}
 use Rattle.lake_model.proofs.LayoutLemmas.{live_more, layout_more, searchable-load}
 use Rattle.segment_core.specs.Distinct.{AreDistinct, Lacks, unmarked_names}
-use Rattle.segment_core.specs.Versions.{VersionOf, version_with, part_with, place_with, places_with}
+use Rattle.segment_core.specs.Versions.{VersionOf, live_of, version_with, part_with, place_with, places_with}
 use Rattle.catalogue.specs.declared.refusal.LoadRefused.TheVariants.{Full}
 use Rattle.catalogue.specs.Kept.{IsKept, IsWithin}
-use Rattle.catalogue.specs.Parts.{live_of, load_of, is_of, Rises}
+use Rattle.catalogue.specs.Parts.{load_of, is_of, Rises}
 use Rattle.catalogue.specs.Refusals.{load_refusal}
 use Rattle.catalogue.proofs.ListLemmas.{le_from, all_append, all_weaker, filter-append, distinct_push, rises_push, open_by, map_none, find_none, find_push, none_from}
 use Rattle.catalogue.proofs.PlaceLemmas.{places_of, unmarked, HasPlaces, names_append, name_same, name_is, names_in}

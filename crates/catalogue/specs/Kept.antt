@@ -7,8 +7,8 @@ use Rattle.lake_model.specs.Journal.{Entry, live, counts}
 use Rattle.lake_model.specs.Layout.{layout, is_legal, positions_of}
 use Rattle.segment_core.specs.Distinct.{AreDistinct}
 use Rattle.segment_core.specs.Positions.{AreFull}
-use Rattle.segment_core.specs.Versions.{VersionOf, version_with}
-use Rattle.catalogue.specs.Parts.{live_of, load_of, Rises}
+use Rattle.segment_core.specs.Versions.{VersionOf, live_of, version_with}
+use Rattle.catalogue.specs.Parts.{load_of, Rises}
 
 -- a catalogue: the limits of its lake, and its journal
 pub record CatalogueOf : Type 0 where

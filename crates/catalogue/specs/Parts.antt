@@ -1,14 +1,9 @@
--- What the parts of a layout have: their live tables, and of each the position of its load.
-use Rattle.std.specs.Prelude.{◌<◌, ℕ, Bool, List, [], ◌∷◌, map, find, option_map, Option}
+-- The loads of the live tables of a layout, by their names.
+use Rattle.std.specs.Prelude.{◌<◌, ℕ, Bool, List, [], ◌∷◌, find, option_map, Option}
 use Rattle.std.specs.List.{AllByRecursion}
 use Rattle.lake_model.specs.Texts.{Text}
-use Rattle.lake_model.specs.Tables.{Table}
 use Rattle.lake_model.specs.Journal.{has_name}
 use Rattle.lake_model.specs.Layout.{Place, Part, unmarked_of}
-
--- the tables that are not marked
-abbrev pub live_of : List Part → List Table
-live_of parts = map (λ place. place.table) (unmarked_of parts)
 
 -- whether the table of a place has the name
 abbrev pub is_of : Text → Place → Bool

@@ -3,9 +3,8 @@ ghost use Rattle.std.specs.Prelude.{◌≡◌, ◌≤◌, ◌<◌, ◌+◌, ◌^
 ghost use Rattle.lake_model.specs.Journal.{counts, entry_with, is_live, live, Dropped, Loaded};
 ghost use Rattle.lake_model.specs.Layout.{is_legal, layout, mark};
 ghost use Rattle.lake_model.specs.Tables.{key_bytes, members};
-ghost use Rattle.segment_core.specs.Versions.{marked_at, part_at, part_with, places_with, version_with};
+ghost use Rattle.segment_core.specs.Versions.{live_of, marked_at, part_at, part_with, places_with, version_with};
 ghost use Rattle.catalogue.specs.Kept.{catalogue_with, IsWithin};
-ghost use Rattle.catalogue.specs.Parts.{live_of};
 ghost use Rattle.catalogue.specs.Refusals.{drop_refusal, load_refusal};
 
 use crate::entry::Entry;
