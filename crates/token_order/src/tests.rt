@@ -34,7 +34,11 @@ fn tokens(rt: HostRuntime) -> Result<(), Fail> {
         let Some(found) = vocab.find(key) else {
             return Err(Fail::from("no token"));
         };
-        assert_eq!(rt; (found, vocab.frequency(found)), (token, frequency), "{key}");
+        assert_eq!(rt;
+            (found, vocab.frequency(found)),
+            (token, frequency),
+            "{key}"
+        );
         assert!(rt; vocab.key(found) == key);
     }
     assert_eq!(rt; vocab.find("b"), None);
