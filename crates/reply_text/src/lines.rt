@@ -56,12 +56,7 @@ fn push_dropped(number: u64, name: &Name, at: u64, into: &mut Vec<u8>) -> Result
     ensures ok { OnOk result (into.new.items ≡ into.old.items ++ first_line number (model.Dropped name.now at)) }
     ensures kept { Keeps into.old.items into.new.items }
 {
-    let words = [
-        Text("dropped"),
-        Text(name.text()),
-        Text("at"),
-        Number(at),
-    ];
+    let words = [Text("dropped"), Text(name.text()), Text("at"), Number(at)];
     push_line("", number, &words, into)
 }
 

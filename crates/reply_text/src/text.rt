@@ -39,12 +39,7 @@ fn push_rows(rows: &[KeptRow], into: &mut Vec<u8>) -> Result<(), NoMemory>
 }
 
 // `  NAME columns C members M`
-fn push_table(
-    name: &Name,
-    columns: u32,
-    members: u64,
-    into: &mut Vec<u8>,
-) -> Result<(), NoMemory>
+fn push_table(name: &Name, columns: u32, members: u64, into: &mut Vec<u8>) -> Result<(), NoMemory>
     ensures ok { OnOk result (into.new.items ≡ into.old.items ++ line_text (table_line (line_with name.now columns members))) }
     ensures kept { Keeps into.old.items into.new.items }
 {

@@ -70,7 +70,10 @@ const WORKED: [(&str, &str); 43] = [
     ("load a\n.\n\r\r", "line 3 Unknown"),
     // outside blocks an empty line, one of spaces, and one that begins with `#` are skipped, and have no number among the commands
     ("\n\r\n  \n#\n# load b\r\n#", ""),
-    ("load a\n.\n\nload b\n.\n\r", "1@1 load a \"\";2@1 load b \"\";"),
+    (
+        "load a\n.\n\nload b\n.\n\r",
+        "1@1 load a \"\";2@1 load b \"\";",
+    ),
     ("load a\n# b\n.\n", "1@1 load a \"# b\\n\";"),
     (" #\n", "line 1 Unknown"),
     ("\t\n", "line 1 Unknown"),
