@@ -6,91 +6,26 @@ ghost use Rattle.segment_core.specs.Versions.{part_with, places_with, version_wi
 use crate::prepare;
 use column_set::{Name, QuerySet, Rows, SharedTable, TableSets};
 use csv_table::read_table;
-use segment_core::{Look, Marks, Numbers, Owner, Part, Pin, Posting, Segment, TokenAt, Version};
+use segment_build::build;
+use segment_core::{Look, Marks, Numbers, Part, Pin, Segment, Version};
 use std::alloc::Global;
 use std::process::Abort;
 use std::sync::Arc;
 use std::test::Fail;
-
-// The table of CSV bytes.
-fn table(alloc: Global, name: &[u8], bytes: &[u8]) -> Result<TableSets, Fail> {
-    let Some(name) = Name::read(name) else {
-        return Err(Fail::from("no name"));
-    };
-    let Ok(raw) = read_table(alloc, bytes) else {
-        return Err(Fail::from("no fields"));
-    };
-    let Ok(table) = TableSets::build(alloc, name, &raw) else {
-        return Err(Fail::from("no sets"));
-    };
-    Ok(table)
-}
 
 // The segment of the table `t`, of which the column `p` has the keys z and a, and the column `q` has a: the token 0 is z, which one
 // column holds, and the token 1 is a, which both hold.
 fn worked_segment(alloc: Global) -> Result<Segment, Fail>
     ensures { IfOk result (λ segment. (table : Table) × (segment ≡ table ∷ [])) }
 {
-    let table = table(alloc, b"t", b"p,q\nz,a\na,\n")?;
-    if table.name().text() != "t"
-        || table.columns() != 2
-        || table.column_name(1) != "p"
-        || table.column_name(2) != "q"
-        || table.size(1) != 2
-        || table.size(2) != 1
-        || table.key(1, 0) != "z"
-        || table.key(1, 1) != "a"
-        || table.key(2, 0) != "a"
-    {
-        return Err(Fail::from("another table"));
+    let name = Name::read(b"t").ok_or("no name")?;
+    let raw = read_table(alloc, b"p,q\nz,a\na,\n")?;
+    let table = TableSets::build(alloc, name, &raw)?;
+    if table.members() > 1000 || table.columns() > 1000 {
+        return Err(Fail::from("a large table"));
     }
     let shared = SharedTable::new(alloc, table)?;
-    let tables = vec![in alloc; shared]?;
-    let owners = vec![in alloc; Owner { table: 0, place: 1 }, Owner { table: 0, place: 2 }]?;
-    let z = TokenAt {
-        table: 0,
-        place: 1,
-        index: 0,
-        frequency: 1,
-    };
-    let a = TokenAt {
-        table: 0,
-        place: 1,
-        index: 1,
-        frequency: 2,
-    };
-    let tokens = vec![in alloc; z, a]?;
-    let by_key = vec![in alloc; 1, 0]?;
-    let list_starts = vec![in alloc; 0, 1, 3]?;
-    let postings = vec![in alloc;
-        Posting {
-            column: 0,
-            position: 0,
-            size: 2
-        },
-        Posting {
-            column: 0,
-            position: 1,
-            size: 2
-        },
-        Posting {
-            column: 1,
-            position: 0,
-            size: 1
-        },
-    ]?;
-    let set_starts = vec![in alloc; 0, 2, 3]?;
-    let set_tokens = vec![in alloc; 0, 1, 1]?;
-    Ok(Segment::new(
-        tables,
-        owners,
-        tokens,
-        by_key,
-        list_starts,
-        postings,
-        set_starts,
-        set_tokens,
-    ))
+    Ok(build(alloc, vec![in alloc; shared]?)?)
 }
 
 // The version behind the load of that table at position 7.
