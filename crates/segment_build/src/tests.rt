@@ -1,6 +1,7 @@
-//! The worked segment: the table `t`, of which the column `p` has the keys z and a, and the column `q` has a. The token 0 is z, which
-//! one column holds, and the token 1 is a, which both hold.
-ghost use Rattle.std.specs.Prelude.{◌<◌, ◌^◌, length, sum_by, IfOk};
+//! Two worked segments. The first is of the table `t`, of which the column `p` has the keys z and a, and the column `q` has a: its token
+//! 0 is z, which one column holds, and its token 1 is a, which both hold. The second is of 300 tables of one column, each with the key x
+//! and with a number of its own, so that its list of x is longer than a byte counts.
+ghost use Rattle.std.specs.Prelude.{◌<◌, ◌≤◌, ◌^◌, length, sum_by, IfOk};
 ghost use Rattle.lake_model.specs.Tables.{members};
 
 use crate::build;
@@ -8,23 +9,60 @@ use crate::columns::column_sets;
 use column_set::{Name, SharedTable, TableSets};
 use csv_table::read_table;
 use search_model::Owner;
+use segment_core::Segment;
 use std::alloc::Global;
 use std::test::Fail;
 use token_order::Vocab;
+
+// The table of a name and of CSV bytes, which has few columns and members.
+fn small_table(alloc: Global, name: &[u8], bytes: &[u8]) -> Result<SharedTable, Fail>
+    ensures columns { IfOk result (λ table. length table.columns ≤ 3) }
+    ensures members { IfOk result (λ table. members table ≤ 3) }
+{
+    let name = Name::read(name).ok_or("no name")?;
+    let raw = read_table(alloc, bytes)?;
+    let table = TableSets::build(alloc, name, &raw)?;
+    if table.members() > 3 || table.columns() > 3 {
+        return Err(Fail::from("a large table"));
+    }
+    Ok(SharedTable::new(alloc, table)?)
+}
 
 // The table of CSV bytes, alone in a list.
 fn one_table(alloc: Global, bytes: &[u8]) -> Result<Vec<SharedTable>, Fail>
     ensures columns { IfOk result (λ tables. sum_by (λ t. length t.columns) tables.items < 2 ^ 32) }
     ensures members { IfOk result (λ tables. sum_by members tables.items < 2 ^ 32) }
 {
-    let name = Name::read(b"t").ok_or("no name")?;
-    let raw = read_table(alloc, bytes)?;
-    let table = TableSets::build(alloc, name, &raw)?;
-    if table.members() > 1000 || table.columns() > 1000 {
-        return Err(Fail::from("a large table"));
+    let table = small_table(alloc, b"t", bytes)?;
+    Ok(vec![in alloc; table]?)
+}
+
+// The table of a number, of which the one column has the key x and the three digits of the number.
+fn numbered_table(alloc: Global, number: u32) -> Result<SharedTable, Fail>
+    ensures columns { IfOk result (λ table. length table.columns ≤ 3) }
+    ensures members { IfOk result (λ table. members table ≤ 3) }
+{
+    let name = format!(in alloc; "t{number:03}")?;
+    let bytes = format!(in alloc; "v\nx\n{number:03}\n")?;
+    small_table(alloc, name.as_bytes(), bytes.as_bytes())
+}
+
+// The tables of the numbers below 300.
+fn numbered_tables(alloc: Global) -> Result<Vec<SharedTable>, Fail>
+    ensures columns { IfOk result (λ tables. sum_by (λ t. length t.columns) tables.items < 2 ^ 32) }
+    ensures members { IfOk result (λ tables. sum_by members tables.items < 2 ^ 32) }
+{
+    let mut tables = Vec::new(alloc);
+    for number in 0..300 {
+        tables.push(numbered_table(alloc, number)?)?;
     }
-    let shared = SharedTable::new(alloc, table)?;
-    Ok(vec![in alloc; shared]?)
+    Ok(tables)
+}
+
+// The token of a key, and how many columns hold it.
+fn held(segment: &Segment, key: &str) -> Option<(u32, u32)> {
+    let token = segment.lookup(key)?;
+    Some((token, segment.list_len(token)))
 }
 
 // The columns, in their order, with their tokens.
@@ -54,5 +92,17 @@ fn tokens(rt: HostRuntime) -> Result<(), Fail> {
         assert_eq!(rt; (found, segment.list_len(found)), (token, held), "{key}");
     }
     assert_eq!(rt; segment.lookup("b"), None);
+    Ok(())
+}
+
+// A key in each of 300 tables: its token is the last, and its list has all the columns.
+#[test]
+fn long_list(rt: HostRuntime) -> Result<(), Fail> {
+    let alloc = rt.alloc();
+    let segment = build(alloc, numbered_tables(alloc)?)?;
+    assert_eq!(rt; segment.sets(), 300);
+    assert_eq!(rt; held(&segment, "000"), Some((0, 1)));
+    assert_eq!(rt; held(&segment, "299"), Some((299, 1)));
+    assert_eq!(rt; held(&segment, "x"), Some((300, 300)));
     Ok(())
 }
