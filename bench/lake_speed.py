@@ -1,0 +1,85 @@
+#!/usr/bin/env python3
+"""How long josie takes for a load and for a drop, as the lake grows.
+
+    bench/lake_speed.py [JOSIE] [--times N]
+
+A lake of 1,000, of 10,000 and of 50,000 tables is loaded by one script; each table has one column with one value, so that
+what is measured is the table's way into the lake and not its text. Then the same script is run with drops behind its loads,
+in an order that a fixed seed mixes. The time of a load is that of the first script, less the start of the program; the time
+of a drop is the difference between the two. A time is the least of N whole runs; both have in them what josie takes to read
+the command and to write its reply.
+
+A script has at most 1,048,576 bytes. All tables are dropped where their drops fit into it, and else as many as fit.
+"""
+import argparse
+import os
+import random
+import subprocess
+import time
+
+MOST_BYTES = 1_048_576
+SIZES = (1_000, 10_000, 50_000)
+DIGITS = "abcdefghijklmnopqrstuvwxyzABCDEFGHIJKLMNOPQRSTUVWXYZ0123456789"
+
+
+def name(number):
+    """A short name for each number."""
+    text = DIGITS[number % len(DIGITS)]
+    while number >= len(DIGITS):
+        number = number // len(DIGITS) - 1
+        text = DIGITS[number % len(DIGITS)] + text
+    return text
+
+
+def loads(tables):
+    return "".join(f"load {name(number)}\nv\nx\n.\n" for number in range(tables))
+
+
+def drops(tables, room):
+    """The drops of the tables, as many as have room, and how many these are."""
+    order = list(range(tables))
+    random.Random(1).shuffle(order)
+    lines, size = [], 0
+    for number in order:
+        line = f"drop {name(number)}\n"
+        if size + len(line) > room:
+            break
+        lines.append(line)
+        size += len(line)
+    return "".join(lines), len(lines)
+
+
+def least_time(times, josie, script):
+    """The least wall time of some runs, in seconds. A script of which a command is refused measures nothing."""
+    best = None
+    for _ in range(times):
+        start = time.perf_counter()
+        ended = subprocess.run([josie, "run"], input=script.encode(), stdout=subprocess.PIPE, check=True)
+        taken = time.perf_counter() - start
+        if b" refused " in ended.stdout or b" no memory" in ended.stdout:
+            raise SystemExit("lake_speed: a command was refused")
+        best = taken if best is None else min(best, taken)
+    return best
+
+
+def main():
+    here = os.path.dirname(os.path.abspath(__file__))
+    words = argparse.ArgumentParser(description=__doc__.splitlines()[0])
+    words.add_argument("josie", nargs="?", default=os.path.join(here, "..", "crates", "josie", "out", "josie"))
+    words.add_argument("--times", type=int, default=3)
+    given = words.parse_args()
+    josie = os.path.abspath(given.josie)
+    begin = least_time(given.times, josie, "")
+    print(f"start of the program alone: {begin * 1000:.1f} ms")
+    for tables in SIZES:
+        loading = loads(tables)
+        dropping, dropped = drops(tables, MOST_BYTES - len(loading))
+        filled = least_time(given.times, josie, loading)
+        emptied = least_time(given.times, josie, loading + dropping)
+        load_time = (filled - begin) / tables * 1e6
+        drop_time = (emptied - filled) / dropped * 1e6
+        print(f"{tables:6} tables: {load_time:8.2f} microseconds a load   {drop_time:8.2f} microseconds a drop, of {dropped}")
+
+
+if __name__ == "__main__":
+    main()

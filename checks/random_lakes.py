@@ -1,0 +1,239 @@
+#!/usr/bin/env python3
+"""Whole runs of josie against a plain model of a lake, on scripts that chance wrote.
+
+    checks/random_lakes.py [JOSIE]
+
+The seeds are fixed, so the scripts are always the same. They load, drop, list and search over a few names and values:
+names that are taken or unknown, columns with one name twice, fields without a value, values that differ only by case and
+by the blanks around them, quoted fields, lines with a carriage return or a further dot, tables without a header or with a
+record of another length, and fields and lines that are not UTF-8. The model is a list of live tables, each a name and its
+columns, each a name and an ordered list of distinct values; what josie writes is compared with it byte for byte. All text
+is ASCII, where `str.casefold` and `str.strip` make a value what it is.
+
+It prints one line, and ends with 0 where josie says what the model says, and else with 1.
+"""
+import os
+import random
+import subprocess
+import sys
+
+SCRIPTS = 6
+COMMANDS = 450
+NAMES = ["a", "b", "B", "ab", "t-1", "t1", "t10", "t2", "~", "!x", "\"q\"", "\\"]
+COLUMNS = ["c", "C", "c", "d", "", " c", "two words", "a,b", "\"", "\\", "x\ny", "tab\there"]
+WORDS = ["amber", "cedar", "delta", "fjord", "heron", "iris", "maple", "onyx", "ss", "1", "01", "a b", "a  b", "#", "."]
+BLANKS = ["", "", "", " ", "  ", "\t", " \t "]
+MOST_TABLES = 9
+NOT_UTF8 = "\udcff"  # stands for the byte ff
+
+
+def set_of(values):
+    """The distinct values of some fields, in order of first sight; a blank field has none."""
+    keys = (value.strip().casefold() for value in values)
+    return list(dict.fromkeys(key for key in keys if key))
+
+
+def csv_fault(records):
+    """What is wrong with some records, and None where nothing is."""
+    if not records:
+        return "no-header"
+    for number, record in enumerate(records, 1):
+        if len(record) != len(records[0]):
+            return f"record {number} want {len(records[0])} got {len(record)}"
+        for place, field in enumerate(record, 1):
+            if NOT_UTF8 in field:
+                return f"record {number} field {place} not UTF-8"
+    return None
+
+
+class Lake:
+    """The live tables in the order of their loads, and how many loads and drops there were."""
+
+    def __init__(self):
+        self.tables = []
+        self.position = 0
+
+    def find(self, name):
+        return next((table for table in self.tables if table[0] == name), None)
+
+    def load(self, name, records):
+        fault = csv_fault(records)
+        if fault:
+            return [f"refused csv {fault}"]
+        if self.find(name):
+            return [f"refused repeated {name} at {self.position}"]
+        header, *rows = records
+        columns = [(title, set_of(row[place] for row in rows)) for place, title in enumerate(header)]
+        self.tables.append((name, columns))
+        self.position += 1
+        return [f"loaded {self.line(name, columns)} at {self.position}"]
+
+    def drop(self, name):
+        table = self.find(name)
+        if not table:
+            return [f"refused unknown {name} at {self.position}"]
+        self.tables.remove(table)
+        self.position += 1
+        return [f"dropped {name} at {self.position}"]
+
+    @staticmethod
+    def line(name, columns):
+        return f"{name} columns {len(columns)} members {sum(len(keys) for _, keys in columns)}"
+
+    def list_tables(self):
+        head = f"tables {len(self.tables)} at {self.position}"
+        return [head] + ["  " + self.line(name, columns) for name, columns in self.tables]
+
+    def search(self, most, lines):
+        for number, line in enumerate(lines, 1):
+            if NOT_UTF8 in line:
+                return [f"refused query line {number} not UTF-8"]
+        query = set(set_of(lines))
+        found = []
+        for name, columns in self.tables:
+            for place, (title, keys) in enumerate(columns, 1):
+                shared = len(query.intersection(keys))
+                if shared:
+                    found.append((-shared, name.encode(), title.encode(), place))
+        found = sorted(found)[:most]
+        head = f"answer {len(found)} of {len(query)} at {self.position}"
+        return [head] + [f"  {-less} {name.decode()} {place} \"{quoted(title.decode())}\"" for less, name, title, place in found]
+
+
+def quoted(title):
+    """A column's name as a row shows it."""
+    signs = {"\"": "\\\"", "\\": "\\\\", "\n": "\\n", "\r": "\\r", "\t": "\\t"}
+    return "".join(signs.get(sign, sign) for sign in title)
+
+
+class Script:
+    """A script as it grows, and what the model answers to it."""
+
+    def __init__(self, seed):
+        self.chance = random.Random(seed)
+        self.lake = Lake()
+        self.lines = []
+        self.replies = []
+        self.commands = 0
+
+    def command(self, line, replies, block=None):
+        self.commands += 1
+        self.lines.append(line)
+        if block is not None:
+            self.lines += ["." + text if text.startswith(".") else text for text in block] + ["."]
+        self.replies += [f"{self.commands} {replies[0]}"] + replies[1:]
+
+    def value(self):
+        """A value in some case, with some blanks around it, or blanks alone, and seldom what is no text."""
+        chance = self.chance
+        if chance.random() < 0.005:
+            return "x" + NOT_UTF8
+        if chance.random() < 0.1:
+            return chance.choice(BLANKS)
+        word = chance.choice(WORDS)
+        word = chance.choice([word, word.upper(), word.title(), word.swapcase()])
+        return chance.choice(BLANKS) + word + chance.choice(BLANKS)
+
+    def field(self, text):
+        """A field of CSV that reads as the text: in quotes where it must be, and now and then where it need not."""
+        if any(sign in text for sign in ",\"\n\r") or text == "" or self.chance.random() < 0.2:
+            return "\"" + text.replace("\"", "\"\"") + "\""
+        return text
+
+    def records(self):
+        """A header and its rows, now and then with one row that has a field too many or too few, or no record at all."""
+        chance = self.chance
+        if chance.random() < 0.03:
+            return []
+        header = [chance.choice(COLUMNS) for _ in range(chance.randint(1, 4))]
+        rows = [[self.value() for _ in header] for _ in range(chance.randint(0, 8))]
+        if rows and chance.random() < 0.06:
+            row = chance.choice(rows)
+            if len(row) > 1 and chance.random() < 0.5:
+                row.pop()
+            else:
+                row.append("more")
+        return [header] + rows
+
+    def block_of(self, records):
+        """The lines of the CSV text of some records. A line feed within a field gets no carriage return."""
+        lines = [",".join(self.field(cell) for cell in record) for record in records]
+        if self.chance.random() < 0.3:
+            lines.insert(self.chance.randint(0, len(lines)), "")
+        end = self.chance.choice(["\n", "\n", "\r\n"])
+        text = "".join(line + end for line in lines)
+        return text.split("\n")[:-1]
+
+    def load(self):
+        name = self.chance.choice(NAMES)
+        records = self.records()
+        self.command(f"load {name}", self.lake.load(name, records), self.block_of(records))
+
+    def drop(self):
+        live = [name for name, _ in self.lake.tables]
+        name = self.chance.choice(live if live and self.chance.random() < 0.8 else NAMES)
+        self.command(f"drop {name}", self.lake.drop(name))
+
+    def search(self):
+        chance = self.chance
+        most = chance.choice([1, 2, 3, 5, 10, 10000])
+        block = [self.value() for _ in range(chance.randint(0, 7))]
+        self.command(f"search {most}", self.lake.search(most, block), block)
+
+    def skipped(self):
+        self.lines.append(self.chance.choice(["", "   ", "# a remark", "#load a"]))
+
+    def step(self):
+        pick = self.chance.random()
+        if pick < 0.04:
+            self.skipped()
+        elif pick < 0.12:
+            self.command("tables", self.lake.list_tables())
+        elif pick < 0.42:
+            self.search()
+        elif len(self.lake.tables) >= MOST_TABLES or pick < 0.68:
+            self.drop()
+        else:
+            self.load()
+
+
+def script_of(seed):
+    script = Script(seed)
+    while script.commands < COMMANDS:
+        script.step()
+    return script
+
+
+def difference(seed, script, josie):
+    """The first difference between what josie writes for a script and the model, and None where there is none."""
+    data = "".join(line + "\n" for line in script.lines).encode(errors="surrogateescape")
+    ended = subprocess.run([josie, "run"], input=data, capture_output=True, timeout=60)
+    if ended.returncode != 0:
+        return f"script {seed}: status {ended.returncode}: {ended.stderr.decode(errors='replace').strip()}"
+    wanted = "".join(line + "\n" for line in script.replies).encode()
+    if ended.stdout == wanted:
+        return None
+    want_lines, got_lines = wanted.split(b"\n"), ended.stdout.split(b"\n")
+    for number, (want, got) in enumerate(zip(want_lines, got_lines), 1):
+        if want != got:
+            return f"script {seed}, line {number} of the replies: want {want!r}, got {got!r}"
+    return f"script {seed}: {len(want_lines) - 1} lines of replies wanted, got {len(got_lines) - 1}"
+
+
+def main():
+    here = os.path.dirname(os.path.abspath(__file__))
+    josie = sys.argv[1] if len(sys.argv) > 1 else os.path.join(here, "..", "crates", "josie", "out", "josie")
+    commands = 0
+    for seed in range(1, SCRIPTS + 1):
+        script = script_of(seed)
+        commands += script.commands
+        found = difference(seed, script, os.path.abspath(josie))
+        if found:
+            print(f"random lakes: {found}")
+            return 1
+    print(f"random lakes: {SCRIPTS} scripts, {commands} commands, as the model says")
+    return 0
+
+
+if __name__ == "__main__":
+    sys.exit(main())
