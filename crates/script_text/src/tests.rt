@@ -38,7 +38,7 @@ fn shown(alloc: Global, outcome: &Result<Batch, ScriptRefused>) -> Result<String
     Ok(text)
 }
 
-const WORKED: [(&str, &str); 43] = [
+const WORKED: [(&str, &str); 44] = [
     (
         "load t1\nid,city\n1,Rome\n2,Oslo\n.\nsearch 1\nrome\nOSLO\nParis\n.\n",
         "1@1 load t1 \"id,city\\n1,Rome\\n2,Oslo\\n\";2@1 search 1 \"rome\\nOSLO\\nParis\\n\";",
