@@ -1,20 +1,17 @@
 -- Columns that are added behind others, one at a time and one table at a time.
-use Rattle.std.proofs.Common.{◌≡◌, refl, ap, sym, ◌∙◌, ℕ, zero, suc, ◌+◌, ◌-◌, ◌<◌, ◌≤◌, List, [], ◌∷◌, ◌++◌, map, length, get_or, take, drop, subst, arith, append-nil, append_assoc, length-append}
+use Rattle.std.proofs.Common.{◌≡◌, refl, ap, sym, ◌∙◌, ℕ, zero, suc, ◌+◌, ◌-◌, ◌<◌, ◌≤◌, List, [], ◌∷◌, ◌++◌, map, length, get_or, take, arith, append-nil, append_assoc, length-append}
 use Rattle.std.specs.Prelude.{bytes_eq, sum_by}
 use Rattle.std.specs.List.{flat_map, enumerate_from, IsDistinct}
-use Rattle.std.proofs.lemmas.List.{get_or-append_right, get_or_append_left, get_or-map, take-append-drop, length-map, map-append, take_all, take_more}
+use Rattle.std.proofs.lemmas.List.{get_or-map, length-map, map-append, take_all, take_more}
 use Rattle.std.proofs.lemmas.List.Concat.{flat_map-append}
 use Rattle.std.proofs.lemmas.List.FromFn.{get_or-enumerate_from, length-enumerate_from}
 use Rattle.std.proofs.lemmas.List.Sums.{sum_by-append, sum_by-cons, sum_by_more, sum_by-take-le}
-use Rattle.lake_model.specs.Texts.{Text}
-use Rattle.lake_model.specs.Tables.{Column, Table, column_with, keys_at, members, sets_of}
+use Rattle.lake_model.specs.Tables.{Column, Table, column_with, keys_at, members}
 use Rattle.search_model.specs.declared.Owner.{Owner}
 use Rattle.search_model.specs.Arrays.{all_of, no_table, no_titled, owner_of, starts_of, table_at}
 use Rattle.search_model.specs.Segment.{Titled, Token, columns_of, segment, titled, tokens_in}
 use Rattle.segment_core.proofs.FoundLemmas.{tokens_differ}
-use Rattle.segment_build.specs.Holding.{all_tokens, columns_in, ends_of, held_with, key_count, sets_for, titled_in, Held, HasMore, IsStretch}
-use Rattle.token_order.specs.Places.{keys_in, keys_of}
-use Rattle.token_order.proofs.PlaceLemmas.{length-keys_of}
+use Rattle.segment_build.specs.Holding.{all_tokens, columns_in, ends_of, held_with, key_count, sets_for, titled_in, Held, HasMore}
 
 -- ---- lists behind one another
 
@@ -155,64 +152,6 @@ room_in number table i h =
 -- and for one more table
 pub room_of : (tables : List Table) (i : ℕ) → i < length tables → key_count (columns_of (take i tables)) + members (table_at tables i) ≤ sum_by members tables
 room_of tables i h = omega (arith, count_columns_of (take i tables), sum_by_more members tables i no_table h, sum_by-take-le members tables (i + 1))
-
--- ---- the keys of a column among all
-
-stretch_at : (before keys after : List Text) → IsStretch (before ++ (keys ++ after)) keys (length before)
-stretch_at before keys after =
-    record {
-      fits = omega (arith, length-append before (keys ++ after), length-append keys after);
-      each = λ i b.
-      (let back : length before + i - length before ≡ i = omega arith in
-      get_or-append_right before (keys ++ after) (length before) (length before + i) [] refl (omega arith) ∙ ap (λ (n : ℕ). get_or (keys ++ after) n []) back ∙ get_or_append_left keys after [] i b);
-    }
-
-stretch_part : {X : Type 0} (f : X → List Text) (xs : List X) (i : ℕ) (d : X) → i < length xs → IsStretch (flat_map f xs) (f (get_or xs i d)) (length (flat_map f (take i xs)))
-stretch_part f xs i d h =
-    let x = get_or xs i d in
-    let before = flat_map f (take i xs) in
-    let after = flat_map f (drop (i + 1) xs) in
-    let split : before ++ (f x ++ after) ≡ flat_map f xs =
-    sym (append_assoc before (f x) after)
-    ∙ ap (λ (ks : List Text). (before ++ ks) ++ after) (sym (append-nil (f x)))
-    ∙ ap (λ (ks : List Text). ks ++ after) (sym (flat_map-append f (take i xs) (x ∷ [])) ∙ ap (flat_map f) (sym (take_more xs i d h)))
-    ∙ sym (flat_map-append f (take (i + 1) xs) (drop (i + 1) xs))
-    ∙ ap (flat_map f) (take-append-drop (i + 1) xs) in
-    subst (λ (ks : List Text). IsStretch ks (f x) (length before)) split (stretch_at before (f x) after)
-
-stretch_within : (all keys part : List Text) (from at : ℕ) → IsStretch all keys from → IsStretch keys part at → IsStretch all part (from + at)
-stretch_within all keys part from at outer inner =
-    record {
-      fits = omega (arith, outer.fits, inner.fits);
-      each = λ i b.
-      (let e : from + at + i ≡ from + (at + i) = omega arith in ap (λ (n : ℕ). get_or all n []) e ∙ outer.each (at + i) (omega (arith, b, inner.fits)) ∙ inner.each i b);
-    }
-
-count_take : (number : ℕ) (name : List ℕ) (n : ℕ) (columns : List Column) (i : ℕ) → key_count (take i (map (λ c. titled number name c.0 c.1) (enumerate_from n columns))) ≡ length (all_of (take i (map (λ c. c.keys) columns)))
-count_take number name n [] zero = refl
-count_take number name n [] (suc i) = refl
-count_take number name n (c ∷ columns) zero = refl
-count_take number name n (c ∷ columns) (suc i) =
-    omega (
-      arith,
-      count_take number name (n + 1) columns i,
-      length-append c.keys (all_of (take i (map (λ (c : Column). c.keys) columns))),
-      sum_by-cons (λ (c : Titled). length c.column.keys) (titled number name n c) (take i (map (λ (c : ℕ × Column). titled number name c.0 c.1) (enumerate_from (n + 1) columns))),
-    )
-
--- the keys of one more column of a table, where so many tokens were added
-pub column_stretch : (all : List Text) (number : ℕ) (table : Table) (from i now : ℕ) → i < length table.columns → IsStretch all (keys_in table) from → now ≡ from + key_count (take i (columns_in number table)) → IsStretch all (keys_at table (i + 1)) now
-column_stretch all number table from i now h outer e =
-    let back : i ≡ i + 1 - 1 = omega arith in
-    let inner = stretch_part (λ (keys : List Text). keys) (sets_of table) i [] (omega (arith, length-map table.columns (λ (c : Column). c.keys))) in
-    let here : IsStretch all (get_or (sets_of table) i []) now =
-    subst (IsStretch all (get_or (sets_of table) i [])) (ap (λ (n : ℕ). from + n) (sym (count_take number table.name 1 table.columns i)) ∙ sym e) (stretch_within all (keys_in table) (get_or (sets_of table) i []) from (length (all_of (take i (sets_of table)))) outer inner) in
-    subst (λ (n : ℕ). IsStretch all (get_or (sets_of table) n []) now) back here
-
--- and of one more table
-pub table_stretch : (tables : List Table) (i now : ℕ) → i < length tables → now ≡ key_count (columns_of (take i tables)) → IsStretch (keys_of tables) (keys_in (table_at tables i)) now
-table_stretch tables i now h e =
-    subst (IsStretch (keys_of tables) (keys_in (table_at tables i))) (length-keys_of (take i tables) ∙ sym (count_columns_of (take i tables)) ∙ sym e) (stretch_part keys_in tables i no_table h)
 
 -- no two tokens have one key
 pub tokens_apart : (tables : List Table) → IsDistinct bytes_eq (map (λ t. t.key) (all_tokens tables))

@@ -1,7 +1,6 @@
 -- The ranks of members, and their tokens.
-use Rattle.std.proofs.Common.{◌≡◌, refl, ap, sym, ◌∙◌, subst, ℕ, zero, suc, ◌+◌, ◌<◌, List, [], ◌∷◌, map, length, get_or, Bool, true, false, cond, Some, arith}
-use Rattle.std.specs.Prelude.{bytes_eq}
-use Rattle.std.specs.List.{All, AllByRecursion, enumerate_from, range_with_len}
+use Rattle.std.proofs.Common.{◌≡◌, refl, ap, sym, ◌∙◌, subst, ℕ, suc, ◌+◌, ◌<◌, List, [], ◌∷◌, map, length, get_or, Some, arith}
+use Rattle.std.specs.List.{All, enumerate_from, range_with_len}
 use Rattle.std.specs.List.Sorted.{IsPermutation, IsSorted}
 use Rattle.std.specs.Cmp.Lexicographic.{slice_cmp}
 use Rattle.std.specs.Ordering.{nat_cmp, ordering_reverse}
@@ -10,7 +9,7 @@ use Rattle.std.specs.declared.cmp.Ordering.TheVariants.{Less, Equal, Greater}
 use Rattle.std.proofs.lemmas.Cmp.{nat_list_cmp_total}
 use Rattle.std.proofs.lemmas.Grind.{get_or_default_zero}
 use Rattle.std.proofs.lemmas.List.{get_or-map, length-map}
-use Rattle.std.proofs.lemmas.List.Elements.{All-from_recursion, All-map}
+use Rattle.std.proofs.lemmas.List.Elements.{All-map}
 use Rattle.std.proofs.lemmas.List.FromFn.{get_or-range_with_len, length-range_with_len}
 use Rattle.std.proofs.lemmas.List.Sorted.{All-permutation, IsPermutation-map, IsPermutation-sym}
 use Rattle.std.proofs.lemmas.Map.Lookups.{exact_bytes}
@@ -19,15 +18,15 @@ use Rattle.lake_model.specs.Tables.{Table}
 use Rattle.lake_model.proofs.SortingLemmas.{in_order-IsPermutation, sorted_is}
 use Rattle.search_model.specs.declared.TokenAt.{TokenAt}
 use Rattle.search_model.specs.Segment.{Token, columns_of, tokens_of}
-use Rattle.search_model.specs.Arrays.{key_of, numbers_of, token_with, IsByKey, IsToken}
+use Rattle.search_model.specs.Arrays.{key_of, numbers_of, IsByKey, IsToken}
 use Rattle.search_model.proofs.KeyLemmas.{found}
 use Rattle.token_order.specs.Places.{keys_of, AreMembers}
 use Rattle.token_order.specs.Ranks.{names_of, AreRanks, HaveRanks, IsRank}
-use Rattle.token_order.specs.Runs.{runs_from, runs_of}
+use Rattle.token_order.specs.Runs.{runs_of}
 use Rattle.token_order.specs.Vocabulary.{IsVocabulary}
 use Rattle.token_order.specs.declared.places.Member.{Member}
 use Rattle.token_order.proofs.RunLemmas.{runs_rise}
-use Rattle.token_order.proofs.SortLemmas.{rises, sorted_from_rises, sorted_map, Rises}
+use Rattle.token_order.proofs.SortLemmas.{rises, sorted_from_rises, sorted_map}
 
 -- ---- the keys of the tokens, by their bytes
 
@@ -74,8 +73,8 @@ ranks_are tables members runs ranks all written long named =
     record {
       long = long;
       each = λ n b.
-      (let at : get_or (range_with_len 0 (length keys)) n 0 ≡ n = get_or-range_with_len 0 (length keys) n 0 b ∙ (let z : 0 + n ≡ n = omega arith in z) in
-      subst (λ (ks : List Text). IsRank ks (get_or keys n []) (get_or ranks n 0)) named (subst IsHere at (each n 0 (omega (arith, b, length-range_with_len 0 (length keys))))));
+          (let at : get_or (range_with_len 0 (length keys)) n 0 ≡ n = get_or-range_with_len 0 (length keys) n 0 b ∙ (let z : 0 + n ≡ n = omega arith in z) in
+          subst (λ (ks : List Text). IsRank ks (get_or keys n []) (get_or ranks n 0)) named (subst IsHere at (each n 0 (omega (arith, b, length-range_with_len 0 (length keys))))));
     }
 
 pub rank_there : (tokens : List Token) (numbers : List ℕ) (key : Text) (rank : ℕ) → IsByKey tokens numbers → IsRank (names_of tokens) key rank → rank < length numbers

@@ -6,7 +6,7 @@ ghost use Rattle.token_order.specs.Places.{keys_of, pointed_by, AreMembers};
 ghost use Rattle.token_order.specs.Ranks.{HaveRanks};
 ghost use Rattle.token_order.specs.Runs.{runs_from, runs_of};
 
-use crate::places::{key_at, Member};
+use crate::places::{Member, key_at};
 use column_set::SharedTable;
 use no_memory::NoMemory;
 use search_model::TokenAt;

@@ -4,7 +4,8 @@ use Rattle.search_model.specs.Arrays.{table_at}
 use Rattle.search_model.specs.Segment.{columns_of}
 use Rattle.segment_build.specs.Holding.{all_tokens, columns_in, held_with, HasMore, IsStretch}
 use Rattle.token_order.specs.Places.{keys_in, keys_of}
-use Rattle.segment_build.proofs.HoldLemmas.{columns_of_more, more_more, room_of, table_stretch}
+use Rattle.segment_build.proofs.HoldLemmas.{columns_of_more, more_more, room_of}
+use Rattle.segment_build.proofs.StretchLemmas.{table_stretch}
 use Rattle.segment_build.proofs.columns.column_sets.Goals as goal
 
 pub push_table-requires-clause-room : goal.push_table-requires-clause-room

@@ -1,7 +1,8 @@
 use Rattle.std.proofs.Common.{sym, subst, ◌+◌, ◌<◌, [], ◌∷◌, length, take, arith}
 use Rattle.segment_build.specs.Holding.{all_tokens, columns_in, held_with, titled_in, HasMore}
 use Rattle.token_order.specs.Places.{keys_of}
-use Rattle.segment_build.proofs.HoldLemmas.{column_stretch, columns_in_all, columns_in_more, more_more, room_in}
+use Rattle.segment_build.proofs.HoldLemmas.{columns_in_all, columns_in_more, more_more, room_in}
+use Rattle.segment_build.proofs.StretchLemmas.{column_stretch}
 use Rattle.segment_build.proofs.columns.push_table.Goals as goal
 
 pub push_column-requires-clause-room : goal.push_column-requires-clause-room

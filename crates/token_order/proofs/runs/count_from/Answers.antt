@@ -14,7 +14,7 @@ use Rattle.token_order.specs.Places.{at_of, counted, keys_of, pointed_by, IsMemb
 use Rattle.token_order.specs.Ranks.{HaveRanks, IsRank}
 use Rattle.token_order.specs.Runs.{runs_from}
 use Rattle.token_order.specs.declared.places.Member.{Member}
-use Rattle.token_order.proofs.CountLemmas.{counting_ends, counting_here, counting_next, counting_same, counting_starts, rank_written}
+use Rattle.token_order.proofs.CountLemmas.{counting_ends, counting_here, counting_next, counting_same, rank_written}
 use Rattle.token_order.proofs.runs.count_from.Goals as goal
 use Rattle.token_order.proofs.runs.count_from.Goals.{then-eq, else-eq+in_ok-push}
 
