@@ -28,7 +28,7 @@ starts_ends n (l ∷ ls) = ap (λ (ns : List ℕ). n ∷ ns) (starts_ends (n + l
 -- ---- more columns
 
 pub more_none : (tokens : List Token) (old : Held) → HasMore tokens old old []
-more_none tokens old = record { owned = sym (append-nil old.owners); bounds = sym (append-nil old.starts); held = sym (append-nil old.tokens); few = omega arith }
+more_none tokens old = record { owned = sym (append-nil old.owners); bounds = sym (append-nil old.starts); held = sym (append-nil old.tokens); long = omega arith }
 
 pub more_more : (tokens : List Token) (old mid new : Held) (cs ds : List Titled) → HasMore tokens old mid cs → HasMore tokens mid new ds → HasMore tokens old new (cs ++ ds)
 more_more tokens old mid new cs ds first second =
@@ -49,7 +49,7 @@ more_more tokens old mid new cs ds first second =
           ∙ append_assoc old.tokens (all_of (sets_for tokens cs)) (all_of (sets_for tokens ds))
           ∙ ap (λ (ts : List ℕ). old.tokens ++ ts) (sym (flat_map-append (λ (l : List ℕ). l) (sets_for tokens cs) (sets_for tokens ds)))
           ∙ ap (λ (ls : List (List ℕ)). old.tokens ++ all_of ls) (sym split);
-      few = omega (arith, first.few, second.few, sum_by-append (λ (c : Titled). length c.column.keys) cs ds);
+      long = omega (arith, first.long, second.long, sum_by-append (λ (c : Titled). length c.column.keys) cs ds);
     }
 
 keys_there : (table : Table) (place : ℕ) → 0 < place → place ≤ length table.columns → keys_at table place ≡ (get_or table.columns (place - 1) (column_with [] [])).keys
@@ -57,9 +57,9 @@ keys_there table place low high = get_or-map (λ (c : Column). c.keys) table.col
 
 -- one column
 pub more_push : (tokens : List Token) (old : Held) (number : ℕ) (table : Table) (place : ℕ) (owner : Owner) (set all : List ℕ) (end : ℕ) → 0 < place → place ≤ length table.columns
-    → set ≡ tokens_in tokens (keys_at table place) → length set ≤ length (keys_at table place) → owner ≡ owner_of (titled_in number table place) → all ≡ old.tokens ++ set → end ≡ length all
+    → set ≡ tokens_in tokens (keys_at table place) → length set ≡ length (keys_at table place) → owner ≡ owner_of (titled_in number table place) → all ≡ old.tokens ++ set → end ≡ length all
     → HasMore tokens old (held_with (old.owners ++ owner ∷ []) (old.starts ++ end ∷ []) all) (titled_in number table place ∷ [])
-more_push tokens old number table place owner set all end low high is few owns grown ends =
+more_push tokens old number table place owner set all end low high is many owns grown ends =
     let keys = (get_or table.columns (place - 1) (column_with [] [])).keys in
     let there = keys_there table place low high in
     let now : set ≡ tokens_in tokens keys = is ∙ ap (tokens_in tokens) there in
@@ -68,7 +68,7 @@ more_push tokens old number table place owner set all end low high is few owns g
       owned = ap (λ (o : Owner). old.owners ++ o ∷ []) owns;
       bounds = ap (λ (n : ℕ). old.starts ++ n ∷ []) long;
       held = grown ∙ ap (λ (ts : List ℕ). old.tokens ++ ts) (now ∙ sym (append-nil (tokens_in tokens keys)));
-      few = omega (arith, ap length grown, length-append old.tokens set, few, ap length there, sum_by-cons (λ (c : Titled). length c.column.keys) (titled_in number table place) []);
+      long = omega (arith, ap length grown, length-append old.tokens set, many, ap length there, sum_by-cons (λ (c : Titled). length c.column.keys) (titled_in number table place) []);
     }
 
 length-columns_in : (number : ℕ) (table : Table) → length (columns_in number table) ≡ length table.columns

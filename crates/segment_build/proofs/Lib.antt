@@ -3,3 +3,4 @@ pub mod InverseLemmas
 pub mod AddLemmas
 pub mod HoldLemmas
 pub mod BuildLemmas
+pub mod StretchLemmas

@@ -1,6 +1,7 @@
 -- Columns that are added behind others, with their tokens.
-use Rattle.std.specs.Prelude.{◌≡◌, ℕ, ◌+◌, ◌-◌, ◌≤◌, List, [], ◌∷◌, ◌++◌, get_or, length, map, sum_by}
+use Rattle.std.specs.Prelude.{◌≡◌, ℕ, ◌+◌, ◌-◌, ◌<◌, ◌≤◌, List, [], ◌∷◌, ◌++◌, get_or, length, map, sum_by}
 use Rattle.std.specs.List.{enumerate_from}
+use Rattle.lake_model.specs.Texts.{Text}
 use Rattle.lake_model.specs.Tables.{Table, column_with}
 use Rattle.search_model.specs.declared.Owner.{Owner}
 use Rattle.search_model.specs.Arrays.{all_of, owner_of}
@@ -44,4 +45,9 @@ pub record HasMore (tokens : List Token) (old new : Held) (columns : List Titled
   pub owned : new.owners ≡ old.owners ++ map owner_of columns
   pub bounds : new.starts ≡ old.starts ++ ends_of (length old.tokens) (sets_for tokens columns)
   pub held : new.tokens ≡ old.tokens ++ all_of (sets_for tokens columns)
-  pub few : length new.tokens ≤ length old.tokens + key_count columns
+  pub long : length new.tokens ≡ length old.tokens + key_count columns
+
+-- these keys are those of all from this place on
+pub record IsStretch (all keys : List Text) (from : ℕ) : Type 0 where
+  pub fits : from + length keys ≤ length all
+  pub each : (i : ℕ) → i < length keys → get_or all (from + i) [] ≡ get_or keys i []

@@ -4,7 +4,8 @@ ghost use Rattle.std.specs.List.Sorted.{IsPermutation};
 ghost use Rattle.lake_model.specs.Tables.{keys_at, members};
 ghost use Rattle.search_model.specs.Arrays.{no_titled, table_at};
 ghost use Rattle.search_model.specs.Segment.{columns_of, tokens_in};
-ghost use Rattle.segment_build.specs.Holding.{all_tokens, columns_in, held_with, titled_in, HasMore};
+ghost use Rattle.segment_build.specs.Holding.{all_tokens, columns_in, held_with, titled_in, HasMore, IsStretch};
+ghost use Rattle.token_order.specs.Places.{keys_in, keys_of};
 
 use column_set::{SharedTable, TableSets};
 use no_memory::NoMemory;
@@ -20,9 +21,9 @@ pub struct ColumnSets {
     pub tokens: Vec<u32>,
 }
 
-/// The columns of the tables, with the tokens of each, rising. It takes the time to look up each key of each column, and to sort each
-/// set; and 4 bytes for each key of each column, and 12 for each column. It is refused for want of memory where there are 2^32 tables
-/// or more.
+/// The columns of the tables, with the tokens of each, rising. It takes the time to read the token of each key of each column, by the
+/// key's number among all of them, and to sort the tokens of each column, and compares no key; and 4 bytes for each key of each column,
+/// and 12 for each column. It is refused for want of memory where there are 2^32 tables or more.
 pub fn column_sets(
     alloc: Global,
     tables: &[SharedTable],
@@ -62,7 +63,8 @@ fn push_table(
     number: u32,
     vocab: &Vocab,
 ) -> Result<(), NoMemory>
-    requires { length sets.old.tokens.items + members table.now < 2 ^ 32 }
+    requires room { length sets.old.tokens.items + members table.now < 2 ^ 32 }
+    requires stretch { IsStretch (keys_of vocab.now) (keys_in table.now) (length sets.old.tokens.items) }
     ensures { OnOk result (HasMore (all_tokens vocab.now) (held_with sets.old.owners.items sets.old.starts.items sets.old.tokens.items) (held_with sets.new.owners.items sets.new.starts.items sets.new.tokens.items) (columns_in number table.now)) }
 {
     for i in 0..table.columns() {
@@ -71,7 +73,8 @@ fn push_table(
     Ok(())
 }
 
-// Adds the column at a place of the table of a number.
+// Adds the column at a place of the table of a number. Each member has one token, so that as many members are before the column as
+// tokens were added.
 fn push_column(
     alloc: Global,
     sets: &mut ColumnSets,
@@ -83,9 +86,11 @@ fn push_column(
     requires low { 0 < place }
     requires high { place ≤ length table.now.columns }
     requires room { length sets.old.tokens.items + length (keys_at table.now place) < 2 ^ 32 }
+    requires stretch { IsStretch (keys_of vocab.now) (keys_at table.now place) (length sets.old.tokens.items) }
     ensures { OnOk result (HasMore (all_tokens vocab.now) (held_with sets.old.owners.items sets.old.starts.items sets.old.tokens.items) (held_with sets.new.owners.items sets.new.starts.items sets.new.tokens.items) (titled_in number table.now place ∷ [])) }
 {
-    let tokens = tokens_of_column(alloc, table, place, vocab)?;
+    let first = sets.tokens.len() as u32;
+    let tokens = tokens_of_column(alloc, table, place, first, vocab)?;
     sets.owners.push(Owner {
         table: number,
         place,
@@ -95,19 +100,22 @@ fn push_column(
     Ok(())
 }
 
-// The tokens of the column at a place of a table, rising.
+// The tokens of the column at a place of a table, rising. Its first member has a number among the members of all columns.
 fn tokens_of_column(
     alloc: Global,
     table: &TableSets,
     place: u32,
+    first: u32,
     vocab: &Vocab,
 ) -> Result<Vec<u32>, NoMemory>
     requires low { 0 < place }
     requires high { place ≤ length table.now.columns }
+    requires room { first + length (keys_at table.now place) < 2 ^ 32 }
+    requires stretch { IsStretch (keys_of vocab.now) (keys_at table.now place) first }
     ensures value { IfOk result (λ tokens. tokens.items ≡ tokens_in (all_tokens vocab.now) (keys_at table.now place)) }
-    ensures few { IfOk result (λ tokens. length tokens.items ≤ length (keys_at table.now place)) }
+    ensures long { IfOk result (λ tokens. length tokens.items ≡ length (keys_at table.now place)) }
 {
-    let mut tokens = found_tokens(alloc, table, place, vocab)?;
+    let mut tokens = found_tokens(alloc, table, place, first, vocab)?;
     tokens.sort_unstable();
     Ok(tokens)
 }
@@ -117,18 +125,19 @@ fn found_tokens(
     alloc: Global,
     table: &TableSets,
     place: u32,
+    first: u32,
     vocab: &Vocab,
 ) -> Result<Vec<u32>, NoMemory>
     requires low { 0 < place }
     requires high { place ≤ length table.now.columns }
+    requires room { first + length (keys_at table.now place) < 2 ^ 32 }
+    requires stretch { IsStretch (keys_of vocab.now) (keys_at table.now place) first }
     ensures same { IfOk result (λ tokens. IsPermutation (tokens_in (all_tokens vocab.now) (keys_at table.now place)) tokens.items) }
-    ensures few { IfOk result (λ tokens. length tokens.items ≤ length (keys_at table.now place)) }
+    ensures long { IfOk result (λ tokens. length tokens.items ≡ length (keys_at table.now place)) }
 {
     let mut tokens = Vec::new(alloc);
     for i in 0..table.size(place) {
-        if let Some(token) = vocab.find(table.key(place, i)) {
-            tokens.push(token)?;
-        }
+        tokens.push(vocab.token_of_member(first + i))?;
     }
     Ok(tokens)
 }

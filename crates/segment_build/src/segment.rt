@@ -13,11 +13,12 @@ use token_order::Vocab;
 /// The segment of these tables. Its index is that of Zhu, Deng, Nargesian and Miller, "JOSIE: Overlap Set Similarity Search for Finding
 /// Joinable Tables in Data Lakes", SIGMOD 2019.
 ///
-/// It takes the time to sort all keys of all columns by their bytes, and to look each of them up once by a binary search; the posting
-/// lists are then written in one pass over the sets. While the keys are sorted, their places take 16 bytes for each key of each column;
-/// they are let go before the sets and the lists are made, which take at most 20 bytes for each key of each column. To these come 28
-/// bytes for each distinct key, and 12 for each column. The segment keeps 16 bytes for each key of each column, 24 for each distinct
-/// key, and 12 for each column. It is refused only for want of memory.
+/// It takes the time to sort all keys of all columns by their bytes, and the distinct keys twice more, into the order of tokens and by
+/// their bytes. The first sort gives the token of each key of each column; the sets, which are sorted as numbers, and the posting lists
+/// are then written in one pass each, and compare no key. While the keys are sorted, they take 20 bytes for each key of each column,
+/// and 16 of these are let go before the sets and the lists are made, which take at most 20 bytes for each key of each column. To these
+/// come 28 bytes for each distinct key, and 12 for each column. The segment keeps 16 bytes for each key of each column, 24 for each
+/// distinct key, and 12 for each column. It is refused only for want of memory.
 pub fn build(alloc: Global, tables: Vec<SharedTable>) -> Result<Segment, NoMemory>
     requires columns { sum_by (λ t. length t.columns) tables.items < 2 ^ 32 }
     requires members { sum_by members tables.items < 2 ^ 32 }

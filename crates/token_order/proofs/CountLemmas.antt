@@ -1,49 +1,102 @@
 -- The steps of a count of runs.
-use Rattle.std.proofs.Common.{◌≡◌, refl, ap, sym, ◌∙◌, subst, ℕ, ◌+◌, ◌<◌, ◌≤◌, List, [], ◌∷◌, ◌++◌, map, length, get_or, drop, Bool, true, false, cond, arith, append_assoc}
+use Rattle.std.proofs.Common.{◌≡◌, refl, ap, sym, ◌∙◌, subst, ℕ, ◌+◌, ◌<◌, ◌≤◌, List, [], ◌∷◌, ◌++◌, map, length, get_or, set, take, drop, inl, inr, ◌-◌, Bool, true, false, cond, arith, append_assoc, length-append}
 use Rattle.std.specs.Prelude.{bytes_eq}
 use Rattle.std.specs.List.{All}
-use Rattle.std.proofs.lemmas.List.{at_drop_more, at_drop_all, length_push, map_push}
-use Rattle.std.proofs.lemmas.List.Elements.{All-push}
+use Rattle.std.proofs.lemmas.Bool.{cases_eq}
+use Rattle.std.proofs.lemmas.Slice.Eq.{bytes_eq-Decides}
+use Rattle.std.proofs.lemmas.List.{at_drop_more, at_drop_all, get_or-append_right, get_or-set_other, get_or-set_same, length-map, length_push, map-append, map_push}
+use Rattle.std.proofs.lemmas.List.Elements.{All-more, All-push}
+use Rattle.lake_model.specs.Texts.{Text}
 use Rattle.lake_model.specs.Tables.{Table}
 use Rattle.search_model.specs.declared.TokenAt.{TokenAt}
 use Rattle.search_model.specs.Segment.{Token}
 use Rattle.search_model.specs.Arrays.{pointed, token_at, token_with, IsAt}
 use Rattle.token_order.specs.Counting.{IsCounting}
-use Rattle.token_order.specs.Places.{counted}
-use Rattle.token_order.specs.Runs.{runs_from}
+use Rattle.token_order.specs.Places.{at_of, counted, pointed_by}
+use Rattle.token_order.specs.Ranks.{IsRank}
+use Rattle.token_order.specs.declared.places.Member.{Member}
+use Rattle.token_order.specs.Runs.{runs_from, runs_of}
 
 -- another frequency, the same place
 pub at_counted : (tables : List Table) (at : TokenAt) (n : ℕ) → IsAt tables at → IsAt tables (counted at n)
 at_counted tables at n h = record { table = h.table; low = h.low; high = h.high; index = h.index }
 
-module _ (tables : List Table) (all : List Token) (rest ended : List TokenAt) (run : TokenAt) (i : ℕ) where
-  abbrev then : Bool → TokenAt → List Token
-  then b place = cond b (runs_from (token_with (pointed tables run) (run.frequency + 1)) (map (pointed tables) (drop (i + 1) rest))) (token_at tables run ∷ runs_from (token_with (pointed tables place) 1) (map (pointed tables) (drop (i + 1) rest)))
+-- the first of the runs
+first_run : (first : Token) (keys : List Text) → (0 < length (map (λ t. t.key) (runs_from first keys))) × (get_or (map (λ t. t.key) (runs_from first keys)) 0 [] ≡ first.key)
+first_run first [] = (omega arith, refl)
+first_run first (key ∷ keys) = by (bytes_eq key first.key) (first_run (token_with first.key (first.frequency + 1)) keys)
+  where
+    by : (b : Bool) → (0 < length (map (λ t. t.key) (runs_from (token_with first.key (first.frequency + 1)) keys))) × (get_or (map (λ t. t.key) (runs_from (token_with first.key (first.frequency + 1)) keys)) 0 [] ≡ first.key)
+        → (0 < length (map (λ t. t.key) (cond b (runs_from (token_with first.key (first.frequency + 1)) keys) (first ∷ runs_from (token_with key 1) keys))))
+        × (get_or (map (λ t. t.key) (cond b (runs_from (token_with first.key (first.frequency + 1)) keys) (first ∷ runs_from (token_with key 1) keys))) 0 [] ≡ first.key)
+    by true u = u
+    by false u = (omega arith, refl)
 
-  one_more : (b : Bool) (place : TokenAt) → IsCounting tables all rest ended run i → i < length rest → place ≡ get_or rest i place → bytes_eq (pointed tables place) (pointed tables run) ≡ b → map (token_at tables) ended ++ then b place ≡ all
-  one_more b place h within is test =
-      let from : List TokenAt → List Token = λ ps. map (token_at tables) ended ++ runs_from (token_at tables run) (map (pointed tables) ps) in
-      sym (ap (λ b. map (token_at tables) ended ++ then b place) test) ∙ ap (λ (p : TokenAt). from (p ∷ drop (i + 1) rest)) is ∙ sym (at_drop_more from rest i place within) ∙ h.runs
+module _ (tables : List Table) (all : List Token) (members : List Member) (ended : List TokenAt) (run : TokenAt) (i : ℕ) where
+  abbrev then : Bool → Member → List Token
+  then b m = cond b (runs_from (token_with (pointed tables run) (run.frequency + 1)) (map (pointed_by tables) (drop (i + 1) members))) (token_at tables run ∷ runs_from (token_with (pointed_by tables m) 1) (map (pointed_by tables) (drop (i + 1) members)))
 
-  pub counting_same : (place : TokenAt) → IsCounting tables all rest ended run i → i < length rest → place ≡ get_or rest i place → bytes_eq (pointed tables place) (pointed tables run) ≡ true → IsCounting tables all rest ended (counted run (run.frequency + 1)) (i + 1)
-  counting_same place h within is test =
-      record { runs = one_more true place h within is test; within = h.within; here = at_counted tables run (run.frequency + 1) h.here; short = omega (arith, h.short); few = omega (arith, h.few) }
+  one_more : (b : Bool) (m : Member) → IsCounting tables all members ended run i → i < length members → m ≡ get_or members i m → bytes_eq (pointed_by tables m) (pointed tables run) ≡ b → map (token_at tables) ended ++ then b m ≡ all
+  one_more b m h within is test =
+      let from : List Member → List Token = λ ms. map (token_at tables) ended ++ runs_from (token_at tables run) (map (pointed_by tables) ms) in
+      sym (ap (λ b. map (token_at tables) ended ++ then b m) test) ∙ ap (λ (n : Member). from (n ∷ drop (i + 1) members)) is ∙ sym (at_drop_more from members i m within) ∙ h.runs
 
-  pub counting_next : (place : TokenAt) → IsCounting tables all rest ended run i → i < length rest → place ≡ get_or rest i place → bytes_eq (pointed tables place) (pointed tables run) ≡ false → All (IsAt tables) rest → IsCounting tables all rest (ended ++ run ∷ []) (counted place 1) (i + 1)
-  counting_next place h within is test places =
-      let more = runs_from (token_with (pointed tables place) 1) (map (pointed tables) (drop (i + 1) rest)) in
+  pub counting_same : (m : Member) → IsCounting tables all members ended run i → i < length members → m ≡ get_or members i m → bytes_eq (pointed_by tables m) (pointed tables run) ≡ true → IsCounting tables all members ended (counted run (run.frequency + 1)) (i + 1)
+  counting_same m h within is test =
+      record { runs = one_more true m h within is test; within = h.within; here = at_counted tables run (run.frequency + 1) h.here; short = omega (arith, h.short); few = omega (arith, h.few) }
+
+  pub counting_next : (m : Member) → IsCounting tables all members ended run i → i < length members → m ≡ get_or members i m → bytes_eq (pointed_by tables m) (pointed tables run) ≡ false → IsAt tables (at_of m 1) → IsCounting tables all members (ended ++ run ∷ []) (at_of m 1) (i + 1)
+  counting_next m h within is test here =
+      let more = runs_from (token_with (pointed_by tables m) 1) (map (pointed_by tables) (drop (i + 1) members)) in
       record {
-        runs = ap (λ (ts : List Token). ts ++ more) (map_push (token_at tables) ended run) ∙ append_assoc (map (token_at tables) ended) (token_at tables run ∷ []) more ∙ one_more false place h within is test;
+        runs = ap (λ (ts : List Token). ts ++ more) (map_push (token_at tables) ended run) ∙ append_assoc (map (token_at tables) ended) (token_at tables run ∷ []) more ∙ one_more false m h within is test;
         within = All-push (IsAt tables) ended run h.within h.here;
-        here = at_counted tables place 1 (subst (IsAt tables) (sym is) (places i place within));
+        here = here;
         short = omega arith;
         few = omega (arith, length_push ended run, h.few);
       }
 
-  pub counting_ends : IsCounting tables all rest ended run i → length rest ≤ i → map (token_at tables) (ended ++ run ∷ []) ≡ all
+  pub counting_ends : IsCounting tables all members ended run i → length members ≤ i → map (token_at tables) (ended ++ run ∷ []) ≡ all
   counting_ends h past =
-      let from : List TokenAt → List Token = λ ps. map (token_at tables) ended ++ runs_from (token_at tables run) (map (pointed tables) ps) in
-      map_push (token_at tables) ended run ∙ sym (at_drop_all from rest i past) ∙ h.runs
+      let from : List Member → List Token = λ ms. map (token_at tables) ended ++ runs_from (token_at tables run) (map (pointed_by tables) ms) in
+      map_push (token_at tables) ended run ∙ sym (at_drop_all from members i past) ∙ h.runs
 
-pub counting_starts : (tables : List Table) (rest : List TokenAt) (first : TokenAt) → first.frequency ≡ 1 → IsAt tables first → IsCounting tables (runs_from (token_at tables first) (map (pointed tables) rest)) rest [] first 0
-counting_starts tables rest first one h = record { runs = refl; within = λ k d b. absurd (omega arith); here = h; short = omega arith; few = omega arith }
+  -- the present run's key is that of its number among all
+  pub counting_here : IsCounting tables all members ended run i → IsRank (map (λ t. t.key) all) (pointed tables run) (length ended)
+  counting_here h =
+      let key : Token → Text = λ t. t.key in
+      let rest = runs_from (token_at tables run) (map (pointed_by tables) (drop i members)) in
+      let before = map (token_at tables) ended in
+      let split : map key all ≡ map key before ++ map key rest = ap (map key) (sym h.runs) ∙ map-append key before rest in
+      let long : length (map key before) ≡ length ended = length-map before key ∙ length-map ended (token_at tables) in
+      let first = first_run (token_at tables run) (map (pointed_by tables) (drop i members)) in
+      (omega (arith, ap length split, length-append (map key before) (map key rest), long, first.0), ap (λ (ks : List Text). get_or ks (length ended) []) split ∙ get_or-append_right (map key before) (map key rest) (length ended) (length ended) [] long (omega arith) ∙ (let z : length ended - length ended ≡ 0 = omega arith in ap (λ (n : ℕ). get_or (map key rest) n []) z) ∙ first.1)
+
+pub counting_starts : (tables : List Table) (members : List Member) (first : TokenAt) → first.frequency ≡ 0 → IsAt tables first → IsCounting tables (runs_from (token_at tables first) (map (pointed_by tables) members)) members [] first 0
+counting_starts tables members first none h = record { runs = refl; within = λ k d b. absurd (omega arith); here = h; short = omega arith; few = omega arith }
+
+-- ---- ranks
+
+-- one more rank is written
+pub rank_written : (P : ℕ → ℕ → Type 0) (ranks : List ℕ) (members : List Member) (i : ℕ) (m : Member) (r : ℕ) → i < length members → m ≡ get_or members i m → m.number < length ranks → P m.number r
+    → All (λ q. P q.number (get_or ranks q.number 0)) (take i members) → All (λ q. P q.number (get_or (set ranks m.number r) q.number 0)) (take (i + 1) members)
+rank_written P ranks members i m r within is inside holds before =
+    let here : (q : Member) → q.number ≡ m.number → P q.number (get_or (set ranks m.number r) q.number 0) = λ q e.
+    subst (λ (n : ℕ). P n (get_or (set ranks m.number r) n 0)) (sym e) (subst (P m.number) (sym (get_or-set_same ranks m.number r 0 inside)) holds) in
+    let each : All (λ q. P q.number (get_or (set ranks m.number r) q.number 0)) (take i members) = λ k d b.
+    (let q = get_or (take i members) k d in
+    elim (cases_eq q.number m.number) [
+      | inl e ↦ here q e
+      | inr n ↦ subst (P q.number) (sym (get_or-set_other ranks m.number q.number r 0 n)) (before k d b)
+    ]) in
+    All-more (λ q. P q.number (get_or (set ranks m.number r) q.number 0)) members i m within each (here (get_or members i m) (ap (λ (q : Member). q.number) (sym is)))
+
+-- the runs from a first one that is not counted yet
+pub from_first : (tables : List Table) (members : List Member) (first : TokenAt) (m : Member) → first ≡ at_of m 0 → 0 < length members → m ≡ get_or members 0 m → runs_from (token_at tables first) (map (pointed_by tables) members) ≡ runs_of (map (pointed_by tables) members)
+from_first tables [] first m e h is = absurd (omega arith)
+from_first tables (n ∷ members) first m e h is =
+    let key = pointed_by tables n in
+    let keys = map (pointed_by tables) members in
+    let at : first ≡ at_of n 0 = e ∙ ap (λ (q : Member). at_of q 0) is in
+    let same : bytes_eq key key ≡ true = (bytes_eq-Decides key key).1 refl in
+    ap (λ (a : TokenAt). runs_from (token_at tables a) (key ∷ keys)) at ∙ ap (λ b. cond b (runs_from (token_with key 1) keys) (token_with key 0 ∷ runs_from (token_with key 1) keys)) same

@@ -4,3 +4,4 @@ pub mod SortLemmas
 pub mod TokenLemmas
 pub mod FrequencyLemmas
 pub mod CountLemmas
+pub mod RankLemmas

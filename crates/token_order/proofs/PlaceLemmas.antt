@@ -1,42 +1,54 @@
--- Places that are added behind others, and the keys of tables.
-use Rattle.std.proofs.Common.{◌≡◌, refl, ap, sym, ◌∙◌, ℕ, ◌+◌, ◌-◌, ◌<◌, List, [], ◌∷◌, ◌++◌, map, length, get_or, take, arith, append-nil, append_assoc, length-append}
+-- Members that are added behind others, and the keys of tables.
+use Rattle.std.proofs.Common.{◌≡◌, refl, ap, sym, ◌∙◌, ℕ, ◌+◌, ◌-◌, ◌<◌, List, [], ◌∷◌, ◌++◌, map, length, get_or, take, arith, inl, inr, subst, append-nil, append_assoc, length-append}
 use Rattle.std.specs.Prelude.{bytes_eq, sum_by, flat_map}
-use Rattle.std.specs.List.{All, AllByRecursion, IsDistinct, enumerate_from}
-use Rattle.std.proofs.lemmas.List.{map_push, length-map, take_more}
+use Rattle.std.specs.List.{All, AllByRecursion, IsDistinct, enumerate_from, range_with_len}
+use Rattle.std.proofs.lemmas.Bool.{cases_lt}
+use Rattle.std.proofs.lemmas.List.FromFn.{get_or-range_with_len, length-range_with_len}
+use Rattle.std.proofs.lemmas.List.{ext_get_or, get_or_append_left, get_or_push, get_or-map, length-map, length_push, map_push, take_more}
 use Rattle.std.proofs.lemmas.List.Concat.{flat_map-append}
-use Rattle.std.proofs.lemmas.List.Elements.{All-push, recursion_from_All}
+use Rattle.std.proofs.lemmas.List.Elements.{All-nil, All-push, recursion_from_All}
 use Rattle.std.specs.List.Sorted.{IsPermutation}
-use Rattle.std.proofs.lemmas.List.Sorted.{length_permutation}
+use Rattle.std.proofs.lemmas.List.Sorted.{All-permutation, IsPermutation-map, length_permutation}
 use Rattle.std.proofs.lemmas.List.Sums.{sum_by-cons}
 use Rattle.column_set.specs.Columns.{HasDistinctKeys}
 use Rattle.lake_model.specs.Texts.{Text}
 use Rattle.lake_model.specs.Tables.{Column, Table, keys_at, members, sets_of}
-use Rattle.search_model.specs.declared.TokenAt.{TokenAt}
-use Rattle.search_model.specs.Arrays.{all_of, no_table, pointed, table_at, IsAt}
+use Rattle.search_model.specs.Arrays.{all_of, no_table, table_at, IsAt}
 use Rattle.search_model.specs.Segment.{Titled, columns_of, titled}
-use Rattle.token_order.specs.Places.{keys_in, keys_of, IsMore}
+use Rattle.token_order.specs.Places.{at_of, keys_in, keys_of, pointed_by, AreMembers, IsMember, IsMore, IsNumbered}
+use Rattle.token_order.specs.declared.places.Member.{Member}
 
--- ---- more places
+-- ---- more members
 
-pub more_none : (tables : List Table) (places : List TokenAt) → IsMore tables places places []
-more_none tables places = record { points = sym (append-nil (map (pointed tables) places)); within = λ h. h }
+pub numbered_push : (ms : List Member) (m : Member) → m.number ≡ length ms → IsNumbered ms → IsNumbered (ms ++ m ∷ [])
+numbered_push ms m e h i d b = elim (cases_lt i (length ms)) [
+  | inl l ↦ ap (λ (n : Member). n.number) (get_or_append_left ms (m ∷ []) d i l) ∙ h i d l
+  | inr g ↦
+      let at : i ≡ length ms = omega (arith, g, b, length_push ms m) in
+      ap (λ (n : Member). n.number) (get_or_push ms m d i (sym at)) ∙ e ∙ sym at
+]
 
-pub more_push : (tables : List Table) (old new : List TokenAt) (keys : List Text) (at : TokenAt) (key : Text) → IsMore tables old new keys → IsAt tables at → pointed tables at ≡ key → IsMore tables old (new ++ at ∷ []) (keys ++ key ∷ [])
-more_push tables old new keys at key more is points =
+pub more_none : (tables : List Table) (ms : List Member) → IsMore tables ms ms []
+more_none tables ms = record { points = sym (append-nil (map (pointed_by tables) ms)); within = λ h. h; numbered = λ h. h }
+
+pub more_push : (tables : List Table) (old new : List Member) (keys : List Text) (m : Member) (key : Text) → IsMore tables old new keys → IsAt tables (at_of m 1) → pointed_by tables m ≡ key → m.number ≡ length new → IsMore tables old (new ++ m ∷ []) (keys ++ key ∷ [])
+more_push tables old new keys m key more is points number =
     record {
       points =
-          map_push (pointed tables) new at
-          ∙ ap (λ (ks : List Text). ks ++ pointed tables at ∷ []) more.points
-          ∙ append_assoc (map (pointed tables) old) keys (pointed tables at ∷ [])
-          ∙ ap (λ (k : Text). map (pointed tables) old ++ (keys ++ k ∷ [])) points;
-      within = λ h. All-push (IsAt tables) new at (more.within h) is;
+          map_push (pointed_by tables) new m
+          ∙ ap (λ (ks : List Text). ks ++ pointed_by tables m ∷ []) more.points
+          ∙ append_assoc (map (pointed_by tables) old) keys (pointed_by tables m ∷ [])
+          ∙ ap (λ (k : Text). map (pointed_by tables) old ++ (keys ++ k ∷ [])) points;
+      within = λ h. All-push (λ m. IsAt tables (at_of m 1)) new m (more.within h) is;
+      numbered = λ h. numbered_push new m number (more.numbered h);
     }
 
-pub more_more : (tables : List Table) (old new newer : List TokenAt) (keys others : List Text) → IsMore tables old new keys → IsMore tables new newer others → IsMore tables old newer (keys ++ others)
+pub more_more : (tables : List Table) (old new newer : List Member) (keys others : List Text) → IsMore tables old new keys → IsMore tables new newer others → IsMore tables old newer (keys ++ others)
 more_more tables old new newer keys others first second =
     record {
-      points = second.points ∙ ap (λ (ks : List Text). ks ++ others) first.points ∙ append_assoc (map (pointed tables) old) keys others;
+      points = second.points ∙ ap (λ (ks : List Text). ks ++ others) first.points ∙ append_assoc (map (pointed_by tables) old) keys others;
       within = λ h. second.within (first.within h);
+      numbered = λ h. second.numbered (first.numbered h);
     }
 
 -- ---- the keys, one column and one table at a time
@@ -99,6 +111,31 @@ differ_all n (t ∷ tables) h = all_append (λ (c : Titled). IsDistinct bytes_eq
 pub columns_differ : (tables : List Table) → All HasDistinctKeys tables → AllByRecursion (λ c. IsDistinct bytes_eq c.column.keys) (columns_of tables)
 columns_differ tables h = differ_all 0 tables (recursion_from_All HasDistinctKeys tables h)
 
--- as many places as members, where the places point at all keys, in whatever order
-pub place_count : (tables : List Table) (places : List TokenAt) → IsPermutation (keys_of tables) (map (pointed tables) places) → length places ≡ sum_by members tables
-place_count tables places same = sym (length-map places (pointed tables)) ∙ length_permutation (keys_of tables) (map (pointed tables) places) same ∙ length-keys_of tables
+-- as many as there are keys, where they point at all keys, in whatever order
+pub member_count : (tables : List Table) (found : List Member) → IsPermutation (keys_of tables) (map (pointed_by tables) found) → length found ≡ sum_by members tables
+member_count tables found same = sym (length-map found (pointed_by tables)) ∙ length_permutation (keys_of tables) (map (pointed_by tables) found) same ∙ length-keys_of tables
+
+-- ---- all members
+
+pub all_are : (tables : List Table) (found sorted : List Member) → IsMore tables [] found (keys_of tables) → IsPermutation found sorted → AreMembers tables sorted
+all_are tables found sorted more moved =
+    let keys = keys_of tables in
+    let points : map (pointed_by tables) found ≡ keys = more.points in
+    let numbered : IsNumbered found = more.numbered (λ i d b. absurd (omega arith)) in
+    let within : All (λ m. IsAt tables (at_of m 1)) found = more.within (All-nil (λ m. IsAt tables (at_of m 1))) in
+    let long : length found ≡ length keys = sym (length-map found (pointed_by tables)) ∙ ap (λ (ks : List Text). length ks) points in
+    let each : All (IsMember tables) found = λ i d b. record {
+      here = within i d b;
+      inside = omega (arith, numbered i d b, long, b);
+      points = ap (λ (n : ℕ). get_or keys n []) (numbered i d b) ∙ ap (λ (ks : List Text). get_or ks i []) (sym points) ∙ get_or-map (pointed_by tables) found i d [] b;
+    } in
+    let numbers : range_with_len 0 (length keys) ≡ map (λ m. m.number) found =
+    ext_get_or 0 (range_with_len 0 (length keys)) (map (λ (m : Member). m.number) found) (omega (arith, length-range_with_len 0 (length keys), length-map found (λ (m : Member). m.number), long))
+    (λ i b. let inside : i < length found = omega (arith, b, length-range_with_len 0 (length keys), long) in
+    let no : Member = record { table = 0; place = 0; index = 0; number = 0 } in
+    let z : 0 + i ≡ i = omega arith in
+    get_or-range_with_len 0 (length keys) i 0 (omega (arith, inside, long)) ∙ z ∙ sym (get_or-map (λ (m : Member). m.number) found i no 0 inside ∙ numbered i no inside)) in
+    record {
+      each = All-permutation (IsMember tables) found sorted moved each;
+      all = subst (λ (ns : List ℕ). IsPermutation ns (map (λ m. m.number) sorted)) (sym numbers) (IsPermutation-map (λ m. m.number) found sorted moved);
+    }

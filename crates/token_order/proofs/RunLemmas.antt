@@ -1,5 +1,5 @@
 -- The runs of sorted keys: each key has one run, as long as the key is often.
-use Rattle.std.proofs.Common.{◌≡◌, refl, ap, sym, ◌∙◌, ℕ, ◌+◌, List, [], ◌∷◌, map, length, Bool, true, false, ◌||◌, cond, arith}
+use Rattle.std.proofs.Common.{◌≡◌, refl, ap, sym, ◌∙◌, ℕ, ◌+◌, ◌≤◌, List, [], ◌∷◌, map, length, Bool, true, false, ◌||◌, cond, arith}
 use Rattle.std.specs.Prelude.{bytes_eq, sum_by}
 use Rattle.std.specs.List.{AllByRecursion, IsDistinct, count_by, list_any}
 use Rattle.std.proofs.lemmas.List.Sums.{sum_by-cons}
@@ -8,7 +8,7 @@ use Rattle.lake_model.specs.Texts.{Text}
 use Rattle.search_model.specs.Segment.{Token}
 use Rattle.search_model.specs.Arrays.{token_with}
 use Rattle.token_order.specs.Runs.{runs_from, runs_of}
-use Rattle.token_order.proofs.SortLemmas.{Rises, beyond_all, differ_back}
+use Rattle.token_order.proofs.SortLemmas.{Rises, beyond_all, differ_back, less}
 
 abbrev longer : Token → Token
 longer first = token_with first.key (first.frequency + 1)
@@ -55,6 +55,22 @@ pub runs_differ : (keys : List Text) → Rises keys → IsDistinct bytes_eq (map
 unfolding IsDistinct
 runs_differ [] r = tt
 runs_differ (key ∷ keys) r = differ_from (token_with key 1) keys r
+
+-- ---- the keys of the runs rise
+
+rise_then : (first : Token) (key : Text) (keys : List Text) (b : Bool) → Rises (first.key ∷ key ∷ keys) → Rises (map (λ t. t.key) (runs_from (longer first) keys)) → Rises (map (λ t. t.key) (runs_from (token_with key 1) keys))
+    → Rises (map (λ t. t.key) (runs_then b first key keys))
+rise_then first key keys true r u v = u
+rise_then first key keys false r u v =
+    (all_keys (λ y. less y first.key ≡ false) (runs_from (token_with key 1) keys) (all_from (λ y. less y first.key ≡ false) (token_with key 1) keys r.0.0 r.0.1), v)
+
+rise_from : (first : Token) (keys : List Text) → Rises (first.key ∷ keys) → Rises (map (λ t. t.key) (runs_from first keys))
+rise_from first [] r = (tt, tt)
+rise_from first (key ∷ keys) r = rise_then first key keys (bytes_eq key first.key) r (rise_from (longer first) keys (r.0.1, r.1.1)) (rise_from (token_with key 1) keys r.1)
+
+pub runs_rise : (keys : List Text) → Rises keys → Rises (map (λ t. t.key) (runs_of keys))
+runs_rise [] r = tt
+runs_rise (key ∷ keys) r = rise_from (token_with key 1) keys r
 
 -- ---- each key has one
 
@@ -154,3 +170,17 @@ long_from first (key ∷ keys) = by (bytes_eq key first.key) (long_from (longer 
 pub runs_long : (keys : List Text) → sum_by (λ t. t.frequency) (runs_of keys) ≡ length keys
 runs_long [] = refl
 runs_long (key ∷ keys) = omega (arith, long_from (token_with key 1) keys)
+
+-- ---- there are no more runs than keys
+
+few_from : (first : Token) (keys : List Text) → length (runs_from first keys) ≤ length keys + 1
+few_from first [] = omega arith
+few_from first (key ∷ keys) = by (bytes_eq key first.key) (few_from (longer first) keys) (few_from (token_with key 1) keys)
+  where
+    by : (b : Bool) → length (runs_from (longer first) keys) ≤ length keys + 1 → length (runs_from (token_with key 1) keys) ≤ length keys + 1 → length (runs_then b first key keys) ≤ length (key ∷ keys) + 1
+    by true u v = omega (arith, u)
+    by false u v = omega (arith, v)
+
+pub runs_few : (keys : List Text) → length (runs_of keys) ≤ length keys
+runs_few [] = omega arith
+runs_few (key ∷ keys) = omega (arith, few_from (token_with key 1) keys)

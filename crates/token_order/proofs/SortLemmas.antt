@@ -1,5 +1,5 @@
 -- What a sort by a key leaves, and sorted keys.
-use Rattle.std.proofs.Common.{◌≡◌, refl, ap, sym, ◌∙◌, subst, ℕ, suc, ◌+◌, ◌<◌, List, [], ◌∷◌, map, length, get_or, Bool, true, false, arith}
+use Rattle.std.proofs.Common.{◌≡◌, refl, ap, sym, ◌∙◌, subst, ℕ, zero, suc, ◌+◌, ◌<◌, List, [], ◌∷◌, map, length, get_or, Bool, true, false, arith}
 use Rattle.std.specs.Prelude.{bytes_eq}
 use Rattle.std.specs.List.{AllByRecursion}
 use Rattle.std.specs.List.Sorted.{IsSorted, IsSortedBy, IsSortedByClosure, IsSortedByKey}
@@ -59,6 +59,14 @@ pub rises : (xs : List Text) → IsSorted (slice_cmp nat_cmp) xs → Rises xs
 rises [] up = tt
 rises (x ∷ xs) up =
     (recursion_from_All (λ y. less y x ≡ false) xs (λ k d b. sorted_far less order (x ∷ xs) up 0 (suc k) d (omega arith) (omega arith)), rises xs (tail_sorted x xs up))
+
+pub sorted_from_rises : (xs : List Text) → Rises xs → IsSorted (slice_cmp nat_cmp) xs
+sorted_from_rises [] r k d a b = absurd (omega arith)
+sorted_from_rises (x ∷ []) r k d a b = absurd (omega arith)
+sorted_from_rises (x ∷ y ∷ xs) r zero d a b = r.0.0
+sorted_from_rises (x ∷ y ∷ xs) r (suc k) d a b =
+    let e : suc k + 1 ≡ suc (k + 1) = omega arith in
+    subst (λ (n : ℕ). less (get_or (x ∷ y ∷ xs) n d) (get_or (y ∷ xs) k d) ≡ false) (sym e) (sorted_from_rises (y ∷ xs) r.1 k d (omega arith) (omega arith))
 
 level : (r : Ordering) → is_lt r ≡ false → is_lt (ordering_reverse r) ≡ false → r ≡ Equal
 level Less n m = cc

@@ -1,4 +1,5 @@
 pub mod Counting
 pub mod Places
+pub mod Ranks
 pub mod Runs
 pub mod Vocabulary

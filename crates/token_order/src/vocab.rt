@@ -4,9 +4,10 @@ ghost use Rattle.std.specs.List.{All};
 ghost use Rattle.lake_model.specs.Tables.{members};
 ghost use Rattle.search_model.specs.Arrays.{token_at, IsAt};
 ghost use Rattle.search_model.specs.Segment.{columns_of, token_cmp, tokens_of};
+ghost use Rattle.token_order.specs.Ranks.{AreRanks};
 
 use crate::numbers;
-use crate::places::{key_at, places_by_key};
+use crate::places::{key_at, members_by_key};
 use crate::runs::count_runs;
 use column_set::SharedTable;
 use no_memory::NoMemory;
@@ -24,6 +25,7 @@ pub struct Vocab<'a> {
     tables: &'a [SharedTable],
     tokens: Vec<TokenAt>,
     by_key: Vec<u32>,
+    ranks: Vec<u32>,
 }
 
 impl<'a> Model for Vocab<'a> {
@@ -35,26 +37,30 @@ impl<'a> Model for Vocab<'a> {
 
     ghost view = { λ v. v.tables.now };
 
-    ghost invariant = { λ v. IsVocabulary v.tables.now v.tokens.items v.by_key.items };
+    ghost invariant = { λ v. IsVocabulary v.tables.now v.tokens.items v.by_key.items v.ranks.items };
 }
 
 impl<'a> Vocab<'a> {
     ghost use Rattle.search_model.specs.Arrays.{key_of, IsByKey, IsToken};
+    ghost use Rattle.std.specs.Prelude.{Some, get_or, []};
+    ghost use Rattle.token_order.specs.Places.{keys_of};
     ghost use Rattle.token_order.specs.Vocabulary.{frequency_of};
 
-    /// The vocabulary of the tables. It takes the time to sort all keys of all columns by their bytes, and 16 bytes for each key while
-    /// it is made; then 20 bytes for each distinct key. It is refused only for want of memory.
+    /// The vocabulary of the tables. It takes the time to sort all keys of all columns by their bytes. While it is made, it takes at most
+    /// 20 bytes for each key of each column and 16 for each distinct key; then 4 for each key of each column, and 20 for each distinct
+    /// key. It is refused only for want of memory.
     pub fn build(alloc: Global, tables: &'a [SharedTable]) -> Result<Vocab<'a>, NoMemory>
         requires columns { sum_by (λ t. length t.columns) tables.now < 2 ^ 32 }
         requires members { sum_by members tables.now < 2 ^ 32 }
         ensures { IfOk result (λ vocab. vocab ≡ tables.now) }
     {
-        let tokens = tokens_in_order(alloc, tables)?;
+        let RankedTokens { tokens, ranks } = tokens_in_order(alloc, tables)?;
         let by_key = numbers::numbers_by_key(alloc, tables, &tokens)?;
         Ok(Vocab {
             tables,
             tokens,
             by_key,
+            ranks,
         })
     }
 
@@ -71,6 +77,15 @@ impl<'a> Vocab<'a> {
         ensures { IsToken (tokens_of (columns_of self.now)) key.now result }
     {
         numbers::find(self.tables, &self.tokens, &self.by_key, key)
+    }
+
+    /// The token of the member of a number, where the members of all columns are numbered from 0, by table, place and index. It takes
+    /// two reads, and compares no key.
+    pub fn token_of_member(&self, number: u32) -> u32
+        requires { number < length (keys_of self.now) }
+        ensures { IsToken (tokens_of (columns_of self.now)) (get_or (keys_of self.now) number []) (Some result) }
+    {
+        self.by_key[self.ranks[number as usize] as usize]
     }
 
     /// How many columns hold the token.
@@ -102,18 +117,27 @@ impl<'a> Vocab<'a> {
     }
 }
 
-// The places of the tokens, in the order of tokens.
-fn tokens_in_order(alloc: Global, tables: &[SharedTable]) -> Result<Vec<TokenAt>, NoMemory>
+// The places of the tokens in the order of tokens, and the ranks of all members: which of the distinct keys, by their bytes, each has.
+#[derive(Drop)]
+struct RankedTokens {
+    tokens: Vec<TokenAt>,
+    ranks: Vec<u32>,
+}
+
+// The tokens of the tables, and the ranks of their members.
+fn tokens_in_order(alloc: Global, tables: &[SharedTable]) -> Result<RankedTokens, NoMemory>
     requires { sum_by members tables.now < 2 ^ 32 }
-    ensures named { IfOk result (λ tokens. map (token_at tables.now) tokens.items ≡ tokens_of (columns_of tables.now)) }
-    ensures within { IfOk result (λ tokens. All (IsAt tables.now) tokens.items) }
-    ensures few { IfOk result (λ tokens. length tokens.items < 2 ^ 32) }
-    ensures counted { IfOk result (λ tokens. sum_by (λ at. at.frequency) tokens.items ≡ sum_by members tables.now) }
+    ensures named { IfOk result (λ made. map (token_at tables.now) made.tokens.items ≡ tokens_of (columns_of tables.now)) }
+    ensures within { IfOk result (λ made. All (IsAt tables.now) made.tokens.items) }
+    ensures few { IfOk result (λ made. length made.tokens.items < 2 ^ 32) }
+    ensures counted { IfOk result (λ made. sum_by (λ at. at.frequency) made.tokens.items ≡ sum_by members tables.now) }
+    ensures ranked { IfOk result (λ made. AreRanks tables.now made.ranks.items) }
 {
-    let places = places_by_key(alloc, tables)?;
-    let mut tokens = count_runs(alloc, tables, &places)?;
+    let members = members_by_key(alloc, tables)?;
+    let mut ranks = vec![in alloc; 0; members.len()]?;
+    let mut tokens = count_runs(alloc, tables, &members, &mut ranks)?;
     tokens.sort_unstable_by(|a, b| token_order(tables, *a, *b));
-    Ok(tokens)
+    Ok(RankedTokens { tokens, ranks })
 }
 
 // The order of tokens: the lower frequency first, and then by the bytes of the key.

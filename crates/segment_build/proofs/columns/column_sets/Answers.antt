@@ -2,15 +2,26 @@ use Rattle.std.proofs.Common.{ap, sym, subst, ◌<◌, List, [], ◌∷◌, leng
 use Rattle.lake_model.specs.Tables.{Table, members}
 use Rattle.search_model.specs.Arrays.{table_at}
 use Rattle.search_model.specs.Segment.{columns_of}
-use Rattle.segment_build.specs.Holding.{all_tokens, columns_in, held_with, HasMore}
+use Rattle.segment_build.specs.Holding.{all_tokens, columns_in, held_with, HasMore, IsStretch}
+use Rattle.token_order.specs.Places.{keys_in, keys_of}
 use Rattle.segment_build.proofs.HoldLemmas.{columns_of_more, more_more, room_of}
+use Rattle.segment_build.proofs.StretchLemmas.{table_stretch}
 use Rattle.segment_build.proofs.columns.column_sets.Goals as goal
 
-pub push_table-requires : goal.push_table-requires
-push_table-requires c =
+pub push_table-requires-clause-room : goal.push_table-requires-clause-room
+push_table-requires-clause-room c =
     let i = c.loop-table.table in
     let within : i < length c.args.tables.now = omega arith in
-    omega (arith, c.loop-table.invariant.few, room_of c.args.tables.now i within, c.requires.members, ap members c.table_of.ensures)
+    omega (arith, c.loop-table.invariant.long, room_of c.args.tables.now i within, c.requires.members, ap members c.table_of.ensures)
+
+pub push_table-requires-clause-stretch : goal.push_table-requires-clause-stretch
+push_table-requires-clause-stretch c =
+    let tables = c.args.tables.now in
+    let i = c.loop-table.table in
+    let within : i < length tables = omega arith in
+    let now = length c.loop-table.sets.tokens.items in
+    let here : IsStretch (keys_of tables) (keys_in (table_at tables i)) now = table_stretch tables i now within (omega (arith, c.loop-table.invariant.long)) in
+    subst (λ (ts : List Table). IsStretch (keys_of ts) (keys_in c.table_of.result.now) now) (sym c.requires.vocab) (subst (λ (t : Table). IsStretch (keys_of tables) (keys_in t) now) (sym c.table_of.ensures) here)
 
 pub loop-table-preserved : goal.loop-table-preserved
 loop-table-preserved c =

@@ -1,12 +1,19 @@
 use Rattle.std.proofs.Common.{sym, subst, ◌+◌, ◌<◌, [], ◌∷◌, length, take, arith}
 use Rattle.segment_build.specs.Holding.{all_tokens, columns_in, held_with, titled_in, HasMore}
+use Rattle.token_order.specs.Places.{keys_of}
 use Rattle.segment_build.proofs.HoldLemmas.{columns_in_all, columns_in_more, more_more, room_in}
+use Rattle.segment_build.proofs.StretchLemmas.{column_stretch}
 use Rattle.segment_build.proofs.columns.push_table.Goals as goal
 
 pub push_column-requires-clause-room : goal.push_column-requires-clause-room
 push_column-requires-clause-room c =
     let within : c.loop-i.i < length c.args.table.now.columns = omega (arith, c.columns-i-end.ensures.value) in
-    omega (arith, c.loop-i.invariant.few, room_in c.args.number c.args.table.now c.loop-i.i within, c.requires)
+    omega (arith, c.loop-i.invariant.long, room_in c.args.number c.args.table.now c.loop-i.i within, c.requires.room)
+
+pub push_column-requires-clause-stretch : goal.push_column-requires-clause-stretch
+push_column-requires-clause-stretch c =
+    let within : c.loop-i.i < length c.args.table.now.columns = omega (arith, c.columns-i-end.ensures.value) in
+    column_stretch (keys_of c.args.vocab.now) c.args.number c.args.table.now (length c.args.sets.now.tokens.items) c.loop-i.i (length c.loop-i.sets.tokens.items) within c.requires.stretch c.loop-i.invariant.long
 
 pub loop-i-preserved : goal.loop-i-preserved
 loop-i-preserved c =

@@ -9,6 +9,6 @@ pub returns-clause-value : goal.returns-clause-value
 returns-clause-value c =
     sorted_tokens (all_tokens c.args.vocab.now) (keys_at c.args.table.now c.args.place) c.in_ok-tokens.tokens.items c.sort_unstable.new.self.items c.in_ok-tokens.ensures.same c.sort_unstable.ensures.permutation c.sort_unstable.ensures.sorted
 
-pub returns-clause-few : goal.returns-clause-few
-returns-clause-few c =
-    omega (arith, length_permutation c.in_ok-tokens.tokens.items c.sort_unstable.new.self.items c.sort_unstable.ensures.permutation, c.in_ok-tokens.ensures.few)
+pub returns-clause-long : goal.returns-clause-long
+returns-clause-long c =
+    omega (arith, length_permutation c.in_ok-tokens.tokens.items c.sort_unstable.new.self.items c.sort_unstable.ensures.permutation, c.in_ok-tokens.ensures.long)

@@ -5,4 +5,4 @@ use Rattle.token_order.specs.Places.{IsMore}
 use Rattle.token_order.proofs.places.push_column.Given as goal
 
 abbrev pub invariant-loop-index : goal.invariant-loop-index
-invariant-loop-index l = IsMore l.tables l.fn.places.items l.places.items (take l.index (keys_at (table_at l.tables l.table) l.place))
+invariant-loop-index l = IsMore l.tables l.fn.members.items l.members.items (take l.index (keys_at (table_at l.tables l.table) l.place))

@@ -11,4 +11,4 @@ loop-i-preserved c =
     let table = table_at tables c.args.table in
     let i = c.loop-i.i in
     let within : i < length table.columns = omega (arith, c.columns-i-end.ensures.value, ap (λ (t : Table). length t.columns) c.table_of.ensures) in
-    subst (IsMore tables c.args.places.now.items c.push_column.new.places.items) (sym (keys_in_more table i within)) (more_more tables _ _ _ _ _ c.loop-i.invariant c.in_ok-push_column.ensures)
+    subst (IsMore tables c.args.members.now.items c.push_column.new.members.items) (sym (keys_in_more table i within)) (more_more tables _ _ _ _ _ c.loop-i.invariant c.in_ok-push_column.ensures)

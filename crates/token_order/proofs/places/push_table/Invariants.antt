@@ -5,4 +5,4 @@ use Rattle.token_order.specs.Places.{IsMore}
 use Rattle.token_order.proofs.places.push_table.Given as goal
 
 abbrev pub invariant-loop-i : goal.invariant-loop-i
-invariant-loop-i l = IsMore l.tables l.fn.places.items l.places.items (all_of (take l.i (sets_of (table_at l.tables l.table))))
+invariant-loop-i l = IsMore l.tables l.fn.members.items l.members.items (all_of (take l.i (sets_of (table_at l.tables l.table))))

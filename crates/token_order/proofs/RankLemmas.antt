@@ -1,0 +1,101 @@
+-- The ranks of members, and their tokens.
+use Rattle.std.proofs.Common.{◌≡◌, refl, ap, sym, ◌∙◌, subst, ℕ, suc, ◌+◌, ◌<◌, List, [], ◌∷◌, map, length, get_or, Some, arith}
+use Rattle.std.specs.List.{All, enumerate_from, range_with_len}
+use Rattle.std.specs.List.Sorted.{IsPermutation, IsSorted}
+use Rattle.std.specs.Cmp.Lexicographic.{slice_cmp}
+use Rattle.std.specs.Ordering.{nat_cmp, ordering_reverse}
+use Rattle.std.specs.declared.cmp.Ordering.{Ordering}
+use Rattle.std.specs.declared.cmp.Ordering.TheVariants.{Less, Equal, Greater}
+use Rattle.std.proofs.lemmas.Cmp.{nat_list_cmp_total}
+use Rattle.std.proofs.lemmas.Grind.{get_or_default_zero}
+use Rattle.std.proofs.lemmas.List.{get_or-map, length-map}
+use Rattle.std.proofs.lemmas.List.Elements.{All-map}
+use Rattle.std.proofs.lemmas.List.FromFn.{get_or-range_with_len, length-range_with_len}
+use Rattle.std.proofs.lemmas.List.Sorted.{All-permutation, IsPermutation-map, IsPermutation-sym}
+use Rattle.std.proofs.lemmas.Map.Lookups.{exact_bytes}
+use Rattle.lake_model.specs.Texts.{Text}
+use Rattle.lake_model.specs.Tables.{Table}
+use Rattle.lake_model.proofs.SortingLemmas.{in_order-IsPermutation, sorted_is}
+use Rattle.search_model.specs.declared.TokenAt.{TokenAt}
+use Rattle.search_model.specs.Segment.{Token, columns_of, tokens_of}
+use Rattle.search_model.specs.Arrays.{key_of, numbers_of, IsByKey, IsToken}
+use Rattle.search_model.proofs.KeyLemmas.{found}
+use Rattle.token_order.specs.Places.{keys_of, AreMembers}
+use Rattle.token_order.specs.Ranks.{names_of, AreRanks, HaveRanks, IsRank}
+use Rattle.token_order.specs.Runs.{runs_of}
+use Rattle.token_order.specs.Vocabulary.{IsVocabulary}
+use Rattle.token_order.specs.declared.places.Member.{Member}
+use Rattle.token_order.proofs.RunLemmas.{runs_rise}
+use Rattle.token_order.proofs.SortLemmas.{rises, sorted_from_rises, sorted_map}
+
+-- ---- the keys of the tokens, by their bytes
+
+keys_numbered : (all : List Token) (n : ℕ) (tokens : List Token) → ((i : ℕ) → i < length tokens → key_of all (n + i) ≡ key_of tokens i) → map (key_of all) (map (λ t. t.0) (enumerate_from n tokens)) ≡ map (λ t. t.key) tokens
+keys_numbered all n [] h = refl
+keys_numbered all n (t ∷ tokens) h =
+    let z : n ≡ n + 0 = omega arith in
+    let first : key_of all n ≡ t.key = ap (key_of all) z ∙ h 0 (omega arith) in
+    let rest = keys_numbered all (n + 1) tokens (λ i b. (let e : n + 1 + i ≡ n + suc i = omega arith in ap (key_of all) e) ∙ h (suc i) (omega arith)) in
+    λ i. first i ∷ rest i
+
+-- the tokens' numbers by key name them so
+pub numbers_named : (tokens : List Token) (numbers : List ℕ) → IsByKey tokens numbers → map (key_of tokens) numbers ≡ names_of tokens
+numbers_named tokens numbers by_key =
+    let keys = map (λ (t : Token). t.key) tokens in
+    let named : map (key_of tokens) (numbers_of tokens) ≡ keys = keys_numbered tokens 0 tokens (λ i b. (let z : 0 + i ≡ i = omega arith in ap (key_of tokens) z)) in
+    sorted_is nat_list_cmp_total exact_bytes (map (key_of tokens) numbers) (sorted_map (slice_cmp nat_cmp) (key_of tokens) numbers by_key.rising)
+    ∙ in_order-IsPermutation nat_list_cmp_total exact_bytes keys (map (key_of tokens) numbers) (subst (λ (ks : List Text). IsPermutation ks (map (key_of tokens) numbers)) named (IsPermutation-map (key_of tokens) (numbers_of tokens) numbers by_key.same))
+
+-- the runs of sorted keys are named so
+pub runs_named : (keys : List Text) (tokens : List Token) → IsSorted (slice_cmp nat_cmp) keys → IsPermutation (runs_of keys) tokens → map (λ t. t.key) (runs_of keys) ≡ names_of tokens
+runs_named keys tokens up moved =
+    let key : Token → Text = λ t. t.key in
+    let names = map key (runs_of keys) in
+    sorted_is nat_list_cmp_total exact_bytes names (sorted_from_rises names (runs_rise keys (rises keys up)))
+    ∙ in_order-IsPermutation nat_list_cmp_total exact_bytes (map key tokens) names (IsPermutation-sym names (map key tokens) (IsPermutation-map key (runs_of keys) tokens moved))
+
+level_itself : (r : Ordering) → r ≡ ordering_reverse r → r ≡ Equal
+level_itself Less e = cc
+level_itself Equal e = refl
+level_itself Greater e = cc
+
+-- ---- the ranks
+
+-- what is written for all members are the ranks
+pub ranks_are : (tables : List Table) (members : List Member) (runs : List Token) (ranks : List ℕ) → AreMembers tables members → HaveRanks runs (keys_of tables) ranks members → length ranks ≡ length (keys_of tables) → map (λ t. t.key) runs ≡ names_of (tokens_of (columns_of tables))
+    → AreRanks tables ranks
+ranks_are tables members runs ranks all written long named =
+    let keys = keys_of tables in
+    let numbers = map (λ (m : Member). m.number) members in
+    let names = map (λ (t : Token). t.key) runs in
+    let IsHere : ℕ → Type 0 = λ n. IsRank names (get_or keys n []) (get_or ranks n 0) in
+    let each : All IsHere (range_with_len 0 (length keys)) = All-permutation IsHere numbers (range_with_len 0 (length keys)) (IsPermutation-sym _ _ all.all) (All-map IsHere (λ (m : Member). m.number) members written) in
+    record {
+      long = long;
+      each = λ n b.
+          (let at : get_or (range_with_len 0 (length keys)) n 0 ≡ n = get_or-range_with_len 0 (length keys) n 0 b ∙ (let z : 0 + n ≡ n = omega arith in z) in
+          subst (λ (ks : List Text). IsRank ks (get_or keys n []) (get_or ranks n 0)) named (subst IsHere at (each n 0 (omega (arith, b, length-range_with_len 0 (length keys))))));
+    }
+
+pub rank_there : (tokens : List Token) (numbers : List ℕ) (key : Text) (rank : ℕ) → IsByKey tokens numbers → IsRank (names_of tokens) key rank → rank < length numbers
+rank_there tokens numbers key rank by_key is =
+    omega (arith, is.0, ap length (numbers_named tokens numbers by_key), length-map numbers (key_of tokens))
+
+-- the token of a rank
+pub token_there : (tokens : List Token) (numbers : List ℕ) (key : Text) (rank number : ℕ) → IsByKey tokens numbers → IsRank (names_of tokens) key rank → number ≡ get_or numbers rank number → IsToken tokens key (Some number)
+token_there tokens numbers key rank number by_key is at =
+    let named = numbers_named tokens numbers by_key in
+    let within : rank < length numbers = rank_there tokens numbers key rank by_key is in
+    let same : key_of tokens number ≡ key = ap (key_of tokens) at ∙ sym (get_or-map (key_of tokens) numbers rank number [] within) ∙ ap (λ (ks : List Text). get_or ks rank []) named ∙ is.1 in
+    found tokens numbers by_key key rank number within at (ap (λ (k : Text). slice_cmp nat_cmp k key) same ∙ level_itself (slice_cmp nat_cmp key key) (nat_list_cmp_total.antisymm key key))
+
+-- what a vocabulary holds, of its tables
+pub by_key_of : (tables held : List Table) (places : List TokenAt) (by_key ranks : List ℕ) → IsVocabulary held places by_key ranks → held ≡ tables → IsByKey (tokens_of (columns_of tables)) by_key
+by_key_of tables held places by_key ranks is e =
+    subst (λ (ts : List Table). IsByKey (tokens_of (columns_of ts)) by_key) e (subst (λ (ts : List Token). IsByKey ts by_key) is.named is.sorted)
+
+pub rank_of : (tables held : List Table) (places : List TokenAt) (by_key ranks : List ℕ) (number rank : ℕ) → IsVocabulary held places by_key ranks → held ≡ tables → number < length (keys_of tables) → rank ≡ get_or ranks number rank
+    → IsRank (names_of (tokens_of (columns_of tables))) (get_or (keys_of tables) number []) rank
+rank_of tables held places by_key ranks number rank is e within at =
+    let all : AreRanks tables ranks = subst (λ (ts : List Table). AreRanks ts ranks) e is.ranked in
+    subst (IsRank (names_of (tokens_of (columns_of tables))) (get_or (keys_of tables) number [])) (sym (at ∙ get_or_default_zero ranks number rank (omega (arith, within, all.long)))) (all.each number within)

@@ -1,0 +1,28 @@
+-- The ranks of members: which of the distinct keys, by their bytes, is the member's, counted from 0.
+use Rattle.std.specs.Prelude.{◌≡◌, ℕ, ◌<◌, List, [], map, length, get_or}
+use Rattle.std.specs.List.{All}
+use Rattle.std.specs.Ordering.{nat_cmp}
+use Rattle.std.specs.Cmp.Lexicographic.{slice_cmp}
+use Rattle.lake_model.specs.Sorting.{in_order}
+use Rattle.lake_model.specs.Texts.{Text}
+use Rattle.lake_model.specs.Tables.{Table}
+use Rattle.search_model.specs.Segment.{Token, columns_of, tokens_of}
+use Rattle.token_order.specs.Places.{keys_of}
+use Rattle.token_order.specs.declared.places.Member.{Member}
+
+-- the text is the one of this number
+abbrev pub IsRank : List Text → Text → ℕ → Type 0
+IsRank names key n = (n < length names) × (get_or names n [] ≡ key)
+
+-- the numbers written for these members are those of their tokens
+abbrev pub HaveRanks : List Token → List Text → List ℕ → List Member → Type 0
+HaveRanks tokens keys ranks members = All (λ m. IsRank (map (λ t. t.key) tokens) (get_or keys m.number []) (get_or ranks m.number 0)) members
+
+-- the keys of the tokens, by their bytes
+abbrev pub names_of : List Token → List Text
+names_of tokens = in_order (slice_cmp nat_cmp) (map (λ t. t.key) tokens)
+
+-- the ranks of all members, by their numbers
+pub record AreRanks (tables : List Table) (ranks : List ℕ) : Type 0 where
+  pub long : length ranks ≡ length (keys_of tables)
+  pub each : (n : ℕ) → n < length (keys_of tables) → IsRank (names_of (tokens_of (columns_of tables))) (get_or (keys_of tables) n []) (get_or ranks n 0)
