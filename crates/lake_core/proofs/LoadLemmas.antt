@@ -1,5 +1,5 @@
 -- What a load and a search are answered, from what their parts answer.
-use Rattle.std.proofs.Common.{◌≡◌, refl, ap, sym, ◌∙◌, subst, ℕ, ◌+◌, List, [], ◌∷◌, ◌++◌, append-nil, length, map, Bool, true, false, cond, ◌⊎◌, inl, inr, Option, Some, None}
+use Rattle.std.proofs.Common.{◌≡◌, refl, ap, sym, ◌∙◌, subst, ℕ, ◌+◌, List, [], ◌∷◌, ◌++◌, append-nil, length, length-append, map, Bool, true, false, cond, ◌⊎◌, inl, inr, Option, Some, None}
 use Rattle.std.specs.Prelude.{option_map, find}
 use Rattle.lake_model.specs.declared.Who.{Who}
 use Rattle.lake_model.specs.declared.Counts.{Counts}
@@ -21,6 +21,7 @@ use Rattle.catalogue.specs.declared.refusal.LoadRefused.TheVariants as refused
 use Rattle.catalogue.specs.declared.refusal.DropRefused.{DropRefused}
 use Rattle.catalogue.specs.declared.refusal.DropRefused.TheVariants as dropping
 use Rattle.catalogue.specs.Refusals.{load_refusal, drop_refusal}
+use Rattle.catalogue.specs.Kept.{CatalogueOf, catalogue_with}
 use Rattle.script_model.specs.Commands.{Task, Load, DropTable, Tables, Search}
 use Rattle.script_model.specs.Replies.{Reply, Loaded, Dropped, Listed, Unknown, Repeated, Full, NoMemory, Fault, OfCsv, OfSets, OfQuery, fault_reply, csv_reply, sets_reply, query_reply, load_reply, drop_reply, tables_reply, search_reply, unless_lake_full}
 use Rattle.script_model.specs.Answered.{plain_query, TableRead, IsTable, NoTable, QueryRead, IsQuery, table_read, query_read, records_read, sets_read, keys_read, load_answer, search_answer, loads, adds, is_accepted, standing, Nowhere}
@@ -47,6 +48,23 @@ pub refused_load : (limits : Counts) (table : Table) (journal : List Entry) (e :
 refused_load limits table journal e (inl none) = (true, ap (refusal_reply table.name) none)
 refused_load limits table journal e (inr h) =
     (false, refusal_said table (length journal) _ (is_live journal table.name) (find is_passed (load_bounds limits table (counts journal))) e h)
+
+accepted_said : (table : Table) (n : ℕ) (accepted : Reply) (b : Bool) (o : Option Bounded)
+    → cond b (Some (refused.Repeated n)) (option_map (λ x. refused.Full x.which x.count x.more n) o) ≡ None
+    → cond b (Repeated table.name n) (unless_lake_full n accepted o) ≡ accepted
+accepted_said table n accepted true o h = absurd (let f : Some (refused.Repeated n) ≡ None = h in cc)
+accepted_said table n accepted false None h = refl
+accepted_said table n accepted false (Some x) h = absurd (let f : Some (refused.Full x.which x.count x.more n) ≡ None = h in cc)
+
+-- a table that nothing refuses
+pub accepted_load : (limits : Counts) (table : Table) (journal : List Entry) → load_refusal limits table journal ≡ None
+    → load_reply limits table journal ≡ Loaded table.name (length table.columns) (members table) (length journal + 1)
+accepted_load limits table journal h = accepted_said table (length journal) _ (is_live journal table.name) (find is_passed (load_bounds limits table (counts journal))) h
+
+-- the position of an entry that was added
+pub added_at : (catalogue : CatalogueOf) (limits : Counts) (journal : List Entry) (entry : Entry) (at : ℕ) → catalogue ≡ catalogue_with limits (journal ++ entry ∷ []) → at ≡ length catalogue.journal
+    → at ≡ length journal + 1
+added_at catalogue limits journal entry at is h = h ∙ ap (λ (c : CatalogueOf). length c.journal) is ∙ length-append journal (entry ∷ [])
 
 -- ---- what is read of a block
 
