@@ -1,5 +1,5 @@
 -- What a load and a search are answered, from what their parts answer.
-use Rattle.std.proofs.Common.{◌≡◌, refl, ap, sym, ◌∙◌, subst, ℕ, ◌+◌, List, [], ◌∷◌, ◌++◌, append-nil, length, length-append, map, Bool, true, false, cond, ◌⊎◌, inl, inr, Option, Some, None}
+use Rattle.std.proofs.Common.{◌≡◌, refl, ap, sym, ◌∙◌, ℕ, ◌+◌, List, [], ◌∷◌, ◌++◌, append-nil, length, length-append, Bool, true, false, cond, ◌⊎◌, inl, inr, Option, Some, None}
 use Rattle.std.specs.Prelude.{option_map, find}
 use Rattle.lake_model.specs.declared.Who.{Who}
 use Rattle.lake_model.specs.declared.Counts.{Counts}
@@ -22,9 +22,9 @@ use Rattle.catalogue.specs.declared.refusal.DropRefused.{DropRefused}
 use Rattle.catalogue.specs.declared.refusal.DropRefused.TheVariants as dropping
 use Rattle.catalogue.specs.Refusals.{load_refusal, drop_refusal}
 use Rattle.catalogue.specs.Kept.{CatalogueOf, catalogue_with}
-use Rattle.script_model.specs.Commands.{Task, Load, DropTable, Tables, Search}
-use Rattle.script_model.specs.Replies.{Reply, Loaded, Dropped, Listed, Unknown, Repeated, Full, NoMemory, Fault, OfCsv, OfSets, OfQuery, fault_reply, csv_reply, sets_reply, query_reply, load_reply, drop_reply, tables_reply, search_reply, unless_lake_full}
-use Rattle.script_model.specs.Answered.{plain_query, TableRead, IsTable, NoTable, QueryRead, IsQuery, table_read, query_read, records_read, sets_read, keys_read, load_answer, search_answer, loads, adds, is_accepted, standing, Nowhere}
+use Rattle.script_model.specs.Commands.{Load, DropTable, Tables, Search}
+use Rattle.script_model.specs.Replies.{Reply, Loaded, Unknown, Repeated, OfCsv, OfSets, csv_reply, sets_reply, query_reply, load_reply, drop_reply, search_reply, unless_lake_full}
+use Rattle.script_model.specs.Answered.{plain_query, TableRead, IsTable, IsQuery, table_read, query_read, records_read, sets_read, keys_read, load_answer, search_answer, loads, adds, is_accepted, standing}
 use Rattle.script_model.specs.Play.{reply_or_denied}
 use Rattle.script_model.specs.Record.{RunRecord}
 use Rattle.script_model.proofs.PlayLemmas.{fault_nowhere}

@@ -1,4 +1,4 @@
-use Rattle.std.proofs.Common.{rules, ◌≡◌, ◌∙◌, ◌<◌, get_or, length, ap, refl}
+use Rattle.std.proofs.Common.{rules, ◌∙◌, ap, refl}
 use Rattle.script_model.specs.Record.{RunRecord}
 use Rattle.lake_core.proofs.DriveLemmas.{drives_none, drives_more}
 use Rattle.lake_core.proofs.driving.drive.Goals as goal

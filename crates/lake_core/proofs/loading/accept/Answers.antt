@@ -22,5 +22,5 @@ returns-in-Ok-load-clause-answered c =
     let named : c.copy-name.result ≡ table.name = search rules in
     let columns : c.columns-columns.result ≡ length table.columns = search rules in
     let many : c.members-members.result ≡ members table = search rules in
-    let at : c.in-Ok-load.at ≡ length journal + 1 = added_at c.load.new.self c.args.catalogue.now.limits journal (entry_with c.args.who (LoadedWhat table)) c.in-Ok-load.at accepted.1.0 accepted.1.1 in
+    let at : c.in-Ok-load.at ≡ length journal + 1 = added_at c.load.new.self c.args.catalogue.now.limits journal (entry_with c.args.who (LoadedWhat table)) c.in-Ok-load.at accepted.1 accepted.2 in
     (false, (λ i. Loaded (named i) (columns i) (many i) (at i)) ∙ sym here)

@@ -1,4 +1,4 @@
-use Rattle.std.proofs.Common.{◌≡◌, sym, subst}
+use Rattle.std.proofs.Common.{sym, subst}
 use Rattle.script_model.specs.Replies.{query_reply, search_reply}
 use Rattle.script_model.specs.Answered.{plain_query, query_read, search_answer}
 use Rattle.lake_core.proofs.LoadLemmas.{Answers, query_refused, query_found}
