@@ -16,7 +16,10 @@ const USAGE: &str =
 const HELP: &str = "josie run
     Reads a script from standard input and writes its replies to standard output.
     load NAME    loads the CSV table of the block that follows, which ends with a line `.`
+    drop NAME    drops the table of this name
+    tables       lists the tables that are live
     search K     finds the K columns (1 to 10000) that share most values with the lines of the block that follows
+    # ...        is a comment, and an empty line is skipped
 josie --help     prints this text
 josie --version  prints the version
 Not built yet: --lanes, --order, --merge, --trace, josie make.
