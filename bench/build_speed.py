@@ -3,92 +3,91 @@
 
     bench/build_speed.py [INDEX_BENCH] [--times N]
 
-It runs `index_bench 10 ROWS` for tables of 10,000, 100,000 and 1,000,000 members, and prints the nanoseconds a member that
-`segment_build::build` took, as the program measures it: the least of N runs. So no time is in it but that of the index.
+It runs `index_bench COLUMNS ROWS` for tables of 10,000, 100,000 and 1,000,000 members in 10 columns, and prints the nanoseconds a
+member that `segment_build::build` took, as the program measures it: the least of N runs. So no time is in it but that of the index.
 
-The memory is what the index alone takes at its peak: the program is held at its first line, when the table stands with its
-keys and all else was let go, and at its second, when the index was built; the greatest resident memory in between (VmHWM, set
-back at the first), less what was resident at the first line, for each member. So keys and text are not in it. Large arrays are
-given back to the system when they are let go (MALLOC_MMAP_THRESHOLD_), so that none is counted as free room of the table's.
+The memory is what the index alone holds at its peak: the program writes one line when the table stands with its keys, and one when
+the index was built. A counter put in front of the C library's allocator (compiled by `cc` into a folder that is removed again)
+counts the bytes that the program holds; the most between the two lines, less those at the first, for each member, is
+printed. So text and keys are not in it. It is printed for two tables of as many members: with 10 columns there is a distinct key
+for each five members, with 100 columns one for each fifty, so that what a distinct key takes is told from what a member takes.
+Without `cc` a dash is printed.
 """
 import argparse
-import fcntl
 import os
+import shutil
 import subprocess
-import time
+import tempfile
 
-COLUMNS = 10
+FEW, MANY = 10, 100
 SIZES = (10_000, 100_000, 1_000_000)
-F_SETPIPE_SZ = 1031
+
+# Counts the bytes that a program holds. At its second write to standard output it tells the most since its first, on standard error.
+COUNTER = """
+#define _GNU_SOURCE
+#include <errno.h>
+#include <malloc.h>
+#include <stdio.h>
+#include <sys/syscall.h>
+#include <unistd.h>
+void *__libc_malloc(size_t);
+void *__libc_calloc(size_t, size_t);
+void *__libc_realloc(void *, size_t);
+void *__libc_memalign(size_t, size_t);
+void __libc_free(void *);
+static long held, most, first, writes;
+static void *more(void *p) {
+    held += malloc_usable_size(p);
+    if (held > most) most = held;
+    return p;
+}
+static void less(void *p) { held -= malloc_usable_size(p); }
+void *malloc(size_t n) { return more(__libc_malloc(n)); }
+void *calloc(size_t n, size_t m) { return more(__libc_calloc(n, m)); }
+void *realloc(void *p, size_t n) { less(p); return more(__libc_realloc(p, n)); }
+void *memalign(size_t a, size_t n) { return more(__libc_memalign(a, n)); }
+void *aligned_alloc(size_t a, size_t n) { return more(__libc_memalign(a, n)); }
+int posix_memalign(void **p, size_t a, size_t n) { return (*p = more(__libc_memalign(a, n))) ? 0 : ENOMEM; }
+void free(void *p) { less(p); __libc_free(p); }
+ssize_t write(int to, const void *bytes, size_t n) {
+    if (to == 1 && writes++ == 0) first = most = held;
+    else if (to == 1) dprintf(2, "%ld\\n", most - first);
+    return syscall(SYS_write, to, bytes, n);
+}
+"""
 
 
-def command(program, members):
-    return [program, str(COLUMNS), str(members // COLUMNS)]
+def command(program, columns, members):
+    return [program, str(columns), str(members // columns)]
 
 
 def nanoseconds(program, members):
     """What the program says that a member took."""
-    words = subprocess.run(command(program, members), stdout=subprocess.PIPE, check=True).stdout.split()
+    words = subprocess.run(command(program, FEW, members), stdout=subprocess.PIPE, check=True).stdout.split()
     if words[:2] != [b"members", str(members).encode()]:
         raise SystemExit(f"build_speed: {members} members asked for, and got {b' '.join(words).decode()}")
     return int(words[3])
 
 
-def full_pipe():
-    """A pipe that takes no byte until it is read: who writes to it waits."""
-    reader, writer = os.pipe()
-    fcntl.fcntl(writer, F_SETPIPE_SZ, 4096)
-    os.set_blocking(writer, False)
-    try:
-        while True:
-            os.write(writer, bytes(4096))
-    except BlockingIOError:
-        os.set_blocking(writer, True)
-    return reader, writer
+def counter(folder):
+    """The counter, built in this folder, and None where there is no compiler."""
+    compiler = shutil.which("cc")
+    if compiler is None:
+        return None
+    source, built = os.path.join(folder, "counter.c"), os.path.join(folder, "counter.so")
+    with open(source, "w", encoding="ascii") as file:
+        file.write(COUNTER)
+    subprocess.run([compiler, "-O2", "-fno-builtin", "-shared", "-fPIC", "-o", built, source], check=True)
+    return built
 
 
-def status_of(process):
-    """The lines of the process's status, by their names."""
-    with open(f"/proc/{process.pid}/status", encoding="ascii") as lines:
-        return dict(line.rstrip("\n").split(":\t", 1) for line in lines if ":\t" in line)
-
-
-def fill(process_end):
-    """Fills the pipe again, so that who writes to it next waits."""
-    again = os.open(f"/proc/self/fd/{process_end}", os.O_WRONLY | os.O_NONBLOCK)
-    try:
-        while True:
-            os.write(again, bytes(1))
-    except BlockingIOError:
-        os.close(again)
-
-
-def held(process):
-    """The status of the process, once it waits to write a line."""
-    while True:
-        status = status_of(process)
-        if status["State"].startswith("S"):
-            return status
-        if status["State"].startswith("Z"):
-            raise SystemExit("build_speed: the program ended without its line")
-        time.sleep(0.001)
-
-
-def index_bytes(program, members):
-    """The peak of the memory that the index takes beyond the table's."""
-    reader, writer = full_pipe()
-    settings = dict(os.environ, MALLOC_MMAP_THRESHOLD_="65536")
-    with subprocess.Popen(command(program, members), stdin=subprocess.DEVNULL, stdout=writer, env=settings) as process:
-        before = int(held(process)["VmRSS"].split()[0])
-        with open(f"/proc/{process.pid}/clear_refs", "w", encoding="ascii") as refs:
-            refs.write("5")
-        os.read(reader, 4096)
-        fill(writer)
-        peak = int(held(process)["VmHWM"].split()[0])
-        os.close(writer)
-        with os.fdopen(reader, "rb") as rest:
-            rest.read()
-    return (peak - before) * 1024
+def index_bytes(program, columns, members, counting):
+    """The most that the index holds beyond the table, for each member, as text."""
+    if counting is None:
+        return "-"
+    settings = dict(os.environ, LD_PRELOAD=counting)
+    run = subprocess.run(command(program, columns, members), capture_output=True, check=True, env=settings)
+    return f"{int(run.stderr.split()[0]) / members:.1f}"
 
 
 def main():
@@ -99,10 +98,13 @@ def main():
     words.add_argument("--times", type=int, default=3)
     given = words.parse_args()
     program = os.path.abspath(given.index_bench)
-    print("members   nanoseconds a member   bytes a member at the peak, keys apart")
-    for members in SIZES:
-        each = min(nanoseconds(program, members) for _ in range(given.times))
-        print(f"{members:7}   {each:20}   {index_bytes(program, members) / members:.1f}")
+    print("members   nanoseconds a member   bytes a member, a distinct key for five   for fifty")
+    with tempfile.TemporaryDirectory() as folder:
+        counting = counter(folder)
+        for members in SIZES:
+            each = min(nanoseconds(program, members) for _ in range(given.times))
+            few, many = (index_bytes(program, columns, members, counting) for columns in (FEW, MANY))
+            print(f"{members:7}   {each:20}   {few:>38}   {many:>9}")
 
 
 if __name__ == "__main__":

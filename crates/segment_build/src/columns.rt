@@ -11,7 +11,7 @@ use column_set::{SharedTable, TableSets};
 use no_memory::NoMemory;
 use search_model::Owner;
 use std::alloc::Global;
-use token_order::Vocab;
+use token_order::{Vocab, member_count};
 
 /// Where columns stand, and their sets of tokens, one behind another, with where each begins and the end.
 #[derive(Drop)]
@@ -39,7 +39,7 @@ pub fn column_sets(
     let mut sets = ColumnSets {
         owners: Vec::new(alloc),
         starts: vec![in alloc; 0]?,
-        tokens: Vec::new(alloc),
+        tokens: Vec::with_capacity(alloc, member_count(tables)?)?,
     };
     for table in 0..tables.len() as u32 {
         push_table(alloc, &mut sets, table_of(tables, table), table, vocab)?;

@@ -6,6 +6,7 @@ mod places;
 mod runs;
 mod vocab;
 
+pub use places::member_count;
 pub use search_model::TokenAt;
 pub use vocab::Vocab;
 

@@ -1,11 +1,11 @@
 //! The members of the columns of tables, sorted by their keys.
-ghost use Rattle.std.specs.Prelude.{◌≡◌, ◌<◌, ◌≤◌, [], get_or, length, map, IfOk, OnOk};
+ghost use Rattle.std.specs.Prelude.{◌≡◌, ◌<◌, ◌≤◌, [], get_or, length, map, sum_by, IfOk, OnOk};
 ghost use Rattle.std.specs.Cmp.Lexicographic.{slice_cmp};
 ghost use Rattle.std.specs.List.{All};
 ghost use Rattle.std.specs.List.Sorted.{IsPermutation, IsSorted};
 ghost use Rattle.std.specs.Ordering.{nat_cmp};
 ghost use Rattle.column_set.specs.Columns.{HasDistinctKeys};
-ghost use Rattle.lake_model.specs.Tables.{keys_at};
+ghost use Rattle.lake_model.specs.Tables.{keys_at, members};
 ghost use Rattle.search_model.specs.Arrays.{pointed, table_at, IsAt};
 ghost use Rattle.token_order.specs.Places.{at_of, keys_in, keys_of, pointed_by, AreMembers, IsMore};
 
@@ -105,6 +105,20 @@ fn push_table(members: &mut Vec<Member>, tables: &[SharedTable], table: u32) -> 
     Ok(())
 }
 
+/// How many keys the columns of the tables have together. It is refused for want of memory where these are 2^64 or more.
+pub fn member_count(tables: &[SharedTable]) -> Result<usize, NoMemory>
+    ensures { IfOk result (λ count. count ≡ sum_by members tables.now) }
+{
+    let mut count = 0usize;
+    for table in tables {
+        let Some(more) = count.checked_add(table.table().members() as usize) else {
+            return Err(NoMemory);
+        };
+        count = more;
+    }
+    Ok(count)
+}
+
 // The members of all columns of the tables, in the order of their numbers. They are refused for want of memory where there are 2^32
 // tables or more, or as many members.
 fn all_members(alloc: Global, tables: &[SharedTable]) -> Result<Vec<Member>, NoMemory>
@@ -114,7 +128,7 @@ fn all_members(alloc: Global, tables: &[SharedTable]) -> Result<Vec<Member>, NoM
     if tables.len() > 0xFFFF_FFFF {
         return Err(NoMemory);
     }
-    let mut members = Vec::new(alloc);
+    let mut members = Vec::with_capacity(alloc, member_count(tables)?)?;
     for table in 0..tables.len() as u32 {
         push_table(&mut members, tables, table)?;
     }
