@@ -9,7 +9,7 @@ use Rattle.std.proofs.lemmas.Bool.Decides.{nat_tests}
 use Rattle.script_model.specs.declared.Reason.{Reason}
 use Rattle.script_model.specs.declared.Reason.TheVariants as reason
 use Rattle.lake_model.specs.Texts.{Text, Lines, lines_with, onto_lines, lines_of}
-use Rattle.script_model.specs.Numbers.{without_return}
+use Rattle.script_model.specs.Words.{NoFeed, without_return}
 use Rattle.script_model.specs.Reading.{Grammar, Open, Reading, Reached, Stands, AtFault, LinesRead, read_with, Turn, Goes, Gives, Fails, turned, turn_of, read_more, read, counted, does, with_command, opened, fetched, file_size, next_file, unless_fault, line_fault, body_fault, line_in, is_end, body_after, with_body, block_ended}
 use Rattle.script_model.specs.Commands.{Batch}
 use Rattle.script_model.specs.Saying.{Said, Nothing, Wrong, Sync, Does, Opens, Fetches}
@@ -33,9 +33,6 @@ pub lines_more : (xs ys : Text) → lines_of (xs ++ ys) ≡ joined (lines_of xs)
 unfolding lines_of
 lines_more [] ys = refl
 lines_more (b ∷ xs) ys = ap (onto_lines b) (lines_more xs ys) ∙ joined_byte b (b == 0x0A) (lines_of xs).ended (lines_of xs).rest ys refl
-
-abbrev pub NoFeed : Text → Type 0
-NoFeed line = AllByRecursion (λ b. (b == 0x0A) ≡ false) line
 
 -- A text that begins with a line.
 pub lines_first : (line more : Text) → NoFeed line → lines_of (line ++ 0x0A ∷ more) ≡ lines_with (line ∷ (lines_of more).ended) (lines_of more).rest
