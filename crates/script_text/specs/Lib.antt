@@ -2,3 +2,8 @@ pub mod Tasks
 pub mod Outcomes
 pub mod Gathering
 pub mod Gathers
+pub mod Fronts
+pub mod Readings
+pub mod Endings
+pub mod Inputs
+pub mod Parts

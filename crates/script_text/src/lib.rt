@@ -3,10 +3,16 @@
 
 mod body;
 mod command;
+mod front;
 mod gather;
+mod input;
 mod line;
+mod numbers;
 mod options;
+mod reader;
 mod refused;
+mod rules;
+mod spaces;
 
 pub use body::Body;
 pub use command::{Batch, Command, FileBody, Task};
@@ -14,3 +20,6 @@ pub use gather::Gather;
 pub use options::{Options, Order, Piece};
 pub use refused::ScriptEnd;
 pub use script_model::{Reason, ScriptLimits};
+
+#[cfg(test)]
+mod tests;

@@ -1,0 +1,121 @@
+-- The words of a text, one after another.
+use Rattle.std.proofs.Common.{◌≡◌, refl, ap, sym, ◌∙◌, ℕ, ◌+◌, List, [], ◌∷◌, drop, length, take, Bool, true, false, cond, arith, inl, inr}
+use Rattle.std.specs.Prelude.{◌==◌, not, filter}
+use Rattle.std.specs.List.{prefix_len, slice_split}
+use Rattle.std.proofs.lemmas.Bool.{cases_Bool, eqb-true}
+use Rattle.std.proofs.lemmas.List.Folds.{length-prefix_len}
+use Rattle.lake_model.specs.Texts.{Text}
+use Rattle.script_model.specs.Words.{behind_spaces, behind_word, first_word, is_space, words}
+use Rattle.script_text.specs.Fronts.{IsNotOne, has_none}
+
+abbrev is_some_word : Text → Bool
+is_some_word word = not (length word == 0)
+
+abbrev is_letter : ℕ → Bool
+is_letter byte = not (is_space byte)
+
+-- ---- the first word of a text that begins with none of its spaces
+
+abbrev front : Text → ℕ
+front text = prefix_len is_letter text
+
+record Cut (text : Text) : Type 0 where
+  parts : List Text
+  split : slice_split is_space text ≡ take (front text) text ∷ parts
+  others : words (drop (front text) text) ≡ filter is_some_word parts
+
+cut_letter : (byte : ℕ) (text : Text) → is_space byte ≡ false → Cut text → Cut (byte ∷ text)
+cut_letter byte text f cut = record {
+  parts = cut.parts;
+  split = rw (f, f) (rw cut.split refl);
+  others = rw f cut.others;
+}
+
+cut_space : (byte : ℕ) (text : Text) → is_space byte ≡ true → Cut (byte ∷ text)
+cut_space byte text t = record {
+  parts = slice_split is_space text;
+  split = rw (t, t) refl;
+  others = rw (t, t) refl;
+}
+
+cut_at : (text : Text) → Cut text
+cut_at [] = record { parts = []; split = refl; others = refl }
+cut_at (byte ∷ text) = elim (cases_Bool (is_space byte)) [ | inl t ↦ cut_space byte text t | inr f ↦ cut_letter byte text f (cut_at text) ]
+
+-- ---- spaces in front
+
+pub words_behind_spaces : (text : Text) → words (behind_spaces text) ≡ words text
+words_behind_spaces [] = refl
+words_behind_spaces (byte ∷ text) =
+    elim (cases_Bool (is_space byte)) [
+      | inl t ↦ rw (t, t) (words_behind_spaces text)
+      | inr f ↦ rw f refl
+    ]
+
+nothing_left : (text : Text) → front (behind_spaces text) ≡ 0 → behind_spaces text ≡ []
+nothing_left [] h = refl
+nothing_left (byte ∷ text) h =
+    elim (cases_Bool (is_space byte)) [
+      | inl t ↦ rw t (nothing_left text (rw t at h))
+      | inr f ↦ absurd (omega (arith, rw (f, f) at h))
+    ]
+
+-- ---- one word more
+
+word_size : (text : Text) → length (first_word text) ≡ front (behind_spaces text)
+word_size text = length-prefix_len is_letter (behind_spaces text)
+
+words_cut : (text : Text) → words text ≡ cond (is_some_word (first_word text)) (first_word text ∷ words (behind_word text)) (words (behind_word text))
+words_cut text =
+    let t = behind_spaces text in
+    let cut = cut_at t in
+    let rest : filter is_some_word cut.parts ≡ words (behind_word text) =
+    sym cut.others ∙ ap (λ (n : ℕ). words (drop n t)) (sym (word_size text)) ∙ sym (words_behind_spaces (drop (length (first_word text)) t)) in
+    sym (words_behind_spaces text) ∙ ap (filter is_some_word) cut.split ∙ ap (λ (ws : List Text). cond (is_some_word (first_word text)) (first_word text ∷ ws) ws) rest
+
+-- A text whose first word is empty has none.
+pub words_none : (text : Text) → (length (first_word text) == 0) ≡ true → words text ≡ []
+words_none text e =
+    sym (words_behind_spaces text) ∙ ap words (nothing_left text (sym (word_size text) ∙ eqb-true (length (first_word text)) 0 e))
+
+-- Any other has that word, and then the others.
+pub words_some : (text : Text) → (length (first_word text) == 0) ≡ false → words text ≡ first_word text ∷ words (behind_word text)
+words_some text e = words_cut text ∙ ap (λ (b : Bool). cond (not b) (first_word text ∷ words (behind_word text)) (words (behind_word text))) e
+
+behind_none : (text : Text) → (length (first_word text) == 0) ≡ true → words (behind_word text) ≡ []
+behind_none text e =
+    let none : length (first_word text) ≡ 0 = eqb-true (length (first_word text)) 0 e in
+    words_behind_spaces (drop (length (first_word text)) (behind_spaces text)) ∙ ap (λ (n : ℕ). words (drop n (behind_spaces text))) none ∙ words_behind_spaces text ∙ words_none text e
+
+-- A text with a word behind its first has both.
+pub words_more : (text : Text) → has_none (words (behind_word text)) ≡ false → words text ≡ first_word text ∷ words (behind_word text)
+words_more text h =
+    elim (cases_Bool (length (first_word text) == 0)) [
+      | inl t ↦ cc (rw behind_none text t at h)
+      | inr f ↦ words_some text f
+    ]
+
+pub has_none_is : (text : Text) → has_none (words text) ≡ (length (first_word text) == 0)
+has_none_is text =
+    elim (cases_Bool (length (first_word text) == 0)) [
+      | inl t ↦ ap has_none (words_none text t) ∙ sym t
+      | inr f ↦ ap has_none (words_some text f) ∙ sym f
+    ]
+
+none_is : (ws : List Text) → has_none ws ≡ true → ws ≡ []
+none_is [] h = refl
+none_is (w ∷ ws) h = cc h
+
+-- Only one word.
+pub words_one : (text : Text) → (length (first_word text) == 0) ≡ false → has_none (words (behind_word text)) ≡ true → words text ≡ first_word text ∷ []
+words_one text f h = words_some text f ∙ ap (λ (ws : List Text). first_word text ∷ ws) (none_is (words (behind_word text)) h)
+
+two_at_least : (w : Text) (ws : List Text) → has_none ws ≡ false → IsNotOne (w ∷ ws)
+two_at_least w [] h = cc h
+two_at_least w (v ∷ ws) h = tt
+
+pub not_one_none : (text : Text) → (length (first_word text) == 0) ≡ true → IsNotOne (words text)
+not_one_none text t = rw words_none text t tt
+
+pub not_one_more : (text : Text) → has_none (words (behind_word text)) ≡ false → IsNotOne (words text)
+not_one_more text h = rw words_more text h (two_at_least (first_word text) (words (behind_word text)) h)
