@@ -1,8 +1,8 @@
 -- The words of a text, one after another.
-use Rattle.std.proofs.Common.{◌≡◌, refl, ap, sym, ◌∙◌, ℕ, ◌+◌, List, [], ◌∷◌, drop, length, take, Bool, true, false, cond, arith, inl, inr}
+use Rattle.std.proofs.Common.{◌≡◌, refl, ap, sym, ◌∙◌, ℕ, suc, ◌+◌, List, [], ◌∷◌, drop, length, take, Bool, true, false, cond, arith, inl, inr}
 use Rattle.std.specs.Prelude.{◌==◌, not, filter}
 use Rattle.std.specs.List.{prefix_len, slice_split}
-use Rattle.std.proofs.lemmas.Bool.{cases_Bool, eqb-true}
+use Rattle.std.proofs.lemmas.Bool.{both_ways, cases_Bool, eqb-true}
 use Rattle.std.proofs.lemmas.List.Folds.{length-prefix_len}
 use Rattle.lake_model.specs.Texts.{Text}
 use Rattle.script_model.specs.Words.{behind_spaces, behind_word, first_word, is_space, words}
@@ -25,17 +25,19 @@ record Cut (text : Text) : Type 0 where
   others : words (drop (front text) text) ≡ filter is_some_word parts
 
 cut_letter : (byte : ℕ) (text : Text) → is_space byte ≡ false → Cut text → Cut (byte ∷ text)
-cut_letter byte text f cut = record {
-  parts = cut.parts;
-  split = rw (f, f) (rw cut.split refl);
-  others = rw f cut.others;
-}
+cut_letter byte text f cut =
+    let one : 1 + prefix_len is_letter text ≡ suc (prefix_len is_letter text) = omega arith in
+    record {
+      parts = cut.parts;
+      split = rw (f, one) (rw cut.split refl);
+      others = rw (f, one) cut.others;
+    }
 
 cut_space : (byte : ℕ) (text : Text) → is_space byte ≡ true → Cut (byte ∷ text)
 cut_space byte text t = record {
   parts = slice_split is_space text;
-  split = rw (t, t) refl;
-  others = rw (t, t) refl;
+  split = rw t refl;
+  others = rw t refl;
 }
 
 cut_at : (text : Text) → Cut text
@@ -47,17 +49,19 @@ cut_at (byte ∷ text) = elim (cases_Bool (is_space byte)) [ | inl t ↦ cut_spa
 pub words_behind_spaces : (text : Text) → words (behind_spaces text) ≡ words text
 words_behind_spaces [] = refl
 words_behind_spaces (byte ∷ text) =
+    let one : 1 + prefix_len is_space text ≡ suc (prefix_len is_space text) = omega arith in
     elim (cases_Bool (is_space byte)) [
-      | inl t ↦ rw (t, t) (words_behind_spaces text)
+      | inl t ↦ rw (t, one) (words_behind_spaces text)
       | inr f ↦ rw f refl
     ]
 
 nothing_left : (text : Text) → front (behind_spaces text) ≡ 0 → behind_spaces text ≡ []
 nothing_left [] h = refl
 nothing_left (byte ∷ text) h =
+    let one : 1 + prefix_len is_space text ≡ suc (prefix_len is_space text) = omega arith in
     elim (cases_Bool (is_space byte)) [
-      | inl t ↦ rw t (nothing_left text (rw t at h))
-      | inr f ↦ absurd (omega (arith, rw (f, f) at h))
+      | inl t ↦ rw (t, one) (nothing_left text (rw (t, one) at h))
+      | inr f ↦ absurd (omega (arith, rw f at h))
     ]
 
 -- ---- one word more
@@ -91,7 +95,7 @@ behind_none text e =
 pub words_more : (text : Text) → has_none (words (behind_word text)) ≡ false → words text ≡ first_word text ∷ words (behind_word text)
 words_more text h =
     elim (cases_Bool (length (first_word text) == 0)) [
-      | inl t ↦ cc (rw behind_none text t at h)
+      | inl t ↦ absurd (both_ways _ h (ap has_none (behind_none text t)))
       | inr f ↦ words_some text f
     ]
 
@@ -115,7 +119,7 @@ two_at_least w [] h = cc h
 two_at_least w (v ∷ ws) h = tt
 
 pub not_one_none : (text : Text) → (length (first_word text) == 0) ≡ true → IsNotOne (words text)
-not_one_none text t = rw words_none text t tt
+not_one_none text t = rw (words_none text t) tt
 
 pub not_one_more : (text : Text) → has_none (words (behind_word text)) ≡ false → IsNotOne (words text)
-not_one_more text h = rw words_more text h (two_at_least (first_word text) (words (behind_word text)) h)
+not_one_more text h = rw (words_more text h) (two_at_least (first_word text) (words (behind_word text)) h)

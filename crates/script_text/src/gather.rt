@@ -37,6 +37,7 @@ pub struct Gather {
 }
 
 impl Model for Gather {
+    ghost use Rattle.std.specs.Prelude.{◌≡◌, [], false};
     ghost use Rattle.script_text.specs.Gathering.{Gathering, gathering_with};
 
     ghost Value = { Gathering };

@@ -279,7 +279,8 @@ impl Reader {
         shelf: &mut F,
         line: &[u8],
     ) -> Result<Option<Batch>, ScriptEnd>
-        requires { self.old.reading.block ≡ None }
+        requires counted { self.old.reading.numbered < self.old.reading.used }
+        requires block { self.old.reading.block ≡ None }
         ensures turn { Turns (line_in (grammar_by self.old.rules) None line.now) result self.old.reading.lines self.old.reading self.new.reading (F.files shelf.old) (F.faults shelf.old) (F.faults shelf.new) }
         ensures used { self.new.reading.used ≡ self.old.reading.used }
         ensures last { IfOk result (λ found. IfSome found (λ _. self.new.reading.block ≡ None)) }
@@ -301,9 +302,10 @@ impl Reader {
 
     // Does what a line says.
     fn obey<F: Shelf>(&mut self, shelf: &mut F, said: Said<'_>) -> Result<Option<Batch>, ScriptEnd>
+        requires counted { self.old.reading.numbered < self.old.reading.used }
         requires block { self.old.reading.block ≡ None }
         requires in_range { IsSaidInRange self.old.rules.lanes said }
-        ensures turn { Turns (does (grammar_by self.old.rules) (said_of said)) result self.old.reading.lines self.old.reading self.new.reading (F.files shelf.old) (F.faults shelf.old) (F.faults shelf.new) }
+        ensures turn { Turns (does (grammar_by self.old.rules) (said_of said.entry)) result self.old.reading.lines self.old.reading self.new.reading (F.files shelf.old) (F.faults shelf.old) (F.faults shelf.new) }
         ensures used { self.new.reading.used ≡ self.old.reading.used }
         ensures last { IfOk result (λ found. IfSome found (λ _. self.new.reading.block ≡ None)) }
         ensures grows { GrowsByOne result self.old.reading.commands self.new.reading.commands }
@@ -348,6 +350,7 @@ impl Reader {
 
     // One more command, which has no body.
     fn add_command(&mut self, lane: u32, task: Task) -> Result<(), ScriptEnd>
+        requires counted { self.old.reading.numbered < self.old.reading.used }
         requires block { self.old.reading.block ≡ None }
         requires lane { IsLane self.old.rules.lanes lane }
         requires in_range { IsTaskInRange task }
@@ -369,6 +372,7 @@ impl Reader {
         name: Name,
         path: &str,
     ) -> Result<(), ScriptEnd>
+        requires counted { self.old.reading.numbered < self.old.reading.used }
         requires block { self.old.reading.block ≡ None }
         requires lane { IsLane self.old.rules.lanes lane }
         ensures turn { Turns (does (grammar_by self.old.rules) (model.Fetches lane name path.now)) (none_given result) self.old.reading.lines self.old.reading self.new.reading (F.files shelf.old) (F.faults shelf.old) (F.faults shelf.new) }
@@ -390,7 +394,8 @@ impl Reader {
 
     // Reads a line of the block, which was counted.
     fn read_block_line(&mut self, line: &[u8]) -> Result<(), ScriptEnd>
-        requires { IsSome self.old.reading.block }
+        requires counted { self.old.reading.numbered < self.old.reading.used }
+        requires block { IsSome self.old.reading.block }
         ensures turn { (paths : List Text) (later : List File) → GoesOn result self.old.reading.lines self.new.reading paths later (line_in (grammar_by self.old.rules) self.old.reading.block line.now (reading_at self.old.reading paths later)) }
         ensures used { self.new.reading.used ≡ self.old.reading.used }
         ensures grows { OnOk result (length self.new.reading.commands ≤ length self.old.reading.commands + 1) }
@@ -427,7 +432,8 @@ impl Reader {
 
     // Ends the block, and its command comes.
     fn close_block(&mut self) -> Result<(), NoMemory>
-        requires { IsSome self.old.reading.block }
+        requires counted { self.old.reading.numbered < self.old.reading.used }
+        requires block { IsSome self.old.reading.block }
         ensures closed { OnOk result (IfSome self.old.reading.block (λ block. self.new.reading ≡ block_ended block self.old.reading)) }
         ensures used { self.new.reading.used ≡ self.old.reading.used }
         ensures rules { self.new.rules ≡ self.old.rules }

@@ -1,0 +1,4 @@
+use Rattle.script_text.proofs.input.Input.use_up.Goals as goal
+
+pub returns : goal.returns
+returns c = ?
