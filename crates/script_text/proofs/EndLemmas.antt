@@ -50,10 +50,10 @@ pub over_fault : (grammar : Grammar) (part : Text) (reading : Reading) (fault : 
     → ended grammar true part [] (Stands reading) ≡ commands_with [] (FaultAt (reading.lines + 1) (unwrap_or fault reason.InputTooLong)) reading.asked
 over_fault grammar part reading fault e =
     ap (λ (f : Option Reason). unless_begun_fault f [] reading (commands_with [] (FaultAt (reading.lines + 1) reason.InputTooLong) reading.asked)) (sym e) ∙ by_cases fault
-where
-  by_cases : (f : Option Reason) → unless_begun_fault f [] reading (commands_with [] (FaultAt (reading.lines + 1) reason.InputTooLong) reading.asked) ≡ commands_with [] (FaultAt (reading.lines + 1) (unwrap_or f reason.InputTooLong)) reading.asked
-  by_cases None = refl
-  by_cases (Some why) = refl
+  where
+    by_cases : (f : Option Reason) → unless_begun_fault f [] reading (commands_with [] (FaultAt (reading.lines + 1) reason.InputTooLong) reading.asked) ≡ commands_with [] (FaultAt (reading.lines + 1) (unwrap_or f reason.InputTooLong)) reading.asked
+    by_cases None = refl
+    by_cases (Some why) = refl
 
 -- ---- a line that is too long, however it goes on
 
@@ -143,12 +143,12 @@ line_fails limits lanes reading held e long = record {
   whole = λ more. ap (λ (block : Option Open). line_in (grammar_of limits lanes) block (held ++ more) (counted (length (held ++ more) + 1) reading)) e
       ∙ ap (λ (f : Option Reason). unless_fault f (counted (length (held ++ more) + 1) reading) _) (fault more);
 }
-where
-  fault : (more : Text) → line_fault (grammar_of limits lanes) (held ++ more) ≡ Some reason.LineTooLong
-  fault more =
-      let passes : nat_lt limits.line (length (without_return (held ++ more))) ≡ true =
-      lt-ltb limits.line (length (without_return (held ++ more))) (omega (arith, long, size_without_return (held ++ more), length-append held more)) in
-      ap (λ (b : Bool). cond {A = Option Reason} b (Some reason.LineTooLong) None) passes
+  where
+    fault : (more : Text) → line_fault (grammar_of limits lanes) (held ++ more) ≡ Some reason.LineTooLong
+    fault more =
+        let passes : nat_lt limits.line (length (without_return (held ++ more))) ≡ true =
+        lt-ltb limits.line (length (without_return (held ++ more))) (omega (arith, long, size_without_return (held ++ more), length-append held more)) in
+        ap (λ (b : Bool). cond {A = Option Reason} b (Some reason.LineTooLong) None) passes
 
 -- A line of a block of which too much has come.
 pub block_fails : (limits : ScriptLimits) (lanes : ℕ) (reading : Reading) (block : Open) (held : Text) → reading.block ≡ Some block → length block.body ≤ limits.block
@@ -162,10 +162,10 @@ block_fails limits lanes reading block held e within long = record {
       ∙ ap (λ (f : Option Reason). unless_fault f (counted (length (held ++ more) + 1) reading) _)
         (fault (body_after block (held ++ more) ++ 0x0A ∷ []) (omega (arith, size more, length-append (body_after block (held ++ more)) (0x0A ∷ []))));
 }
-where
-  ends : (more : Text) → is_end (held ++ more) ≡ false
-  ends more = no_end (held ++ more) (omega (arith, within, long, length-append held more))
-  size : (more : Text) → limits.block < length (body_after block (held ++ more))
-  size more = omega (arith, long, length-append held more, size_undotted (held ++ more), length-append block.body (undotted (held ++ more)))
-  fault : (body : List ℕ) → limits.block < length body → body_fault (grammar_of limits lanes) reading.bytes body ≡ Some reason.BlockTooLong
-  fault body h = ap (λ (b : Bool). cond {A = Option Reason} b (Some reason.BlockTooLong) _) (lt-ltb limits.block (length body) h)
+  where
+    ends : (more : Text) → is_end (held ++ more) ≡ false
+    ends more = no_end (held ++ more) (omega (arith, within, long, length-append held more))
+    size : (more : Text) → limits.block < length (body_after block (held ++ more))
+    size more = omega (arith, long, length-append held more, size_undotted (held ++ more), length-append block.body (undotted (held ++ more)))
+    fault : (body : List ℕ) → limits.block < length body → body_fault (grammar_of limits lanes) reading.bytes body ≡ Some reason.BlockTooLong
+    fault body h = ap (λ (b : Bool). cond {A = Option Reason} b (Some reason.BlockTooLong) _) (lt-ltb limits.block (length body) h)

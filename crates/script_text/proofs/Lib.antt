@@ -1,3 +1,6 @@
 pub mod WordLemmas
+pub mod FormLemmas
 pub mod FeedLemmas
 pub mod HeldLemmas
+pub mod EndLemmas
+pub mod ProgressLemmas

@@ -1,9 +1,13 @@
 -- The words of a text, one after another.
 use Rattle.std.proofs.Common.{◌≡◌, refl, ap, sym, ◌∙◌, ℕ, suc, ◌+◌, List, [], ◌∷◌, drop, length, take, Bool, true, false, cond, arith, inl, inr}
-use Rattle.std.specs.Prelude.{◌==◌, not, filter}
-use Rattle.std.specs.List.{prefix_len, slice_split}
-use Rattle.std.proofs.lemmas.Bool.{both_ways, cases_Bool, eqb-true}
+use Rattle.std.specs.Prelude.{◌==◌, nat_lt, not, filter, position, take_while, Option, Some, None}
+use Rattle.std.specs.List.{onto_first, position_or_len, prefix_len, slice_split}
+use Rattle.std.proofs.lemmas.Bool.{both_ways, cases_Bool, eqb-true, ltb-false}
 use Rattle.std.proofs.lemmas.List.Folds.{length-prefix_len}
+use Rattle.std.proofs.lemmas.List.{take_all}
+use Rattle.std.proofs.lemmas.List.Quantifiers.{position-Some}
+use Rattle.std.proofs.lemmas.List.Recursion.{is_position_or_len}
+use Rattle.std.proofs.lemmas.List.Sums.{prefix_len_is}
 use Rattle.lake_model.specs.Texts.{Text}
 use Rattle.script_model.specs.Words.{behind_spaces, behind_word, first_word, is_space, words}
 use Rattle.script_text.specs.Fronts.{IsNotOne, has_none}
@@ -33,11 +37,14 @@ cut_letter byte text f cut =
       others = rw (f, one) cut.others;
     }
 
+words_space : (byte : ℕ) (text : Text) → is_space byte ≡ true → words (byte ∷ text) ≡ words text
+words_space byte text t = ap (λ (b : Bool). filter is_some_word (cond b ([] ∷ slice_split is_space text) (onto_first byte (slice_split is_space text)))) t
+
 cut_space : (byte : ℕ) (text : Text) → is_space byte ≡ true → Cut (byte ∷ text)
 cut_space byte text t = record {
   parts = slice_split is_space text;
   split = rw t refl;
-  others = rw t refl;
+  others = ap (λ (b : Bool). words (drop (cond (not b) (1 + prefix_len is_letter text) 0) (byte ∷ text))) t ∙ words_space byte text t;
 }
 
 cut_at : (text : Text) → Cut text
@@ -51,9 +58,15 @@ words_behind_spaces [] = refl
 words_behind_spaces (byte ∷ text) =
     let one : 1 + prefix_len is_space text ≡ suc (prefix_len is_space text) = omega arith in
     elim (cases_Bool (is_space byte)) [
-      | inl t ↦ rw (t, one) (words_behind_spaces text)
-      | inr f ↦ rw f refl
+      | inl t ↦ ap (λ (b : Bool). words (drop (cond b (1 + prefix_len is_space text) 0) (byte ∷ text))) t
+          ∙ ap (λ (n : ℕ). words (drop n (byte ∷ text))) one ∙ words_behind_spaces text ∙ sym (words_space byte text t)
+      | inr f ↦ ap (λ (b : Bool). words (drop (cond b (1 + prefix_len is_space text) 0) (byte ∷ text))) f
     ]
+
+some_letter : (byte : ℕ) (text : Text) → is_space byte ≡ false → front (byte ∷ text) ≡ 0 → ⊥
+some_letter byte text f h =
+    let size : front (byte ∷ text) ≡ 1 + front text = ap (λ (b : Bool). cond (not b) (1 + front text) 0) f in
+    omega (arith, h, size)
 
 nothing_left : (text : Text) → front (behind_spaces text) ≡ 0 → behind_spaces text ≡ []
 nothing_left [] h = refl
@@ -61,7 +74,7 @@ nothing_left (byte ∷ text) h =
     let one : 1 + prefix_len is_space text ≡ suc (prefix_len is_space text) = omega arith in
     elim (cases_Bool (is_space byte)) [
       | inl t ↦ rw (t, one) (nothing_left text (rw (t, one) at h))
-      | inr f ↦ absurd (omega (arith, rw f at h))
+      | inr f ↦ absurd (some_letter byte text f (ap (λ (b : Bool). front (drop (cond b (1 + prefix_len is_space text) 0) (byte ∷ text))) (sym f) ∙ h))
     ]
 
 -- ---- one word more
@@ -123,3 +136,22 @@ not_one_none text t = rw (words_none text t) tt
 
 pub not_one_more : (text : Text) → has_none (words (behind_word text)) ≡ false → IsNotOne (words text)
 not_one_more text h = rw (words_more text h) (two_at_least (first_word text) (words (behind_word text)) h)
+
+-- ---- the text up to its first space
+
+pub word_at : (text : Text) (end : ℕ) → position is_space text ≡ Some end → take end text ≡ take_while is_letter text
+word_at text end h =
+    let found = position-Some is_space text end 0 h in
+    ap (λ (n : ℕ). take n text) (sym (prefix_len_is is_letter text end 0 (omega (arith, found.0)) (λ k lt. ap not (found.2 k lt)) (λ _. ap not found.1)))
+
+step_same : (b : Bool) (n : ℕ) → cond (not b) (1 + n) 0 ≡ cond b 0 (1 + n)
+step_same true n = refl
+step_same false n = refl
+
+pub word_all : (text : Text) → position is_space text ≡ None → text ≡ take_while is_letter text
+word_all text h =
+    let same : prefix_len is_letter text ≡ position_or_len is_space text = is_position_or_len (prefix_len is_letter) is_space refl (λ byte more. step_same (is_space byte) (prefix_len is_letter more)) text in
+    elim (cases_Bool (nat_lt (position_or_len is_space text) (length text))) [
+      | inl t ↦ cc (rw t at h)
+      | inr f ↦ sym (take_all (prefix_len is_letter text) text (omega (arith, same, ltb-false (position_or_len is_space text) (length text) f)))
+    ]

@@ -86,7 +86,7 @@ fn lane_said<'a>(lanes: u32, digits: &[u8], text: &'a [u8]) -> Result<Said<'a>, 
     let Some(lane) = read_any_number(digits) else {
         return Err(Reason::Words);
     };
-    if matches!(first_word(text), b"sync") {
+    if first_word(text) == b"sync".as_slice() {
         return Err(Reason::Words);
     }
     if lane > u64::from(lanes) {
@@ -111,25 +111,25 @@ fn command_said(lane: u32, text: &[u8]) -> Result<Said<'_>, Reason>
 fn read_form(word: &[u8]) -> Option<Form>
     ensures { option_map form_of result ≡ option_map (λ form. form.1) (find (λ form. bytes_eq form.0 word.now) forms) }
 {
-    if matches!(word, b"load") {
+    if b"load".as_slice() == word {
         return Some(Form::Load);
     }
-    if matches!(word, b"loadfile") {
+    if b"loadfile".as_slice() == word {
         return Some(Form::LoadFile);
     }
-    if matches!(word, b"drop") {
+    if b"drop".as_slice() == word {
         return Some(Form::Drop);
     }
-    if matches!(word, b"tables") {
+    if b"tables".as_slice() == word {
         return Some(Form::Tables);
     }
-    if matches!(word, b"search") {
+    if b"search".as_slice() == word {
         return Some(Form::Search);
     }
-    if matches!(word, b"like") {
+    if b"like".as_slice() == word {
         return Some(Form::Like);
     }
-    if matches!(word, b"sync") {
+    if b"sync".as_slice() == word {
         return Some(Form::Sync);
     }
     None

@@ -1,6 +1,6 @@
 //! Words, as they are cut from a line.
-ghost use Rattle.std.specs.Prelude.{◌≡◌, ◌∷◌, [], IfNone, IfSome};
-ghost use Rattle.script_model.specs.Words.{before_spaces, behind_spaces, behind_word, first_word, words};
+ghost use Rattle.std.specs.Prelude.{◌≡◌, ◌∷◌, [], IfNone, IfSome, not, position, take_while};
+ghost use Rattle.script_model.specs.Words.{before_spaces, behind_spaces, behind_word, first_word, is_space, words};
 ghost use Rattle.script_text.specs.Fronts.{IsNotOne, has_none};
 
 // The text without the spaces that it begins with.
@@ -29,11 +29,24 @@ pub(crate) fn before_spaces(text: &[u8]) -> &[u8]
 pub(crate) fn first_word(text: &[u8]) -> &[u8]
     ensures { result.now ≡ first_word text.now }
 {
-    let text = behind_spaces(text);
-    match text.iter().position(|byte| *byte == b' ') {
+    before_space(behind_spaces(text))
+}
+
+// The text up to its first space.
+fn before_space(text: &[u8]) -> &[u8]
+    ensures { result.now ≡ take_while (λ byte. not (is_space byte)) text.now }
+{
+    match first_space(text) {
         Some(end) => &text[..end],
         None => text,
     }
+}
+
+// Where the first space is.
+fn first_space(text: &[u8]) -> Option<usize>
+    ensures { result ≡ position is_space text.now }
+{
+    text.iter().position(|byte| *byte == b' ')
 }
 
 // What stands behind the first word of the text and the spaces that follow it.
@@ -41,7 +54,7 @@ pub(crate) fn behind_word(text: &[u8]) -> &[u8]
     ensures { result.now ≡ behind_word text.now }
 {
     let text = behind_spaces(text);
-    let word = first_word(text);
+    let word = before_space(text);
     behind_spaces(&text[word.len()..])
 }
 
@@ -58,7 +71,10 @@ pub(crate) fn only_word(text: &[u8]) -> Option<&[u8]>
     ensures other { IfNone result (IsNotOne (words text.now)) }
 {
     let word = first_word(text);
-    if word.is_empty() || !has_no_word(behind_word(text)) {
+    if word.is_empty() {
+        return None;
+    }
+    if !has_no_word(behind_word(text)) {
         return None;
     }
     Some(word)
