@@ -1,6 +1,6 @@
 -- The end of a script, and faults by size alone.
 use Rattle.std.proofs.Common.{◌≡◌, refl, ap, sym, ◌∙◌, ℕ, ◌+◌, ◌-◌, ◌<◌, ◌≤◌, List, [], ◌∷◌, ◌++◌, Bool, true, false, cond, length, take, drop, get_or, arith, append_assoc, length-append, inl, inr}
-use Rattle.std.specs.Prelude.{◌==◌, nat_lt, bytes_eq, codes, Option, Some, None, unwrap_or}
+use Rattle.std.specs.Prelude.{◌==◌, nat_lt, bytes_eq, codes, Option, Some, None, IfSome, unwrap_or}
 use Rattle.std.proofs.lemmas.Bool.{cases_Bool, false_from_ne_true, le-ltb, lt-ltb}
 use Rattle.std.proofs.lemmas.List.{length-drop, length-take, take_all}
 use Rattle.std.proofs.lemmas.Slice.Eq.{bytes_eq-Decides}
@@ -9,12 +9,20 @@ use Rattle.script_model.specs.declared.Reason.{Reason}
 use Rattle.script_model.specs.declared.Reason.TheVariants as reason
 use Rattle.script_model.specs.declared.ScriptLimits.{ScriptLimits}
 use Rattle.lake_model.specs.Texts.{Lines, Text, lines_of, lines_with, onto_lines}
-use Rattle.script_model.specs.Reading.{Fails, Grammar, LinesRead, Open, Reading, Stands, AtFault, Turn, body_after, body_fault, counted, is_end, line_fault, line_in, read, read_with, turn_of, turned, undotted, unless_fault}
-use Rattle.script_model.specs.Script.{Commands, FaultAt, begun_fault, commands_from, commands_with, ended, grammar_of, unless_begun_fault, within}
+use Rattle.script_model.specs.Reading.{Fails, Goes, Grammar, LinesRead, Open, Reading, Stands, AtFault, Turn, block_ended, body_after, body_fault, counted, does, is_end, line_fault, line_in, read, read_with, turn_of, turned, undotted, unless_fault, with_body}
+use Rattle.script_model.specs.Script.{Commands, FaultAt, begun_fault, commands_from, commands_with, end_turned, ended, grammar_of, last_turn, unless_begun_fault, within}
 use Rattle.script_model.specs.Words.{NoFeed, without_return}
-use Rattle.script_model.proofs.LimitLemmas.{commands_past, given_by}
+use Rattle.script_model.proofs.LimitLemmas.{commands_past}
 use Rattle.script_model.proofs.ScriptLemmas.{lines_none}
+use Rattle.script_model.specs.Commands.{File}
+use Rattle.script_text.specs.Gathering.{reading_at}
 use Rattle.script_text.specs.Readings.{too_long}
+
+-- what an input gives, from its beginning within the limit and whether it passes the limit
+abbrev given_by : Grammar → Reading → Text → Bool → Commands
+given_by grammar reading beginning over =
+    let made = read grammar (read_with [] (Stands reading)) (lines_of beginning).ended in
+    ended grammar over (lines_of beginning).rest made.batches made.reached
 
 -- what lines give, where they are these
 abbrev by_lines : Grammar → Reading → Bool → Lines → Commands
@@ -87,15 +95,20 @@ read_first grammar reading why line lines e =
     ap (λ turn. read grammar (turned [] (reading.lines + 1) turn) lines) e ∙ read_stays grammar (reading.lines + 1) why reading.asked lines
 
 -- Whatever follows, the line fails by its size.
-record FailsBySize (grammar : Grammar) (reading : Reading) (held : Text) (why : Reason) : Type 0 where
-  begun : (more : Text) → begun_fault grammar reading.block reading.bytes (held ++ more) ≡ Some why
-  whole : (more : Text) → turn_of grammar (held ++ more) reading ≡ Fails why reading.asked
+pub record FailsBySize (grammar : Grammar) (reading : Reading) (held : Text) (why : Reason) : Type 0 where
+  pub begun : (more : Text) → begun_fault grammar reading.block reading.bytes (held ++ more) ≡ Some why
+  pub whole : (more : Text) → turn_of grammar (held ++ more) reading ≡ Fails why reading.asked
+
+-- what the end gives, where no part of the last line is at fault by its size
+abbrev stands_by : Grammar → Bool → Text → Reading → Commands
+stands_by grammar over rest reading =
+    cond over (commands_with [] (FaultAt (reading.lines + 1) reason.InputTooLong) reading.asked) (end_turned [] (reading.lines + 1) (last_turn grammar reading.block rest reading))
 
 fails_onto : (grammar : Grammar) (reading : Reading) (held : Text) (why : Reason) (over : Bool) (lines : List Text) (rest : Text) → FailsBySize grammar reading held why
     → by_lines grammar reading over (onto_text held lines rest) ≡ commands_with [] (FaultAt (reading.lines + 1) why) reading.asked
 fails_onto grammar reading held why over [] rest fails =
     no_lines grammar reading over (held ++ rest)
-    ∙ ap (λ (f : Option Reason). unless_begun_fault f [] reading _) (fails.begun rest)
+    ∙ ap (λ (f : Option Reason). unless_begun_fault f [] reading (stands_by grammar over (held ++ rest) reading)) (fails.begun rest)
 fails_onto grammar reading held why over (line ∷ lines) rest fails =
     ap (λ (made : LinesRead). ended grammar over rest made.batches made.reached) (read_first grammar reading why (held ++ line) lines (fails.whole line))
 
@@ -135,37 +148,71 @@ no_end line long =
       let size : length (without_return line) ≡ 1 = ap length same in
       omega (arith, long, size, size_without_return line))
 
--- A line outside a block of which too much has come.
-pub line_fails : (limits : ScriptLimits) (lanes : ℕ) (reading : Reading) (held : Text) → reading.block ≡ None → limits.line + 1 < length held
-    → FailsBySize (grammar_of limits lanes) reading held reason.LineTooLong
-line_fails limits lanes reading held e long = record {
-  begun = λ more. ap (λ (block : Option Open). begun_fault (grammar_of limits lanes) block reading.bytes (held ++ more)) e ∙ fault more;
-  whole = λ more. ap (λ (block : Option Open). line_in (grammar_of limits lanes) block (held ++ more) (counted (length (held ++ more) + 1) reading)) e
-      ∙ ap (λ (f : Option Reason). unless_fault f (counted (length (held ++ more) + 1) reading) _) (fault more);
-}
-  where
-    fault : (more : Text) → line_fault (grammar_of limits lanes) (held ++ more) ≡ Some reason.LineTooLong
-    fault more =
-        let passes : nat_lt limits.line (length (without_return (held ++ more))) ≡ true =
-        lt-ltb limits.line (length (without_return (held ++ more))) (omega (arith, long, size_without_return (held ++ more), length-append held more)) in
-        ap (λ (b : Bool). cond {A = Option Reason} b (Some reason.LineTooLong) None) passes
+module _ (limits : ScriptLimits) (lanes : ℕ) (reading : Reading) (held : Text) where
+  abbrev by : Grammar
+  by = grammar_of limits lanes
 
--- A line of a block of which too much has come.
-pub block_fails : (limits : ScriptLimits) (lanes : ℕ) (reading : Reading) (block : Open) (held : Text) → reading.block ≡ Some block → length block.body ≤ limits.block
-    → limits.block + 2 < length held + length block.body → FailsBySize (grammar_of limits lanes) reading held reason.BlockTooLong
-block_fails limits lanes reading block held e within long = record {
-  begun = λ more. ap (λ (b : Option Open). begun_fault (grammar_of limits lanes) b reading.bytes (held ++ more)) e
-      ∙ ap (λ (b : Bool). cond {A = Option Reason} b None (body_fault (grammar_of limits lanes) reading.bytes (body_after block (held ++ more)))) (ends more)
-      ∙ fault (body_after block (held ++ more)) (omega (arith, size more));
-  whole = λ more. ap (λ (b : Option Open). line_in (grammar_of limits lanes) b (held ++ more) (counted (length (held ++ more) + 1) reading)) e
-      ∙ ap (λ (b : Bool). cond {A = Turn} b _ _) (ends more)
-      ∙ ap (λ (f : Option Reason). unless_fault f (counted (length (held ++ more) + 1) reading) _)
-        (fault (body_after block (held ++ more) ++ 0x0A ∷ []) (omega (arith, size more, length-append (body_after block (held ++ more)) (0x0A ∷ []))));
-}
-  where
-    ends : (more : Text) → is_end (held ++ more) ≡ false
-    ends more = no_end (held ++ more) (omega (arith, within, long, length-append held more))
-    size : (more : Text) → limits.block < length (body_after block (held ++ more))
-    size more = omega (arith, long, length-append held more, size_undotted (held ++ more), length-append block.body (undotted (held ++ more)))
-    fault : (body : List ℕ) → limits.block < length body → body_fault (grammar_of limits lanes) reading.bytes body ≡ Some reason.BlockTooLong
-    fault body h = ap (λ (b : Bool). cond {A = Option Reason} b (Some reason.BlockTooLong) _) (lt-ltb limits.block (length body) h)
+  abbrev counted_with : Text → Reading
+  counted_with more = counted (length (held ++ more) + 1) reading
+
+  line_is_long : limits.line + 1 < length held → (more : Text) → line_fault by (held ++ more) ≡ Some reason.LineTooLong
+  line_is_long long more =
+      let passes : nat_lt limits.line (length (without_return (held ++ more))) ≡ true =
+      lt-ltb limits.line (length (without_return (held ++ more))) (omega (arith, long, size_without_return (held ++ more), length-append held more)) in
+      ap (λ (b : Bool). cond {A = Option Reason} b (Some reason.LineTooLong) None) passes
+
+  -- A line outside a block of which too much has come.
+  pub line_fails : reading.block ≡ None → limits.line + 1 < length held → FailsBySize by reading held reason.LineTooLong
+  line_fails e long = record {
+    begun = λ more. ap (λ (block : Option Open). begun_fault by block reading.bytes (held ++ more)) e ∙ line_is_long long more;
+    whole = λ more. ap (λ (block : Option Open). line_in by block (held ++ more) (counted_with more)) e
+        ∙ ap (λ (f : Option Reason). unless_fault f (counted_with more) (does by (by.says (without_return (held ++ more))) (counted_with more))) (line_is_long long more);
+  }
+
+  body_is_long : (body : List ℕ) → limits.block < length body → body_fault by reading.bytes body ≡ Some reason.BlockTooLong
+  body_is_long body h =
+      ap (λ (b : Bool). cond {A = Option Reason} b (Some reason.BlockTooLong) (cond {A = Option Reason} (nat_lt limits.bytes (reading.bytes + length body)) (Some reason.BatchBytes) None)) (lt-ltb limits.block (length body) h)
+
+  size_after : (block : Open) → limits.block + 2 < length held + length block.body → (more : Text) → limits.block < length (body_after block (held ++ more))
+  size_after block long more = omega (arith, long, length-append held more, size_undotted (held ++ more), length-append block.body (undotted (held ++ more)))
+
+  -- A line of a block of which too much has come.
+  pub block_fails : (block : Open) → reading.block ≡ Some block → length block.body ≤ limits.block → limits.block + 2 < length held + length block.body
+      → FailsBySize by reading held reason.BlockTooLong
+  block_fails block e short long =
+      let goes_on : (more : Text) → is_end (held ++ more) ≡ false = λ more. no_end (held ++ more) (omega (arith, short, long, length-append held more)) in
+      record {
+        begun = λ more. ap (λ (b : Option Open). begun_fault by b reading.bytes (held ++ more)) e
+            ∙ ap (λ (b : Bool). cond {A = Option Reason} b None (body_fault by reading.bytes (body_after block (held ++ more)))) (goes_on more)
+            ∙ body_is_long (body_after block (held ++ more)) (size_after block long more);
+        whole = λ more. ap (λ (b : Option Open). line_in by b (held ++ more) (counted_with more)) e
+            ∙ ap (λ (b : Bool). cond {A = Turn} b (Goes (block_ended block (counted_with more)))
+              (unless_fault (body_fault by reading.bytes (body_after block (held ++ more) ++ 0x0A ∷ [])) (counted_with more) (Goes (with_body block (body_after block (held ++ more) ++ 0x0A ∷ []) (counted_with more))))) (goes_on more)
+            ∙ ap (λ (f : Option Reason). unless_fault f (counted_with more) (Goes (with_body block (body_after block (held ++ more) ++ 0x0A ∷ []) (counted_with more))))
+              (body_is_long (body_after block (held ++ more) ++ 0x0A ∷ []) (omega (arith, size_after block long more, length-append (body_after block (held ++ more)) (0x0A ∷ []))));
+      }
+
+-- ---- what is held
+
+pub held_over : (limits : ScriptLimits) (lanes : ℕ) (reading : Reading) (held : Text) (fault : Option Reason) → NoFeed (take (limits.input - reading.used) held) → limits.input - reading.used < length held
+    → fault ≡ begun_fault (grammar_of limits lanes) reading.block reading.bytes (take (limits.input - reading.used) held) → (paths : List Text) (later : List File) (more : List ℕ)
+    → commands_from (grammar_of limits lanes) (reading_at reading paths later) (held ++ more) ≡ commands_with [] (FaultAt (reading.lines + 1) (unwrap_or fault reason.InputTooLong)) paths
+held_over limits lanes reading held fault whole past e paths later more =
+    commands_over (grammar_of limits lanes) (reading_at reading paths later) held more whole past
+    ∙ over_fault (grammar_of limits lanes) (take (limits.input - reading.used) held) (reading_at reading paths later) fault e
+
+held_long : (limits : ScriptLimits) (lanes : ℕ) (reading : Reading) (held : Text) (longest : ℕ) (block : Option Open) → reading.block ≡ block → NoFeed held → reading.used + length held ≤ limits.input
+    → (block ≡ None → longest ≡ limits.line + 1) → IfSome block (λ b. longest + length b.body ≡ limits.block + 2) → IfSome block (λ b. length b.body ≤ limits.block) → longest < length held
+    → (paths : List Text) (later : List File) (more : List ℕ)
+    → commands_from (grammar_of limits lanes) (reading_at reading paths later) (held ++ more) ≡ commands_with [] (FaultAt (reading.lines + 1) (too_long block)) paths
+held_long limits lanes reading held longest None e whole fits line block body long paths later more =
+    commands_fail (grammar_of limits lanes) (reading_at reading paths later) held more reason.LineTooLong whole fits (line_fails limits lanes (reading_at reading paths later) held e (omega (arith, long, line refl)))
+held_long limits lanes reading held longest (Some b) e whole fits line block body long paths later more =
+    commands_fail (grammar_of limits lanes) (reading_at reading paths later) held more reason.BlockTooLong whole fits
+    (block_fails limits lanes (reading_at reading paths later) held b e body (omega (arith, long, block)))
+
+pub held_too_long : (limits : ScriptLimits) (lanes : ℕ) (reading : Reading) (held : Text) (longest : ℕ) → NoFeed held → reading.used + length held ≤ limits.input
+    → (reading.block ≡ None → longest ≡ limits.line + 1) → IfSome reading.block (λ b. longest + length b.body ≡ limits.block + 2) → IfSome reading.block (λ b. length b.body ≤ limits.block) → longest < length held
+    → (paths : List Text) (later : List File) (more : List ℕ)
+    → commands_from (grammar_of limits lanes) (reading_at reading paths later) (held ++ more) ≡ commands_with [] (FaultAt (reading.lines + 1) (too_long reading.block)) paths
+held_too_long limits lanes reading held longest = held_long limits lanes reading held longest reading.block refl

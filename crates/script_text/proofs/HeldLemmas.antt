@@ -1,7 +1,10 @@
 -- The bytes from one place up to another.
-use Rattle.std.proofs.Common.{◌≡◌, ap, sym, ◌∙◌, ℕ, ◌+◌, ◌-◌, ◌≤◌, List, ◌++◌, length, take, drop, arith}
-use Rattle.std.proofs.lemmas.List.{drop-drop, drop-take}
+use Rattle.std.proofs.Common.{◌≡◌, ap, sym, ◌∙◌, ℕ, ◌+◌, ◌-◌, ◌≤◌, List, ◌++◌, length, take, drop, arith, subst}
+use Rattle.std.specs.Prelude.{OnErr, Result, Ok, Err, IfNone, Option, None, Some}
+use Rattle.std.proofs.lemmas.List.{drop-drop, drop-take, length-drop, length-take, take-append-le}
 use Rattle.std.proofs.Math.Seq.{take-add}
+use Rattle.script_model.specs.Words.{NoFeed}
+use Rattle.script_text.specs.Inputs.{IsHeld}
 
 -- they are what the first bytes have behind that place
 held_is : (start filled : ℕ) (bytes : List ℕ) → start ≤ filled → take (filled - start) (drop start bytes) ≡ drop start (take filled bytes)
@@ -31,3 +34,31 @@ held_less start filled count bytes h =
     let size : count + (filled - (start + count)) ≡ filled - start = omega (arith, h) in
     ap (take (filled - (start + count))) (sym (drop-drop count start bytes)) ∙ sym (drop-take count (filled - (start + count)) (drop start bytes))
     ∙ ap (λ (n : ℕ). drop count (take n (drop start bytes))) size
+
+-- They are held still where the first bytes stay.
+pub held_kept : (start filled searched : ℕ) (bytes now : List ℕ) → IsHeld start filled searched bytes → take filled now ≡ take filled bytes → filled ≤ length now → IsHeld start filled searched now
+held_kept start filled searched bytes now h e within = record {
+  ordered = h.ordered;
+  within = within;
+  searched_none = subst (λ (xs : List ℕ). NoFeed (take searched xs)) (sym (held_same start filled bytes now (omega (arith, h.ordered)) e)) h.searched_none;
+}
+
+-- And with more bytes behind them.
+pub held_on : (start filled searched count : ℕ) (bytes now : List ℕ) → IsHeld start filled searched bytes → take filled now ≡ take filled bytes → filled + count ≤ length now → IsHeld start (filled + count) searched now
+held_on start filled searched count bytes now h e within =
+    let few : searched ≤ length (take (filled - start) (drop start bytes)) = omega (arith, h.ordered, h.within, length-take (filled - start) (drop start bytes), length-drop start bytes) in
+    let first : take searched (take (filled + count - start) (drop start now)) ≡ take searched (take (filled - start) (drop start bytes)) =
+    ap (take searched) (held_more start filled count bytes now (omega (arith, h.ordered)) e) ∙ take-append-le searched (take (filled - start) (drop start bytes)) (take count (drop filled now)) few in
+    record {
+      ordered = omega (arith, h.ordered);
+      within = within;
+      searched_none = subst NoFeed (sym first) h.searched_none;
+    }
+
+pub on_err : {T E : Type 0} (P : Type 0) (result : Result T E) → P → OnErr result P
+on_err P (Ok x) p = tt
+on_err P (Err e) p = p
+
+pub if_none : {T : Type 0} (P : Type 0) (result : Option T) → P → IfNone result P
+if_none P None p = p
+if_none P (Some x) p = tt

@@ -4,3 +4,4 @@ pub mod FeedLemmas
 pub mod HeldLemmas
 pub mod EndLemmas
 pub mod ProgressLemmas
+pub mod TurnLemmas

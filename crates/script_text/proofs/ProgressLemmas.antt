@@ -10,12 +10,12 @@ use Rattle.lake_io.specs.Files as shelf
 use Rattle.lake_model.specs.Texts.{Text}
 use Rattle.script_model.specs.declared.Reason.{Reason}
 use Rattle.script_model.specs.Commands.{Batch, File}
-use Rattle.script_model.specs.Reading.{Grammar, LinesRead, Reading, Stands, Turn, read, read_with, turn_of, turned}
+use Rattle.script_model.specs.Reading.{Fails, Gives, Goes, Grammar, LinesRead, Reading, Stands, Turn, read, read_with, turn_of, turned}
 use Rattle.script_model.specs.Script.{Commands, FaultAt, commands_from, commands_with, ended}
 use Rattle.script_model.specs.Statuses.{left_of}
 use Rattle.script_model.specs.Texts.{line_text}
 use Rattle.script_model.specs.Words.{NoFeed}
-use Rattle.script_model.proofs.ScriptLemmas.{after_turn, commands_line, read_on}
+use Rattle.script_model.proofs.ScriptLemmas.{commands_line, read_on}
 use Rattle.script_text.specs.declared.refused.ScriptEnd.TheVariants.{Script}
 use Rattle.script_text.specs.Endings.{Ends}
 use Rattle.script_text.specs.Gathering.{Gathering, IsFaulty, IsSynced, IsUnfinished, IsWhole, ReadsOn, grammar, lines_text, reading_at}
@@ -25,6 +25,16 @@ use Rattle.script_text.specs.Outcomes.{AreFetched, AreOutcomes, RoseBy, is_faile
 use Rattle.script_text.specs.Readings.{Turns}
 use Rattle.script_text.proofs.EndLemmas.{commands_end}
 
+-- what an input gives behind a turn
+abbrev with_batches : List Batch → Commands → Commands
+with_batches given made = commands_with (given ++ made.batches) made.end made.asked
+
+abbrev after_turn : Grammar → ℕ → Turn → Text → Commands
+after_turn grammar line (Goes reading) more = commands_from grammar reading more
+after_turn grammar line (Gives batch reading) more = with_batches (batch ∷ []) (commands_from grammar reading more)
+after_turn grammar line (Fails why asked) more = commands_with [] (FaultAt line why) asked
+
+-- the lines that were read, of the bytes held before and those that were given since, and what is held now
 pub record Progress (from : Grammar) (before : Reading) (held_before : List ℕ) (left_before left_now : Option (List ℕ)) (files : Option (List shelf.File)) (faults_before faults_now : ℕ) (now : Reading) (held : List ℕ) : Type 0 where
   pub given : List ℕ
   pub asked : List Text

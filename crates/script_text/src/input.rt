@@ -1,6 +1,6 @@
 //! The bytes at hand, which came from a source and were not used yet.
 ghost use Rattle.std.specs.Prelude.{◌≡◌, ◌<◌, ◌≤◌, ◌+◌, ◌++◌, ◌⊎◌, Err, IfErr, IfNone, IfOk, IfSome, OnErr, OnOk, [], drop, length, take, vec_len};
-ghost use Rattle.std.specs.Io.KnownBytes.{Keeps};
+ghost use Rattle.std.specs.Io.KnownBytes.{Consumes, IsAtEnd, Keeps};
 ghost use Rattle.script_model.specs.Words.{NoFeed};
 ghost use Rattle.lake_io.specs.Causes.{Rose};
 ghost use Rattle.script_text.specs.Inputs.{Came, EndsLine};
@@ -97,11 +97,7 @@ impl Input {
     {
         self.move_for(most);
         lengthen(&mut self.bytes, self.filled, most)?;
-        let end = self.filled + most;
-        let room = &mut self.bytes.as_mut_slice()[self.filled..end];
-        let Ok(count) = source.read(room) else {
-            return Err(ScriptEnd::ReadFault);
-        };
+        let count = read_behind(source, self.bytes.as_mut_slice(), self.filled, most)?;
         self.filled += count;
         Ok(count)
     }
@@ -137,6 +133,31 @@ fn lengthen(bytes: &mut Vec<u8>, filled: usize, more: usize) -> Result<(), NoMem
     let longer = bytes.len().saturating_mul(2).max(filled + more);
     bytes.resize(longer, 0)?;
     Ok(())
+}
+
+// Reads once from the source, at most so many bytes, which come behind the first `filled`.
+fn read_behind<S: Source>(
+    source: &mut S,
+    bytes: &mut [u8],
+    filled: usize,
+    most: usize,
+) -> Result<usize, ScriptEnd>
+    requires some { 0 < most }
+    requires room { filled + most ≤ length bytes.old }
+    ensures same { take filled bytes.new ≡ take filled bytes.old }
+    ensures size { length bytes.new ≡ length bytes.old }
+    ensures gave { IfOk result (λ count. Consumes (S.left source.old) (S.left source.new) (take count (drop filled bytes.new))) }
+    ensures end { IfOk result (λ count. count ≡ 0 → IsAtEnd (S.left source.new)) }
+    ensures within { IfOk result (λ count. count ≤ most) }
+    ensures kept { OnErr result (Keeps (S.left source.old) (S.left source.new)) }
+    ensures read_fault { OnErr result (Rose (S.faults source.old) (S.faults source.new)) }
+    ensures refused { IfErr result (λ e. e ≡ ScriptEnd.ReadFault) }
+    ensures later { S.faults source.old ≤ S.faults source.new }
+{
+    match source.read(&mut bytes[filled..filled + most]) {
+        Ok(count) => Ok(count),
+        Err(_) => Err(ScriptEnd::ReadFault),
+    }
 }
 
 // Where the first line feed is, where the first `from` bytes have none.

@@ -174,6 +174,7 @@ impl Reader {
     pub(crate) fn room(&self) -> usize
         ensures value { result ≡ self.now.rules.limits.input - self.now.reading.used }
         ensures within { self.now.reading.used + result ≤ self.now.rules.limits.input }
+        ensures small { result ≤ 68719476736 }
     {
         (self.rules.limits.input - self.used) as usize
     }
@@ -217,6 +218,7 @@ impl Reader {
     pub(crate) fn longest(&self) -> usize
         ensures line { self.now.reading.block ≡ None → result ≡ self.now.rules.limits.line + 1 }
         ensures block { IfSome self.now.reading.block (λ block. result + length block.body ≡ self.now.rules.limits.block + 2) }
+        ensures body { IfSome self.now.reading.block (λ block. length block.body ≤ self.now.rules.limits.block) }
     {
         match &self.block {
             None => self.rules.limits.line as usize + 1,
@@ -302,6 +304,7 @@ impl Reader {
 
     // Does what a line says.
     fn obey<F: Shelf>(&mut self, shelf: &mut F, said: Said<'_>) -> Result<Option<Batch>, ScriptEnd>
+        requires bytes { self.old.reading.bytes ≤ self.old.rules.limits.bytes }
         requires counted { self.old.reading.numbered < self.old.reading.used }
         requires block { self.old.reading.block ≡ None }
         requires in_range { IsSaidInRange self.old.rules.lanes said }
@@ -350,6 +353,7 @@ impl Reader {
 
     // One more command, which has no body.
     fn add_command(&mut self, lane: u32, task: Task) -> Result<(), ScriptEnd>
+        requires bytes { self.old.reading.bytes ≤ self.old.rules.limits.bytes }
         requires counted { self.old.reading.numbered < self.old.reading.used }
         requires block { self.old.reading.block ≡ None }
         requires lane { IsLane self.old.rules.lanes lane }
