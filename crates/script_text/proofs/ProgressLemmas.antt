@@ -1,11 +1,11 @@
 -- How far a call of a gatherer has come: by the bytes given, the paths asked for, and the lines read.
-use Rattle.std.proofs.Common.{◌≡◌, refl, ap, sym, ◌∙◌, subst, ℕ, ◌+◌, ◌-◌, ◌^◌, ◌<◌, ◌≤◌, List, [], ◌∷◌, ◌++◌, Bool, length, take, drop, arith, append_assoc, append-nil, min}
+use Rattle.std.proofs.Common.{◌≡◌, refl, ap, sym, ◌∙◌, subst, ℕ, ◌+◌, ◌-◌, ◌^◌, ◌<◌, ◌≤◌, List, [], ◌∷◌, ◌++◌, Bool, cond, length, take, drop, arith, append_assoc, append-nil, min}
 use Rattle.std.specs.Prelude.{flat_map, count_by, Option, Some, None, Ok, Err}
 use Rattle.std.specs.Io.KnownBytes.{Consumes, IsAtEnd, Keeps}
 use Rattle.std.specs.List.{AllByRecursion}
 use Rattle.std.proofs.KnownBytes.{Consumes-kept, Consumes-nil, Consumes-trans}
 use Rattle.std.proofs.lemmas.List.{length-take-le}
-use Rattle.std.proofs.lemmas.List.Sums.{count_by-append}
+use Rattle.std.proofs.lemmas.List.Sums.{sum_by-append}
 use Rattle.lake_io.specs.Files as shelf
 use Rattle.lake_model.specs.Texts.{Text}
 use Rattle.script_model.specs.declared.Reason.{Reason}
@@ -63,7 +63,7 @@ fetched_join : (files : Option (List shelf.File)) (first second third : ℕ) (as
     → AreFetched files first second asked outcomes → AreFetched files second third more_asked more → AreFetched files first third (asked ++ more_asked) (outcomes ++ more)
 fetched_join files first second third asked more_asked outcomes more h k = record {
   each = outcomes_join files asked more_asked outcomes more h.each k.each;
-  failed = subst (λ (n : ℕ). RoseBy n first third) (sym (count_by-append is_failed outcomes more)) (rose_join (count_by is_failed outcomes) (count_by is_failed more) first second third h.failed k.failed);
+  failed = subst (λ (n : ℕ). RoseBy n first third) (sym (sum_by-append (λ (file : File). cond (is_failed file) 1 0) outcomes more)) (rose_join (count_by is_failed outcomes) (count_by is_failed more) first second third h.failed k.failed);
 }
 
 pub none_fetched : (files : Option (List shelf.File)) (first second : ℕ) → first ≤ second → AreFetched files first second [] []

@@ -1,5 +1,5 @@
 -- What the end of a script gives.
-use Rattle.std.specs.Prelude.{ℕ, ◌+◌, ◌≡◌, ◌≤◌, ⊤, List, [], ◌∷◌, ◌++◌, length, Option, Some, None, Result, Ok, Err}
+use Rattle.std.specs.Prelude.{ℕ, ◌+◌, ◌≡◌, ◌<◌, ◌≤◌, ⊤, List, [], ◌∷◌, ◌++◌, length, Option, Some, None, Result, Ok, Err}
 use Rattle.lake_io.specs.Files as shelf
 use Rattle.lake_model.specs.Texts.{Text}
 use Rattle.script_model.specs.Commands.{Batch, File}
@@ -29,3 +29,8 @@ pub record Ends (end : Reading → Commands) (result : Result (Option Batch) Scr
 abbrev pub IsLast : Option Batch → Batch → Option Open → Type 0
 IsLast None commands block = ⊤
 IsLast (Some batch) commands block = (commands ≡ []) × (block ≡ None)
+
+-- the batch at the end is the one that the last line gave, or the commands at hand, of which there are some
+abbrev pub IsGiven : Option Batch → Batch → Batch → Type 0
+IsGiven None commands batch = (batch ≡ commands) × (0 < length batch)
+IsGiven (Some last) commands batch = batch ≡ last

@@ -54,10 +54,10 @@ pub record AreRules (rules : Rules) : Type 0 where
   pub input : rules.limits.input ≤ 68719476736
   pub lanes : 1 ≤ rules.lanes
 
--- the open block has a lane, and its body so far is within the limits
-abbrev pub IsWithin : Rules → ℕ → Option Open → Type 0
-IsWithin rules bytes None = ⊤
-IsWithin rules bytes (Some block) = (1 ≤ block.lane) × (block.lane ≤ rules.lanes) × (length block.body ≤ rules.limits.block) × (bytes + length block.body ≤ rules.limits.bytes)
+-- the open block comes with a line that has no number yet, it has a lane, and its body so far is within the limits
+abbrev pub IsWithin : Rules → ℕ → ℕ → ℕ → Option Open → Type 0
+IsWithin rules used numbered bytes None = ⊤
+IsWithin rules used numbered bytes (Some block) = (numbered < used) × (1 ≤ block.lane) × (block.lane ≤ rules.lanes) × (length block.body ≤ rules.limits.block) × (bytes + length block.body ≤ rules.limits.bytes)
 
 -- each line and each command has a byte, and all is within the limits
 pub record IsBounded (rules : Rules) (lines used numbered : ℕ) (commands : Batch) (bytes : ℕ) (block : Option Open) : Type 0 where
@@ -66,7 +66,7 @@ pub record IsBounded (rules : Rules) (lines used numbered : ℕ) (commands : Bat
   pub numbers_within : numbered ≤ used
   pub used_within : used ≤ rules.limits.input
   pub bytes_within : bytes ≤ rules.limits.bytes
-  pub body_within : IsWithin rules bytes block
+  pub body_within : IsWithin rules used numbered bytes block
   pub lanes : IsOfLanes rules.lanes commands
   pub merges : HasNoMerge commands
 
@@ -90,7 +90,7 @@ pub record Turns (step : Reading → Turn) (result : Result (Option Batch) Scrip
 -- the commands of a batch that was given or goes on are at most one more than before
 abbrev pub GrowsByOne : Result (Option Batch) ScriptEnd → Batch → Batch → Type 0
 GrowsByOne (Ok None) before after = length after ≤ length before + 1
-GrowsByOne (Ok (Some batch)) before after = (after ≡ []) × (length batch ≤ length before + 1)
+GrowsByOne (Ok (Some batch)) before after = (after ≡ []) × (length batch ≤ length before)
 GrowsByOne (Err e) before after = ⊤
 
 -- the same at the end of a script, where the last line has so many bytes

@@ -8,7 +8,7 @@ ghost use Rattle.script_model.specs.Reading.{Reading, Stands, batch_ended, block
 ghost use Rattle.script_model.specs.Saying as model;
 ghost use Rattle.script_model.specs.Saying.{closed, said};
 ghost use Rattle.script_model.specs.Script.{at_end, begun_fault, ended, last_turn, start};
-ghost use Rattle.script_text.specs.Endings.{Ends, EndsAs, IsLast};
+ghost use Rattle.script_text.specs.Endings.{Ends, EndsAs, IsGiven, IsLast};
 ghost use Rattle.script_text.specs.Fronts.{IsFrontInRange, IsLane, IsSaidInRange, front_of, said_of};
 ghost use Rattle.script_text.specs.Gathering.{reading_at};
 ghost use Rattle.script_text.specs.Outcomes.{MayCome, RoseBy, is_failed};
@@ -268,11 +268,14 @@ impl Reader {
         ensures files { F.files shelf.new ≡ F.files shelf.old }
     {
         let line = self.lines + 1;
+        let used = self.used + rest.len() as u64;
         if let Some(reason) = self.begun_fault(rest) {
             return Err(ScriptEnd::Script { line, reason });
         }
         let last = self.read_last_line(shelf, rest)?;
-        self.end(last)
+        let batch = self.end(last)?;
+        self.used = used;
+        Ok(batch)
     }
 
     // Reads a line outside a block, which was counted.
@@ -389,9 +392,7 @@ impl Reader {
         self.refuse_full()?;
         let file = fetch_file(self.alloc, shelf, path)?;
         let size = file.size();
-        if size > self.rules.limits.bytes - self.bytes {
-            return Err(self.fault(Reason::BatchBytes));
-        }
+        self.refuse_bytes(size)?;
         self.push_command(lane, Task::LoadFile { name, file }, size)?;
         Ok(())
     }
@@ -405,11 +406,11 @@ impl Reader {
         ensures grows { OnOk result (length self.new.reading.commands ≤ length self.old.reading.commands + 1) }
         ensures rules { self.new.rules ≡ self.old.rules }
     {
-        if is_end(line) {
-            self.close_block()?;
-            return Ok(());
+        if !is_end(line) {
+            return self.push_line(undotted(line));
         }
-        self.push_line(undotted(line))
+        self.close_block()?;
+        Ok(())
     }
 
     // Adds a line to the body of the block, where the limits have room for it.
@@ -458,7 +459,7 @@ impl Reader {
     ) -> Result<Option<Batch>, ScriptEnd>
         requires { self.old.reading.used + length line.now ≤ self.old.rules.limits.input }
         ensures turn { Turns (last_turn (grammar_by self.old.rules) self.old.reading.block line.now) result (self.old.reading.lines + 1) self.old.reading self.new.reading (F.files shelf.old) (F.faults shelf.old) (F.faults shelf.new) }
-        ensures used { self.new.reading.used ≡ self.old.reading.used + length line.now }
+        ensures used { self.new.reading.used ≤ self.old.reading.used + length line.now }
         ensures last { IfOk result (λ found. IsLast found self.new.reading.commands self.new.reading.block) }
         ensures grows { IfOk result (λ found. GrowsAtEnd found (length line.now) self.old.reading.commands self.new.reading.commands) }
         ensures lanes { IfOk result (λ found. IfSome found (IsOfLanes self.old.rules.lanes)) }
@@ -470,24 +471,29 @@ impl Reader {
         if line.is_empty() {
             return Ok(None);
         }
-        self.used += line.len() as u64;
         if self.block.is_none() {
             self.lines += 1;
+            self.used += line.len() as u64;
             return self.read_command(shelf, line);
         }
-        if is_end(line) {
-            self.close_block()?;
+        if !is_end(line) {
+            return Ok(None);
         }
+        self.close_block()?;
         Ok(None)
     }
 
     // The batch at the end of the script: what its last line gave, or the commands at hand, where there are any.
     fn end(&mut self, last: Option<Batch>) -> Result<Option<Batch>, ScriptEnd>
-        requires { IsLast last self.old.reading.commands self.old.reading.block }
-        ensures ends { EndsAs result [] (at_end (batches_of last) self.old.reading.block self.old.reading) }
+        requires last { IsLast last self.old.reading.commands self.old.reading.block }
+        requires lanes { IfSome last (IsOfLanes self.old.rules.lanes) }
+        requires merges { IfSome last HasNoMerge }
+        ensures ends { (paths : List Text) (later : List File) → EndsAs result paths (at_end (batches_of last) self.old.reading.block (reading_at self.old.reading paths later)) }
         ensures used { self.new.reading.used ≡ self.old.reading.used }
-        ensures given { IfOk result (λ found. IfSome found (λ batch. IfSome last (λ given. batch ≡ given))) }
-        ensures some { IfOk result (λ found. IfSome found (λ batch. last ≡ None → (batch ≡ self.old.reading.commands) × (0 < length batch))) }
+        ensures counts { (self.new.reading.lines ≡ self.old.reading.lines) × (self.new.reading.numbered ≡ self.old.reading.numbered) }
+        ensures given { IfOk result (λ found. IfSome found (IsGiven last self.old.reading.commands)) }
+        ensures lanes { IfOk result (λ found. IfSome found (IsOfLanes self.old.rules.lanes)) }
+        ensures merges { IfOk result (λ found. IfSome found HasNoMerge) }
         ensures rules { self.new.rules ≡ self.old.rules }
     {
         if let Some(block) = &self.block {
@@ -545,6 +551,17 @@ impl Reader {
     {
         if self.commands.len() >= self.rules.limits.commands as usize {
             return Err(self.fault(Reason::BatchCommands));
+        }
+        Ok(())
+    }
+
+    // Refuses so many more bytes where the batch has no room for them.
+    fn refuse_bytes(&self, size: u64) -> Result<(), ScriptEnd>
+        ensures room { OnOk result (self.now.reading.bytes + size ≤ self.now.rules.limits.bytes) }
+        ensures full { IfErr result (λ e. (e ≡ ScriptEnd.Script self.now.reading.lines Reason.BatchBytes) × (self.now.rules.limits.bytes < self.now.reading.bytes + size)) }
+    {
+        if size > self.rules.limits.bytes - self.bytes {
+            return Err(self.fault(Reason::BatchBytes));
         }
         Ok(())
     }
