@@ -5,3 +5,4 @@ pub mod HeldLemmas
 pub mod EndLemmas
 pub mod ProgressLemmas
 pub mod TurnLemmas
+pub mod BatchLemmas

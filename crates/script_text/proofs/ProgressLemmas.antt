@@ -26,10 +26,10 @@ use Rattle.script_text.specs.Readings.{Turns}
 use Rattle.script_text.proofs.EndLemmas.{commands_end}
 
 -- what an input gives behind a turn
-abbrev with_batches : List Batch → Commands → Commands
+abbrev pub with_batches : List Batch → Commands → Commands
 with_batches given made = commands_with (given ++ made.batches) made.end made.asked
 
-abbrev after_turn : Grammar → ℕ → Turn → Text → Commands
+abbrev pub after_turn : Grammar → ℕ → Turn → Text → Commands
 after_turn grammar line (Goes reading) more = commands_from grammar reading more
 after_turn grammar line (Gives batch reading) more = with_batches (batch ∷ []) (commands_from grammar reading more)
 after_turn grammar line (Fails why asked) more = commands_with [] (FaultAt line why) asked
@@ -59,7 +59,7 @@ outcomes_join files (path ∷ asked) more_asked (outcome ∷ outcomes) more h k 
 rose_join : (a b first second third : ℕ) → RoseBy a first second → RoseBy b second third → RoseBy (a + b) first third
 rose_join a b first second third h k = omega (arith, h, k)
 
-fetched_join : (files : Option (List shelf.File)) (first second third : ℕ) (asked more_asked : List Text) (outcomes more : List File)
+pub fetched_join : (files : Option (List shelf.File)) (first second third : ℕ) (asked more_asked : List Text) (outcomes more : List File)
     → AreFetched files first second asked outcomes → AreFetched files second third more_asked more → AreFetched files first third (asked ++ more_asked) (outcomes ++ more)
 fetched_join files first second third asked more_asked outcomes more h k = record {
   each = outcomes_join files asked more_asked outcomes more h.each k.each;
@@ -75,16 +75,16 @@ text_push (first ∷ lines) line rest =
     append_assoc (line_text first) (lines_text (lines ++ line ∷ [])) rest ∙ ap (λ (xs : List ℕ). line_text first ++ xs) (text_push lines line rest)
     ∙ sym (append_assoc (line_text first) (lines_text lines) (line ++ 0x0A ∷ rest))
 
-whole_push : (lines : List Text) (line : Text) → AllByRecursion NoFeed lines → NoFeed line → AllByRecursion NoFeed (lines ++ line ∷ [])
+pub whole_push : (lines : List Text) (line : Text) → AllByRecursion NoFeed lines → NoFeed line → AllByRecursion NoFeed (lines ++ line ∷ [])
 whole_push [] line h k = (k, tt)
 whole_push (first ∷ lines) line h k = (h.0, whole_push lines line h.1 k)
 
 -- ---- the beginning, and a read
 
-pub begins : (from : Grammar) (before : Reading) (held : List ℕ) (left : Option (List ℕ)) (files : Option (List shelf.File)) (faults : ℕ) → before.asked ≡ []
+pub begins : (from : Grammar) (before : Reading) (held : List ℕ) (left : Option (List ℕ)) (files : Option (List shelf.File)) (faults : ℕ)
     → Progress from before held left left files faults faults before held
 unfolding read
-begins from before held left files faults e = record {
+begins from before held left files faults = record {
   given = [];
   asked = [];
   outcomes = [];
@@ -118,7 +118,7 @@ module _ (from : Grammar) (before : Reading) (held_before : List ℕ) (left_befo
   -- ---- a line
 
   -- the lines with one more
-  read_push : (now : Reading) (faults left_faults : ℕ) (left : Option (List ℕ)) (held : List ℕ) (p : Progress from before held_before left_before left files faults_before faults now held) (line : Text) (more later : List File)
+  pub read_push : (now : Reading) (faults left_faults : ℕ) (left : Option (List ℕ)) (held : List ℕ) (p : Progress from before held_before left_before left files faults_before faults now held) (line : Text) (more later : List File)
       → read from (read_with [] (Stands (reading_at before [] ((p.outcomes ++ more) ++ later)))) (p.lines ++ line ∷ [])
       ≡ turned [] (now.lines + 1) (turn_of from line (reading_at now p.asked (more ++ later)))
   unfolding read
@@ -128,7 +128,7 @@ module _ (from : Grammar) (before : Reading) (held_before : List ℕ) (left_befo
       ∙ ap (λ (made : LinesRead). read from made (line ∷ [])) (p.reads (more ++ later))
 
   -- what the input gives from a line on that fits
-  goes_line : (now : Reading) (faults : ℕ) (left : Option (List ℕ)) (held : List ℕ) (p : Progress from before held_before left_before left files faults_before faults now held) (line : Text) (more later : List File) (rest : List ℕ)
+  pub goes_line : (now : Reading) (faults : ℕ) (left : Option (List ℕ)) (held : List ℕ) (p : Progress from before held_before left_before left files faults_before faults now held) (line : Text) (more later : List File) (rest : List ℕ)
       → NoFeed line → now.used + (length line + 1) ≤ from.input
       → commands_from from (reading_at before [] ((p.outcomes ++ more) ++ later)) (lines_text p.lines ++ (line ++ 0x0A ∷ rest))
       ≡ after_turn from (now.lines + 1) (turn_of from line (reading_at now p.asked (more ++ later))) rest
@@ -137,12 +137,12 @@ module _ (from : Grammar) (before : Reading) (held_before : List ℕ) (left_befo
       ∙ p.goes (more ++ later) (line ++ 0x0A ∷ rest)
       ∙ commands_line from (reading_at now p.asked (more ++ later)) line rest whole fits
 
-  cut_push : (now : Reading) (faults : ℕ) (left : Option (List ℕ)) (held : List ℕ) (p : Progress from before held_before left_before left files faults_before faults now held) (at : ℕ) (line : EndsLine held at)
+  pub cut_push : (now : Reading) (faults : ℕ) (left : Option (List ℕ)) (held : List ℕ) (p : Progress from before held_before left_before left files faults_before faults now held) (at : ℕ) (line : EndsLine held at)
       → held_before ++ p.given ≡ lines_text (p.lines ++ take at held ∷ []) ++ drop (at + 1) held
   cut_push now faults left held p at line =
       p.cut ∙ ap (λ (xs : List ℕ). lines_text p.lines ++ xs) line.cut ∙ sym (text_push p.lines (take at held) (drop (at + 1) held))
 
-  size_of_line : (now : Reading) (held : Text) (at : ℕ) → EndsLine held at → now.used + (at + 1) ≤ from.input → now.used + (length (take at held) + 1) ≤ from.input
+  pub size_of_line : (now : Reading) (held : Text) (at : ℕ) → EndsLine held at → now.used + (at + 1) ≤ from.input → now.used + (length (take at held) + 1) ≤ from.input
   size_of_line now held at line fits = subst (λ (n : ℕ). now.used + (n + 1) ≤ from.input) (sym (length-take-le at held (omega (arith, line.within)))) fits
 
   -- The line does nothing more than to go on.

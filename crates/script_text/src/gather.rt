@@ -103,7 +103,7 @@ impl Gather {
         ensures files { F.files shelf.new ≡ F.files shelf.old }
     {
         // It is ended but for the time behind a `sync`.
-        self.ended = true;
+        self.set_ended(true);
         'lines: loop {
             let Some(at) = self.find_line() else {
                 if self.read_more(source)? == 0 {
@@ -112,10 +112,18 @@ impl Gather {
                 continue 'lines;
             };
             if let Some(batch) = self.read_line(shelf, at)? {
-                self.ended = false;
+                self.set_ended(false);
                 return Ok(Some(batch));
             }
         }
+    }
+
+    // From now on a further batch may be asked for, or not.
+    fn set_ended(&mut self, ended: bool)
+        requires { ended ≡ false → self.old.reading.commands ≡ [] }
+        ensures { self.new ≡ record self.old { ended = ended } }
+    {
+        self.ended = ended;
     }
 
     // Where the first line ends that is held whole and lies within the limit.
@@ -153,7 +161,7 @@ impl Gather {
         requires ended { self.old.ended ≡ true }
         requires line { NoFeed (take (self.old.limits.input - self.old.reading.used) self.old.held) }
         ensures came { IfOk result (λ count. Came (S.left source.old) (S.left source.new) self.old.held self.new.held count) }
-        ensures fits { IfOk result (λ count. (self.old.reading.used + length self.old.held ≤ self.old.limits.input) × (count ≤ self.old.limits.input + 1)) }
+        ensures fits { IfOk result (λ count. (self.old.reading.used + length self.old.held ≤ self.old.limits.input) × (self.old.reading.used + length self.old.held + count ≤ self.old.limits.input + 1)) }
         ensures kept { OnErr result (Keeps (S.left source.old) (S.left source.new) × (self.new.held ≡ self.old.held)) }
         ensures reading { self.new.reading ≡ self.old.reading }
         ensures same { HasSameRules self.old self.new }

@@ -341,6 +341,7 @@ impl Reader {
 
     // Opens the block of a command.
     fn open_block(&mut self, lane: u32, front: Front) -> Result<(), ScriptEnd>
+        requires counted { self.old.reading.numbered < self.old.reading.used }
         requires block { self.old.reading.block ≡ None }
         requires lane { IsLane self.old.rules.lanes lane }
         requires in_range { IsFrontInRange front }
