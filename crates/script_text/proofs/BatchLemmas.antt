@@ -1,5 +1,5 @@
 -- What a call of a gatherer answers.
-use Rattle.std.proofs.Common.{◌≡◌, refl, ap, sym, ◌∙◌, subst, ℕ, ◌+◌, ◌-◌, ◌<◌, ◌≤◌, List, [], ◌∷◌, ◌++◌, length, take, drop, arith, append_assoc, append-nil, inl, inr}
+use Rattle.std.proofs.Common.{◌≡◌, refl, ap, sym, ◌∙◌, subst, ℕ, ◌+◌, ◌-◌, ◌<◌, ◌≤◌, List, [], ◌∷◌, ◌++◌, true, false, length, take, drop, arith, append_assoc, append-nil, inl, inr}
 use Rattle.std.specs.Prelude.{Option, Some, None, Ok, Err, Result}
 use Rattle.std.specs.Io.KnownBytes.{Consumes, IsAtEnd, Keeps}
 use Rattle.std.proofs.KnownBytes.{Consumes-kept}
@@ -35,7 +35,7 @@ module _ (before now : Gathering) (left_before left : Option (List ℕ)) (files 
   abbrev by : Grammar
   by = grammar before
 
-  taken_with : (last : ℕ) (asked : List Text) (outcomes : List File) → AreFetched files middle last asked outcomes → Taken left_before left files first last
+  abbrev taken_with : (last : ℕ) (asked : List Text) (outcomes : List File) → AreFetched files middle last asked outcomes → Taken left_before left files first last
   taken_with last asked outcomes fetched = record {
     given = p.given;
     asked = p.asked ++ asked;
