@@ -1,4 +1,6 @@
 pub mod ScriptLemmas
+pub mod AskedLemmas
+pub mod LinesLemmas
 pub mod InTurnLemmas
 pub mod RightLemmas
 pub mod PlayLemmas
