@@ -11,3 +11,4 @@ pub mod LegalLemmas
 pub mod PlayedLemmas
 pub mod LimitLemmas
 mod WorkedRuns
+mod WorkedWords
