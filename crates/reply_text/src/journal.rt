@@ -12,11 +12,11 @@ use lake_model::Who;
 use no_memory::NoMemory;
 
 // `  P WHAT lane C command N NAME`
-fn push_update(
+fn push_update<'a>(
     position: u64,
-    what: &str,
+    what: &'a str,
     who: Who,
-    name: &Name,
+    name: &'a Name,
     into: &mut Vec<u8>,
 ) -> Result<(), NoMemory>
     ensures ok { OnOk result (into.new.items ≡ into.old.items ++ line_text (codes "  " ++ spaced (decimal position ∷ what.now ∷ codes "lane" ∷ decimal who.caller ∷ codes "command" ∷ command_text who ∷ name.now ∷ []))) }
