@@ -1,5 +1,5 @@
 -- The lines of a list whose items are numbered from 1, item by item.
-use Rattle.std.proofs.Common.{◌≡◌, ◌∙◌, ◌<◌, ◌≤◌, ◌+◌, ◌++◌, ◌∷◌, [], ap, sym, List, ℕ, length, get_or, take, map, flat_map, arith, append-nil, append_assoc, length-take-le}
+use Rattle.std.proofs.Common.{◌≡◌, ◌∙◌, ◌<◌, ◌+◌, ◌++◌, ◌∷◌, [], ap, sym, List, ℕ, length, get_or, take, map, flat_map, arith, append-nil, append_assoc, length-take-le}
 use Rattle.std.proofs.lemmas.List.{take_more}
 use Rattle.std.specs.List.{enumerate_from}
 use Rattle.lake_model.specs.Texts.{Text}

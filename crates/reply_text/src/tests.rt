@@ -353,10 +353,7 @@ fn the_journal_stands_behind_a_traced_record_that_ended(rt: HostRuntime) -> Resu
         caller: 1,
         command: 2,
     };
-    record.add_entry(Entry::dropped(
-        second,
-        Name::read(b"a").ok_or("no name")?,
-    ));
+    record.add_entry(Entry::dropped(second, Name::read(b"a").ok_or("no name")?));
     let third = Who {
         caller: 2,
         command: 3,
@@ -365,7 +362,8 @@ fn the_journal_stands_behind_a_traced_record_that_ended(rt: HostRuntime) -> Resu
     writes(&rt, &record, true, "")?;
     record.close();
     writes(&rt, &record, false, "")?;
-    let wanted = "journal 3\n  1 load lane 1 command 1 a\n  2 drop lane 1 command 2 a\n  3 load lane 2 command 3 b\n";
+    let wanted =
+        "journal 3\n  1 load lane 1 command 1 a\n  2 drop lane 1 command 2 a\n  3 load lane 2 command 3 b\n";
     writes(&rt, &record, true, wanted)?;
     Ok(())
 }
