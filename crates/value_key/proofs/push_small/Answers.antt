@@ -1,5 +1,4 @@
-use Rattle.std.proofs.Common.{◌∙◌, ◌≤◌, ap, arith, length, map, sym, take}
-use Rattle.std.specs.Char.{to_ascii_lowercase}
+use Rattle.std.proofs.Common.{◌∙◌, ◌≤◌, ap, arith, length, sym, take}
 use Rattle.std.proofs.lemmas.List.{take_all}
 use Rattle.lake_model.specs.Keys.{key_of_text}
 use Rattle.value_key.proofs.AsciiLemmas.{key_of_text-ascii}
