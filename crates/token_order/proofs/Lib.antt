@@ -1,3 +1,4 @@
+pub mod ColumnLemmas
 pub mod PlaceLemmas
 pub mod RunLemmas
 pub mod SortLemmas

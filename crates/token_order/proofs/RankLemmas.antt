@@ -20,10 +20,11 @@ use Rattle.search_model.specs.declared.TokenAt.{TokenAt}
 use Rattle.search_model.specs.Segment.{Token, columns_of, tokens_of}
 use Rattle.search_model.specs.Arrays.{key_of, numbers_of, IsByKey, IsToken}
 use Rattle.search_model.proofs.KeyLemmas.{found}
-use Rattle.token_order.specs.Places.{keys_of, AreMembers}
+use Rattle.token_order.specs.Places.{keys_of, number_of, AreMembers}
 use Rattle.token_order.specs.Ranks.{names_of, AreRanks, HaveRanks, IsRank}
 use Rattle.token_order.specs.Runs.{runs_of}
 use Rattle.token_order.specs.Vocabulary.{IsVocabulary}
+use Rattle.token_order.specs.declared.columns.ColumnAt.{ColumnAt}
 use Rattle.token_order.specs.declared.places.Member.{Member}
 use Rattle.token_order.proofs.RunLemmas.{runs_rise}
 use Rattle.token_order.proofs.SortLemmas.{rises, sorted_from_rises, sorted_map}
@@ -62,14 +63,14 @@ level_itself Greater e = cc
 -- ---- the ranks
 
 -- what is written for all members are the ranks
-pub ranks_are : (tables : List Table) (members : List Member) (runs : List Token) (ranks : List ℕ) → AreMembers tables members → HaveRanks runs (keys_of tables) ranks members → length ranks ≡ length (keys_of tables) → map (λ t. t.key) runs ≡ names_of (tokens_of (columns_of tables))
+pub ranks_are : (tables : List Table) (columns : List ColumnAt) (members : List Member) (runs : List Token) (ranks : List ℕ) → AreMembers tables columns members → HaveRanks runs (keys_of tables) ranks columns members → length ranks ≡ length (keys_of tables) → map (λ t. t.key) runs ≡ names_of (tokens_of (columns_of tables))
     → AreRanks tables ranks
-ranks_are tables members runs ranks all written long named =
+ranks_are tables columns members runs ranks all written long named =
     let keys = keys_of tables in
-    let numbers = map (λ (m : Member). m.number) members in
+    let numbers = map (number_of columns) members in
     let names = map (λ (t : Token). t.key) runs in
     let IsHere : ℕ → Type 0 = λ n. IsRank names (get_or keys n []) (get_or ranks n 0) in
-    let each : All IsHere (range_with_len 0 (length keys)) = All-permutation IsHere numbers (range_with_len 0 (length keys)) (IsPermutation-sym _ _ all.all) (All-map IsHere (λ (m : Member). m.number) members written) in
+    let each : All IsHere (range_with_len 0 (length keys)) = All-permutation IsHere numbers (range_with_len 0 (length keys)) (IsPermutation-sym _ _ all.all) (All-map IsHere (number_of columns) members written) in
     record {
       long = long;
       each = λ n b.

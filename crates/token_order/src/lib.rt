@@ -1,6 +1,7 @@
 //! The vocabulary of a list of tables: its distinct keys, numbered as tokens by rising frequency, and then by their bytes.
 #![tactic(auto)]
 
+mod columns;
 mod numbers;
 mod places;
 mod runs;

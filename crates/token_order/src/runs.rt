@@ -6,6 +6,7 @@ ghost use Rattle.token_order.specs.Places.{keys_of, pointed_by, AreMembers};
 ghost use Rattle.token_order.specs.Ranks.{HaveRanks};
 ghost use Rattle.token_order.specs.Runs.{runs_from, runs_of};
 
+use crate::columns::ColumnAt;
 use crate::places::{Member, key_at};
 use column_set::SharedTable;
 use no_memory::NoMemory;
@@ -17,19 +18,20 @@ use std::alloc::Global;
 pub fn count_runs(
     alloc: Global,
     tables: &[SharedTable],
+    columns: &[ColumnAt],
     members: &[Member],
     ranks: &mut [u32],
 ) -> Result<Vec<TokenAt>, NoMemory>
-    requires members { AreMembers tables.now members.now }
+    requires members { AreMembers tables.now columns.now members.now }
     requires few { length members.now < 2 ^ 32 }
     requires room { length ranks.old ≡ length (keys_of tables.now) }
-    ensures runs { IfOk result (λ tokens. map (token_at tables.now) tokens.items ≡ runs_of (map (pointed_by tables.now) members.now)) }
+    ensures runs { IfOk result (λ tokens. map (token_at tables.now) tokens.items ≡ runs_of (map (pointed_by tables.now columns.now) members.now)) }
     ensures within { IfOk result (λ tokens. All (IsAt tables.now) tokens.items) }
-    ensures ranked { OnOk result (HaveRanks (runs_of (map (pointed_by tables.now) members.now)) (keys_of tables.now) ranks.new members.now) }
+    ensures ranked { OnOk result (HaveRanks (runs_of (map (pointed_by tables.now columns.now) members.now)) (keys_of tables.now) ranks.new columns.now members.now) }
     ensures long { length ranks.new ≡ length ranks.old }
 {
     match members.first() {
-        Some(first) => count_from(alloc, tables, first.at(0), members, ranks),
+        Some(first) => count_from(alloc, tables, columns, first.at(columns, 0), members, ranks),
         None => Ok(Vec::new(alloc)),
     }
 }
@@ -38,31 +40,32 @@ pub fn count_runs(
 fn count_from(
     alloc: Global,
     tables: &[SharedTable],
+    columns: &[ColumnAt],
     first: TokenAt,
     members: &[Member],
     ranks: &mut [u32],
 ) -> Result<Vec<TokenAt>, NoMemory>
     requires none { first.frequency ≡ 0 }
     requires first { IsAt tables.now first }
-    requires members { AreMembers tables.now members.now }
+    requires members { AreMembers tables.now columns.now members.now }
     requires few { length members.now < 2 ^ 32 }
     requires room { length ranks.old ≡ length (keys_of tables.now) }
-    ensures runs { IfOk result (λ tokens. map (token_at tables.now) tokens.items ≡ runs_from (token_at tables.now first) (map (pointed_by tables.now) members.now)) }
+    ensures runs { IfOk result (λ tokens. map (token_at tables.now) tokens.items ≡ runs_from (token_at tables.now first) (map (pointed_by tables.now columns.now) members.now)) }
     ensures within { IfOk result (λ tokens. All (IsAt tables.now) tokens.items) }
-    ensures ranked { OnOk result (HaveRanks (runs_from (token_at tables.now first) (map (pointed_by tables.now) members.now)) (keys_of tables.now) ranks.new members.now) }
+    ensures ranked { OnOk result (HaveRanks (runs_from (token_at tables.now first) (map (pointed_by tables.now columns.now) members.now)) (keys_of tables.now) ranks.new columns.now members.now) }
     ensures long { length ranks.new ≡ length ranks.old }
 {
     let mut tokens = Vec::new(alloc);
     let mut run = first;
     for member in members {
-        let at = member.at(1);
+        let at = member.at(columns, 1);
         if key_at(tables, at) == key_at(tables, run) {
             run.frequency += 1;
         } else {
             tokens.push(run)?;
             run = at;
         }
-        ranks[member.number as usize] = tokens.len() as u32;
+        ranks[member.number(columns)] = tokens.len() as u32;
     }
     tokens.push(run)?;
     Ok(tokens)

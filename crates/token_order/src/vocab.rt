@@ -6,6 +6,7 @@ ghost use Rattle.search_model.specs.Arrays.{token_at, IsAt};
 ghost use Rattle.search_model.specs.Segment.{columns_of, token_cmp, tokens_of};
 ghost use Rattle.token_order.specs.Ranks.{AreRanks};
 
+use crate::columns::all_columns;
 use crate::numbers;
 use crate::places::{key_at, members_by_key};
 use crate::runs::count_runs;
@@ -133,9 +134,10 @@ fn tokens_in_order(alloc: Global, tables: &[SharedTable]) -> Result<RankedTokens
     ensures counted { IfOk result (λ made. sum_by (λ at. at.frequency) made.tokens.items ≡ sum_by members tables.now) }
     ensures ranked { IfOk result (λ made. AreRanks tables.now made.ranks.items) }
 {
-    let members = members_by_key(alloc, tables)?;
+    let columns = all_columns(alloc, tables)?;
+    let members = members_by_key(alloc, tables, &columns)?;
     let mut ranks = vec![in alloc; 0; members.len()]?;
-    let mut tokens = count_runs(alloc, tables, &members, &mut ranks)?;
+    let mut tokens = count_runs(alloc, tables, &columns, &members, &mut ranks)?;
     tokens.sort_unstable_by(|a, b| token_order(tables, *a, *b));
     Ok(RankedTokens { tokens, ranks })
 }

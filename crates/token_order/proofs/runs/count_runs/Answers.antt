@@ -10,10 +10,12 @@ use Rattle.token_order.proofs.runs.count_runs.Goals as goal
 pub returns-in-Some-clause-runs : goal.returns-in-Some-clause-runs
 returns-in-Some-clause-runs c =
     let tables = c.args.tables.now in
-    subst (λ (all : List Token). IfOk c.count_from.result (λ tokens. map (token_at tables) tokens.items ≡ all)) (from_first tables c.args.members.now c.at.result c.in-Some.first.now c.at.ensures c.in-Some.ensures.item.3.0 c.in-Some.ensures.item.1) c.count_from.ensures.runs
+    let columns = c.args.columns.now in
+    subst (λ (all : List Token). IfOk c.count_from.result (λ tokens. map (token_at tables) tokens.items ≡ all)) (from_first tables columns c.args.members.now c.at.result c.in-Some.first.now c.at.ensures c.in-Some.ensures.item.3.0 c.in-Some.ensures.item.1) c.count_from.ensures.runs
 
 pub returns-in-Some-clause-ranked : goal.returns-in-Some-clause-ranked
 returns-in-Some-clause-ranked c =
     let tables = c.args.tables.now in
+    let columns = c.args.columns.now in
     let members = c.args.members.now in
-    subst (λ (all : List Token). OnOk c.count_from.result (HaveRanks all (keys_of tables) c.count_from.new.ranks members)) (from_first tables members c.at.result c.in-Some.first.now c.at.ensures c.in-Some.ensures.item.3.0 c.in-Some.ensures.item.1) c.count_from.ensures.ranked
+    subst (λ (all : List Token). OnOk c.count_from.result (HaveRanks all (keys_of tables) c.count_from.new.ranks columns members)) (from_first tables columns members c.at.result c.in-Some.first.now c.at.ensures c.in-Some.ensures.item.3.0 c.in-Some.ensures.item.1) c.count_from.ensures.ranked

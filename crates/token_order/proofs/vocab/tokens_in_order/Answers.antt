@@ -27,6 +27,7 @@ count_runs-requires-clause-few c =
 pub returns-clause-named : goal.returns-clause-named
 returns-clause-named c =
     let tables = c.args.tables.now in
+    let columns = c.in_ok-columns.columns.items in
     let members = c.in_ok-members.members.items in
     let made = c.in_ok-tokens.tokens.items in
     let tokens = c.sort_unstable_by.new.self.items in
@@ -42,6 +43,7 @@ returns-clause-within c =
 pub returns-clause-few : goal.returns-clause-few
 returns-clause-few c =
     let tables = c.args.tables.now in
+    let columns = c.in_ok-columns.columns.items in
     let members = c.in_ok-members.members.items in
     let made = c.in_ok-tokens.tokens.items in
     let runs : map (token_at tables) made ≡ runs_of (map (pointed_by tables) members) = c.in_ok-tokens.ensures.runs ∙ ap (λ (ms : List Member). runs_of (map (pointed_by tables) ms)) c.deref.ensures.value in
@@ -59,6 +61,7 @@ returns-clause-few c =
 pub returns-clause-counted : goal.returns-clause-counted
 returns-clause-counted c =
     let tables = c.args.tables.now in
+    let columns = c.in_ok-columns.columns.items in
     let members = c.in_ok-members.members.items in
     let made = c.in_ok-tokens.tokens.items in
     let tokens = c.sort_unstable_by.new.self.items in
@@ -73,12 +76,14 @@ returns-clause-counted c =
 pub count_runs-requires-clause-room : goal.count_runs-requires-clause-room
 count_runs-requires-clause-room c =
     let tables = c.args.tables.now in
+    let columns = c.in_ok-columns.columns.items in
     let members = c.in_ok-members.members.items in
     omega (arith, c.deref_mut.ensures.len, c.in_ok-ranks.ensures.len, c.len.ensures, c.deref.ensures.len, ap (λ (ms : List Member). length ms) c.deref.ensures.value, member_count tables members c.in_ok-members.ensures.same, length-keys_of tables)
 
 pub returns-clause-ranked : goal.returns-clause-ranked
 returns-clause-ranked c =
     let tables = c.args.tables.now in
+    let columns = c.in_ok-columns.columns.items in
     let members = c.in_ok-members.members.items in
     let made = c.in_ok-tokens.tokens.items in
     let tokens = c.sort_unstable_by.new.self.items in
