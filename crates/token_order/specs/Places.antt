@@ -59,7 +59,3 @@ pub record IsMore (tables : List Table) (columns : List ColumnAt) (old new : Lis
   pub points : map (pointed_by tables columns) new ≡ map (pointed_by tables columns) old ++ keys
   pub within : All (IsThere tables columns) old → All (IsThere tables columns) new
   pub numbered : IsNumbered columns old → IsNumbered columns new
-
--- the same place, with another frequency
-abbrev pub counted : TokenAt → ℕ → TokenAt
-counted at frequency = record { table = at.table; place = at.place; index = at.index; frequency = frequency }

@@ -3,6 +3,7 @@
 
 mod columns;
 mod numbers;
+mod order;
 mod places;
 mod runs;
 mod vocab;

@@ -1,4 +1,4 @@
-use Rattle.std.proofs.Common.{◌∙◌, ap, sym, subst, ◌<◌, List, [], ◌++◌, length, take, arith}
+use Rattle.std.proofs.Common.{◌∙◌, ap, sym, ◌<◌, List, ◌++◌, length, arith}
 use Rattle.std.proofs.lemmas.List.Elements.{All-more}
 use Rattle.column_set.specs.Columns.{HasDistinctKeys}
 use Rattle.lake_model.specs.Texts.{Text}

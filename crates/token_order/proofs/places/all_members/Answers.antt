@@ -1,5 +1,5 @@
-use Rattle.std.proofs.Common.{◌≡◌, ◌∙◌, sym, subst, ◌<◌, [], length, take, arith}
-use Rattle.token_order.specs.Columns.{column_at, keys_there, keys_through, no_column}
+use Rattle.std.proofs.Common.{sym, subst, ◌<◌, [], length, arith}
+use Rattle.token_order.specs.Columns.{no_column}
 use Rattle.token_order.specs.Places.{IsMore}
 use Rattle.token_order.proofs.ColumnLemmas.{keys_through_more}
 use Rattle.token_order.proofs.PlaceLemmas.{more_long, more_more}

@@ -1,10 +1,8 @@
-use Rattle.std.proofs.Common.{◌≡◌, ◌∙◌, ap, sym, subst, refl, ℕ, ◌+◌, ◌<◌, List, [], ◌∷◌, ◌++◌, length, get_or, take, arith, rules}
+use Rattle.std.proofs.Common.{◌≡◌, ◌∙◌, ap, sym, subst, refl, ◌+◌, ◌<◌, List, [], ◌∷◌, ◌++◌, length, get_or, take, arith}
 use Rattle.std.proofs.lemmas.List.{length-take-le, take_more}
 use Rattle.lake_model.specs.Tables.{Table, keys_at}
-use Rattle.search_model.specs.Arrays.{table_at}
 use Rattle.token_order.specs.Columns.{column_at, keys_there, no_column}
 use Rattle.token_order.specs.Places.{number_of, IsMore}
-use Rattle.token_order.specs.declared.columns.ColumnAt.{ColumnAt}
 use Rattle.token_order.specs.declared.places.Member.{Member}
 use Rattle.token_order.proofs.PlaceLemmas.{more_long, more_push}
 use Rattle.token_order.proofs.places.push_column.Goals as goal
