@@ -50,10 +50,20 @@ impl Plain {
         }
         let loads = self.loads.len() as u64;
         for (which, count, more, limit) in [
-            (Which::Live, self.live() as u64, 1, u64::from(self.limits.live)),
+            (
+                Which::Live,
+                self.live() as u64,
+                1,
+                u64::from(self.limits.live),
+            ),
             (Which::Updates, at, 1, self.limits.updates),
             (Which::Members, loads, 1, self.limits.members),
-            (Which::KeyBytes, loads.saturating_mul(3), 3, self.limits.key_bytes),
+            (
+                Which::KeyBytes,
+                loads.saturating_mul(3),
+                3,
+                self.limits.key_bytes,
+            ),
         ] {
             if count.saturating_add(more) > limit {
                 return Err(LoadRefused::Full {

@@ -108,7 +108,11 @@ pub fn loads(
 }
 
 // Drops a table, and expects this answer.
-pub fn drops(lake: &mut Catalogue, text: &str, answer: Result<u64, DropRefused>) -> Result<(), Fail> {
+pub fn drops(
+    lake: &mut Catalogue,
+    text: &str,
+    answer: Result<u64, DropRefused>,
+) -> Result<(), Fail> {
     if lake.drop_table(SECOND, &name(text)?) != answer {
         return Err(Fail::from("another answer to a drop"));
     }
