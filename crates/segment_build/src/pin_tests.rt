@@ -1,13 +1,17 @@
-//! The worked segment: one table of two columns, its look-ups, its looks with their log and its meter; marks and their pins.
+//! The segment of a worked table, from arrays that were made by hand: its look-ups, its looks with their log and its meter, its columns'
+//! sets; marks and their pins.
 ghost use Rattle.std.specs.Prelude.{◌≡◌, ◌∷◌, [], codes, get_or, length, IfOk, OnOk};
 ghost use Rattle.lake_model.specs.Tables.{column_name, keys_at, titles_of};
 ghost use Rattle.segment_core.specs.Versions.{tables_of};
-ghost use Rattle.segment_core.specs.Worked.{worked_owners, worked_postings, worked_table, worked_tokens, worked_version};
+ghost use Rattle.segment_build.specs.Worked.{worked_owners, worked_postings, worked_table, worked_tokens, worked_version};
 
-use crate::{Look, Looks, Marks, Numbers, Owner, Part, Pin, Posting, Segment, TokenAt, Version};
 use column_set::{Name, QuerySet, SharedTable, TableSets};
 use csv_table::read_table;
 use no_memory::NoMemory;
+use segment_core::{
+    ColumnRefused, Look, Looks, Marks, Numbers, Owner, Part, Pin, Posting, Segment, TokenAt,
+    Version,
+};
 use std::alloc::Global;
 use std::process::Abort;
 use std::sync::Arc;
@@ -348,5 +352,70 @@ fn pinned(rt: HostRuntime) -> Result<(), Fail> {
     expect_tables(&rt, alloc, &before, 1)?;
     expect_layout(&rt, alloc, &after, 8, true)?;
     expect_tables(&rt, alloc, &after, 0)?;
+    Ok(())
+}
+
+// Whether a pin gives these keys as the set of a column.
+fn has_keys(
+    alloc: Global,
+    pin: &Pin,
+    table: &str,
+    place: u32,
+    keys: &[&str],
+) -> Result<bool, Fail> {
+    let name = Name::read(table.as_bytes()).ok_or("no name")?;
+    let Ok(query) = pin.column(alloc, &name, place) else {
+        return Ok(false);
+    };
+    for key in keys {
+        if !query.has(key) {
+            return Ok(false);
+        }
+    }
+    Ok(query.len() as usize == keys.len())
+}
+
+// Why a pin gives no set of a column, and nothing where it gives one.
+fn refused(
+    alloc: Global,
+    pin: &Pin,
+    table: &str,
+    place: u32,
+) -> Result<Option<ColumnRefused>, Fail> {
+    let name = Name::read(table.as_bytes()).ok_or("no name")?;
+    match pin.column(alloc, &name, place) {
+        Ok(_) => Ok(None),
+        Err(refused) => Ok(Some(refused)),
+    }
+}
+
+// The sets of columns, by their place from 1. Each that is given is a reading of the segment, and none that is refused.
+#[test]
+fn column_sets(rt: HostRuntime) -> Result<(), Fail> {
+    let alloc = rt.alloc();
+    let pin = pin(alloc)?;
+    assert!(rt; has_keys(alloc, &pin, "t", 1, &["z", "a"])?);
+    assert!(rt; has_keys(alloc, &pin, "t", 2, &["a"])?);
+    assert_eq!(rt; pin.meter(0), 2);
+    let column = Some(ColumnRefused::UnknownColumn);
+    assert_eq!(rt; refused(alloc, &pin, "t", 0)?, column);
+    assert_eq!(rt; refused(alloc, &pin, "t", 3)?, column);
+    let table = Some(ColumnRefused::UnknownTable);
+    assert_eq!(rt; refused(alloc, &pin, "T", 1)?, table);
+    assert_eq!(rt; pin.meter(0), 2);
+    Ok(())
+}
+
+// A marked table has no column, but in a pin that was made before.
+#[test]
+fn marked_column(rt: HostRuntime) -> Result<(), Fail> {
+    let alloc = rt.alloc();
+    let mut version = version(alloc)?;
+    let before = Pin::new(Arc::try_clone(&version)?);
+    Version::mark(&mut version, 8, 0, 0)?;
+    let after = Pin::new(version);
+    assert!(rt; has_keys(alloc, &before, "t", 2, &["a"])?);
+    let table = Some(ColumnRefused::UnknownTable);
+    assert_eq!(rt; refused(alloc, &after, "t", 2)?, table);
     Ok(())
 }
