@@ -106,9 +106,17 @@ right_count limits lanes merge next journal from (batch ∷ batches) (sync ∷ s
     let commands : List Command = batch ++ merger_commands merge next batch in
     let whos : length (map (λ (a : Answered). a.who) (take (length commands) answers)) ≡ length (map who_of commands) = ap (λ (ws : List Who). length ws) here.answered in
     let whole : length (take (length commands) answers ++ drop (length commands) answers) ≡ length answers = ap (λ (xs : List Answered). length xs) (take-append-drop (length commands) answers) in
-    omega (arith, whos, whole, length-map (take (length commands) answers) (λ (a : Answered). a.who), length-map commands who_of, length-append (take (length commands) answers) (drop (length commands) answers),
-      command_count merge next batch, right_count limits lanes merge (next + updates batch) journal sync batches syncs (drop (length commands) answers) others,
-      sum_by-cons (λ (b : Batch). length b + (if merge then updates b else 0)) batch batches)
+    omega (
+      arith,
+      whos,
+      whole,
+      length-map (take (length commands) answers) (λ (a : Answered). a.who),
+      length-map commands who_of,
+      length-append (take (length commands) answers) (drop (length commands) answers),
+      command_count merge next batch,
+      right_count limits lanes merge (next + updates batch) journal sync batches syncs (drop (length commands) answers) others,
+      sum_by-cons (λ (b : Batch). length b + (if merge then updates b else 0)) batch batches,
+    )
 
 pub record_count : (limits : Counts) (options : Options) (batches : List Batch) (made : RunRecord) → IsRecordOf limits options batches made → length made.answers ≡ answer_count options.merge batches
 record_count limits options batches made is = right_count limits options.lanes options.merge 1 made.journal 0 batches made.syncs made.answers is.right.each

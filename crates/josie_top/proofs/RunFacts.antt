@@ -13,6 +13,7 @@ use Rattle.script_model.specs.declared.Status.{Status}
 use Rattle.script_model.specs.declared.Status.TheVariants as status
 use Rattle.script_model.specs.Commands.{Command, File, Batch}
 use Rattle.script_model.specs.Reading.{read}
+use Rattle.script_model.specs.Plain.{Mode, Run}
 use Rattle.script_model.specs.Script.{Commands, Whole, FaultAt, commands, commands_with, standard, start}
 use Rattle.script_model.specs.Record.{Options, Answered, RunRecord, plain, empty, with_end}
 use Rattle.script_model.specs.Play.{Lane, answers_of, batch_after, gathered, merges_of, play_batch, updates}
@@ -21,13 +22,15 @@ use Rattle.script_model.specs.Statuses.{left_of, script_of, IsPrefix, IsCutOff}
 use Rattle.script_model.specs.Texts.{answers_text, text_behind}
 use Rattle.script_text.specs.declared.refused.ScriptEnd.{ScriptEnd}
 use Rattle.script_text.specs.declared.refused.ScriptEnd.TheVariants as end
+use Rattle.script_text.specs.declared.words.WordsRefused.{WordsRefused}
+use Rattle.script_text.specs.declared.words.WordsRefused.TheVariants as words
 use Rattle.script_text.specs.Outcomes.{AreFetched}
 use Rattle.script_text.specs.Gathering.{Gathering, gathering_with, ReadsOn, IsSynced, IsWhole, reading_at}
 use Rattle.script_text.specs.Gathers.{Gathers, Taken}
 use Rattle.josie_top.specs.declared.writing.WriteStop.{WriteStop}
 use Rattle.josie_top.specs.declared.writing.WriteStop.TheVariants as stop
-use Rattle.josie_top.specs.Ends.{IsWritten, status_of_end, status_of_stop}
-use Rattle.josie_top.specs.Meets.{Meets}
+use Rattle.josie_top.specs.Ends.{IsWritten, status_of_end, status_of_refused, status_of_stop}
+use Rattle.josie_top.specs.Meets.{IsSaid, Meets}
 use Rattle.josie_top.specs.Progress.{AreRead, AreWritten, IsGoingOn, IsMade, IsUnderWay}
 use Rattle.josie_top.proofs.ReadFacts.{given_before, outcomes_size, fetched_more}
 use Rattle.josie_top.proofs.MadeFacts.{made_start, made_more, made_unended, no_merges, no_piece}
@@ -223,7 +226,7 @@ ends_writing limits options why left0 left1 left2 written0 written1 written2 fil
     cut_meets limits options why left0 left2 written0 written2 files f0 f2 now (way.been.given ++ took.given) (way.writ.taken ++ part) (way.been.outcomes ++ took.outcomes)
     (Consumes-trans left0 left1 left2 way.been.given took.given way.been.gave took.gave) (Appends-trans written0 written1 written2 way.writ.taken part way.writ.took written)
     (cut_within limits options (way.been.outcomes ++ took.outcomes) (λ paths. AreFetched files f0 f2 paths (way.been.outcomes ++ took.outcomes)) _ script.rest left2 made now new way.batches batch (way.been.asked ++ took.asked) way.writ.taken part
-      script.is (outcomes_size files (way.been.asked ++ took.asked) (way.been.outcomes ++ took.outcomes) fetched.each) fetched off way.is_made is are way.writ.text_is beginning)
+    script.is (outcomes_size files (way.been.asked ++ took.asked) (way.been.outcomes ++ took.outcomes) fetched.each) fetched off way.is_made is are way.writ.text_is beginning)
 
 -- Memory was wanting between two batches.
 pub ends_between : (limits : Counts) (options : Options) (left0 left1 left2 written0 written1 : Option (List ℕ)) (files : Option (List shelf.File)) (f0 f1 f2 : ℕ) (before : Gathering) (made : RunRecord) (given : List ℕ)
@@ -294,3 +297,40 @@ nothing_done limits options left written files faults made is = record { given =
 pub nothing_asked : (limits : Counts) (options : Options) (left written : Option (List ℕ)) (files : Option (List shelf.File)) (faults : ℕ) (made : RunRecord) → made ≡ empty plain
     → Meets limits options status.Usage left left written written files faults faults made
 nothing_asked limits options left written files faults made is = record { given = []; taken = []; outcomes = []; gave = Consumes-nil left; took = Appends-nil written; row = (refl, (refl, is)) }
+
+-- ---- the words
+
+-- The options that the words say; any, where they say none.
+record Said (limits : Counts) (said : Option Mode) (result : Status) (left written : Option (List ℕ)) (files : Option (List shelf.File)) (faults : ℕ) (made : RunRecord) : Type 0 where
+  pub options : Options
+  pub is : IsSaid said options
+  pub met : Meets limits options result left left written written files faults faults made
+
+said_by : (limits : Counts) (said : Option Mode) (left written : Option (List ℕ)) (files : Option (List shelf.File)) (faults : ℕ) (made : RunRecord) → made ≡ empty plain → Said limits said status.NoMemory left written files faults made
+said_by limits None left written files faults made is = record { options = plain; is = tt; met = nothing_done limits plain left written files faults made is }
+said_by limits (Some (Run options)) left written files faults made is = record { options = options; is = refl; met = nothing_done limits options left written files faults made is }
+
+-- The words are refused, or memory is wanting for them.
+pub words_refused : (limits : Counts) (said : Option Mode) (why : WordsRefused) (left written : Option (List ℕ)) (files : Option (List shelf.File)) (faults : ℕ) (made : RunRecord) → made ≡ empty plain
+    → (why ≡ words.NoMemory) ⊎ (said ≡ None) → (result : Status) → result ≡ status_of_refused why
+    → (options : Options) × IsSaid said options × Meets limits options result left left written written files faults faults made
+words_refused limits said words.NoMemory left written files faults made is why result same =
+    let by = said_by limits said left written files faults made is in
+    (by.options, by.is, subst (λ (s : Status). Meets limits by.options s left left written written files faults faults made) (sym same) by.met)
+words_refused limits said words.Usage left written files faults made is (inl same_word) result same = absurd (let e : words.Usage ≡ words.NoMemory = same_word in cc)
+words_refused limits said words.Usage left written files faults made is (inr none) result same =
+    (plain, subst (λ (s : Option Mode). IsSaid s plain) (sym none) tt, subst (λ (s : Status). Meets limits plain s left left written written files faults faults made) (sym same) (nothing_asked limits plain left written files faults made is))
+
+-- ---- completeness
+
+-- Without a fault a script that has none ends well, or memory is wanting.
+pub ends_well : (limits : Counts) (options : Options) (result : Status) (left0 left1 written0 written1 : Option (List ℕ)) (files : Option (List shelf.File)) (f0 f1 : ℕ) (made : RunRecord) (script : List ℕ) (Read Wrote : Type 0)
+    → Meets limits options result left0 left1 written0 written1 files f0 f1 made → left0 ≡ Some script → ((outcomes : List File) → (commands standard options.lanes script outcomes).end ≡ Whole)
+    → (result ≡ status.Usage → ⊥) → (result ≡ status.ReadFault → Read) → (result ≡ status.WriteFault → Wrote) → (Read → ⊥) → (Wrote → ⊥) → (result ≡ status.Done) ⊎ (result ≡ status.NoMemory)
+ends_well limits options status.Done left0 left1 written0 written1 files f0 f1 made script Read Wrote met told whole usage read wrote quiet still = inl refl
+ends_well limits options status.NoMemory left0 left1 written0 written1 files f0 f1 made script Read Wrote met told whole usage read wrote quiet still = inr refl
+ends_well limits options status.Usage left0 left1 written0 written1 files f0 f1 made script Read Wrote met told whole usage read wrote quiet still = absurd (usage refl)
+ends_well limits options status.ReadFault left0 left1 written0 written1 files f0 f1 made script Read Wrote met told whole usage read wrote quiet still = absurd (quiet (read refl))
+ends_well limits options status.WriteFault left0 left1 written0 written1 files f0 f1 made script Read Wrote met told whole usage read wrote quiet still = absurd (still (wrote refl))
+ends_well limits options (status.Script line why) left0 left1 written0 written1 files f0 f1 made script Read Wrote met told whole usage read wrote quiet still =
+    absurd (not_refused limits options line why left0 left1 written0 written1 files f0 f1 made script met told whole)

@@ -1,4 +1,4 @@
--- The status of a run whose gatherer gives no batch, and of one whose text is not written whole.
+-- The status of a run whose words are refused, whose gatherer gives no batch, or whose text is not written whole.
 use Rattle.std.specs.Prelude.{ℕ, List, Option}
 use Rattle.std.specs.Io.KnownBytes.{Appends}
 use Rattle.script_model.specs.Statuses.{IsPrefix}
@@ -6,6 +6,8 @@ use Rattle.script_model.specs.declared.Status.{Status}
 use Rattle.script_model.specs.declared.Status.TheVariants as status
 use Rattle.script_text.specs.declared.refused.ScriptEnd.{ScriptEnd}
 use Rattle.script_text.specs.declared.refused.ScriptEnd.TheVariants as end
+use Rattle.script_text.specs.declared.words.WordsRefused.{WordsRefused}
+use Rattle.script_text.specs.declared.words.WordsRefused.TheVariants as words
 use Rattle.josie_top.specs.declared.writing.WriteStop.{WriteStop}
 use Rattle.josie_top.specs.declared.writing.WriteStop.TheVariants as stop
 
@@ -17,6 +19,10 @@ status_of_end end.NoMemory = status.NoMemory
 abbrev pub status_of_stop : WriteStop → Status
 status_of_stop stop.Failed = status.WriteFault
 status_of_stop stop.NoMemory = status.NoMemory
+
+abbrev pub status_of_refused : WordsRefused → Status
+status_of_refused words.Usage = status.Usage
+status_of_refused words.NoMemory = status.NoMemory
 
 -- what was written of a text, by the status
 abbrev pub IsWritten : Status → Option (List ℕ) → Option (List ℕ) → List ℕ → Type 0

@@ -29,7 +29,13 @@ use Rattle.josie_top.proofs.batches.run_batches.Goals as goal
 pub loop-init : goal.loop-init
 loop-init g c = (
   starts standard_limits c.args.out.now.made.options _ _ _ _ c.args.gather.now c.args.out.now.made c.args.lanes c.requires.start c.requires.lanes c.requires.empty,
-  search rules, search rules, search rules, search rules, search rules, search rules, refl,
+  search rules,
+  search rules,
+  search rules,
+  search rules,
+  search rules,
+  search rules,
+  refl,
 )
 
 pub batch-requires : goal.batch-requires
@@ -64,7 +70,7 @@ returns-in-Err-clause-table g c =
     let (gave, fetched) = c.in-Err.ensures.later in
     subst (λ (s : Status). Meets standard_limits c.args.out.now.made.options s (g.S.Source.left c.args.source.now) (g.S.Source.left c.batch.new.source) (g.K.Sink.written c.args.sink.now) (g.K.Sink.written c.loop.sink) (g.F.Shelf.files c.args.shelf.now) (g.F.Shelf.faults c.args.shelf.now) (g.F.Shelf.faults c.batch.new.shelf) c.loop.out.made) (sym c.status_of_end.ensures)
     (subst (λ (fs : Option (List shelf.File)). Meets standard_limits c.args.out.now.made.options (status_of_end c.in-Err.end) (g.S.Source.left c.args.source.now) (g.S.Source.left c.batch.new.source) (g.K.Sink.written c.args.sink.now) (g.K.Sink.written c.loop.sink) fs (g.F.Shelf.faults c.args.shelf.now) (g.F.Shelf.faults c.batch.new.shelf) c.loop.out.made) files
-      (ends_gathering standard_limits c.args.out.now.made.options c.in-Err.end _ _ _ _ _ _ _ _ _ c.loop.gather c.batch.new.self c.loop.out.made c.requires.merge way taken gathers fetched))
+    (ends_gathering standard_limits c.args.out.now.made.options c.in-Err.end _ _ _ _ _ _ _ _ _ c.loop.gather c.batch.new.self c.loop.out.made c.requires.merge way taken gathers fetched))
 
 pub returns-in-Err-clause-read_fault : goal.returns-in-Err-clause-read_fault
 returns-in-Err-clause-read_fault g c = λ (is : c.status_of_end.result ≡ status.ReadFault).
@@ -97,7 +103,7 @@ returns-then-is_err-clause-table g c =
     let stands : c.drive.new.out.made ≡ c.loop.out.made = search rules in
     subst (Meets standard_limits c.args.out.now.made.options status.NoMemory (g.S.Source.left c.args.source.now) (g.S.Source.left c.batch.new.source) (g.K.Sink.written c.args.sink.now) (g.K.Sink.written c.loop.sink) (g.F.Shelf.files c.args.shelf.now) (g.F.Shelf.faults c.args.shelf.now) (g.F.Shelf.faults c.batch.new.shelf)) (sym stands)
     (subst (λ (fs : Option (List shelf.File)). Meets standard_limits c.args.out.now.made.options status.NoMemory (g.S.Source.left c.args.source.now) (g.S.Source.left c.batch.new.source) (g.K.Sink.written c.args.sink.now) (g.K.Sink.written c.loop.sink) fs (g.F.Shelf.faults c.args.shelf.now) (g.F.Shelf.faults c.batch.new.shelf) c.loop.out.made) files
-      (ends_between standard_limits c.args.out.now.made.options _ _ _ _ _ _ _ _ _ c.loop.gather c.loop.out.made taken.given c.requires.merge way taken.gave fetched))
+    (ends_between standard_limits c.args.out.now.made.options _ _ _ _ _ _ _ _ _ c.loop.gather c.loop.out.made taken.given c.requires.merge way taken.gave fetched))
 
 pub returns-then-is_err-clause-later : goal.returns-then-is_err-clause-later
 returns-then-is_err-clause-later g c =
@@ -127,8 +133,8 @@ returns-in-Err-write_record-clause-table g c =
     let (part, beginning, wrote) = c.in-Err-write_record.ensures.part in
     subst (λ (s : Status). Meets standard_limits c.args.out.now.made.options s (g.S.Source.left c.args.source.now) (g.S.Source.left c.batch.new.source) (g.K.Sink.written c.args.sink.now) (g.K.Sink.written c.write_record.new.sink) (g.F.Shelf.files c.args.shelf.now) (g.F.Shelf.faults c.args.shelf.now) (g.F.Shelf.faults c.batch.new.shelf) c.drive.new.out.made) (sym c.status_of_stop.ensures)
     (subst (λ (fs : Option (List shelf.File)). Meets standard_limits c.args.out.now.made.options (status_of_stop c.in-Err-write_record.stop) (g.S.Source.left c.args.source.now) (g.S.Source.left c.batch.new.source) (g.K.Sink.written c.args.sink.now) (g.K.Sink.written c.write_record.new.sink) fs (g.F.Shelf.faults c.args.shelf.now) (g.F.Shelf.faults c.batch.new.shelf) c.drive.new.out.made) files
-      (ends_writing standard_limits c.args.out.now.made.options c.in-Err-write_record.stop _ _ _ _ _ _ _ _ _ _ c.loop.gather c.batch.new.self c.loop.out.made c.drive.new.out.made c.in-Ok-Some.batch adds.new part
-        c.requires.merge way taken c.in-Ok-Some.ensures.limits c.in-Ok-Some.ensures.same_lanes c.in-Ok-Some.ensures.within gathered is adds.are (subst (IsPrefix part) first beginning) wrote))
+    (ends_writing standard_limits c.args.out.now.made.options c.in-Err-write_record.stop _ _ _ _ _ _ _ _ _ _ c.loop.gather c.batch.new.self c.loop.out.made c.drive.new.out.made c.in-Ok-Some.batch adds.new part
+    c.requires.merge way taken c.in-Ok-Some.ensures.limits c.in-Ok-Some.ensures.same_lanes c.in-Ok-Some.ensures.within gathered is adds.are (subst (IsPrefix part) first beginning) wrote))
 
 pub returns-in-Err-write_record-clause-write_fault : goal.returns-in-Err-write_record-clause-write_fault
 returns-in-Err-write_record-clause-write_fault g c = λ (is : c.status_of_stop.result ≡ status.WriteFault).
@@ -165,7 +171,7 @@ returns-then-ended-clause-table g c =
     let rest = subst (λ (trace : Bool). IsWritten c.finish-then-ended.result (g.K.Sink.written c.write_record.new.sink) (g.K.Sink.written c.finish-then-ended.new.sink) (text_behind trace (length c.drive.new.out.made.answers) (with_end true c.drive.new.out.made))) c.requires.trace c.finish-then-ended.ensures.written in
     subst (λ (fs : Option (List shelf.File)). Meets standard_limits c.args.out.now.made.options c.finish-then-ended.result (g.S.Source.left c.args.source.now) (g.S.Source.left c.batch.new.source) (g.K.Sink.written c.args.sink.now) (g.K.Sink.written c.finish-then-ended.new.sink) fs (g.F.Shelf.faults c.args.shelf.now) (g.F.Shelf.faults c.batch.new.shelf) c.finish-then-ended.new.out.made) files
     (ends_with standard_limits c.args.out.now.made.options c.finish-then-ended.result _ _ _ _ _ _ _ _ _ _ _ c.loop.gather c.batch.new.self c.loop.out.made c.drive.new.out.made c.finish-then-ended.new.out.made c.in-Ok-Some.batch adds.new
-      c.requires.merge way taken ended gathered is adds.are (subst (Appends (g.K.Sink.written c.loop.sink) (g.K.Sink.written c.write_record.new.sink)) first wrote) c.finish-then-ended.ensures.closed rest)
+    c.requires.merge way taken ended gathered is adds.are (subst (Appends (g.K.Sink.written c.loop.sink) (g.K.Sink.written c.write_record.new.sink)) first wrote) c.finish-then-ended.ensures.closed rest)
 
 pub returns-then-ended-clause-write_fault : goal.returns-then-ended-clause-write_fault
 returns-then-ended-clause-write_fault g c = λ (is : c.finish-then-ended.result ≡ status.WriteFault).
