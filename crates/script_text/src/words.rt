@@ -90,7 +90,7 @@ fn run_options(alloc: Global, words: &[String]) -> Result<Options, WordsRefused>
 
 /// The mode that the words behind the program's name say. The first word is the mode, byte for byte, and clap reads the words behind
 /// it. `run` takes the flag `--trace`, once.
-#[tactic(auto, using(crate::proofs::WordLemmas::plain_is_read, std::proofs::lemmas::Grind::common_steps))]
+#[tactic(auto, using(crate::proofs::ModeLemmas::plain_is_read, std::proofs::lemmas::Grind::common_steps))]
 pub fn read_words(alloc: Global, words: &[String]) -> Result<Mode, WordsRefused>
     // plain words give what they say, or memory is wanting
     ensures plain { (mode : ModeOf) → plain_mode (map string_bytes words.now) ≡ Some mode

@@ -3,7 +3,7 @@ use Rattle.std.specs.Prelude.{bytes_eq}
 use Rattle.std.specs.Option.{option_map_or}
 use Rattle.clap.specs.Words.{Text, found_of, one_text}
 use Rattle.clap.proofs.WalkLemmas.{one_text-rows}
-use Rattle.script_text.proofs.WordLemmas.{flag_read}
+use Rattle.script_text.proofs.ModeLemmas.{flag_read}
 use Rattle.script_text.proofs.words.flag.Goals as goal
 
 pub returns : goal.returns

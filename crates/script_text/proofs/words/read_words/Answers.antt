@@ -2,7 +2,7 @@ use Rattle.std.proofs.Common.{◌≡◌, arith, map, string_bytes, Global, Some}
 use Rattle.std.proofs.lemmas.Grind.{common_steps}
 use Rattle.script_model.specs.Plain.{Run}
 use Rattle.script_text.specs.Words.{mode_read}
-use Rattle.script_text.proofs.WordLemmas.{plain_is_read}
+use Rattle.script_text.proofs.ModeLemmas.{plain_is_read}
 use Rattle.script_text.proofs.words.read_words.Goals as goal
 
 pub returns-in_ok-run_options-in-run-clause-plain : goal.returns-in_ok-run_options-in-run-clause-plain

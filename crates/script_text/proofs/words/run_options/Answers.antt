@@ -2,7 +2,7 @@ use Rattle.std.proofs.Common.{map, string_bytes, Global}
 use Rattle.clap.specs.Words.{app_of, found_of, rows_of, kind_of}
 use Rattle.clap.proofs.TakesLemmas.{passed_up}
 use Rattle.script_text.specs.Words.{refusal_by}
-use Rattle.script_text.proofs.WordLemmas.{read_by, refused_run}
+use Rattle.script_text.proofs.ModeLemmas.{read_by, refused_run}
 use Rattle.script_text.proofs.words.run_options.Goals as goal
 
 pub returns-in_err-matches-clause-refused : goal.returns-in_err-matches-clause-refused
