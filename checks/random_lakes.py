@@ -3,12 +3,13 @@
 
     checks/random_lakes.py [JOSIE]
 
-The seeds are fixed, so the scripts are always the same. They load, drop, list and search over a few names and values:
-names that are taken or unknown, columns with one name twice, fields without a value, values that differ only by case and
+The seeds are fixed, so the scripts are always the same. They load from blocks and from files, drop, list, and search by values and by
+columns over a few names and values, in batches: names that are taken or unknown, files and places that are not there, columns with one name twice, fields without a value, values that differ only by case and
 by the blanks around them, quoted fields, lines with a carriage return or a further dot, tables without a header or with a
-record of another length, and fields and lines that are not UTF-8. The model is a list of live tables, each a name and its
-columns, each a name and an ordered list of distinct values; what josie writes is compared with it byte for byte. All text
-is ASCII, where `str.casefold` and `str.strip` make a value what it is.
+record of another length, and fields and lines that are not UTF-8; lanes' words, and further spaces between words. The model is a list of
+live tables, each a name and its columns, each a name and an ordered list of distinct values, and for each load its position with a mark where it
+was dropped; what josie writes, every second script with a trace, is compared with it byte for byte. All text is ASCII, where `str.casefold`
+and `str.strip` make a value what it is.
 
 It prints one line, and ends with 0 where josie says what the model says, and else with 1.
 """
@@ -16,6 +17,7 @@ import os
 import random
 import subprocess
 import sys
+import tempfile
 
 SCRIPTS = 6
 COMMANDS = 450
@@ -47,10 +49,11 @@ def csv_fault(records):
 
 
 class Lake:
-    """The live tables in the order of their loads, and how many loads and drops there were."""
+    """The live tables in the order of their loads, the loads with what was dropped, and how many loads and drops there were."""
 
     def __init__(self):
         self.tables = []
+        self.loads = []
         self.position = 0
 
     def find(self, name):
@@ -66,6 +69,7 @@ class Lake:
         columns = [(title, set_of(row[place] for row in rows)) for place, title in enumerate(header)]
         self.tables.append((name, columns))
         self.position += 1
+        self.loads.append([self.position, name, False])
         return [f"loaded {self.line(name, columns)} at {self.position}"]
 
     def drop(self, name):
@@ -74,6 +78,8 @@ class Lake:
             return [f"refused unknown {name} at {self.position}"]
         self.tables.remove(table)
         self.position += 1
+        for load in self.loads:
+            load[2] = load[2] or load[1] == name
         return [f"dropped {name} at {self.position}"]
 
     @staticmethod
@@ -88,16 +94,34 @@ class Lake:
         for number, line in enumerate(lines, 1):
             if NOT_UTF8 in line:
                 return [f"refused query line {number} not UTF-8"]
-        query = set(set_of(lines))
+        return self.answer(most, set(set_of(lines)), None)
+
+    def like(self, most, name, place):
+        table = self.find(name)
+        if not table:
+            return [f"refused unknown {name} at {self.position}"]
+        if not 1 <= place <= len(table[1]):
+            return [f"refused column {name} {place} at {self.position}"]
+        return self.answer(most, set(table[1][place - 1][1]), name)
+
+    def answer(self, most, query, excepted):
         found = []
         for name, columns in self.tables:
+            if name == excepted:
+                continue
             for place, (title, keys) in enumerate(columns, 1):
                 shared = len(query.intersection(keys))
                 if shared:
                     found.append((-shared, name.encode(), title.encode(), place))
         found = sorted(found)[:most]
         head = f"answer {len(found)} of {len(query)} at {self.position}"
-        return [head] + [f"  {-less} {name.decode()} {place} \"{quoted(title.decode())}\"" for less, name, title, place in found]
+        rows = [f"  {-less} {name.decode()} {place} \"{quoted(title.decode())}\"" for less, name, title, place in found]
+        return [head] + rows + [self.layout()]
+
+    def layout(self):
+        """The trace line of an answer: each load is a part with its own number and position, with a mark where it was dropped."""
+        parts = [f"{at}:{at}{'-' if is_dropped else ''}" for at, _, is_dropped in self.loads]
+        return f"  layout at {self.position} parts {' '.join(parts) or 'none'}"
 
 
 def quoted(title):
@@ -107,21 +131,42 @@ def quoted(title):
 
 
 class Script:
-    """A script as it grows, and what the model answers to it."""
+    """A script as it grows, its files, and what the model answers to it."""
 
     def __init__(self, seed):
         self.chance = random.Random(seed)
         self.lake = Lake()
         self.lines = []
         self.replies = []
+        self.journal = []
+        self.files = {}
         self.commands = 0
 
     def command(self, line, replies, block=None):
         self.commands += 1
-        self.lines.append(line)
+        self.lines.append(self.spaced(line))
         if block is not None:
             self.lines += ["." + text if text.startswith(".") else text for text in block] + ["."]
         self.replies += [f"{self.commands} {replies[0]}"] + replies[1:]
+        what, name = replies[0].split(" ")[:2]
+        if what in ("loaded", "dropped"):
+            change = "load" if what == "loaded" else "drop"
+            self.journal.append(f"  {len(self.journal) + 1} {change} lane 1 command {self.commands} {name}")
+
+    def spaced(self, line):
+        """The words of a command line, now and then with further spaces, behind the word of its lane, or with a carriage return."""
+        chance = self.chance
+        if chance.random() < 0.1:
+            line = "@1 " + line
+        if chance.random() < 0.1:
+            line = "  ".join(line.split(" "))
+        return line + chance.choice(["", "", "", "  ", "\r", " \r"])
+
+    def wanted(self, trace):
+        """What josie has to write, with a trace or without."""
+        if trace:
+            return self.replies + [f"journal {len(self.journal)}"] + self.journal
+        return [line for line in self.replies if not line.startswith("  layout at ")]
 
     def value(self):
         """A value in some case, with some blanks around it, or blanks alone, and seldom what is no text."""
@@ -169,6 +214,21 @@ class Script:
         records = self.records()
         self.command(f"load {name}", self.lake.load(name, records), self.block_of(records))
 
+    def load_file(self):
+        name = self.chance.choice(NAMES)
+        if self.chance.random() < 0.15:
+            self.command(f"loadfile {name} no such.csv", ["refused file missing"])
+            return
+        records = self.records()
+        path = f"table-{len(self.files)}.csv"
+        self.files[path] = "".join(line + "\n" for line in self.block_of(records))
+        self.command(f"loadfile {name} {path}", self.lake.load(name, records))
+
+    def like(self):
+        name = self.chance.choice([table[0] for table in self.lake.tables] or NAMES) if self.chance.random() < 0.8 else self.chance.choice(NAMES)
+        most, place = self.chance.choice([1, 2, 5, 10000]), self.chance.randint(1, 5)
+        self.command(f"like {most} {name} {place}", self.lake.like(most, name, place))
+
     def drop(self):
         live = [name for name, _ in self.lake.tables]
         name = self.chance.choice(live if live and self.chance.random() < 0.8 else NAMES)
@@ -185,16 +245,22 @@ class Script:
 
     def step(self):
         pick = self.chance.random()
-        if pick < 0.04:
+        if pick < 0.02:
+            self.lines.append("sync")
+        elif pick < 0.04:
             self.skipped()
         elif pick < 0.12:
             self.command("tables", self.lake.list_tables())
-        elif pick < 0.42:
+        elif pick < 0.30:
             self.search()
+        elif pick < 0.42:
+            self.like()
         elif len(self.lake.tables) >= MOST_TABLES or pick < 0.68:
             self.drop()
-        else:
+        elif pick < 0.9:
             self.load()
+        else:
+            self.load_file()
 
 
 def script_of(seed):
@@ -204,13 +270,18 @@ def script_of(seed):
     return script
 
 
-def difference(seed, script, josie):
+def difference(seed, script, josie, folder):
     """The first difference between what josie writes for a script and the model, and None where there is none."""
+    for path, text in script.files.items():
+        with open(os.path.join(folder, path), "w", encoding="utf-8", errors="surrogateescape", newline="") as file:
+            file.write(text)
+    trace = seed % 2 == 0
     data = "".join(line + "\n" for line in script.lines).encode(errors="surrogateescape")
-    ended = subprocess.run([josie, "run"], input=data, capture_output=True, timeout=60)
+    words = [josie, "run"] + (["--trace"] if trace else [])
+    ended = subprocess.run(words, input=data, capture_output=True, timeout=60, cwd=folder)
     if ended.returncode != 0:
         return f"script {seed}: status {ended.returncode}: {ended.stderr.decode(errors='replace').strip()}"
-    wanted = "".join(line + "\n" for line in script.replies).encode()
+    wanted = "".join(line + "\n" for line in script.wanted(trace)).encode()
     if ended.stdout == wanted:
         return None
     want_lines, got_lines = wanted.split(b"\n"), ended.stdout.split(b"\n")
@@ -227,7 +298,8 @@ def main():
     for seed in range(1, SCRIPTS + 1):
         script = script_of(seed)
         commands += script.commands
-        found = difference(seed, script, os.path.abspath(josie))
+        with tempfile.TemporaryDirectory() as folder:
+            found = difference(seed, script, os.path.abspath(josie), folder)
         if found:
             print(f"random lakes: {found}")
             return 1

@@ -13,17 +13,21 @@ const USAGE: &str =
     "josie run [--lanes N] [--order LIST] [--merge] [--trace] or josie make SEED TABLES ROWS";
 
 /// What `--help` alone prints.
-const HELP: &str = "josie run
-    Reads a script from standard input and writes its replies to standard output.
-    load NAME    loads the CSV table of the block that follows, which ends with a line `.`
-    drop NAME    drops the table of this name
-    tables       lists the tables that are live
-    search K     finds the K columns (1 to 10000) that share most values with the lines of the block that follows
-    # ...        is a comment, and an empty line is skipped
+const HELP: &str = "josie run [--trace]
+    Reads a script from standard input and writes its replies to standard output, batch by batch.
+    load NAME           loads the CSV table of the block that follows, which ends with a line `.`
+    loadfile NAME PATH  loads the CSV table of a file
+    drop NAME           drops the table of this name
+    tables              lists the tables that are live
+    search K            finds the K columns (1 to 10000) that share most values with the lines of the block that follows
+    like K NAME PLACE   finds the K columns that share most values with the column at this place of a live table, itself excepted
+    sync                ends a batch: its replies are written before more is read
+    # ...               is a comment, and an empty line is skipped
+    --trace             writes the layout of the lake behind each answer, and the journal at the end
 josie --help     prints this text
 josie --version  prints the version
-Not built yet: --lanes, --order, --merge, --trace, josie make.
-Read on in README.md and docs/FORMATS.md.";
+Not built yet: merges, lanes and stated orders (--lanes, --order, --merge), and josie make.
+Read on in README.md, docs/FORMATS.md and the manual page docs/josie.1.";
 
 /// What `--version` alone prints.
 const VERSION: &str = "josie 0.1.0";

@@ -12,19 +12,23 @@ const SCRIPT: &str =
 const WRITTEN: &str =
     "1 loaded stations columns 3 members 9 at 1\n2 answer 1 of 3 at 1\n  2 stations 2 \"city\"\n3 answer 1 of 2 at 1\n  2 stations 3 \"country\"\n";
 
-// How a run of the word ends, and whether it wrote this.
-fn ends<R: Threads + Wait + Sync>(
+// How a run of the words ends, and whether it wrote this. The shelf has one file.
+fn ends_with<R: Threads + Wait + Sync>(
     rt: &R,
     alloc: Global,
+    texts: &[&str],
     script: &str,
     piece: usize,
     failing_read: u64,
     sink_piece: usize,
     failing_write: u64,
+    failing_fetch: u64,
     written: &[u8],
 ) -> Result<(Status, bool), Fail> {
     let mut words = Vec::new(alloc);
-    words.push(String::from_str(alloc, "run")?)?;
+    for text in texts {
+        words.push(String::from_str(alloc, text)?)?;
+    }
     let mut source = MemorySource::new(alloc, script.as_bytes(), piece.max(1), &[failing_read])
         .ok()
         .ok_or("memory")?;
@@ -32,6 +36,8 @@ fn ends<R: Threads + Wait + Sync>(
         .ok()
         .ok_or("memory")?;
     let mut shelf = MemoryShelf::new(alloc);
+    shelf.add("here.csv", b"c\nx\n").ok().ok_or("memory")?;
+    shelf.fail_at(failing_fetch).ok().ok_or("memory")?;
     let mut record = RunRecord::new(alloc);
     let status = run(
         rt,
@@ -44,6 +50,31 @@ fn ends<R: Threads + Wait + Sync>(
         &mut record,
     );
     Ok((status, sink.written() == written))
+}
+
+// The same of the word `run`, with no fetch that fails.
+fn ends<R: Threads + Wait + Sync>(
+    rt: &R,
+    alloc: Global,
+    script: &str,
+    piece: usize,
+    failing_read: u64,
+    sink_piece: usize,
+    failing_write: u64,
+    written: &[u8],
+) -> Result<(Status, bool), Fail> {
+    ends_with(
+        rt,
+        alloc,
+        &["run"],
+        script,
+        piece,
+        failing_read,
+        sink_piece,
+        failing_write,
+        0,
+        written,
+    )
 }
 
 #[test]
@@ -74,7 +105,7 @@ fn writes_nothing_for_an_empty_input(rt: HostRuntime) -> Result<(), Fail> {
 // The calls are one for each piece, and one that finds the end.
 #[test]
 fn ends_at_each_failing_read_with_nothing_written(rt: HostRuntime) -> Result<(), Fail> {
-    for (piece, calls) in [(7usize, 25u64), (64, 4)] {
+    for (piece, calls) in [(1usize, 163u64), (7, 25), (64, 4)] {
         for failing in 1..=calls {
             let (status, same) = ends(&rt, rt.alloc(), SCRIPT, piece, failing, 64, 0, b"")?;
             assert!(rt; status == Status::ReadFault && same);
@@ -82,36 +113,6 @@ fn ends_at_each_failing_read_with_nothing_written(rt: HostRuntime) -> Result<(),
         let (status, _) = ends(&rt, rt.alloc(), SCRIPT, piece, calls + 1, 64, 0, b"")?;
         assert!(rt; status == Status::Done);
     }
-    Ok(())
-}
-
-// The same byte by byte, which are 163 calls. They are spread over tests, since a read of a byte clears as much room as a read of many.
-#[test]
-fn ends_at_the_first_failing_reads_of_a_byte(rt: HostRuntime) -> Result<(), Fail> {
-    for failing in 1u64..=92 {
-        let (status, same) = ends(&rt, rt.alloc(), SCRIPT, 1, failing, 64, 0, b"")?;
-        assert!(rt; status == Status::ReadFault && same);
-    }
-    Ok(())
-}
-
-#[test]
-fn ends_at_the_middle_failing_reads_of_a_byte(rt: HostRuntime) -> Result<(), Fail> {
-    for failing in 93u64..=131 {
-        let (status, same) = ends(&rt, rt.alloc(), SCRIPT, 1, failing, 64, 0, b"")?;
-        assert!(rt; status == Status::ReadFault && same);
-    }
-    Ok(())
-}
-
-#[test]
-fn ends_at_the_last_failing_reads_of_a_byte(rt: HostRuntime) -> Result<(), Fail> {
-    for failing in 132u64..=163 {
-        let (status, same) = ends(&rt, rt.alloc(), SCRIPT, 1, failing, 64, 0, b"")?;
-        assert!(rt; status == Status::ReadFault && same);
-    }
-    let (status, _) = ends(&rt, rt.alloc(), SCRIPT, 1, 164, 64, 0, b"")?;
-    assert!(rt; status == Status::Done);
     Ok(())
 }
 
@@ -131,12 +132,87 @@ fn ends_at_each_failing_write_with_what_was_taken(rt: HostRuntime) -> Result<(),
 }
 
 #[test]
+fn writes_each_batch_before_it_reads_the_next(rt: HostRuntime) -> Result<(), Fail> {
+    let script = "tables\nsync\ntables";
+    let (status, same) = ends(&rt, rt.alloc(), script, 12, 3, 64, 0, b"1 tables 0 at 0\n")?;
+    assert!(rt; status == Status::ReadFault && same);
+    let (status, same) = ends(&rt, rt.alloc(), script, 64, 0, 5, 2, b"1 tab")?;
+    assert!(rt; status == Status::WriteFault && same);
+    let (status, same) = ends(
+        &rt,
+        rt.alloc(),
+        "tables\nsync\nfind\ntables\n",
+        17,
+        2,
+        64,
+        0,
+        b"1 tables 0 at 0\n",
+    )?;
+    assert!(rt;
+        same && status
+            == Status::Script {
+                line: 3,
+                reason: Reason::Unknown
+            }
+    );
+    Ok(())
+}
+
+#[test]
+fn loads_from_files(rt: HostRuntime) -> Result<(), Fail> {
+    let script = "loadfile f missing.csv\nloadfile g here.csv\n";
+    for (failing_fetch, written) in [
+        (
+            0u64,
+            "1 refused file missing\n2 loaded g columns 1 members 1 at 1\n",
+        ),
+        (2, "1 refused file missing\n2 refused file failed\n"),
+    ] {
+        let (status, same) = ends_with(
+            &rt,
+            rt.alloc(),
+            &["run"],
+            script,
+            9,
+            0,
+            64,
+            0,
+            failing_fetch,
+            written.as_bytes(),
+        )?;
+        assert!(rt; status == Status::Done && same);
+    }
+    Ok(())
+}
+
+#[test]
+fn traces_a_run(rt: HostRuntime) -> Result<(), Fail> {
+    let script = "load a\nc\nx\n.\ndrop a\nload b\nc\nx\n.\nsearch 1\nx\n.\n";
+    let written =
+        "1 loaded a columns 1 members 1 at 1\n2 dropped a at 2\n3 loaded b columns 1 members 1 at 3\n4 answer 1 of 1 at 3\n  1 b 1 \"c\"\n  layout at 3 parts 1:1- 3:3\njournal 3\n  1 load lane 1 command 1 a\n  2 drop lane 1 command 2 a\n  3 load lane 1 command 3 b\n";
+    let (status, same) = ends_with(
+        &rt,
+        rt.alloc(),
+        &["run", "--trace"],
+        script,
+        64,
+        0,
+        64,
+        0,
+        0,
+        written.as_bytes(),
+    )?;
+    assert!(rt; status == Status::Done && same);
+    Ok(())
+}
+
+#[test]
 fn names_the_first_line_at_fault(rt: HostRuntime) -> Result<(), Fail> {
     for (script, line, reason) in [
-        ("load t\nc\nx\n.\nfind\nfind\n", 5, Reason::Unknown),
-        ("load p\nv\n..\n.\nsearch 1\na", 5, Reason::NoEnd),
-        ("search 10001\n", 1, Reason::Unknown),
-        ("# no command\n\n \n?\n", 4, Reason::Unknown),
+        ("find\nfind\n", 1, Reason::Unknown),
+        ("search 1\na", 1, Reason::NoEnd),
+        ("search 10001\n", 1, Reason::Words),
+        ("# no command\n\n \n@2 tables\n", 4, Reason::Lane),
     ] {
         let (status, same) = ends(&rt, rt.alloc(), script, 5, 0, 64, 0, b"")?;
         assert!(rt; status == Status::Script { line, reason } && same);
@@ -145,29 +221,26 @@ fn names_the_first_line_at_fault(rt: HostRuntime) -> Result<(), Fail> {
 }
 
 #[test]
-fn refuses_words_but_run(rt: HostRuntime) -> Result<(), Fail> {
-    let alloc = rt.alloc();
-    for text in ["", "Run", "run ", "runx", "make"] {
-        let mut words = Vec::new(alloc);
-        words.push(String::from_str(alloc, text)?)?;
-        let mut source = MemorySource::new(alloc, b"search 1\n.\n", 1, &[1])
-            .ok()
-            .ok_or("memory")?;
-        let mut sink = MemorySink::new(alloc, 64, 1, &[1]).ok().ok_or("memory")?;
-        let mut shelf = MemoryShelf::new(alloc);
-        let mut record = RunRecord::new(alloc);
-        let status = run(
+fn refuses_words(rt: HostRuntime) -> Result<(), Fail> {
+    for texts in [
+        ["Run", "--trace"],
+        ["run", "run"],
+        ["run", "--lanes=2"],
+        ["make", "7"],
+    ] {
+        let (status, same) = ends_with(
             &rt,
-            alloc,
-            words.as_slice(),
-            &mut source,
-            &mut sink,
-            &mut shelf,
-            &NoGate,
-            &mut record,
-        );
-        assert!(rt; status == Status::Usage);
-        assert!(rt; source.left().len() == 11 && sink.written().is_empty());
+            rt.alloc(),
+            &texts,
+            "search 1\n.\n",
+            1,
+            1,
+            1,
+            1,
+            0,
+            b"",
+        )?;
+        assert!(rt; status == Status::Usage && same);
     }
     Ok(())
 }

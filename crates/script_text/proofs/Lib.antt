@@ -6,3 +6,4 @@ pub mod EndLemmas
 pub mod ProgressLemmas
 pub mod TurnLemmas
 pub mod BatchLemmas
+pub mod ModeLemmas

@@ -7,3 +7,4 @@ pub mod Readings
 pub mod Endings
 pub mod Inputs
 pub mod Parts
+pub mod Words

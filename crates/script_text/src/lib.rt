@@ -13,6 +13,7 @@ mod reader;
 mod refused;
 mod rules;
 mod spaces;
+mod words;
 
 pub use body::Body;
 pub use command::{Batch, Command, FileBody, Task};
@@ -23,3 +24,4 @@ pub use script_model::{Reason, ScriptLimits};
 
 #[cfg(test)]
 mod tests;
+pub use words::{Mode, WordsRefused, read_words};
