@@ -207,7 +207,7 @@ module _ (before now : Gathering) (left_before left : Option (List ℕ)) (files_
   answer_sync next given last at batch line fits turns held e =
       subst (λ (g : Gathering). Answers (Ok (Some batch)) before g left_before left files_before first last) (sym e)
       (synced before (record next { ended = false }) left_before left files_before first middle now.reading now.held u.progress last at batch line (fits_before (now.reading.used + (at + 1)) fits)
-        (turns_before (take at now.held) (Ok (Some batch)) next.reading last turns) held refl)
+      (turns_before (take at now.held) (Ok (Some batch)) next.reading last turns) held refl)
 
   pub answer_line : (next : Gathering) (last at : ℕ) (e : ScriptEnd) → EndsLine now.held at → now.reading.used + (at + 1) ≤ now.limits.input
       → Turns (turn_of (grammar now) (take at now.held)) (Err e) (now.reading.lines + 1) now.reading next.reading files middle last → Answers (Err e) before next left_before left files_before first last
@@ -246,7 +246,7 @@ module _ (before now : Gathering) (left_before left : Option (List ℕ)) (files_
   answer_end next last result whole fits end same ends =
       finished before next left_before left files_before first middle now.reading now.held u.progress last result whole (fits_before (now.reading.used + length now.held) fits) end (same.ended ∙ u.ended)
       (subst (λ (from : Grammar). Ends (λ r. ended from false now.held [] (Stands r)) result now.reading files_before middle last) same_grammar
-        (subst (λ (fs : Option (List shelf.File)). Ends (λ r. ended (grammar now) false now.held [] (Stands r)) result now.reading fs middle last) u.same_files ends))
+      (subst (λ (fs : Option (List shelf.File)). Ends (λ r. ended (grammar now) false now.held [] (Stands r)) result now.reading fs middle last) u.same_files ends))
 
 pub no_read_fault : (end : Reading → Commands) (result : Result (Option Batch) ScriptEnd) (before : Reading) (files : Option (List shelf.File)) (first last : ℕ) → Ends end result before files first last → result ≡ Err ReadFault → ⊥
 no_read_fault end (Ok found) before files first last ends e = cc e

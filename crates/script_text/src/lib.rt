@@ -21,7 +21,7 @@ pub use gather::Gather;
 pub use options::{Options, Order, Piece};
 pub use refused::ScriptEnd;
 pub use script_model::{Reason, ScriptLimits};
+pub use words::{Mode, WordsRefused, read_words};
 
 #[cfg(test)]
 mod tests;
-pub use words::{Mode, WordsRefused, read_words};

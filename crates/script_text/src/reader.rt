@@ -109,7 +109,11 @@ impl OpenBlock {
         ensures in_range { IsTaskInRange result }
         ensures size { body_size (task_of result) ≡ length self.body }
     {
-        let OpenBlock { front, mut body, .. } = self;
+        let OpenBlock {
+            front,
+            mut body,
+            ..
+        } = self;
         body.shrink_to_fit();
         let Some(body) = Body::new(body) else {
             unreachable!()

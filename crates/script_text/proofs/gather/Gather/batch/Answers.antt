@@ -39,7 +39,7 @@ returns-in_err-read_more-clause-gathered g c =
     subst (λ (r : Result (Option Batch) ScriptEnd). Answers r c.args.self.now c.read_more.new.self (g.S.Source.left c.args.source.now) (g.S.Source.left c.read_more.new.source) (g.F.Shelf.files c.args.shelf.now) (g.F.Shelf.faults c.args.shelf.now) (g.F.Shelf.faults c.lines.shelf))
     (sym (p.1 ∙ ap Err p.2))
     (answer_held c.args.self.now c.find_line.new.self _ _ _ _ _ _ _ _ under c.read_more.new.self (g.S.Source.left c.read_more.new.source) e c.in_err-read_more.ensures.kept.0 c.in_err-read_more.ensures.fault
-      (λ q. (c.in_err-read_more.ensures.read_fault (ap Err q)).1))
+    (λ q. (c.in_err-read_more.ensures.read_fault (ap Err q)).1))
 
 pub returns-in_err-read_more-clause-within : goal.returns-in_err-read_more-clause-within
 returns-in_err-read_more-clause-within g c =
@@ -95,7 +95,7 @@ pub returns-in_err-batch-clause-read_fault : goal.returns-in_err-batch-clause-re
 returns-in_err-batch-clause-read_fault g c =
     let p = err_from_is_err_and c.from_residual-in_err-batch.result c.from_residual-in_err-batch.ensures.1 in
     λ q. (let same : c.in_err-batch.field-0.0 ≡ ReadFault = cc (sym (p.1 ∙ ap Err p.2) ∙ q) in
-      absurd (no_line_fault _ c.in_err-batch.field-0.0 _ _ _ _ _ _ c.in_err-batch.ensures.turn same))
+    absurd (no_line_fault _ c.in_err-batch.field-0.0 _ _ _ _ _ _ c.in_err-batch.ensures.turn same))
 
 pub returns-in-Some-2-clause-gathered : goal.returns-in-Some-2-clause-gathered
 returns-in-Some-2-clause-gathered g c =
