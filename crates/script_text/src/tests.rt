@@ -91,10 +91,10 @@ fn two_files(alloc: Global) -> Result<MemoryShelf, Fail> {
     Ok(shelf)
 }
 
-// What a script gives in pieces of this size, where the call of `read` with the number `failing` fails.
+// What a new gatherer makes of a script in pieces of this size, where the call of `read` with the number `failing` fails.
 fn given(
     alloc: Global,
-    limits: ScriptLimits,
+    mut gather: Gather,
     script: &str,
     piece: usize,
     failing: u64,
@@ -102,7 +102,6 @@ fn given(
     let mut text = String::new(alloc);
     let mut source = MemorySource::new(alloc, script.as_bytes(), piece.max(1), &[failing])?;
     let mut shelf = two_files(alloc)?;
-    let mut gather = Gather::new(alloc, 2, limits)?;
     push_batches(&mut text, &mut gather, &mut source, &mut shelf)?;
     Ok(text)
 }
@@ -195,7 +194,8 @@ const WORKED: [(&str, &str); 60] = [
 fn gives_what_the_rules_say(rt: HostRuntime) -> Result<(), Fail> {
     for (script, want) in WORKED {
         for piece in [1, 7, 64, 4096] {
-            let got = given(rt.alloc(), ScriptLimits::standard(), script, piece, 0)?;
+            let gather = Gather::new(rt.alloc(), 2, ScriptLimits::standard())?;
+            let got = given(rt.alloc(), gather, script, piece, 0)?;
             assert_eq!(rt; got.as_str(), want, "at {script:?} in pieces of {piece}");
         }
     }
@@ -254,7 +254,8 @@ const LIMITED: [(&str, &str); 18] = [
 fn keeps_the_limits(rt: HostRuntime) -> Result<(), Fail> {
     for (script, want) in LIMITED {
         for piece in [1, 7, 64] {
-            let got = given(rt.alloc(), SMALL, script, piece, 0)?;
+            let gather = Gather::new(rt.alloc(), 2, SMALL)?;
+            let got = given(rt.alloc(), gather, script, piece, 0)?;
             assert_eq!(rt; got.as_str(), want, "at {script:?} in pieces of {piece}");
         }
     }
@@ -280,7 +281,8 @@ fn keeps_the_limit_of_an_input(rt: HostRuntime) -> Result<(), Fail> {
         }
         script.push_str(last)?;
         for piece in [1, 7, 4096] {
-            let got = given(rt.alloc(), SMALL, script.as_str(), piece, 0)?;
+            let gather = Gather::new(rt.alloc(), 2, SMALL)?;
+            let got = given(rt.alloc(), gather, script.as_str(), piece, 0)?;
             assert_eq!(rt; got.as_str(), want, "{last:?} in pieces of {piece}");
         }
     }
@@ -310,7 +312,8 @@ const FAILING: [(&str, usize, u64, &str); 6] = [
 #[test]
 fn tells_failing_reads(rt: HostRuntime) -> Result<(), Fail> {
     for (script, piece, failing, want) in FAILING {
-        let got = given(rt.alloc(), ScriptLimits::standard(), script, piece, failing)?;
+        let gather = Gather::new(rt.alloc(), 2, ScriptLimits::standard())?;
+        let got = given(rt.alloc(), gather, script, piece, failing)?;
         assert_eq!(rt;
             got.as_str(),
             want,
