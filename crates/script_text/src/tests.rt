@@ -106,6 +106,57 @@ fn given(
     Ok(text)
 }
 
+// The same, by the standard limits.
+fn given_standard(alloc: Global, script: &str, piece: usize, failing: u64) -> Result<String, Fail> {
+    let gather = Gather::new(alloc, 2, ScriptLimits::standard())?;
+    given(alloc, gather, script, piece, failing)
+}
+
+// The same, by limits that small scripts reach.
+fn given_small(alloc: Global, script: &str, piece: usize) -> Result<String, Fail> {
+    let limits = ScriptLimits {
+        line: 16,
+        block: 8,
+        commands: 2,
+        bytes: 12,
+        input: 200,
+    };
+    let gather = Gather::new(alloc, 2, limits)?;
+    given(alloc, gather, script, piece, 0)
+}
+
+// Whether the script gives this in pieces of each size.
+fn gives(alloc: Global, script: &str, want: &str) -> Result<bool, Fail> {
+    for piece in [1, 7, 64, 4096] {
+        let got = given_standard(alloc, script, piece, 0)?;
+        if got.as_str() != want {
+            return Ok(false);
+        }
+    }
+    Ok(true)
+}
+
+// The same, by small limits.
+fn gives_small(alloc: Global, script: &str, want: &str) -> Result<bool, Fail> {
+    for piece in [1, 7, 4096] {
+        let got = given_small(alloc, script, piece)?;
+        if got.as_str() != want {
+            return Ok(false);
+        }
+    }
+    Ok(true)
+}
+
+// A line so many times, and then the last.
+fn repeated(alloc: Global, line: &str, count: usize, last: &str) -> Result<String, AllocError> {
+    let mut script = String::new(alloc);
+    for _ in 0..count {
+        script.push_str(line)?;
+    }
+    script.push_str(last)?;
+    Ok(script)
+}
+
 const WORKED: [(&str, &str); 60] = [
     ("", "end"),
     ("\n  \n# x\n#\n\r\n", "end"),
@@ -193,23 +244,13 @@ const WORKED: [(&str, &str); 60] = [
 #[test]
 fn gives_what_the_rules_say(rt: HostRuntime) -> Result<(), Fail> {
     for (script, want) in WORKED {
-        for piece in [1, 7, 64, 4096] {
-            let gather = Gather::new(rt.alloc(), 2, ScriptLimits::standard())?;
-            let got = given(rt.alloc(), gather, script, piece, 0)?;
-            assert_eq!(rt; got.as_str(), want, "at {script:?} in pieces of {piece}");
-        }
+        assert!(rt;
+            gives(rt.alloc(), script, want)?,
+            "{script:?} gives not {want:?}"
+        );
     }
     Ok(())
 }
-
-// Limits that small scripts reach.
-const SMALL: ScriptLimits = ScriptLimits {
-    line: 16,
-    block: 8,
-    commands: 2,
-    bytes: 12,
-    input: 200,
-};
 
 const LIMITED: [(&str, &str); 18] = [
     ("drop abcdefghijk\n", "[1@1 drop abcdefghijk;]"),
@@ -253,11 +294,10 @@ const LIMITED: [(&str, &str); 18] = [
 #[test]
 fn keeps_the_limits(rt: HostRuntime) -> Result<(), Fail> {
     for (script, want) in LIMITED {
-        for piece in [1, 7, 64] {
-            let gather = Gather::new(rt.alloc(), 2, SMALL)?;
-            let got = given(rt.alloc(), gather, script, piece, 0)?;
-            assert_eq!(rt; got.as_str(), want, "at {script:?} in pieces of {piece}");
-        }
+        assert!(rt;
+            gives_small(rt.alloc(), script, want)?,
+            "{script:?} gives not {want:?}"
+        );
     }
     Ok(())
 }
@@ -275,16 +315,11 @@ const LONG: [(&str, usize, &str, &str); 6] = [
 #[test]
 fn keeps_the_limit_of_an_input(rt: HostRuntime) -> Result<(), Fail> {
     for (line, count, last, want) in LONG {
-        let mut script = String::new(rt.alloc());
-        for _ in 0..count {
-            script.push_str(line)?;
-        }
-        script.push_str(last)?;
-        for piece in [1, 7, 4096] {
-            let gather = Gather::new(rt.alloc(), 2, SMALL)?;
-            let got = given(rt.alloc(), gather, script.as_str(), piece, 0)?;
-            assert_eq!(rt; got.as_str(), want, "{last:?} in pieces of {piece}");
-        }
+        let script = repeated(rt.alloc(), line, count, last)?;
+        assert!(rt;
+            gives_small(rt.alloc(), script.as_str(), want)?,
+            "{count} lines and {last:?} give not {want:?}"
+        );
     }
     Ok(())
 }
@@ -312,8 +347,7 @@ const FAILING: [(&str, usize, u64, &str); 6] = [
 #[test]
 fn tells_failing_reads(rt: HostRuntime) -> Result<(), Fail> {
     for (script, piece, failing, want) in FAILING {
-        let gather = Gather::new(rt.alloc(), 2, ScriptLimits::standard())?;
-        let got = given(rt.alloc(), gather, script, piece, failing)?;
+        let got = given_standard(rt.alloc(), script, piece, failing)?;
         assert_eq!(rt;
             got.as_str(),
             want,
