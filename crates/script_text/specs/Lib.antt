@@ -3,3 +3,8 @@ pub mod Outcomes
 pub mod Gathering
 pub mod Gathers
 pub mod Words
+pub mod Fronts
+pub mod Readings
+pub mod Endings
+pub mod Inputs
+pub mod Parts

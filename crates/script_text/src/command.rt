@@ -2,7 +2,8 @@
 ghost use Rattle.std.specs.Prelude.{◌≡◌, ◌≤◌};
 ghost use Rattle.script_model.specs.Answered.{is_update_task};
 ghost use Rattle.script_model.specs.Play.{updates};
-ghost use Rattle.script_text.specs.Tasks.{IsTaskInRange, task_of};
+ghost use Rattle.script_model.specs.Reading.{file_size};
+ghost use Rattle.script_text.specs.Tasks.{IsTaskInRange, file_of, task_of};
 
 use crate::body::Body;
 use column_set::Name;
@@ -19,6 +20,18 @@ pub enum FileBody {
     Missing,
     /// The file has more than 67,108,864 bytes.
     TooLong,
+}
+
+impl FileBody {
+    // How many bytes the file has, where they came.
+    pub(crate) fn size(&self) -> u64
+        ensures { result ≡ file_size (file_of self.now) }
+    {
+        match self {
+            FileBody::Bytes(body) => body.bytes().len() as u64,
+            FileBody::Failed | FileBody::Missing | FileBody::TooLong => 0,
+        }
+    }
 }
 
 /// What a command asks for.

@@ -1,42 +1,56 @@
 //! The batches of a script, gathered from a source in pieces of any size.
-ghost use Rattle.std.specs.Prelude.{◌≡◌, ◌<◌, ◌≤◌, ◌+◌, [], false, true, length, IfOk, IfSome, IsErrOf, OnErr};
+ghost use Rattle.std.specs.Prelude.{◌≡◌, ◌≢◌, ◌<◌, ◌≤◌, ◌+◌, ◌-◌, [], Err, false, true, drop, length, take, IfErr, IfNone, IfOk, IfSome, IsErrOf, OnErr, OnOk};
+ghost use Rattle.std.specs.Io.KnownBytes.{Keeps};
 ghost use Rattle.lake_io.specs.Causes.{Rose};
 ghost use Rattle.script_model.specs.Merges.{HasNoMerge, IsOfLanes};
-ghost use Rattle.script_model.specs.Script.{start};
-ghost use Rattle.script_text.specs.Gathering.{gathering_with};
+ghost use Rattle.script_model.specs.Reading.{Stands, turn_of};
+ghost use Rattle.script_model.specs.Script.{ended, start};
+ghost use Rattle.script_model.specs.Words.{NoFeed};
+ghost use Rattle.script_text.specs.Endings.{Ends};
+ghost use Rattle.script_text.specs.Gathering.{gathering_with, grammar};
 ghost use Rattle.script_text.specs.Gathers.{Gathers, Taken};
+ghost use Rattle.script_text.specs.Inputs.{Came, EndsLine};
+ghost use Rattle.script_text.specs.Parts.{HasSameRules, IsHeldFault};
+ghost use Rattle.script_text.specs.Readings.{GrowsByOne, Turns};
 
 use crate::command::Batch;
+use crate::input::Input;
+use crate::reader::Reader;
 use crate::refused::ScriptEnd;
+use crate::rules::Rules;
 use lake_io::{Shelf, Source};
 use no_memory::NoMemory;
-use script_model::ScriptLimits;
+use script_model::{Reason, ScriptLimits};
 use std::alloc::Global;
 use std::marker::Model;
+
+/// How many bytes the source is asked for at once: 64 KiB.
+const PIECE: usize = 65536;
 
 /// Gathers the commands of a script into batches. A contract sees what was read, the bytes at hand, whether no further batch may be asked
 /// for, the limits, and the number of lanes.
 #[derive(Drop)]
 pub struct Gather {
-    alloc: Global,
-    limits: ScriptLimits,
-    lanes: u32,
     ended: bool,
+    reader: Reader,
+    input: Input,
 }
 
 impl Model for Gather {
-    ghost use Rattle.std.specs.Prelude.{[]};
-    ghost use Rattle.script_model.specs.Script.{start};
+    ghost use Rattle.std.specs.Prelude.{◌≡◌, [], false};
     ghost use Rattle.script_text.specs.Gathering.{Gathering, gathering_with};
 
     ghost Value = { Gathering };
 
-    ghost view = { λ g. gathering_with (start []) [] g.ended g.limits g.lanes };
+    ghost view = { λ g. gathering_with g.reader.reading g.input g.ended g.reader.rules.limits g.reader.rules.lanes };
+
+    ghost invariant = { λ g. (g.ended ≡ false → g.reader.reading.commands ≡ []) };
 }
 
 impl Gather {
-    /// Nothing was read. Each limit is at most the standard one.
+    /// Nothing was read. There is a lane, and each limit is at most the standard one.
     pub fn new(alloc: Global, lanes: u32, limits: ScriptLimits) -> Result<Gather, NoMemory>
+        requires lanes { 1 ≤ lanes }
         requires line { limits.line ≤ 4096 }
         requires block { limits.block ≤ 67108864 }
         requires commands { limits.commands ≤ 4096 }
@@ -45,10 +59,9 @@ impl Gather {
         ensures { IfOk result (λ gather. gather ≡ gathering_with (start []) [] false limits lanes) }
     {
         Ok(Gather {
-            alloc,
-            limits,
-            lanes,
             ended: false,
+            reader: Reader::new(alloc, Rules { limits, lanes }),
+            input: Input::new(alloc),
         })
     }
 
@@ -67,7 +80,11 @@ impl Gather {
     ///
     /// The source is asked for at most 65,536 bytes at a time, and only where what is held has no further whole line. The file of a `loadfile` is
     /// fetched when its line is read, and a refusal by the shelf for a fault, a missing path or its length becomes the outcome of that command.
-    pub fn batch<S: Source, F: Shelf>(&mut self, source: &mut S, shelf: &mut F) -> Result<Option<Batch>, ScriptEnd>
+    pub fn batch<S: Source, F: Shelf>(
+        &mut self,
+        source: &mut S,
+        shelf: &mut F,
+    ) -> Result<Option<Batch>, ScriptEnd>
         requires { self.old.ended ≡ false }
         // what was read
         ensures gathered { (taken : Taken (S.left source.old) (S.left source.new) (F.files shelf.old) (F.faults shelf.old) (F.faults shelf.new))
@@ -85,7 +102,113 @@ impl Gather {
         ensures later { (S.faults source.old ≤ S.faults source.new) × (F.faults shelf.old ≤ F.faults shelf.new) }
         ensures files { F.files shelf.new ≡ F.files shelf.old }
     {
-        self.ended = true;
-        Err(ScriptEnd::NoMemory)
+        // It is ended but for the time behind a `sync`.
+        self.set_ended(true);
+        'lines: loop {
+            let Some(at) = self.find_line() else {
+                if self.read_more(source)? == 0 {
+                    return self.finish(shelf);
+                }
+                continue 'lines;
+            };
+            if let Some(batch) = self.read_line(shelf, at)? {
+                self.set_ended(false);
+                return Ok(Some(batch));
+            }
+        }
+    }
+
+    // From now on a further batch may be asked for, or not.
+    fn set_ended(&mut self, ended: bool)
+        requires { ended ≡ false → self.old.reading.commands ≡ [] }
+        ensures { self.new ≡ record self.old { ended = ended } }
+    {
+        self.ended = ended;
+    }
+
+    // Where the first line ends that is held whole and lies within the limit.
+    fn find_line(&mut self) -> Option<usize>
+        ensures same { self.new ≡ self.old }
+        ensures found { IfSome result (λ at. EndsLine self.old.held at × (self.old.reading.used + (at + 1) ≤ self.old.limits.input)) }
+        ensures none { IfNone result (NoFeed (take (self.old.limits.input - self.old.reading.used) self.old.held)) }
+    {
+        self.input.find_line(self.reader.room())
+    }
+
+    // Reads the first line that is held, which has so many bytes.
+    fn read_line<F: Shelf>(&mut self, shelf: &mut F, at: usize) -> Result<Option<Batch>, ScriptEnd>
+        requires ended { self.old.ended ≡ true }
+        requires line { EndsLine self.old.held at }
+        requires fits { self.old.reading.used + (at + 1) ≤ self.old.limits.input }
+        ensures turn { Turns (turn_of (grammar self.old) (take at self.old.held)) result (self.old.reading.lines + 1) self.old.reading self.new.reading (F.files shelf.old) (F.faults shelf.old) (F.faults shelf.new) }
+        ensures held { self.new.held ≡ drop (at + 1) self.old.held }
+        ensures used { self.new.reading.used ≡ self.old.reading.used + (at + 1) }
+        ensures grows { GrowsByOne result self.old.reading.commands self.new.reading.commands }
+        ensures lanes { IfOk result (λ found. IfSome found (IsOfLanes self.old.lanes)) }
+        ensures merges { IfOk result (λ found. IfSome found HasNoMerge) }
+        ensures same { HasSameRules self.old self.new }
+        ensures later { F.faults shelf.old ≤ F.faults shelf.new }
+        ensures files { F.files shelf.new ≡ F.files shelf.old }
+    {
+        let line = &self.input.held()[..at];
+        let answer = self.reader.read_line(shelf, line);
+        self.input.use_up(at + 1);
+        answer
+    }
+
+    // Reads once from the source, where what is held is not too long. The answer is how many bytes came, and 0 only at the end.
+    fn read_more<S: Source>(&mut self, source: &mut S) -> Result<usize, ScriptEnd>
+        requires ended { self.old.ended ≡ true }
+        requires line { NoFeed (take (self.old.limits.input - self.old.reading.used) self.old.held) }
+        ensures came { IfOk result (λ count. Came (S.left source.old) (S.left source.new) self.old.held self.new.held count) }
+        ensures fits { IfOk result (λ count. (self.old.reading.used + length self.old.held ≤ self.old.limits.input) × (self.old.reading.used + length self.old.held + count ≤ self.old.limits.input + 1)) }
+        ensures kept { OnErr result (Keeps (S.left source.old) (S.left source.new) × (self.new.held ≡ self.old.held)) }
+        ensures reading { self.new.reading ≡ self.old.reading }
+        ensures same { HasSameRules self.old self.new }
+        ensures fault { IfErr result (λ e. IsHeldFault self.old e) }
+        ensures read_fault { result ≡ Err ScriptEnd.ReadFault → Rose (S.faults source.old) (S.faults source.new) × NoFeed self.old.held }
+        ensures later { S.faults source.old ≤ S.faults source.new }
+    {
+        let most = self.room_to_read()?;
+        self.input.read(source, most)
+    }
+
+    // How many bytes may be read, where what is held is not too long.
+    fn room_to_read(&self) -> Result<usize, ScriptEnd>
+        requires line { NoFeed (take (self.now.limits.input - self.now.reading.used) self.now.held) }
+        ensures fits { IfOk result (λ most. (0 < most) × (most ≤ 65536) × (self.now.reading.used + length self.now.held + most ≤ self.now.limits.input + 1)) }
+        ensures fault { IfErr result (λ e. (e ≢ ScriptEnd.ReadFault) × IsHeldFault self.now e) }
+    {
+        let held = self.input.held();
+        let room = self.reader.room();
+        let line = self.reader.lines() + 1;
+        if held.len() > room {
+            let reason = self
+                .reader
+                .begun_fault(&held[..room])
+                .unwrap_or(Reason::InputTooLong);
+            return Err(ScriptEnd::Script { line, reason });
+        }
+        if held.len() > self.reader.longest() {
+            let reason = self.reader.too_long();
+            return Err(ScriptEnd::Script { line, reason });
+        }
+        Ok((room - held.len() + 1).min(PIECE))
+    }
+
+    // The last batch, where the input is at its end, and what is held is its last line.
+    fn finish<F: Shelf>(&mut self, shelf: &mut F) -> Result<Option<Batch>, ScriptEnd>
+        requires ended { self.old.ended ≡ true }
+        requires fits { self.old.reading.used + length self.old.held ≤ self.old.limits.input }
+        ensures ends { Ends (λ reading. ended (grammar self.old) false self.old.held [] (Stands reading)) result self.old.reading (F.files shelf.old) (F.faults shelf.old) (F.faults shelf.new) }
+        ensures used { OnOk result (self.new.reading.used ≡ self.old.reading.used + length self.old.held) }
+        ensures grows { IfOk result (λ found. IfSome found (λ batch. (0 < length self.old.reading.commands + length self.old.held) × (length batch ≤ length self.old.reading.commands + length self.old.held))) }
+        ensures lanes { IfOk result (λ found. IfSome found (IsOfLanes self.old.lanes)) }
+        ensures merges { IfOk result (λ found. IfSome found HasNoMerge) }
+        ensures same { HasSameRules self.old self.new }
+        ensures later { F.faults shelf.old ≤ F.faults shelf.new }
+        ensures files { F.files shelf.new ≡ F.files shelf.old }
+    {
+        self.reader.finish(shelf, self.input.held())
     }
 }

@@ -3,11 +3,17 @@
 
 mod body;
 mod command;
+mod front;
 mod gather;
+mod input;
 mod line;
+mod numbers;
 mod options;
+mod reader;
 mod refused;
 mod words;
+mod rules;
+mod spaces;
 
 pub use body::Body;
 pub use command::{Batch, Command, FileBody, Task};
@@ -16,3 +22,6 @@ pub use options::{Options, Order, Piece};
 pub use refused::ScriptEnd;
 pub use script_model::{Reason, ScriptLimits};
 pub use words::{Mode, WordsRefused, read_words};
+
+#[cfg(test)]
+mod tests;

@@ -1,0 +1,167 @@
+-- How far a call of a gatherer has come: by the bytes given, the paths asked for, and the lines read.
+use Rattle.std.proofs.Common.{◌≡◌, refl, ap, sym, ◌∙◌, subst, ℕ, ◌+◌, ◌-◌, ◌^◌, ◌<◌, ◌≤◌, List, [], ◌∷◌, ◌++◌, Bool, cond, length, take, drop, arith, append_assoc, append-nil, min}
+use Rattle.std.specs.Prelude.{flat_map, count_by, Option, Some, None, Ok, Err}
+use Rattle.std.specs.Io.KnownBytes.{Consumes, IsAtEnd, Keeps}
+use Rattle.std.specs.List.{AllByRecursion}
+use Rattle.std.proofs.KnownBytes.{Consumes-kept, Consumes-nil, Consumes-trans}
+use Rattle.std.proofs.lemmas.List.{length-take-le}
+use Rattle.std.proofs.lemmas.List.Sums.{sum_by-append}
+use Rattle.lake_io.specs.Files as shelf
+use Rattle.lake_model.specs.Texts.{Text}
+use Rattle.script_model.specs.declared.Reason.{Reason}
+use Rattle.script_model.specs.Commands.{Batch, File}
+use Rattle.script_model.specs.Reading.{Fails, Gives, Goes, Grammar, LinesRead, Reading, Stands, Turn, read, read_with, turn_of, turned}
+use Rattle.script_model.specs.Script.{Commands, FaultAt, commands_from, commands_with, ended}
+use Rattle.script_model.specs.Statuses.{left_of}
+use Rattle.script_model.specs.Texts.{line_text}
+use Rattle.script_model.specs.Words.{NoFeed}
+use Rattle.script_model.proofs.ScriptLemmas.{commands_line, read_on}
+use Rattle.script_text.specs.declared.refused.ScriptEnd.TheVariants.{Script}
+use Rattle.script_text.specs.Endings.{Ends}
+use Rattle.script_text.specs.Gathering.{Gathering, IsFaulty, IsSynced, IsUnfinished, IsWhole, ReadsOn, grammar, lines_text, reading_at}
+use Rattle.script_text.specs.Gathers.{Gathers, Taken}
+use Rattle.script_text.specs.Inputs.{Came, EndsLine}
+use Rattle.script_text.specs.Outcomes.{AreFetched, AreOutcomes, RoseBy, is_failed}
+use Rattle.script_text.specs.Readings.{Turns}
+use Rattle.script_text.proofs.EndLemmas.{commands_end}
+
+-- what an input gives behind a turn
+abbrev pub with_batches : List Batch → Commands → Commands
+with_batches given made = commands_with (given ++ made.batches) made.end made.asked
+
+abbrev pub after_turn : Grammar → ℕ → Turn → Text → Commands
+after_turn grammar line (Goes reading) more = commands_from grammar reading more
+after_turn grammar line (Gives batch reading) more = with_batches (batch ∷ []) (commands_from grammar reading more)
+after_turn grammar line (Fails why asked) more = commands_with [] (FaultAt line why) asked
+
+-- the lines that were read, of the bytes held before and those that were given since, and what is held now
+pub record Progress (from : Grammar) (before : Reading) (held_before : List ℕ) (left_before left_now : Option (List ℕ)) (files : Option (List shelf.File)) (faults_before faults_now : ℕ) (now : Reading) (held : List ℕ) : Type 0 where
+  pub given : List ℕ
+  pub asked : List Text
+  pub outcomes : List File
+  pub lines : List Text
+  pub gave : Consumes left_before left_now given
+  pub fetched : AreFetched files faults_before faults_now asked outcomes
+  pub whole : AllByRecursion NoFeed lines
+  pub cut : held_before ++ given ≡ lines_text lines ++ held
+  pub reads : (later : List File) → read from (read_with [] (Stands (reading_at before [] (outcomes ++ later)))) lines ≡ read_with [] (Stands (reading_at now asked later))
+  pub goes : (later : List File) (more : List ℕ) → commands_from from (reading_at before [] (outcomes ++ later)) (lines_text lines ++ more) ≡ commands_from from (reading_at now asked later) more
+
+-- ---- small laws
+
+outcomes_join : (files : Option (List shelf.File)) (asked more_asked : List Text) (outcomes more : List File) → AreOutcomes files asked outcomes → AreOutcomes files more_asked more
+    → AreOutcomes files (asked ++ more_asked) (outcomes ++ more)
+outcomes_join files [] more_asked [] more h k = k
+outcomes_join files [] more_asked (outcome ∷ outcomes) more h k = absurd h
+outcomes_join files (path ∷ asked) more_asked [] more h k = absurd h
+outcomes_join files (path ∷ asked) more_asked (outcome ∷ outcomes) more h k = (h.0, outcomes_join files asked more_asked outcomes more h.1 k)
+
+rose_join : (a b first second third : ℕ) → RoseBy a first second → RoseBy b second third → RoseBy (a + b) first third
+rose_join a b first second third h k = omega (arith, h, k)
+
+pub fetched_join : (files : Option (List shelf.File)) (first second third : ℕ) (asked more_asked : List Text) (outcomes more : List File)
+    → AreFetched files first second asked outcomes → AreFetched files second third more_asked more → AreFetched files first third (asked ++ more_asked) (outcomes ++ more)
+fetched_join files first second third asked more_asked outcomes more h k = record {
+  each = outcomes_join files asked more_asked outcomes more h.each k.each;
+  failed = subst (λ (n : ℕ). RoseBy n first third) (sym (sum_by-append (λ (file : File). cond (is_failed file) 1 0) outcomes more)) (rose_join (count_by is_failed outcomes) (count_by is_failed more) first second third h.failed k.failed);
+}
+
+pub none_fetched : (files : Option (List shelf.File)) (first second : ℕ) → first ≤ second → AreFetched files first second [] []
+none_fetched files first second h = record { each = tt; failed = omega (arith, h) }
+
+text_push : (lines : List Text) (line : Text) (rest : List ℕ) → lines_text (lines ++ line ∷ []) ++ rest ≡ lines_text lines ++ (line ++ 0x0A ∷ rest)
+text_push [] line rest = ap (λ (xs : List ℕ). xs ++ rest) (append-nil (line ++ 0x0A ∷ [])) ∙ append_assoc line (0x0A ∷ []) rest
+text_push (first ∷ lines) line rest =
+    append_assoc (line_text first) (lines_text (lines ++ line ∷ [])) rest ∙ ap (λ (xs : List ℕ). line_text first ++ xs) (text_push lines line rest)
+    ∙ sym (append_assoc (line_text first) (lines_text lines) (line ++ 0x0A ∷ rest))
+
+pub whole_push : (lines : List Text) (line : Text) → AllByRecursion NoFeed lines → NoFeed line → AllByRecursion NoFeed (lines ++ line ∷ [])
+whole_push [] line h k = (k, tt)
+whole_push (first ∷ lines) line h k = (h.0, whole_push lines line h.1 k)
+
+-- ---- the beginning, and a read
+
+pub begins : (from : Grammar) (before : Reading) (held : List ℕ) (left : Option (List ℕ)) (files : Option (List shelf.File)) (faults : ℕ)
+    → Progress from before held left left files faults faults before held
+unfolding read
+begins from before held left files faults = record {
+  given = [];
+  asked = [];
+  outcomes = [];
+  lines = [];
+  gave = Consumes-nil left;
+  fetched = none_fetched files faults faults (omega arith);
+  whole = tt;
+  cut = append-nil held;
+  reads = λ later. refl;
+  goes = λ later more. refl;
+}
+
+module _ (from : Grammar) (before : Reading) (held_before : List ℕ) (left_before : Option (List ℕ)) (files : Option (List shelf.File)) (faults_before : ℕ) where
+  pub reads_more : (left_now left_next : Option (List ℕ)) (faults : ℕ) (now next : Reading) (held held_next : List ℕ) (count : ℕ) → next ≡ now
+      → Progress from before held_before left_before left_now files faults_before faults now held → Came left_now left_next held held_next count
+      → Progress from before held_before left_before left_next files faults_before faults next held_next
+  reads_more left_now left_next faults now next held held_next count same p came = record {
+    given = p.given ++ came.piece;
+    asked = p.asked;
+    outcomes = p.outcomes;
+    lines = p.lines;
+    gave = Consumes-trans left_before left_now left_next p.given came.piece p.gave came.gave;
+    fetched = p.fetched;
+    whole = p.whole;
+    cut = sym (append_assoc held_before p.given came.piece) ∙ ap (λ (xs : List ℕ). xs ++ came.piece) p.cut ∙ append_assoc (lines_text p.lines) held came.piece
+        ∙ ap (λ (xs : List ℕ). lines_text p.lines ++ xs) (sym came.held);
+    reads = λ later. p.reads later ∙ ap (λ (r : Reading). read_with [] (Stands (reading_at r p.asked later))) (sym same);
+    goes = λ later more. p.goes later more ∙ ap (λ (r : Reading). commands_from from (reading_at r p.asked later) more) (sym same);
+  }
+
+  -- ---- a line
+
+  -- the lines with one more
+  pub read_push : (now : Reading) (faults left_faults : ℕ) (left : Option (List ℕ)) (held : List ℕ) (p : Progress from before held_before left_before left files faults_before faults now held) (line : Text) (more later : List File)
+      → read from (read_with [] (Stands (reading_at before [] ((p.outcomes ++ more) ++ later)))) (p.lines ++ line ∷ [])
+      ≡ turned [] (now.lines + 1) (turn_of from line (reading_at now p.asked (more ++ later)))
+  unfolding read
+  read_push now faults left_faults left held p line more later =
+      ap (λ (files : List File). read from (read_with [] (Stands (reading_at before [] files))) (p.lines ++ line ∷ [])) (append_assoc p.outcomes more later)
+      ∙ read_on from (read_with [] (Stands (reading_at before [] (p.outcomes ++ (more ++ later))))) p.lines (line ∷ [])
+      ∙ ap (λ (made : LinesRead). read from made (line ∷ [])) (p.reads (more ++ later))
+
+  -- what the input gives from a line on that fits
+  pub goes_line : (now : Reading) (faults : ℕ) (left : Option (List ℕ)) (held : List ℕ) (p : Progress from before held_before left_before left files faults_before faults now held) (line : Text) (more later : List File) (rest : List ℕ)
+      → NoFeed line → now.used + (length line + 1) ≤ from.input
+      → commands_from from (reading_at before [] ((p.outcomes ++ more) ++ later)) (lines_text p.lines ++ (line ++ 0x0A ∷ rest))
+      ≡ after_turn from (now.lines + 1) (turn_of from line (reading_at now p.asked (more ++ later))) rest
+  goes_line now faults left held p line more later rest whole fits =
+      ap (λ (files : List File). commands_from from (reading_at before [] files) (lines_text p.lines ++ (line ++ 0x0A ∷ rest))) (append_assoc p.outcomes more later)
+      ∙ p.goes (more ++ later) (line ++ 0x0A ∷ rest)
+      ∙ commands_line from (reading_at now p.asked (more ++ later)) line rest whole fits
+
+  pub cut_push : (now : Reading) (faults : ℕ) (left : Option (List ℕ)) (held : List ℕ) (p : Progress from before held_before left_before left files faults_before faults now held) (at : ℕ) (line : EndsLine held at)
+      → held_before ++ p.given ≡ lines_text (p.lines ++ take at held ∷ []) ++ drop (at + 1) held
+  cut_push now faults left held p at line =
+      p.cut ∙ ap (λ (xs : List ℕ). lines_text p.lines ++ xs) line.cut ∙ sym (text_push p.lines (take at held) (drop (at + 1) held))
+
+  pub size_of_line : (now : Reading) (held : Text) (at : ℕ) → EndsLine held at → now.used + (at + 1) ≤ from.input → now.used + (length (take at held) + 1) ≤ from.input
+  size_of_line now held at line fits = subst (λ (n : ℕ). now.used + (n + 1) ≤ from.input) (sym (length-take-le at held (omega (arith, line.within)))) fits
+
+  -- The line does nothing more than to go on.
+  pub line_goes : (left : Option (List ℕ)) (faults faults_next : ℕ) (now next : Reading) (held held_next : List ℕ) (at : ℕ)
+      → Progress from before held_before left_before left files faults_before faults now held → EndsLine held at → now.used + (at + 1) ≤ from.input
+      → Turns (turn_of from (take at held)) (Ok None) (now.lines + 1) now next files faults faults_next → held_next ≡ drop (at + 1) held
+      → Progress from before held_before left_before left files faults_before faults_next next held_next
+  line_goes left faults faults_next now next held held_next at p line fits turn e = record {
+    given = p.given;
+    asked = p.asked ++ turn.asked;
+    outcomes = p.outcomes ++ turn.outcomes;
+    lines = p.lines ++ take at held ∷ [];
+    gave = p.gave;
+    fetched = fetched_join files faults_before faults faults_next p.asked turn.asked p.outcomes turn.outcomes p.fetched turn.fetched;
+    whole = whole_push p.lines (take at held) p.whole line.whole;
+    cut = cut_push now faults left held p at line ∙ ap (λ (xs : List ℕ). lines_text (p.lines ++ take at held ∷ []) ++ xs) (sym e);
+    reads = λ later. read_push now faults faults left held p (take at held) turn.outcomes later ∙ ap (turned [] (now.lines + 1)) (turn.turned p.asked later);
+    goes = λ later more.
+        ap (commands_from from (reading_at before [] ((p.outcomes ++ turn.outcomes) ++ later))) (text_push p.lines (take at held) more)
+        ∙ goes_line now faults left held p (take at held) turn.outcomes later more line.whole (size_of_line now held at line fits)
+        ∙ ap (λ (t : Turn). after_turn from (now.lines + 1) t more) (turn.turned p.asked later);
+  }

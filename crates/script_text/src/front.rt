@@ -1,0 +1,286 @@
+//! What a line outside a block says.
+ghost use Rattle.std.specs.Prelude.{ℕ, ◌<◌, ◌≡◌, ◌≤◌, IfOk, bytes_eq, find, option_map};
+ghost use Rattle.script_model.specs.Saying as model;
+ghost use Rattle.script_model.specs.Saying.{command_said, forms, lane_said, like_said, said, says};
+ghost use Rattle.script_model.specs.Words.{number_of, words};
+ghost use Rattle.script_text.specs.Fronts.{IsSaidInRange, Says, form_of};
+
+use crate::command::Task;
+use crate::line::is_skipped;
+use crate::numbers::{read_any_number, read_number};
+use crate::spaces::{before_spaces, behind_word, first_word, has_no_word, only_word};
+use column_set::Name;
+use script_model::Reason;
+use std::str;
+
+/// The greatest `k` that a search may ask for.
+const MOST_ROWS: u32 = 10000;
+
+/// The greatest place of a column.
+const MOST_PLACE: u32 = u32::MAX;
+
+/// The commands, by their words.
+#[derive(Clone, Copy, Debug, PartialEq, Eq)]
+pub(crate) enum Form {
+    Load,
+    LoadFile,
+    Drop,
+    Tables,
+    Search,
+    Like,
+    Sync,
+}
+
+/// What the line says that opens a block.
+#[derive(Drop)]
+pub(crate) enum Front {
+    Load { name: Name },
+    Search { k: u32 },
+}
+
+/// What a line says.
+#[derive(Drop)]
+pub(crate) enum Said<'a> {
+    /// It is skipped.
+    Nothing,
+    /// It ends the batch.
+    Sync,
+    /// It opens the block of a command.
+    Opens {
+        lane: u32,
+        front: Front,
+    },
+    /// It is a whole command.
+    Does {
+        lane: u32,
+        task: Task,
+    },
+    /// It is a load of a file.
+    Fetches {
+        lane: u32,
+        name: Name,
+        path: &'a str,
+    },
+}
+
+// What the line says, or what is wrong with it. Lanes are 1 to `lanes`.
+pub(crate) fn read_said(lanes: u32, line: &[u8]) -> Result<Said<'_>, Reason>
+    requires { 1 ≤ lanes }
+    ensures said { Says (said lanes line.now) result }
+    ensures in_range { IfOk result (IsSaidInRange lanes) }
+{
+    if is_skipped(line) {
+        return Ok(Said::Nothing);
+    }
+    match first_word(line) {
+        [b'@', digits @ ..] => lane_said(lanes, digits, behind_word(line)),
+        _ => command_said(1, line),
+    }
+}
+
+// The command of a text behind a lane word of these digits.
+fn lane_said<'a>(lanes: u32, digits: &[u8], text: &'a [u8]) -> Result<Said<'a>, Reason>
+    ensures said { Says (lane_said lanes (number_of digits.now) text.now) result }
+    ensures in_range { IfOk result (IsSaidInRange lanes) }
+{
+    let Some(lane) = read_any_number(digits) else {
+        return Err(Reason::Words);
+    };
+    if first_word(text) == b"sync".as_slice() {
+        return Err(Reason::Words);
+    }
+    if lane > u64::from(lanes) {
+        return Err(Reason::Lane);
+    }
+    command_said(lane as u32, text)
+}
+
+// The command of a text without its lane.
+fn command_said(lane: u32, text: &[u8]) -> Result<Said<'_>, Reason>
+    requires { 0 < lane }
+    ensures said { Says (command_said lane text.now) result }
+    ensures in_range { IfOk result (λ said. (lanes : ℕ) → lane ≤ lanes → IsSaidInRange lanes said) }
+{
+    let Some(form) = read_form(first_word(text)) else {
+        return Err(Reason::Unknown);
+    };
+    says(form, lane, behind_word(text))
+}
+
+// The command of the word.
+fn read_form(word: &[u8]) -> Option<Form>
+    ensures { option_map form_of result ≡ option_map (λ form. form.1) (find (λ form. bytes_eq form.0 word.now) forms) }
+{
+    if b"load".as_slice() == word {
+        return Some(Form::Load);
+    }
+    if b"loadfile".as_slice() == word {
+        return Some(Form::LoadFile);
+    }
+    if b"drop".as_slice() == word {
+        return Some(Form::Drop);
+    }
+    if b"tables".as_slice() == word {
+        return Some(Form::Tables);
+    }
+    if b"search".as_slice() == word {
+        return Some(Form::Search);
+    }
+    if b"like".as_slice() == word {
+        return Some(Form::Like);
+    }
+    if b"sync".as_slice() == word {
+        return Some(Form::Sync);
+    }
+    None
+}
+
+// The command of this form, where the text stands behind its command word.
+fn says(form: Form, lane: u32, text: &[u8]) -> Result<Said<'_>, Reason>
+    requires { 0 < lane }
+    ensures said { Says (says (form_of form) lane (words text.now) text.now) result }
+    ensures in_range { IfOk result (λ said. (lanes : ℕ) → lane ≤ lanes → IsSaidInRange lanes said) }
+{
+    match form {
+        Form::Load => load_said(lane, text),
+        Form::LoadFile => load_file_said(lane, text),
+        Form::Drop => drop_said(lane, text),
+        Form::Tables => tables_said(lane, text),
+        Form::Search => search_said(lane, text),
+        Form::Like => like_said(lane, text),
+        Form::Sync => sync_said(text),
+    }
+}
+
+// `load NAME`.
+fn load_said(lane: u32, text: &[u8]) -> Result<Said<'_>, Reason>
+    requires { 0 < lane }
+    ensures said { Says (says model.LoadForm lane (words text.now) text.now) result }
+    ensures in_range { IfOk result (λ said. (lanes : ℕ) → lane ≤ lanes → IsSaidInRange lanes said) }
+{
+    let Some(word) = only_word(text) else {
+        return Err(Reason::Words);
+    };
+    match Name::read(word) {
+        Some(name) => Ok(Said::Opens {
+            lane,
+            front: Front::Load { name },
+        }),
+        None => Err(Reason::Words),
+    }
+}
+
+// `loadfile NAME PATH`, where the path is the rest of the line.
+fn load_file_said(lane: u32, text: &[u8]) -> Result<Said<'_>, Reason>
+    requires { 0 < lane }
+    ensures said { Says (says model.LoadFileForm lane (words text.now) text.now) result }
+    ensures in_range { IfOk result (λ said. (lanes : ℕ) → lane ≤ lanes → IsSaidInRange lanes said) }
+{
+    let rest = behind_word(text);
+    if has_no_word(rest) {
+        return Err(Reason::Words);
+    }
+    let Some(name) = Name::read(first_word(text)) else {
+        return Err(Reason::Words);
+    };
+    match str::from_utf8(before_spaces(rest)) {
+        Ok(path) => Ok(Said::Fetches { lane, name, path }),
+        Err(_) => Err(Reason::Words),
+    }
+}
+
+// `drop NAME`.
+fn drop_said(lane: u32, text: &[u8]) -> Result<Said<'_>, Reason>
+    requires { 0 < lane }
+    ensures said { Says (says model.DropForm lane (words text.now) text.now) result }
+    ensures in_range { IfOk result (λ said. (lanes : ℕ) → lane ≤ lanes → IsSaidInRange lanes said) }
+{
+    let Some(word) = only_word(text) else {
+        return Err(Reason::Words);
+    };
+    match Name::read(word) {
+        Some(name) => Ok(Said::Does {
+            lane,
+            task: Task::Drop { name },
+        }),
+        None => Err(Reason::Words),
+    }
+}
+
+// `tables`.
+fn tables_said(lane: u32, text: &[u8]) -> Result<Said<'_>, Reason>
+    requires { 0 < lane }
+    ensures said { Says (says model.TablesForm lane (words text.now) text.now) result }
+    ensures in_range { IfOk result (λ said. (lanes : ℕ) → lane ≤ lanes → IsSaidInRange lanes said) }
+{
+    if !has_no_word(text) {
+        return Err(Reason::Words);
+    }
+    Ok(Said::Does {
+        lane,
+        task: Task::Tables,
+    })
+}
+
+// `search K`.
+fn search_said(lane: u32, text: &[u8]) -> Result<Said<'_>, Reason>
+    requires { 0 < lane }
+    ensures said { Says (says model.SearchForm lane (words text.now) text.now) result }
+    ensures in_range { IfOk result (λ said. (lanes : ℕ) → lane ≤ lanes → IsSaidInRange lanes said) }
+{
+    let Some(word) = only_word(text) else {
+        return Err(Reason::Words);
+    };
+    match read_number(word, MOST_ROWS) {
+        Some(k) => Ok(Said::Opens {
+            lane,
+            front: Front::Search { k },
+        }),
+        None => Err(Reason::Words),
+    }
+}
+
+// `like K NAME PLACE`.
+fn like_said(lane: u32, text: &[u8]) -> Result<Said<'_>, Reason>
+    requires { 0 < lane }
+    ensures said { Says (says model.LikeForm lane (words text.now) text.now) result }
+    ensures in_range { IfOk result (λ said. (lanes : ℕ) → lane ≤ lanes → IsSaidInRange lanes said) }
+{
+    let behind_k = behind_word(text);
+    let Some(place) = only_word(behind_word(behind_k)) else {
+        return Err(Reason::Words);
+    };
+    read_like(lane, first_word(text), first_word(behind_k), place)
+}
+
+// A search by the column at a place of a table.
+fn read_like(lane: u32, k: &[u8], name: &[u8], place: &[u8]) -> Result<Said<'static>, Reason>
+    requires { 0 < lane }
+    ensures said { Says (like_said lane k.now name.now place.now) result }
+    ensures in_range { IfOk result (λ said. (lanes : ℕ) → lane ≤ lanes → IsSaidInRange lanes said) }
+{
+    let Some(k) = read_number(k, MOST_ROWS) else {
+        return Err(Reason::Words);
+    };
+    let Some(place) = read_number(place, MOST_PLACE) else {
+        return Err(Reason::Words);
+    };
+    let Some(name) = Name::read(name) else {
+        return Err(Reason::Words);
+    };
+    Ok(Said::Does {
+        lane,
+        task: Task::Like { k, name, place },
+    })
+}
+
+// `sync`, which has no lane.
+fn sync_said(text: &[u8]) -> Result<Said<'_>, Reason>
+    ensures said { (lane : ℕ) → Says (says model.SyncForm lane (words text.now) text.now) result }
+    ensures in_range { IfOk result (λ said. (lanes : ℕ) → IsSaidInRange lanes said) }
+{
+    if !has_no_word(text) {
+        return Err(Reason::Words);
+    }
+    Ok(Said::Sync)
+}

@@ -1,0 +1,624 @@
+//! How far a script was read, and what each line does.
+ghost use Rattle.std.specs.Prelude.{◌<◌, ◌≡◌, ◌≢◌, ◌+◌, ◌-◌, ◌++◌, ◌∷◌, ◌≤◌, ℕ, IfErr, IfOk, IfSome, IsSome, List, None, OnOk, Some, [], count_by, false, length};
+ghost use Rattle.lake_io.specs.Refusals.{Refuses};
+ghost use Rattle.lake_model.specs.Texts.{Text};
+ghost use Rattle.script_model.specs.Commands.{File};
+ghost use Rattle.script_model.specs.Merges.{HasNoMerge, IsOfLanes, is_merge};
+ghost use Rattle.script_model.specs.Reading.{Reading, Stands, batch_ended, block_ended, body_fault, does, line_fault, line_in, turn_of, with_command};
+ghost use Rattle.script_model.specs.Saying as model;
+ghost use Rattle.script_model.specs.Saying.{closed, said};
+ghost use Rattle.script_model.specs.Script.{at_end, begun_fault, ended, last_turn, start};
+ghost use Rattle.script_text.specs.Endings.{Ends, EndsAs, IsGiven, IsLast};
+ghost use Rattle.script_text.specs.Fronts.{IsFrontInRange, IsLane, IsSaidInRange, front_of, said_of};
+ghost use Rattle.script_text.specs.Gathering.{reading_at};
+ghost use Rattle.script_text.specs.Outcomes.{MayCome, RoseBy, is_failed};
+ghost use Rattle.script_text.specs.Readings.{AreRules, GoesOn, GrowsAtEnd, GrowsByOne, Turns, added, batches_of, body_size, grammar_by, none_given, open_with, state_with, too_long};
+ghost use Rattle.script_text.specs.Tasks.{IsTaskInRange, file_of, task_of};
+
+use crate::body::Body;
+use crate::command::{Batch, Command, FileBody, Task};
+use crate::front::{Front, Said, read_said};
+use crate::line::{is_end, undotted, without_return};
+use crate::refused::ScriptEnd;
+use crate::rules::Rules;
+use column_set::Name;
+use lake_io::{Shelf, ShelfRefused};
+use no_memory::NoMemory;
+use script_model::Reason;
+use std::alloc::Global;
+use std::marker::Model;
+use std::mem;
+
+/// How many bytes a file has at most: 64 MiB.
+const MOST_FILE_BYTES: usize = 67108864;
+
+/// A block whose end is still to come. A contract sees the line of its command, its lane, what that line said, and the body so far.
+#[derive(Drop)]
+pub(crate) struct OpenBlock {
+    /// The line of the command, counted from 1.
+    line: u64,
+    lane: u32,
+    front: Front,
+    /// The lines of the block so far, each with its line feed.
+    body: Vec<u8>,
+}
+
+impl Model for OpenBlock {
+    ghost use Rattle.script_model.specs.Reading.{Open};
+
+    ghost Value = { Open };
+
+    ghost use Rattle.script_text.specs.Fronts.{IsFrontInRange, front_of};
+    ghost use Rattle.script_text.specs.Readings.{open_with};
+
+    ghost view = { λ b. open_with b.line b.lane (front_of b.front) b.body.items };
+
+    ghost invariant = { λ b. IsFrontInRange b.front };
+}
+
+impl OpenBlock {
+    // A block that the line of this number opens.
+    fn new(alloc: Global, line: u64, lane: u32, front: Front) -> OpenBlock
+        requires { IsFrontInRange front }
+        ensures { result ≡ open_with line lane (front_of front) [] }
+    {
+        OpenBlock {
+            line,
+            lane,
+            front,
+            body: Vec::new(alloc),
+        }
+    }
+
+    // The line of the command.
+    fn line(&self) -> u64
+        ensures { result ≡ self.now.line }
+    {
+        self.line
+    }
+
+    // The lane of the command.
+    fn lane(&self) -> u32
+        ensures { result ≡ self.now.lane }
+    {
+        self.lane
+    }
+
+    // How many bytes the body has so far.
+    fn size(&self) -> u64
+        ensures { result ≡ length self.now.body }
+    {
+        self.body.len() as u64
+    }
+
+    // Adds a line of the block without the dot that it begins with, and the line feed that ended it.
+    fn push_line(&mut self, text: &[u8]) -> Result<(), NoMemory>
+        ensures added { OnOk result (self.new ≡ record self.old { body = self.old.body ++ text.now ++ 0x0A ∷ [] }) }
+        ensures size { length self.new.body ≤ length self.old.body + (length text.now + 1) }
+        ensures same { self.new.lane ≡ self.old.lane }
+    {
+        self.body.extend_from_slice(text)?;
+        self.body.push(b'\n')?;
+        Ok(())
+    }
+
+    // What the command asks for, with the body so far.
+    fn into_task(self) -> Task
+        requires { length self.body ≤ 67108864 }
+        ensures task { task_of result ≡ closed self.front self.body }
+        ensures in_range { IsTaskInRange result }
+        ensures size { body_size (task_of result) ≡ length self.body }
+    {
+        let OpenBlock { front, body, .. } = self;
+        let Some(body) = Body::new(body) else {
+            unreachable!()
+        };
+        match front {
+            Front::Load { name } => Task::Load { name, body },
+            Front::Search { k } => Task::Search { k, body },
+        }
+    }
+}
+
+/// How far a script was read, and by which rules. A contract sees the reading of the definitions, which keeps no paths that were asked for,
+/// and the rules. After a refusal nothing is known of the reading.
+#[derive(Drop)]
+pub(crate) struct Reader {
+    alloc: Global,
+    rules: Rules,
+    /// How many lines were read.
+    lines: u64,
+    /// How many bytes these lines and their line feeds have.
+    used: u64,
+    /// How many commands were numbered.
+    numbered: u64,
+    /// The commands of the batch whose blocks have ended.
+    commands: Vec<Command>,
+    /// How many bytes the bodies and the files of the batch have.
+    bytes: u64,
+    /// The block whose end is still to come.
+    block: Option<OpenBlock>,
+}
+
+impl Model for Reader {
+    ghost use Rattle.script_text.specs.Readings.{ReaderState};
+
+    ghost Value = { ReaderState };
+
+    ghost use Rattle.script_text.specs.Readings.{IsBounded, reading_with, state_with};
+
+    ghost view = { λ r. state_with (reading_with r.lines r.used r.numbered r.commands.items r.bytes r.block) r.rules };
+
+    ghost invariant = { λ r. IsBounded r.rules r.lines r.used r.numbered r.commands.items r.bytes r.block };
+}
+
+impl Reader {
+    // Nothing was read.
+    pub(crate) fn new(alloc: Global, rules: Rules) -> Reader
+        requires { AreRules rules }
+        ensures { result ≡ state_with (start []) rules }
+    {
+        Reader {
+            alloc,
+            rules,
+            lines: 0,
+            used: 0,
+            numbered: 0,
+            commands: Vec::new(alloc),
+            bytes: 0,
+            block: None,
+        }
+    }
+
+    // How many bytes may still come.
+    pub(crate) fn room(&self) -> usize
+        ensures value { result ≡ self.now.rules.limits.input - self.now.reading.used }
+        ensures within { self.now.reading.used + result ≤ self.now.rules.limits.input }
+        ensures small { result ≤ 68719476736 }
+    {
+        (self.rules.limits.input - self.used) as usize
+    }
+
+    // What is wrong, by its size alone, with a line of which these bytes have come, and the line of the fault.
+    pub(crate) fn begun_fault(&self, part: &[u8]) -> Option<Reason>
+        ensures { result ≡ begun_fault (grammar_by self.now.rules) self.now.reading.block self.now.reading.bytes part.now }
+    {
+        let Some(block) = &self.block else {
+            return self.line_fault(part);
+        };
+        if is_end(part) {
+            return None;
+        }
+        size_fault(
+            &self.rules,
+            self.bytes,
+            block.size() + undotted(part).len() as u64,
+        )
+    }
+
+    // How many lines were read.
+    pub(crate) fn lines(&self) -> u64
+        ensures value { result ≡ self.now.reading.lines }
+        ensures small { result ≤ 68719476736 }
+    {
+        self.lines
+    }
+
+    // The fault of a line, or of a block, that is too long.
+    pub(crate) fn too_long(&self) -> Reason
+        ensures { result ≡ too_long self.now.reading.block }
+    {
+        match &self.block {
+            None => Reason::LineTooLong,
+            Some(_) => Reason::BlockTooLong,
+        }
+    }
+
+    // The longest part of a line that need not be too long.
+    pub(crate) fn longest(&self) -> usize
+        ensures line { self.now.reading.block ≡ None → result ≡ self.now.rules.limits.line + 1 }
+        ensures block { IfSome self.now.reading.block (λ block. result + length block.body ≡ self.now.rules.limits.block + 2) }
+        ensures body { IfSome self.now.reading.block (λ block. length block.body ≤ self.now.rules.limits.block) }
+    {
+        match &self.block {
+            None => self.rules.limits.line as usize + 1,
+            Some(block) => (self.rules.limits.block - block.size()) as usize + 2,
+        }
+    }
+
+    // Reads a line that a line feed ended, without its line feed.
+    pub(crate) fn read_line<F: Shelf>(
+        &mut self,
+        shelf: &mut F,
+        line: &[u8],
+    ) -> Result<Option<Batch>, ScriptEnd>
+        requires { self.old.reading.used + (length line.now + 1) ≤ self.old.rules.limits.input }
+        ensures turn { Turns (turn_of (grammar_by self.old.rules) line.now) result (self.old.reading.lines + 1) self.old.reading self.new.reading (F.files shelf.old) (F.faults shelf.old) (F.faults shelf.new) }
+        ensures used { self.new.reading.used ≡ self.old.reading.used + (length line.now + 1) }
+        ensures grows { GrowsByOne result self.old.reading.commands self.new.reading.commands }
+        ensures lanes { IfOk result (λ found. IfSome found (IsOfLanes self.old.rules.lanes)) }
+        ensures merges { IfOk result (λ found. IfSome found HasNoMerge) }
+        ensures rules { self.new.rules ≡ self.old.rules }
+        ensures later { F.faults shelf.old ≤ F.faults shelf.new }
+        ensures files { F.files shelf.new ≡ F.files shelf.old }
+    {
+        self.lines += 1;
+        self.used += line.len() as u64 + 1;
+        if self.block.is_none() {
+            return self.read_command(shelf, line);
+        }
+        self.read_block_line(line)?;
+        Ok(None)
+    }
+
+    // Reads what stands behind the last line feed, and gives the last batch.
+    pub(crate) fn finish<F: Shelf>(
+        &mut self,
+        shelf: &mut F,
+        rest: &[u8],
+    ) -> Result<Option<Batch>, ScriptEnd>
+        requires { self.old.reading.used + length rest.now ≤ self.old.rules.limits.input }
+        ensures ends { Ends (λ reading. ended (grammar_by self.old.rules) false rest.now [] (Stands reading)) result self.old.reading (F.files shelf.old) (F.faults shelf.old) (F.faults shelf.new) }
+        ensures used { OnOk result (self.new.reading.used ≡ self.old.reading.used + length rest.now) }
+        ensures grows { IfOk result (λ found. IfSome found (λ batch. (0 < length self.old.reading.commands + length rest.now) × (length batch ≤ length self.old.reading.commands + length rest.now))) }
+        ensures lanes { IfOk result (λ found. IfSome found (IsOfLanes self.old.rules.lanes)) }
+        ensures merges { IfOk result (λ found. IfSome found HasNoMerge) }
+        ensures rules { self.new.rules ≡ self.old.rules }
+        ensures later { F.faults shelf.old ≤ F.faults shelf.new }
+        ensures files { F.files shelf.new ≡ F.files shelf.old }
+    {
+        let line = self.lines + 1;
+        let used = self.used + rest.len() as u64;
+        if let Some(reason) = self.begun_fault(rest) {
+            return Err(ScriptEnd::Script { line, reason });
+        }
+        let last = self.read_last_line(shelf, rest)?;
+        let batch = self.end(last)?;
+        self.used = used;
+        Ok(batch)
+    }
+
+    // Reads a line outside a block, which was counted.
+    fn read_command<F: Shelf>(
+        &mut self,
+        shelf: &mut F,
+        line: &[u8],
+    ) -> Result<Option<Batch>, ScriptEnd>
+        requires counted { self.old.reading.numbered < self.old.reading.used }
+        requires block { self.old.reading.block ≡ None }
+        ensures turn { Turns (line_in (grammar_by self.old.rules) None line.now) result self.old.reading.lines self.old.reading self.new.reading (F.files shelf.old) (F.faults shelf.old) (F.faults shelf.new) }
+        ensures used { self.new.reading.used ≡ self.old.reading.used }
+        ensures last { IfOk result (λ found. IfSome found (λ _. self.new.reading.block ≡ None)) }
+        ensures grows { GrowsByOne result self.old.reading.commands self.new.reading.commands }
+        ensures lanes { IfOk result (λ found. IfSome found (IsOfLanes self.old.rules.lanes)) }
+        ensures merges { IfOk result (λ found. IfSome found HasNoMerge) }
+        ensures rules { self.new.rules ≡ self.old.rules }
+        ensures later { F.faults shelf.old ≤ F.faults shelf.new }
+        ensures files { F.files shelf.new ≡ F.files shelf.old }
+    {
+        if let Some(reason) = self.line_fault(line) {
+            return Err(self.fault(reason));
+        }
+        match read_said(self.rules.lanes, without_return(line)) {
+            Ok(said) => self.obey(shelf, said),
+            Err(reason) => Err(self.fault(reason)),
+        }
+    }
+
+    // Does what a line says.
+    fn obey<F: Shelf>(&mut self, shelf: &mut F, said: Said<'_>) -> Result<Option<Batch>, ScriptEnd>
+        requires bytes { self.old.reading.bytes ≤ self.old.rules.limits.bytes }
+        requires counted { self.old.reading.numbered < self.old.reading.used }
+        requires block { self.old.reading.block ≡ None }
+        requires in_range { IsSaidInRange self.old.rules.lanes said }
+        ensures turn { Turns (does (grammar_by self.old.rules) (said_of said.entry)) result self.old.reading.lines self.old.reading self.new.reading (F.files shelf.old) (F.faults shelf.old) (F.faults shelf.new) }
+        ensures used { self.new.reading.used ≡ self.old.reading.used }
+        ensures last { IfOk result (λ found. IfSome found (λ _. self.new.reading.block ≡ None)) }
+        ensures grows { GrowsByOne result self.old.reading.commands self.new.reading.commands }
+        ensures lanes { IfOk result (λ found. IfSome found (IsOfLanes self.old.rules.lanes)) }
+        ensures merges { IfOk result (λ found. IfSome found HasNoMerge) }
+        ensures rules { self.new.rules ≡ self.old.rules }
+        ensures later { F.faults shelf.old ≤ F.faults shelf.new }
+        ensures files { F.files shelf.new ≡ F.files shelf.old }
+    {
+        match said {
+            Said::Nothing => Ok(None),
+            Said::Sync => Ok(Some(self.take_batch())),
+            Said::Opens { lane, front } => {
+                self.open_block(lane, front)?;
+                Ok(None)
+            }
+            Said::Does { lane, task } => {
+                self.add_command(lane, task)?;
+                Ok(None)
+            }
+            Said::Fetches { lane, name, path } => {
+                self.load_file(shelf, lane, name, path)?;
+                Ok(None)
+            }
+        }
+    }
+
+    // Opens the block of a command.
+    fn open_block(&mut self, lane: u32, front: Front) -> Result<(), ScriptEnd>
+        requires counted { self.old.reading.numbered < self.old.reading.used }
+        requires block { self.old.reading.block ≡ None }
+        requires lane { IsLane self.old.rules.lanes lane }
+        requires in_range { IsFrontInRange front }
+        ensures turn { (paths : List Text) (later : List File) → GoesOn result self.old.reading.lines self.new.reading paths later (does (grammar_by self.old.rules) (model.Opens lane (front_of front)) (reading_at self.old.reading paths later)) }
+        ensures used { self.new.reading.used ≡ self.old.reading.used }
+        ensures commands { self.new.reading.commands ≡ self.old.reading.commands }
+        ensures rules { self.new.rules ≡ self.old.rules }
+    {
+        self.refuse_full()?;
+        self.block = Some(OpenBlock::new(self.alloc, self.lines, lane, front));
+        Ok(())
+    }
+
+    // One more command, which has no body.
+    fn add_command(&mut self, lane: u32, task: Task) -> Result<(), ScriptEnd>
+        requires bytes { self.old.reading.bytes ≤ self.old.rules.limits.bytes }
+        requires counted { self.old.reading.numbered < self.old.reading.used }
+        requires block { self.old.reading.block ≡ None }
+        requires lane { IsLane self.old.rules.lanes lane }
+        requires in_range { IsTaskInRange task }
+        ensures turn { (paths : List Text) (later : List File) → GoesOn result self.old.reading.lines self.new.reading paths later (does (grammar_by self.old.rules) (model.Does lane (task_of task)) (reading_at self.old.reading paths later)) }
+        ensures used { self.new.reading.used ≡ self.old.reading.used }
+        ensures grows { OnOk result (length self.new.reading.commands ≤ length self.old.reading.commands + 1) }
+        ensures rules { self.new.rules ≡ self.old.rules }
+    {
+        self.refuse_full()?;
+        self.push_command(lane, task, 0)?;
+        Ok(())
+    }
+
+    // One more command, whose file is fetched.
+    fn load_file<F: Shelf>(
+        &mut self,
+        shelf: &mut F,
+        lane: u32,
+        name: Name,
+        path: &str,
+    ) -> Result<(), ScriptEnd>
+        requires counted { self.old.reading.numbered < self.old.reading.used }
+        requires block { self.old.reading.block ≡ None }
+        requires lane { IsLane self.old.rules.lanes lane }
+        ensures turn { Turns (does (grammar_by self.old.rules) (model.Fetches lane name path.now)) (none_given result) self.old.reading.lines self.old.reading self.new.reading (F.files shelf.old) (F.faults shelf.old) (F.faults shelf.new) }
+        ensures used { self.new.reading.used ≡ self.old.reading.used }
+        ensures grows { OnOk result (length self.new.reading.commands ≤ length self.old.reading.commands + 1) }
+        ensures rules { self.new.rules ≡ self.old.rules }
+        ensures later { F.faults shelf.old ≤ F.faults shelf.new }
+        ensures files { F.files shelf.new ≡ F.files shelf.old }
+    {
+        self.refuse_full()?;
+        let file = fetch_file(self.alloc, shelf, path)?;
+        let size = file.size();
+        self.refuse_bytes(size)?;
+        self.push_command(lane, Task::LoadFile { name, file }, size)?;
+        Ok(())
+    }
+
+    // Reads a line of the block, which was counted.
+    fn read_block_line(&mut self, line: &[u8]) -> Result<(), ScriptEnd>
+        requires counted { self.old.reading.numbered < self.old.reading.used }
+        requires block { IsSome self.old.reading.block }
+        ensures turn { (paths : List Text) (later : List File) → GoesOn result self.old.reading.lines self.new.reading paths later (line_in (grammar_by self.old.rules) self.old.reading.block line.now (reading_at self.old.reading paths later)) }
+        ensures used { self.new.reading.used ≡ self.old.reading.used }
+        ensures grows { OnOk result (length self.new.reading.commands ≤ length self.old.reading.commands + 1) }
+        ensures rules { self.new.rules ≡ self.old.rules }
+    {
+        if !is_end(line) {
+            return self.push_line(undotted(line));
+        }
+        self.close_block()?;
+        Ok(())
+    }
+
+    // Adds a line to the body of the block, where the limits have room for it.
+    fn push_line(&mut self, text: &[u8]) -> Result<(), ScriptEnd>
+        requires { IsSome self.old.reading.block }
+        ensures turn { (paths : List Text) (later : List File) → IfSome self.old.reading.block (λ block. GoesOn result self.old.reading.lines self.new.reading paths later (added (grammar_by self.old.rules) block text.now (reading_at self.old.reading paths later))) }
+        ensures used { self.new.reading.used ≡ self.old.reading.used }
+        ensures commands { self.new.reading.commands ≡ self.old.reading.commands }
+        ensures rules { self.new.rules ≡ self.old.rules }
+    {
+        let Some(block) = &mut self.block else {
+            unreachable!()
+        };
+        let size = block.size() + text.len() as u64 + 1;
+        if let Some(reason) = size_fault(&self.rules, self.bytes, size) {
+            return Err(ScriptEnd::Script {
+                line: self.lines,
+                reason,
+            });
+        }
+        block.push_line(text)?;
+        Ok(())
+    }
+
+    // Ends the block, and its command comes.
+    fn close_block(&mut self) -> Result<(), NoMemory>
+        requires counted { self.old.reading.numbered < self.old.reading.used }
+        requires block { IsSome self.old.reading.block }
+        ensures closed { OnOk result (IfSome self.old.reading.block (λ block. self.new.reading ≡ block_ended block self.old.reading)) }
+        ensures used { self.new.reading.used ≡ self.old.reading.used }
+        ensures rules { self.new.rules ≡ self.old.rules }
+    {
+        let Some(block) = self.block.take() else {
+            unreachable!()
+        };
+        let lane = block.lane();
+        let size = block.size();
+        self.push_command(lane, block.into_task(), size)
+    }
+
+    // Reads what stands behind the last line feed, which is a line where it has a byte.
+    fn read_last_line<F: Shelf>(
+        &mut self,
+        shelf: &mut F,
+        line: &[u8],
+    ) -> Result<Option<Batch>, ScriptEnd>
+        requires { self.old.reading.used + length line.now ≤ self.old.rules.limits.input }
+        ensures turn { Turns (last_turn (grammar_by self.old.rules) self.old.reading.block line.now) result (self.old.reading.lines + 1) self.old.reading self.new.reading (F.files shelf.old) (F.faults shelf.old) (F.faults shelf.new) }
+        ensures used { self.new.reading.used ≤ self.old.reading.used + length line.now }
+        ensures last { IfOk result (λ found. IsLast found self.new.reading.commands self.new.reading.block) }
+        ensures grows { IfOk result (λ found. GrowsAtEnd found (length line.now) self.old.reading.commands self.new.reading.commands) }
+        ensures lanes { IfOk result (λ found. IfSome found (IsOfLanes self.old.rules.lanes)) }
+        ensures merges { IfOk result (λ found. IfSome found HasNoMerge) }
+        ensures rules { self.new.rules ≡ self.old.rules }
+        ensures later { F.faults shelf.old ≤ F.faults shelf.new }
+        ensures files { F.files shelf.new ≡ F.files shelf.old }
+    {
+        if line.is_empty() {
+            return Ok(None);
+        }
+        if self.block.is_none() {
+            self.lines += 1;
+            self.used += line.len() as u64;
+            return self.read_command(shelf, line);
+        }
+        if !is_end(line) {
+            return Ok(None);
+        }
+        self.close_block()?;
+        Ok(None)
+    }
+
+    // The batch at the end of the script: what its last line gave, or the commands at hand, where there are any.
+    fn end(&mut self, last: Option<Batch>) -> Result<Option<Batch>, ScriptEnd>
+        requires last { IsLast last self.old.reading.commands self.old.reading.block }
+        requires lanes { IfSome last (IsOfLanes self.old.rules.lanes) }
+        requires merges { IfSome last HasNoMerge }
+        ensures ends { (paths : List Text) (later : List File) → EndsAs result paths (at_end (batches_of last) self.old.reading.block (reading_at self.old.reading paths later)) }
+        ensures used { self.new.reading.used ≡ self.old.reading.used }
+        ensures counts { (self.new.reading.lines ≡ self.old.reading.lines) × (self.new.reading.numbered ≡ self.old.reading.numbered) }
+        ensures given { IfOk result (λ found. IfSome found (IsGiven last self.old.reading.commands)) }
+        ensures lanes { IfOk result (λ found. IfSome found (IsOfLanes self.old.rules.lanes)) }
+        ensures merges { IfOk result (λ found. IfSome found HasNoMerge) }
+        ensures rules { self.new.rules ≡ self.old.rules }
+    {
+        if let Some(block) = &self.block {
+            return Err(ScriptEnd::Script {
+                line: block.line(),
+                reason: Reason::NoEnd,
+            });
+        }
+        if last.is_some() {
+            return Ok(last);
+        }
+        if self.commands.is_empty() {
+            return Ok(None);
+        }
+        Ok(Some(self.take_batch()))
+    }
+
+    // The commands of the batch, which ends.
+    fn take_batch(&mut self) -> Batch
+        ensures batch { result ≡ self.old.reading.commands }
+        ensures ended { self.new ≡ record self.old { reading = batch_ended self.old.reading } }
+        ensures lanes { IsOfLanes self.old.rules.lanes result }
+        ensures merges { HasNoMerge result }
+    {
+        self.bytes = 0;
+        let commands = mem::replace(&mut self.commands, Vec::new(self.alloc));
+        Batch::new(commands)
+    }
+
+    // One more command, of so many bytes.
+    fn push_command(&mut self, lane: u32, task: Task, size: u64) -> Result<(), NoMemory>
+        requires lane { IsLane self.old.rules.lanes lane }
+        requires in_range { IsTaskInRange task }
+        requires number { self.old.reading.numbered < self.old.reading.used }
+        requires block { self.old.reading.block ≡ None }
+        requires size { self.old.reading.bytes + size ≤ self.old.rules.limits.bytes }
+        ensures pushed { OnOk result (self.new.reading ≡ with_command lane (task_of task) size self.old.reading) }
+        ensures used { self.new.reading.used ≡ self.old.reading.used }
+        ensures rules { self.new.rules ≡ self.old.rules }
+    {
+        self.numbered += 1;
+        self.bytes += size;
+        self.commands.push(Command {
+            number: self.numbered,
+            lane,
+            task,
+        })?;
+        Ok(())
+    }
+
+    // Refuses a further command where the batch is full.
+    fn refuse_full(&self) -> Result<(), ScriptEnd>
+        ensures room { OnOk result (length self.now.reading.commands < self.now.rules.limits.commands) }
+        ensures full { IfErr result (λ e. (e ≡ ScriptEnd.Script self.now.reading.lines Reason.BatchCommands) × (self.now.rules.limits.commands ≤ length self.now.reading.commands)) }
+    {
+        if self.commands.len() >= self.rules.limits.commands as usize {
+            return Err(self.fault(Reason::BatchCommands));
+        }
+        Ok(())
+    }
+
+    // Refuses so many more bytes where the batch has no room for them.
+    fn refuse_bytes(&self, size: u64) -> Result<(), ScriptEnd>
+        ensures room { OnOk result (self.now.reading.bytes + size ≤ self.now.rules.limits.bytes) }
+        ensures full { IfErr result (λ e. (e ≡ ScriptEnd.Script self.now.reading.lines Reason.BatchBytes) × (self.now.rules.limits.bytes < self.now.reading.bytes + size)) }
+    {
+        if size > self.rules.limits.bytes - self.bytes {
+            return Err(self.fault(Reason::BatchBytes));
+        }
+        Ok(())
+    }
+
+    // A fault of the line that was counted last.
+    fn fault(&self, reason: Reason) -> ScriptEnd
+        ensures { result ≡ ScriptEnd.Script self.now.reading.lines reason }
+    {
+        ScriptEnd::Script {
+            line: self.lines,
+            reason,
+        }
+    }
+
+    // What is wrong with a line outside a block, by its size alone.
+    fn line_fault(&self, line: &[u8]) -> Option<Reason>
+        ensures { result ≡ line_fault (grammar_by self.now.rules) line.now }
+    {
+        if without_return(line).len() > self.rules.limits.line as usize {
+            return Some(Reason::LineTooLong);
+        }
+        None
+    }
+}
+
+// What is wrong with the body of a block of so many bytes, where the other bodies and files of the batch have `bytes`.
+fn size_fault(rules: &Rules, bytes: u64, size: u64) -> Option<Reason>
+    requires rules { AreRules rules.now }
+    requires bytes { bytes ≤ rules.now.limits.bytes }
+    ensures { (body : List ℕ) → length body ≡ size → result ≡ body_fault (grammar_by rules.now) bytes body }
+{
+    if size > rules.limits.block {
+        return Some(Reason::BlockTooLong);
+    }
+    if size > rules.limits.bytes - bytes {
+        return Some(Reason::BatchBytes);
+    }
+    None
+}
+
+// What comes of the fetch of the path.
+fn fetch_file<F: Shelf>(alloc: Global, shelf: &mut F, path: &str) -> Result<FileBody, ScriptEnd>
+    ensures came { IfOk result (λ file. MayCome (F.files shelf.old) path.now (file_of file)) }
+    ensures failed { IfOk result (λ file. RoseBy (count_by is_failed (file_of file ∷ [])) (F.faults shelf.old) (F.faults shelf.new)) }
+    ensures refused { IfErr result (λ e. e ≡ ScriptEnd.NoMemory) }
+    ensures later { F.faults shelf.old ≤ F.faults shelf.new }
+    ensures files { F.files shelf.new ≡ F.files shelf.old }
+{
+    match shelf.fetch(alloc, path, MOST_FILE_BYTES) {
+        Ok(bytes) => match Body::new(bytes) {
+            Some(body) => Ok(FileBody::Bytes(body)),
+            None => unreachable!(),
+        },
+        Err(ShelfRefused::Failed) => Ok(FileBody::Failed),
+        Err(ShelfRefused::Missing) => Ok(FileBody::Missing),
+        Err(ShelfRefused::TooLong) => Ok(FileBody::TooLong),
+        Err(ShelfRefused::NoMemory) => Err(ScriptEnd::NoMemory),
+    }
+}
