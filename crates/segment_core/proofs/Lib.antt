@@ -4,5 +4,5 @@ pub mod PartLemmas
 pub mod AmongLemmas
 pub mod FoundLemmas
 pub mod ShownLemmas
-pub mod WorkedSegment
 pub mod PositionLemmas
+pub mod ColumnLemmas

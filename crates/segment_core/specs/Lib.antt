@@ -1,5 +1,5 @@
 pub mod Versions
 pub mod Distinct
 pub mod Lines
-pub mod Worked
 pub mod Positions
+pub mod LiveColumn
