@@ -165,6 +165,26 @@ fn push_unknown(number: u64, name: &Name, at: u64, into: &mut Vec<u8>) -> Result
     push_refused(number, "unknown", &words, into)
 }
 
+// `N refused column NAME PLACE at P`
+fn push_no_column(
+    number: u64,
+    name: &Name,
+    place: u32,
+    at: u64,
+    into: &mut Vec<u8>,
+) -> Result<(), NoMemory>
+    ensures ok { OnOk result (into.new.items ≡ into.old.items ++ first_line number (model.NoColumn name.now place at)) }
+    ensures kept { Keeps into.old.items into.new.items }
+{
+    let words = [
+        Text(name.text()),
+        Number(u64::from(place)),
+        Text("at"),
+        Number(at),
+    ];
+    push_refused(number, "column", &words, into)
+}
+
 // `N refused full WHICH COUNT more MORE at P`
 fn push_full(
     number: u64,
@@ -226,8 +246,12 @@ pub fn push_first_line(number: u64, reply: &Reply, into: &mut Vec<u8>) -> Result
             &[Number(u64::from(*place))],
             into,
         ),
+        Reply::FileFailed => push_refused(number, "file failed", &[], into),
+        Reply::FileMissing => push_refused(number, "file missing", &[], into),
+        Reply::FileTooLong => push_refused(number, "file longer", &[], into),
         Reply::Repeated { name, at } => push_repeated(number, name, *at, into),
         Reply::Unknown { name, at } => push_unknown(number, name, *at, into),
+        Reply::NoColumn { name, place, at } => push_no_column(number, name, *place, *at, into),
         Reply::Full {
             which,
             count,

@@ -51,6 +51,12 @@ pub enum Reply {
     TooManyValues {
         place: u32,
     },
+    /// The shelf failed when the file was fetched, and counted a fault.
+    FileFailed,
+    /// No file has the path.
+    FileMissing,
+    /// The file has more than 67,108,864 bytes.
+    FileTooLong,
     /// A table of this name is live.
     Repeated {
         name: Name,
@@ -59,6 +65,12 @@ pub enum Reply {
     /// No table of this name is live.
     Unknown {
         name: Name,
+        at: u64,
+    },
+    /// The live table of this name has no column at the place, which counts from 1.
+    NoColumn {
+        name: Name,
+        place: u32,
         at: u64,
     },
     /// The limit would be passed by `more` beyond the `count` that there is.
