@@ -77,27 +77,33 @@ ready_new catalogue lanes out before commands same made are all room = record {
 abbrev pub synced : RunRecord → RunRecord
 synced made = record made { syncs = made.syncs ++ length made.journal ∷ [] }
 
--- The record of a batch that was played, gathered and synced.
-pub batch_played : (lanes : ℕ) (batch : Batch) (piece : List ℕ) (merger : Option ℕ) (before made final : RunRecord) (catalogue mid after : CatalogueOf) (all some rest : List LaneOf) (out out' out'' : RecordOf)
-    → merger ≡ None → before.journal ≡ catalogue.journal → out.made ≡ before → map played all ≡ lanes_of lanes batch []
-    → Goes piece (state_with catalogue all out) (state_with mid some out')
-    → Goes (turns_each (2 * length batch) (range_with_len 1 lanes ++ 0 ∷ [])) (state_with mid some out') (state_with after rest out'')
-    → made ≡ with_answers (answers_of (gathered batch (lists_of rest))) out''.made → final ≡ synced made
-    → (denials : List Bool) × (final ≡ batch_after catalogue.limits lanes batch (merges_of merger batch) piece denials before)
-batch_played lanes batch piece merger before made final catalogue mid after all some rest out out' out'' none same room shared first second gathers syncs =
-    let goes = goes_on piece (turns_each (2 * length batch) (range_with_len 1 lanes ++ 0 ∷ [])) (state_with catalogue all out) (state_with mid some out') (state_with after rest out'') first second in
-    let denials : List Bool = goes.leads.0 in
+-- The record of lanes that were played, gathered and synced.
+pub batch_made : (count : ℕ) (commands : List Command) (piece : List ℕ) (made final : RunRecord) (catalogue mid after : CatalogueOf) (lanes some rest : List LaneOf) (out out' out'' : RecordOf)
+    → Goes piece (state_with catalogue lanes out) (state_with mid some out')
+    → Goes (turns_each (2 * length commands) (range_with_len 1 count ++ 0 ∷ [])) (state_with mid some out') (state_with after rest out'')
+    → made ≡ with_answers (answers_of (gathered commands (lists_of rest))) out''.made → final ≡ synced made
+    → (denials : List Bool) × (final ≡ record_after out.made commands (play catalogue.limits (whole_order piece count (2 * length commands)) denials (play_of catalogue.journal lanes)))
+batch_made count commands piece made final catalogue mid after lanes some rest out out' out'' first second gathers syncs =
+    let goes = goes_on piece (turns_each (2 * length commands) (range_with_len 1 count ++ 0 ∷ [])) (state_with catalogue lanes out) (state_with mid some out') (state_with after rest out'') first second in
     let lists : map (λ (lane : Lane). lane.done) (map played rest) ≡ lists_of rest = map-map (λ (lane : Lane). lane.done) played rest in
-    let steps : 2 * length batch ≡ 2 * (length batch + 0) = omega arith in
-    let state : play_of after.journal rest ≡ play catalogue.limits (whole_order piece lanes (2 * (length batch + 0))) denials (play_with before.journal (lanes_of lanes batch [])) =
-    goes.leads.2 ∙ (λ i. play catalogue.limits (whole_order piece lanes (steps i)) denials (play_with (sym same i) (shared i))) in
-    (denials,
+    (goes.leads.0,
      syncs
-     ∙ ap synced (gathers ∙ ap (with_answers (answers_of (gathered batch (lists_of rest)))) (goes.made ∙ ap (λ (m : RunRecord). record m { journal = after.journal }) room))
-     ∙ (λ i. record before {
+     ∙ ap synced (gathers ∙ ap (with_answers (answers_of (gathered commands (lists_of rest)))) goes.made)
+     ∙ (λ i. record out.made {
        journal = after.journal;
-       answers = before.answers ++ answers_of (gathered (sym (append-nil batch) i) (sym lists i));
-       syncs = before.syncs ++ length after.journal ∷ [];
+       answers = out.made.answers ++ answers_of (gathered commands (sym lists i));
+       syncs = out.made.syncs ++ length after.journal ∷ [];
      })
-     ∙ ap (record_after before (batch ++ [])) state
-     ∙ ap (λ (m : Option ℕ). batch_after catalogue.limits lanes batch (merges_of m batch) piece denials before) (sym none))
+     ∙ ap (record_after out.made commands) goes.leads.2)
+
+-- The record of a batch whose commands were shared out to its lanes.
+pub batch_played : (limits : Counts) (count : ℕ) (batch commands : Batch) (piece : List ℕ) (merger : Option ℕ) (denials : List Bool) (before made final : RunRecord) (journal : List Entry) (lanes all : List LaneOf)
+    → merger ≡ None → before.journal ≡ journal → made ≡ before → commands ≡ batch → lanes ≡ all → map played all ≡ lanes_of count commands []
+    → final ≡ record_after made commands (play limits (whole_order piece count (2 * length commands)) denials (play_of journal lanes))
+    → final ≡ batch_after limits count batch (merges_of merger batch) piece denials before
+batch_played limits count batch commands piece merger denials before made final journal lanes all none same room is lent shared played_is =
+    let steps : 2 * length commands ≡ 2 * (length commands + 0) = omega arith in
+    let start : play_of journal lanes ≡ play_with before.journal (lanes_of count commands []) = λ i. play_with (sym same i) ((ap (map played) lent ∙ shared) i) in
+    played_is
+    ∙ (λ i. record_after (room i) (sym (append-nil commands) i) (play limits (whole_order piece count (steps i)) denials (start i)))
+    ∙ (λ i. batch_after limits count (is i) (merges_of (sym none i) (is i)) piece denials before)

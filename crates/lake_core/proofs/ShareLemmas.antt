@@ -11,7 +11,7 @@ use Rattle.std.proofs.lemmas.Option.{slice_get-map, slice_get_read}
 use Rattle.script_model.specs.Commands.{Command}
 use Rattle.script_model.specs.Merges.{IsOfLanes}
 use Rattle.script_model.specs.Play.{Done, Lane, lane_with, lane_of, lanes_of}
-use Rattle.lake_core.specs.Lanes.{LaneOf, lane_from, pin_of, played, left_in, left, AreNew}
+use Rattle.lake_core.specs.Lanes.{LaneOf, lane_from, pin_of, played, left_in, left, AreNew, AreShared}
 
 -- the lanes from a number on
 abbrev lanes_from : ℕ → ℕ → List Command → List Lane
@@ -72,12 +72,6 @@ new_here [] l lane are within is = absurd (omega (arith, within))
 new_here (x ∷ lanes) zero lane are within is = subst (λ (y : LaneOf). (y.held ≡ None) × (y.done ≡ [])) (sym is) are.0
 new_here (x ∷ lanes) (suc l) lane are within is = new_here lanes l lane are.1 (omega (arith, within)) is
 
--- so many lanes with these commands, none of which has begun
-pub record AreShared (count : ℕ) (commands : List Command) (lanes : List LaneOf) : Type 0 where
-  pub lanes_are : map played lanes ≡ lanes_of count commands []
-  pub all : left lanes ≡ length commands
-  pub fresh : AreNew lanes
-
 pub shared_none : (lanes : List LaneOf) (new : LaneOf) → lanes ≡ new ∷ [] → new ≡ lane_from [] None [] → AreShared 0 [] lanes
 shared_none lanes new only is =
     let e : lanes ≡ lane_from [] None [] ∷ [] = only ∙ ap (λ (lane : LaneOf). lane ∷ []) is in
@@ -97,7 +91,7 @@ shared_idle count lanes later new so_far is pushed =
 
 many : (count : ℕ) (commands : List Command) (lanes : List LaneOf) → AreShared count commands lanes → length lanes ≡ count + 1
 many count commands lanes are =
-    sym (length-map played lanes) ∙ ap (λ (ls : List Lane). length ls) are.lanes_are
+    sym (length-map lanes played) ∙ ap (λ (ls : List Lane). length ls) are.lanes_are
     ∙ (let e : length (lanes_of count commands []) ≡ count + 1 = omega (arith, length-map-range_with_len (lane_of commands) 1 count) in e)
 
 of_lanes : (count : ℕ) (commands : List Command) (n : ℕ) (d : Command) → IsOfLanes count commands → n < length commands → (0 < (get_or commands n d).lane) × ((get_or commands n d).lane ≤ count)

@@ -3,7 +3,7 @@ use Rattle.std.specs.Prelude.{◌≡◌, ◌≤◌, ℕ, ⊤, List, [], ◌∷�
 use Rattle.std.specs.List.{AllByRecursion}
 use Rattle.lake_model.specs.Journal.{Entry}
 use Rattle.script_model.specs.Commands.{Command}
-use Rattle.script_model.specs.Play.{Done, Lane, lane_with, Play, play_with}
+use Rattle.script_model.specs.Play.{Done, Lane, lane_with, lanes_of, Play, play_with}
 use Rattle.lake_core.specs.declared.lane.Held.{Held}
 use Rattle.lake_core.specs.declared.lane.Held.TheVariants.{At, Denied}
 use Rattle.lake_core.specs.Searches.{IsPinOf}
@@ -62,3 +62,9 @@ AreNew lanes = AllByRecursion (λ lane. (lane.held ≡ None) × (lane.done ≡ [
 
 abbrev pub done_in : LaneOf → List Done
 done_in lane = lane.done
+
+-- so many lanes besides the merger's, with the commands that each has to do, none of which is begun
+pub record AreShared (count : ℕ) (commands : List Command) (lanes : List LaneOf) : Type 0 where
+  pub lanes_are : map played lanes ≡ lanes_of count commands []
+  pub all : left lanes ≡ length commands
+  pub fresh : AreNew lanes

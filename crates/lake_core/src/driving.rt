@@ -1,9 +1,9 @@
 //! The commands of a batch on one thread, with the steps of its lanes in a stated order.
-ghost use Rattle.std.specs.Prelude.{◌≡◌, ◌≤◌, ◌*◌, ◌++◌, [], ◌∷◌, Bool, List, length, map, replicate, flat_map, drop, get_or, slice_set, take, true, None, OnOk, OnErr, IfOk, option_to_list};
+ghost use Rattle.std.specs.Prelude.{◌≡◌, ◌<◌, ◌≤◌, ◌*◌, ◌++◌, [], ◌∷◌, Bool, List, length, map, replicate, flat_map, drop, get_or, slice_set, take, true, None, OnOk, OnErr, IfOk, option_to_list};
 ghost use Rattle.std.specs.List.{range_with_len};
 ghost use Rattle.script_model.specs.Merges.{HasNoMerge, IsOfLanes};
-ghost use Rattle.script_model.specs.Play.{answers_of, batch_after, gathered, lanes_of, merges_of};
-ghost use Rattle.lake_core.specs.Lanes.{AreNew, done_in, lane_from, left, played};
+ghost use Rattle.script_model.specs.Play.{answers_of, batch_after, gathered, merges_of, play, record_after, whole_order};
+ghost use Rattle.lake_core.specs.Lanes.{AreShared, done_in, lane_from, play_of};
 ghost use Rattle.lake_core.specs.Plays.{Goes, IsReady, state_with};
 
 use crate::lane::Lane;
@@ -15,9 +15,7 @@ use std::alloc::Global;
 
 // So many lanes besides the merger's, all of them idle. The merger's is the first.
 fn idle_lanes<'a>(alloc: Global, lanes: u32) -> Result<Vec<Lane<'a>>, NoMemory>
-    ensures lanes { IfOk result (λ all. map played all.items ≡ lanes_of lanes [] []) }
-    ensures left { IfOk result (λ all. left all.items ≡ 0) }
-    ensures fresh { IfOk result (λ all. AreNew all.items) }
+    ensures { IfOk result (λ all. AreShared lanes [] all.items) }
 {
     let mut all = Vec::new(alloc);
     all.push(Lane::new(alloc))?;
@@ -34,9 +32,7 @@ fn share_out<'a>(
     lanes: u32,
 ) -> Result<Vec<Lane<'a>>, NoMemory>
     requires { IsOfLanes lanes commands.now }
-    ensures lanes { IfOk result (λ all. map played all.items ≡ lanes_of lanes commands.now []) }
-    ensures left { IfOk result (λ all. left all.items ≡ length commands.now) }
-    ensures fresh { IfOk result (λ all. AreNew all.items) }
+    ensures { IfOk result (λ all. AreShared lanes commands.now all.items) }
 {
     let mut all = idle_lanes(alloc, lanes)?;
     for command in commands {
@@ -148,6 +144,30 @@ fn gather(commands: &[Command], lanes: &mut [Lane<'_>], out: &mut RunRecord)
     }
 }
 
+// All steps of the lanes: first those of the piece, and then what is left. The answers come into the record in the order of the
+// commands, and it notes how long the journal is.
+fn play(
+    alloc: Global,
+    catalogue: &mut Catalogue,
+    commands: &[Command],
+    lanes: &mut [Lane<'_>],
+    piece: &[u32],
+    count: u32,
+    out: &mut RunRecord,
+)
+    requires ready { IsReady (state_with catalogue.old lanes.old out.old) }
+    requires answers { length commands.now ≤ out.old.answers_room }
+    requires syncs { 0 < out.old.syncs_room }
+    ensures played { (denials : List Bool) × (out.new.made ≡ record_after out.old.made commands.now (play catalogue.old.limits (whole_order piece.now count (2 * length commands.now)) denials (play_of catalogue.old.journal lanes.old))) }
+    ensures journal { out.new.made.journal ≡ catalogue.new.journal }
+    ensures limits { catalogue.new.limits ≡ catalogue.old.limits }
+{
+    play_piece(alloc, catalogue, lanes, piece, out);
+    play_rest(alloc, catalogue, lanes, count, commands.len(), out);
+    gather(commands, lanes, out);
+    out.add_sync();
+}
+
 /// Answers the commands of a batch, of which each is of a lane from 1 to `lanes`: the steps of the lanes are taken in the order of the
 /// piece, and what is left behind it lane by lane, the merger last. A load, a drop and a list of the tables is one step; a search and a like
 /// are two, the pin and the answer. `merger` is the merger's first number in this batch, where there is one. The answers come in the order
@@ -175,9 +195,6 @@ pub fn drive(
     let commands = batch.commands();
     let mut all = share_out(alloc, commands, lanes)?;
     out.room(commands.len(), commands.len())?;
-    play_piece(alloc, catalogue, &mut all, piece, out);
-    play_rest(alloc, catalogue, &mut all, lanes, commands.len(), out);
-    gather(commands, &mut all, out);
-    out.add_sync();
+    play(alloc, catalogue, commands, &mut all, piece, lanes, out);
     Ok(())
 }

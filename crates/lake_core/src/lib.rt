@@ -10,3 +10,6 @@ mod searching;
 pub use driving::drive;
 pub use loading::{Loadable, make_table, make_table_of_file};
 pub use searching::finish;
+
+#[cfg(test)]
+mod tests;

@@ -8,6 +8,6 @@ pub returns-then-lane-lanes-clause-rest : goal.returns-then-lane-lanes-clause-re
 returns-then-lane-lanes-clause-rest c =
     let lanes = c.args.lanes.now in
     let l = c.args.lane in
-    let lane = c.index-lanes-lane.result in
-    let here : done_in lane ≡ get_or (map done_in lanes) l [] = ap done_in c.index-lanes-lane.is ∙ sym (get_or-map done_in lanes l lane [] c.if-lane-lanes.true) in
+    let lane = get_or lanes l c.index-lanes-lane.result in
+    let here : done_in lane ≡ get_or (map done_in lanes) l [] = sym (get_or-map done_in lanes l c.index-lanes-lane.result [] c.if-lane-lanes.true) in
     map-set done_in lanes l c.next_done.new.self ∙ ap (slice_set (map done_in lanes) l) (ap done_in c.next_done.ensures.rest ∙ ap (drop 1) here)

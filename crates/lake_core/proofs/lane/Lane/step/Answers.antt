@@ -49,15 +49,15 @@ returns-in-Some-take-clause-steps c =
     let (denied, said) = c.reply_when_held.ensures limits journal (subst (IsHeld journal) holds c.requires.held) in
     (denied, answered_then limits denied journal command todo held reply c.args.self.now c.answer-in-Some-take.new.self c.in-Some.ensures kind (ap is_merge (sym c.task-in-Some-take.ensures.value) ∙ no_merge task) holds
     (said ∙ ap (λ t. reply_or_denied denied (answer_to limits t (take (position_of held) journal) journal)) c.task-in-Some-take.ensures.value)
-    (c.answer-in-Some-take.ensures command todo (sym same ∙ c.in-Some.ensures)
-    ∙ ap (λ (done : List Done). lane_from todo None (done ++ done_with command reply ∷ [])) (sym kept)))
+    (c.answer-in-Some-take.ensures command todo (same ∙ c.in-Some.ensures)
+    ∙ ap (λ (done : List Done). lane_from todo None (done ++ done_with command reply ∷ [])) kept))
 
 pub returns-in-Some-take-clause-held : goal.returns-in-Some-take-clause-held
 returns-in-Some-take-clause-held c =
-    subst (λ (lane : LaneOf). IsHeld c.args.catalogue.now.journal lane.held) (sym (c.answer-in-Some-take.ensures c.in-Some.command.now (drop 1 c.args.self.now.todo) (sym (ap (λ (lane : LaneOf). lane.todo) c.self.view_is) ∙ c.in-Some.ensures))) tt
+    subst (λ (lane : LaneOf). IsHeld c.args.catalogue.now.journal lane.held) (sym (c.answer-in-Some-take.ensures c.in-Some.command.now (drop 1 c.args.self.now.todo) (ap (λ (lane : LaneOf). lane.todo) c.self.view_is ∙ c.in-Some.ensures))) tt
 
 pub returns-in-Some-take-clause-entries_room : goal.returns-in-Some-take-clause-entries_room
 returns-in-Some-take-clause-entries_room c =
     let command = c.in-Some.command.now in
     let todo = drop 1 c.args.self.now.todo in
-    omega (arith, one_less c.args.self.now c.answer-in-Some-take.new.self command todo c.in-Some.ensures (ap (λ (lane : LaneOf). lane.todo) (c.answer-in-Some-take.ensures command todo (sym (ap (λ (lane : LaneOf). lane.todo) c.self.view_is) ∙ c.in-Some.ensures))))
+    omega (arith, one_less c.args.self.now c.answer-in-Some-take.new.self command todo c.in-Some.ensures (ap (λ (lane : LaneOf). lane.todo) (c.answer-in-Some-take.ensures command todo (ap (λ (lane : LaneOf). lane.todo) c.self.view_is ∙ c.in-Some.ensures))))
