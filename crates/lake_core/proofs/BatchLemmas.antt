@@ -85,16 +85,17 @@ pub batch_made : (count : ℕ) (commands : List Command) (piece : List ℕ) (mad
     → (denials : List Bool) × (final ≡ record_after out.made commands (play catalogue.limits (whole_order piece count (2 * length commands)) denials (play_of catalogue.journal lanes)))
 batch_made count commands piece made final catalogue mid after lanes some rest out out' out'' first second gathers syncs =
     let goes = goes_on piece (turns_each (2 * length commands) (range_with_len 1 count ++ 0 ∷ [])) (state_with catalogue lanes out) (state_with mid some out') (state_with after rest out'') first second in
-    let lists : map (λ (lane : Lane). lane.done) (map played rest) ≡ lists_of rest = map-map (λ (lane : Lane). lane.done) played rest in
-    (goes.leads.0,
-     syncs
-     ∙ ap synced (gathers ∙ ap (with_answers (answers_of (gathered commands (lists_of rest)))) goes.made)
-     ∙ (λ i. record out.made {
-       journal = after.journal;
-       answers = out.made.answers ++ answers_of (gathered commands (sym lists i));
-       syncs = out.made.syncs ++ length after.journal ∷ [];
-     })
-     ∙ ap (record_after out.made commands) goes.leads.2)
+    let lists : map (λ (lane : Lane). lane.done) (map played rest) ≡ lists_of rest = map-map (λ (lane : Lane). lane.done) played rest in (
+      goes.leads.0,
+      syncs
+          ∙ ap synced (gathers ∙ ap (with_answers (answers_of (gathered commands (lists_of rest)))) goes.made)
+          ∙ (λ i. record out.made {
+            journal = after.journal;
+            answers = out.made.answers ++ answers_of (gathered commands (sym lists i));
+            syncs = out.made.syncs ++ length after.journal ∷ [];
+          })
+          ∙ ap (record_after out.made commands) goes.leads.2,
+    )
 
 -- The record of a batch whose commands were shared out to its lanes.
 pub batch_played : (limits : Counts) (count : ℕ) (batch commands : Batch) (piece : List ℕ) (merger : Option ℕ) (denials : List Bool) (before made final : RunRecord) (journal : List Entry) (lanes all : List LaneOf)

@@ -77,10 +77,12 @@ leads_one limits l denied before after e = (denied ∷ [], refl, e)
 leads_on : (limits : Counts) (order later : List ℕ) (before mid after : Play) → Leads limits order before mid → Leads limits later mid after → Leads limits (order ++ later) before after
 unfolding play
 leads_on limits order later before mid after (denials, many, is) (more, many', is') =
-    let long : length (denials ++ more) ≡ length (order ++ later) = omega (arith, length-append denials more, length-append order later, many, many') in
-    (denials ++ more, long,
-     is' ∙ ap (λ (p : Play). fold (step limits) p (with_denials later more)) is
-     ∙ sym (ap (fold (step limits) before) (with_denials-append order later denials more many) ∙ fold-append (step limits) before (with_denials order denials) (with_denials later more)))
+    let long : length (denials ++ more) ≡ length (order ++ later) = omega (arith, length-append denials more, length-append order later, many, many') in (
+      denials ++ more,
+      long,
+      is' ∙ ap (λ (p : Play). fold (step limits) p (with_denials later more)) is
+          ∙ sym (ap (fold (step limits) before) (with_denials-append order later denials more many) ∙ fold-append (step limits) before (with_denials order denials) (with_denials later more)),
+    )
 
 -- ---- a lane with nothing left
 

@@ -41,7 +41,7 @@ pub struct Done<'a> {
 
 impl<'a> Model for Done<'a> {
     ghost use Rattle.script_model.specs.Replies.{tables_reply};
-ghost use Rattle.script_model.specs.Play.{Done as DoneOf, done_with};
+    ghost use Rattle.script_model.specs.Play.{Done as DoneOf, done_with};
     ghost use Rattle.reply_text.specs.Replies.{reply_of};
 
     ghost Value = { DoneOf };
@@ -86,9 +86,7 @@ fn hold(catalogue: &Catalogue) -> Held
 {
     match catalogue.pin() {
         Ok(pin) => Held::At(pin),
-        Err(NoMemory) => Held::Denied {
-            at: catalogue.at(),
-        },
+        Err(NoMemory) => Held::Denied { at: catalogue.at() },
     }
 }
 

@@ -94,6 +94,9 @@ fn orders(rt: HostRuntime) -> Result<(), Fail> {
     let alloc = rt.alloc();
     assert_eq!(rt; finds(alloc, &[])?, [Some((1, 3)), Some((2, 2))]);
     assert_eq!(rt; finds(alloc, &[1, 1, 2, 1])?, [Some((1, 3)), Some((1, 3))]);
-    assert_eq!(rt; finds(alloc, &[2, 2, 1, 1, 2])?, [Some((0, 0)), Some((2, 2))]);
+    assert_eq!(rt;
+        finds(alloc, &[2, 2, 1, 1, 2])?,
+        [Some((0, 0)), Some((2, 2))]
+    );
     Ok(())
 }

@@ -11,6 +11,8 @@ returns-in-Err c journal is =
     (like_refused c.args.pin.now journal c.args.k c.args.name.now c.args.place c.at.result c.in-Err.refused is c.requires.place c.at.ensures c.in-Err.ensures.refused)
 
 pub returns-in-Ok-find : goal.returns-in-Ok-find
-returns-in-Ok-find c journal is =
-    (false, c.in-Ok-find.ensures ∙ found_now c.args.pin.now journal (query_with c.args.k c.in-Ok.query (Some c.args.name.now)) is
-    ∙ like_found c.args.pin.now journal c.args.k c.args.name.now c.args.place c.in-Ok.query is c.requires.place c.in-Ok.ensures.sound c.in-Ok.ensures.keys)
+returns-in-Ok-find c journal is = (
+  false,
+  c.in-Ok-find.ensures ∙ found_now c.args.pin.now journal (query_with c.args.k c.in-Ok.query (Some c.args.name.now)) is
+      ∙ like_found c.args.pin.now journal c.args.k c.args.name.now c.args.place c.in-Ok.query is c.requires.place c.in-Ok.ensures.sound c.in-Ok.ensures.keys,
+)
