@@ -30,6 +30,14 @@ pub enum Reply {
         rows: KeptRows,
         layout: Layout,
     },
+    /// The `parts` parts that were planned gave way to one of `tables` tables, or to none where `tables` is 0, by the entry numbered
+    /// `at` of the journal. The layout is the one in which the merge was planned.
+    Merged {
+        layout: Layout,
+        parts: u64,
+        tables: u64,
+        at: u64,
+    },
     /// The bytes have no record.
     NoHeader,
     /// The header has `got` fields, more than 1,024.
@@ -86,6 +94,16 @@ pub enum Reply {
     },
     /// The query has more than 4,194,304 distinct keys.
     QueryTooLarge,
+    /// No parts of this layout are to be merged.
+    NothingToMerge {
+        layout: Layout,
+    },
+    /// The merge was planned in this layout, and `gone` is the number of the first planned part that is no longer there at `at`.
+    Stale {
+        layout: Layout,
+        gone: u64,
+        at: u64,
+    },
     /// Memory was wanting.
     NoMemory,
 }

@@ -76,7 +76,7 @@ read_behind grammar given before (line ∷ lines) =
     ap (λ (b : LinesRead). read grammar b lines) (more_behind grammar given before.batches before.reached line)
     ∙ read_behind grammar given (read_more grammar before.batches before.reached line) lines
 
-read_fault : (grammar : Grammar) (batches : List Batch) (at : ℕ) (why : Reason) (asked : List Text) (lines : List Text)
+pub read_fault : (grammar : Grammar) (batches : List Batch) (at : ℕ) (why : Reason) (asked : List Text) (lines : List Text)
     → read grammar (read_with batches (AtFault at why asked)) lines ≡ read_with batches (AtFault at why asked)
 unfolding read
 read_fault grammar batches at why asked [] = refl
@@ -108,7 +108,7 @@ ended_behind grammar over rest given batches (AtFault line why asked) = refl
 
 -- ---- the bytes that a turn used
 
-abbrev UsesUpTo : ℕ → Turn → Type 0
+abbrev pub UsesUpTo : ℕ → Turn → Type 0
 UsesUpTo n (Goes reading) = reading.used ≡ n
 UsesUpTo n (Gives batch reading) = reading.used ≡ n
 UsesUpTo n (Fails why asked) = ⊤
@@ -142,6 +142,10 @@ line_uses grammar None line reading = unless_uses (line_fault grammar line) read
 line_uses grammar (Some block) line reading =
     either (is_end line) reading.used (Goes (block_ended block reading)) _ refl
     (unless_uses (body_fault grammar reading.bytes (body_after block line ++ 0x0A ∷ [])) reading.used reading (Goes (with_body block (body_after block line ++ 0x0A ∷ []) reading)) refl)
+
+-- A turn uses its line and the line feed.
+pub turn_uses : (grammar : Grammar) (line : Text) (reading : Reading) → UsesUpTo (reading.used + (length line + 1)) (turn_of grammar line reading)
+turn_uses grammar line reading = line_uses grammar reading.block line (counted (length line + 1) reading)
 
 -- ---- one line
 

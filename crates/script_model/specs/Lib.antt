@@ -14,3 +14,4 @@ pub mod Merges
 pub mod PlayLaws
 pub mod Texts
 pub mod Statuses
+pub mod Plain

@@ -1,9 +1,9 @@
 -- The table of statuses: what holds behind a run of each status, of the bytes that the source gave, of what it has left where that is told,
--- of the outcomes of the fetches, of the bytes that the sink took, and of the record.
+-- of the outcomes of the fetches, of the bytes that the sink took, and of the record. `came` says of paths that these outcomes came of them.
 use Rattle.std.specs.Prelude.{ℕ, ◌-◌, ◌≡◌, ◌⊎◌, ⊤, Bool, true, false, if◌then◌else◌, List, [], ◌++◌, ◌+◌, length, take, sum_by, Option, Some, None}
 use Rattle.std.specs.Io.KnownBytes.{IsAtEnd}
 use Rattle.lake_model.specs.declared.Counts.{Counts}
-use Rattle.lake_model.specs.Texts.{lines_of}
+use Rattle.lake_model.specs.Texts.{Text, lines_of}
 use Rattle.script_model.specs.declared.Status.{Status}
 use Rattle.script_model.specs.declared.Status.TheVariants.{Done, Script, Usage, ReadFault, WriteFault, NoMemory}
 use Rattle.script_model.specs.declared.Reason.{Reason}
@@ -39,18 +39,18 @@ abbrev pub NothingDone : List ℕ → RunRecord → Type 0
 NothingDone taken made = (taken ≡ []) × (made ≡ empty plain)
 
 -- The script was read to its end and is not at fault, its commands were all answered, and all text was written.
-pub record IsDone (limits : Counts) (options : Options) (outcomes : List File) (script : Commands) (left : Option (List ℕ)) (taken : List ℕ) (made : RunRecord) : Type 0 where
+pub record IsDone (limits : Counts) (options : Options) (came : List Text → Type 0) (script : Commands) (left : Option (List ℕ)) (taken : List ℕ) (made : RunRecord) : Type 0 where
   pub read : IsAtEnd left
   pub whole : script.end ≡ Whole
-  pub fetched : length outcomes ≡ length script.asked
+  pub fetched : came script.asked
   pub ended : made.ended ≡ true
   pub record_of : IsRecordOf limits options script.batches made
   pub written : taken ≡ text made
 
 -- The line is the first at fault. The batches before the one that holds it were answered, and all text was written.
-pub record IsRefused (limits : Counts) (options : Options) (outcomes : List File) (script : Commands) (line : ℕ) (reason : Reason) (taken : List ℕ) (made : RunRecord) : Type 0 where
+pub record IsRefused (limits : Counts) (options : Options) (came : List Text → Type 0) (script : Commands) (line : ℕ) (reason : Reason) (taken : List ℕ) (made : RunRecord) : Type 0 where
   pub fault : script.end ≡ FaultAt line reason
-  pub fetched : length outcomes ≡ length script.asked
+  pub fetched : came script.asked
   pub ended : made.ended ≡ false
   pub record_of : IsRecordOf limits options script.batches made
   pub written : taken ≡ text made
@@ -63,9 +63,14 @@ abbrev pub HasNoFault : Reached → Type 0
 HasNoFault (Stands reading) = ⊤
 HasNoFault (AtFault line reason asked) = ⊥
 
+abbrev pub asked_by : Reached → List Text
+asked_by (Stands reading) = reading.asked
+asked_by (AtFault line reason asked) = asked
+
 -- The batches whose `sync` line came whole were answered, and all text was written. No line that came whole is at fault.
-pub record IsBrokenOff (limits : Counts) (options : Options) (begun : LinesRead) (taken : List ℕ) (made : RunRecord) : Type 0 where
+pub record IsBrokenOff (limits : Counts) (options : Options) (came : List Text → Type 0) (begun : LinesRead) (taken : List ℕ) (made : RunRecord) : Type 0 where
   pub no_fault : HasNoFault begun.reached
+  pub fetched : came (asked_by begun.reached)
   pub ended : made.ended ≡ false
   pub record_of : IsRecordOf limits options begun.batches made
   pub written : taken ≡ text made
@@ -76,18 +81,19 @@ answer_count merge batches = sum_by (λ batch. length batch + (if merge then upd
 
 -- The first batches, so many of them, were answered. What was written is the beginning of the record's text, and has the text of these
 -- batches but the last.
-pub record IsCutOff (limits : Counts) (options : Options) (script : Commands) (left : Option (List ℕ)) (taken : List ℕ) (made : RunRecord) : Type 0 where
+pub record IsCutOff (limits : Counts) (options : Options) (outcomes : List File) (came : List Text → Type 0) (script : Commands) (left : Option (List ℕ)) (taken : List ℕ) (made : RunRecord) : Type 0 where
   pub count : ℕ
+  pub fetched : came (take (length outcomes) script.asked)
   pub record_of : IsRecordOf limits options (take count script.batches) made
   pub ended : made.ended ≡ true → IsAtEnd left × (script.end ≡ Whole) × (take count script.batches ≡ script.batches)
   pub beginning : IsPrefix taken (text made)
   pub holds : IsPrefix (answers_text options.trace (take (answer_count options.merge (take (count - 1) script.batches)) made.answers)) taken
 
 -- the row of a status
-abbrev pub Row : Counts → Options → List File → Status → List ℕ → Option (List ℕ) → List ℕ → RunRecord → Type 0
-Row limits options outcomes Done given left taken made = IsDone limits options outcomes (script_of options outcomes given left) left taken made
-Row limits options outcomes (Script line reason) given left taken made = IsRefused limits options outcomes (script_of options outcomes given left) line reason taken made
-Row limits options outcomes Usage given left taken made = (given ≡ []) × NothingDone taken made
-Row limits options outcomes ReadFault given left taken made = IsBrokenOff limits options (begun options outcomes given) taken made
-Row limits options outcomes WriteFault given left taken made = IsCutOff limits options (script_of options outcomes given left) left taken made
-Row limits options outcomes NoMemory given left taken made = NothingDone taken made ⊎ IsCutOff limits options (script_of options outcomes given left) left taken made
+abbrev pub Row : Counts → Options → List File → (List Text → Type 0) → Status → List ℕ → Option (List ℕ) → List ℕ → RunRecord → Type 0
+Row limits options outcomes came Done given left taken made = IsDone limits options came (script_of options outcomes given left) left taken made
+Row limits options outcomes came (Script line reason) given left taken made = IsRefused limits options came (script_of options outcomes given left) line reason taken made
+Row limits options outcomes came Usage given left taken made = (given ≡ []) × NothingDone taken made
+Row limits options outcomes came ReadFault given left taken made = IsBrokenOff limits options came (begun options outcomes given) taken made
+Row limits options outcomes came WriteFault given left taken made = IsCutOff limits options outcomes came (script_of options outcomes given left) left taken made
+Row limits options outcomes came NoMemory given left taken made = NothingDone taken made ⊎ IsCutOff limits options outcomes came (script_of options outcomes given left) left taken made

@@ -2,3 +2,4 @@ pub mod Tasks
 pub mod Outcomes
 pub mod Gathering
 pub mod Gathers
+pub mod Words

@@ -7,6 +7,7 @@ mod gather;
 mod line;
 mod options;
 mod refused;
+mod words;
 
 pub use body::Body;
 pub use command::{Batch, Command, FileBody, Task};
@@ -14,3 +15,4 @@ pub use gather::Gather;
 pub use options::{Options, Order, Piece};
 pub use refused::ScriptEnd;
 pub use script_model::{Reason, ScriptLimits};
+pub use words::{Mode, WordsRefused, read_words};

@@ -1,0 +1,4 @@
+pub mod Distinct
+pub mod Steps
+pub mod Weight
+pub mod LayoutLaws
