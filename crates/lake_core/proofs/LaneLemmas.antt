@@ -15,7 +15,7 @@ use Rattle.script_text.specs.Tasks.{task_of}
 use Rattle.lake_core.specs.declared.lane.Held.{Held}
 use Rattle.lake_core.specs.declared.lane.Held.TheVariants.{At, Denied}
 use Rattle.lake_core.specs.Searches.{IsPinOf}
-use Rattle.lake_core.proofs.LoadLemmas.{Answers}
+use Rattle.lake_core.proofs.LoadLemmas.{Answers, either_none}
 use Rattle.lake_core.specs.Lanes.{LaneOf, lane_from, position_of, pin_of, played, alone, IsHeldAt, IsHeld}
 
 -- a lane that has nothing to do
@@ -43,10 +43,6 @@ begun limits journal command todo held lane new first kind none here is =
     ∙ sym (ap (λ (h : Option Held). step_of limits false journal (played lane ∷ []) 0 lane.done command todo true (pin_of h)) none)
     ∙ sym (ap (λ b. step_of limits false journal (played lane ∷ []) 0 lane.done command todo b (pin_of lane.held)) kind)
     ∙ sym (ap (λ (cs : List Command). lane_step limits false journal (played lane ∷ []) 0 cs (played lane)) first)
-
-either_none : (b : Bool) → cond {A = List What} b [] [] ≡ []
-either_none true = refl
-either_none false = refl
 
 -- a search and a like add nothing
 no_change : (task : Task) (pinned : List Entry) → has_pin task ≡ true → is_merge task ≡ false → change_of task pinned ≡ []

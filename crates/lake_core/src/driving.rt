@@ -19,7 +19,7 @@ fn idle_lanes<'a>(alloc: Global, lanes: u32) -> Result<Vec<Lane<'a>>, NoMemory>
 {
     let mut all = Vec::new(alloc);
     all.push(Lane::new(alloc))?;
-    for made in 0..lanes {
+    for _made in 0..lanes {
         all.push(Lane::new(alloc))?;
     }
     Ok(all)
@@ -92,7 +92,7 @@ fn play_lane(
     requires { IsReady (state_with catalogue.old lanes.old out.old) }
     ensures { Goes (replicate (2 * commands) lane) (state_with catalogue.old lanes.old out.old) (state_with catalogue.new lanes.new out.new) }
 {
-    for taken in 0..commands {
+    for _taken in 0..commands {
         if is_idle(lanes, lane) {
             return;
         }

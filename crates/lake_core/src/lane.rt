@@ -40,7 +40,6 @@ pub struct Done<'a> {
 }
 
 impl<'a> Model for Done<'a> {
-    ghost use Rattle.script_model.specs.Replies.{tables_reply};
     ghost use Rattle.script_model.specs.Play.{Done as DoneOf, done_with};
     ghost use Rattle.reply_text.specs.Replies.{reply_of};
 

@@ -9,7 +9,7 @@ loop-taken-init c = goes_none (state_with c.args.catalogue.now c.args.lanes.now 
 
 pub returns-then-is_idle : goal.returns-then-is_idle
 returns-then-is_idle c =
-    let n = c.loop-taken.taken in
+    let n = c.loop-taken._taken in
     let all = c.args.commands in
     let state = state_with c.loop-taken.catalogue c.loop-taken.lanes c.loop-taken.out in
     let within : n ≤ all = omega arith in
@@ -17,4 +17,4 @@ returns-then-is_idle c =
     (goes_idle state c.args.lane (2 * all - 2 * n) (ready_after _ _ _ c.loop-taken.invariant) (c.is_idle.ensures c.if-is_idle.true))
 
 pub loop-taken-preserved : goal.loop-taken-preserved
-loop-taken-preserved c = goes_by _ _ _ _ _ _ (sym (two_more c.loop-taken.taken c.args.lane)) (goes_on _ _ _ _ _ c.loop-taken.invariant c.step.ensures) c.step-in-loop-taken.ensures
+loop-taken-preserved c = goes_by _ _ _ _ _ _ (sym (two_more c.loop-taken._taken c.args.lane)) (goes_on _ _ _ _ _ c.loop-taken.invariant c.step.ensures) c.step-in-loop-taken.ensures

@@ -1,7 +1,7 @@
 use Rattle.std.proofs.Common.{◌∷◌, [], get_or, sym}
 use Rattle.std.proofs.lemmas.List.{take_more}
 use Rattle.lake_core.specs.Plays.{state_with}
-use Rattle.lake_core.proofs.TurnLemmas.{goes_none, goes_by, ready_after}
+use Rattle.lake_core.proofs.TurnLemmas.{goes_none, goes_by}
 use Rattle.lake_core.proofs.driving.play_piece.Goals as goal
 
 pub loop-lane-init : goal.loop-lane-init

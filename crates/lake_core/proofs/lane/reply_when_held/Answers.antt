@@ -1,11 +1,6 @@
-use Rattle.std.proofs.Common.{take, ap, sym, subst, ◌∙◌, ◌≡◌}
-use Rattle.script_model.specs.Answered.{answer_to}
-use Rattle.script_model.specs.Play.{reply_or_denied}
 use Rattle.script_text.specs.Tasks.{task_of}
 use Rattle.reply_text.specs.Replies.{reply_of}
-use Rattle.lake_core.specs.declared.lane.Held.{Held}
-use Rattle.lake_core.specs.Lanes.{IsHeldAt, position_of}
-use Rattle.lake_core.proofs.LaneLemmas.{no_merge, pinned_alone, held_answer}
+use Rattle.lake_core.proofs.LaneLemmas.{no_merge, held_answer}
 use Rattle.lake_core.proofs.lane.reply_when_held.Goals as goal
 
 pub returns-in-At : goal.returns-in-At

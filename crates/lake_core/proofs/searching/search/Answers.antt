@@ -1,4 +1,4 @@
-use Rattle.std.proofs.Common.{None, false, sym, subst, ◌∙◌}
+use Rattle.std.proofs.Common.{None, sym, subst, ◌∙◌}
 use Rattle.josie_search.specs.Search.{query_with}
 use Rattle.script_model.specs.Replies.{query_reply, search_reply}
 use Rattle.script_model.specs.Answered.{plain_query, query_read, search_answer}
