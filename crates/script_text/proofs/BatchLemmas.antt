@@ -6,9 +6,10 @@ use Rattle.std.proofs.KnownBytes.{Consumes-kept}
 use Rattle.lake_io.specs.Files as shelf
 use Rattle.lake_model.specs.Texts.{Text}
 use Rattle.script_model.specs.declared.Reason.{Reason}
+use Rattle.script_model.specs.declared.ScriptLimits.{ScriptLimits}
 use Rattle.script_model.specs.Commands.{Batch, File}
 use Rattle.script_model.specs.Reading.{Grammar, Reading, Stands, Turn, read, read_with, turn_of, turned}
-use Rattle.script_model.specs.Script.{Commands, FaultAt, Whole, commands_from, commands_with, ended}
+use Rattle.script_model.specs.Script.{Commands, FaultAt, Whole, commands_from, commands_with, ended, grammar_of}
 use Rattle.script_model.specs.Statuses.{left_of}
 use Rattle.script_model.specs.Words.{NoFeed}
 use Rattle.script_text.specs.declared.refused.ScriptEnd.{ScriptEnd}
@@ -16,12 +17,12 @@ use Rattle.script_text.specs.declared.refused.ScriptEnd.TheVariants.{NoMemory, R
 use Rattle.script_text.specs.Endings.{Ends}
 use Rattle.script_text.specs.Gathering.{Gathering, IsFaulty, grammar, lines_text, reading_at}
 use Rattle.script_text.specs.Gathers.{Gathers, Taken}
-use Rattle.script_text.specs.Inputs.{EndsLine}
+use Rattle.script_text.specs.Inputs.{Came, EndsLine}
 use Rattle.script_text.specs.Outcomes.{AreFetched}
-use Rattle.script_text.specs.Parts.{IsFaultOf}
+use Rattle.script_text.specs.Parts.{HasSameRules, IsFaultOf, IsHeldFault}
 use Rattle.script_text.specs.Readings.{Turns}
 use Rattle.script_text.proofs.EndLemmas.{commands_end}
-use Rattle.script_text.proofs.ProgressLemmas.{Progress, after_turn, cut_push, fetched_join, goes_line, none_fetched, read_push, size_of_line, whole_push}
+use Rattle.script_text.proofs.ProgressLemmas.{Progress, after_turn, cut_push, fetched_join, goes_line, line_goes, none_fetched, reads_more, read_push, size_of_line, whole_push}
 
 -- an answer, by what was given and fetched
 abbrev pub Answers : Result (Option Batch) ScriptEnd → Gathering → Gathering → Option (List ℕ) → Option (List ℕ) → Option (List shelf.File) → ℕ → ℕ → Type 0
@@ -159,3 +160,110 @@ pub record IsUnder (before now : Gathering) (left_before left : Option (List ℕ
   pub used : before.reading.used + length now.reading.commands ≤ now.reading.used
   pub same_files : files ≡ files_before
   pub later : (source_first ≤ source_last) × (first ≤ last)
+
+module _ (before now : Gathering) (left_before left : Option (List ℕ)) (files_before files : Option (List shelf.File)) (first middle source_first source : ℕ) (u : IsUnder before now left_before left files_before files first middle source_first source) where
+  same_grammar : grammar now ≡ grammar before
+  same_grammar = ap (λ (limits : ScriptLimits). grammar_of limits now.lanes) u.limits ∙ ap (grammar_of before.limits) u.lanes
+
+  turns_before : (line : Text) (result : Result (Option Batch) ScriptEnd) (after : Reading) (last : ℕ) → Turns (turn_of (grammar now) line) result (now.reading.lines + 1) now.reading after files middle last
+      → Turns (turn_of (grammar before) line) result (now.reading.lines + 1) now.reading after files_before middle last
+  turns_before line result after last turns =
+      subst (λ (from : Grammar). Turns (turn_of from line) result (now.reading.lines + 1) now.reading after files_before middle last) same_grammar
+      (subst (λ (fs : Option (List shelf.File)). Turns (turn_of (grammar now) line) result (now.reading.lines + 1) now.reading after fs middle last) u.same_files turns)
+
+  fits_before : (n : ℕ) → n ≤ now.limits.input → n ≤ before.limits.input
+  fits_before n h = subst (λ (limits : ScriptLimits). n ≤ limits.input) u.limits h
+
+  pub step_read : (next : Gathering) (left_next : Option (List ℕ)) (source_next count : ℕ) → Came left left_next now.held next.held count → next.reading ≡ now.reading → HasSameRules now next → source ≤ source_next
+      → IsUnder before next left_before left_next files_before files first middle source_first source_next
+  step_read next left_next source_next count came e same h = record {
+    progress = reads_more (grammar before) before.reading before.held left_before files_before first left left_next middle now.reading next.reading now.held next.held count e u.progress came;
+    limits = same.limits ∙ u.limits;
+    lanes = same.lanes ∙ u.lanes;
+    ended = same.ended ∙ u.ended;
+    used = subst (λ (r : Reading). before.reading.used + length r.commands ≤ r.used) (sym e) u.used;
+    same_files = u.same_files;
+    later = (omega (arith, u.later.0, h), u.later.1);
+  }
+
+  pub step_line : (next : Gathering) (files_next : Option (List shelf.File)) (last at : ℕ) → EndsLine now.held at → now.reading.used + (at + 1) ≤ now.limits.input
+      → Turns (turn_of (grammar now) (take at now.held)) (Ok None) (now.reading.lines + 1) now.reading next.reading files middle last → next.held ≡ drop (at + 1) now.held
+      → next.reading.used ≡ now.reading.used + (at + 1) → length next.reading.commands ≤ length now.reading.commands + 1 → HasSameRules now next → middle ≤ last → files_next ≡ files
+      → IsUnder before next left_before left files_before files_next first last source_first source
+  step_line next files_next last at line fits turns held used grows same h files_same = record {
+    progress = line_goes (grammar before) before.reading before.held left_before files_before first left middle last now.reading next.reading now.held next.held at u.progress line (fits_before (now.reading.used + (at + 1)) fits)
+        (turns_before (take at now.held) (Ok None) next.reading last turns) held;
+    limits = same.limits ∙ u.limits;
+    lanes = same.lanes ∙ u.lanes;
+    ended = same.ended ∙ u.ended;
+    used = omega (arith, u.used, used, grows);
+    same_files = files_same ∙ u.same_files;
+    later = (u.later.0, omega (arith, u.later.1, h));
+  }
+
+  pub answer_sync : (next given : Gathering) (last at : ℕ) (batch : Batch) → EndsLine now.held at → now.reading.used + (at + 1) ≤ now.limits.input
+      → Turns (turn_of (grammar now) (take at now.held)) (Ok (Some batch)) (now.reading.lines + 1) now.reading next.reading files middle last → next.held ≡ drop (at + 1) now.held → given ≡ record next { ended = false }
+      → Answers (Ok (Some batch)) before given left_before left files_before first last
+  answer_sync next given last at batch line fits turns held e =
+      subst (λ (g : Gathering). Answers (Ok (Some batch)) before g left_before left files_before first last) (sym e)
+      (synced before (record next { ended = false }) left_before left files_before first middle now.reading now.held u.progress last at batch line (fits_before (now.reading.used + (at + 1)) fits)
+      (turns_before (take at now.held) (Ok (Some batch)) next.reading last turns) held refl)
+
+  pub answer_line : (next : Gathering) (last at : ℕ) (e : ScriptEnd) → EndsLine now.held at → now.reading.used + (at + 1) ≤ now.limits.input
+      → Turns (turn_of (grammar now) (take at now.held)) (Err e) (now.reading.lines + 1) now.reading next.reading files middle last → Answers (Err e) before next left_before left files_before first last
+  answer_line next last at (Script number why) line fits turns =
+      line_faulty before next left_before left files_before first middle now.reading now.held u.progress last at number why line (fits_before (now.reading.used + (at + 1)) fits)
+      (turns_before (take at now.held) (Err (Script number why)) next.reading last turns)
+  answer_line next last at ReadFault line fits turns = absurd (turns.turned [] [])
+  answer_line next last at NoMemory line fits turns =
+      let t = turns_before (take at now.held) (Err NoMemory) next.reading last turns in
+      out_of_memory before next left_before left files_before first middle now.reading now.held u.progress last t.asked t.outcomes t.fetched
+
+  progress_kept : (left_next : Option (List ℕ)) → Keeps left left_next → Progress (grammar before) before.reading before.held left_before left_next files_before first middle now.reading now.held
+  progress_kept left_next kept = record {
+    given = u.progress.given;
+    asked = u.progress.asked;
+    outcomes = u.progress.outcomes;
+    lines = u.progress.lines;
+    gave = Consumes-kept left_before left left_next u.progress.given u.progress.gave kept;
+    fetched = u.progress.fetched;
+    whole = u.progress.whole;
+    cut = u.progress.cut;
+    reads = u.progress.reads;
+    goes = u.progress.goes;
+  }
+
+  pub answer_held : (next : Gathering) (left_next : Option (List ℕ)) (e : ScriptEnd) → Keeps left left_next → IsHeldFault now e → (e ≡ ReadFault → NoFeed now.held) → Answers (Err e) before next left_before left_next files_before first middle
+  answer_held next left_next (Script number why) kept fault whole =
+      held_faulty before next left_before left_next files_before first middle now.reading now.held (progress_kept left_next kept) middle number why (omega arith)
+      (subst (λ (from : Grammar). (paths : List Text) (later : List File) (more : List ℕ) → IsFaultOf (Script number why) paths (commands_from from (reading_at now.reading paths later) (now.held ++ more))) same_grammar fault)
+  answer_held next left_next ReadFault kept fault whole = unfinished before next left_before left_next files_before first middle now.reading now.held (progress_kept left_next kept) middle (omega arith) (whole refl)
+  answer_held next left_next NoMemory kept fault whole =
+      out_of_memory before next left_before left_next files_before first middle now.reading now.held (progress_kept left_next kept) middle [] [] (none_fetched files_before middle middle (omega arith))
+
+  pub answer_end : (next : Gathering) (last : ℕ) (result : Result (Option Batch) ScriptEnd) → NoFeed now.held → now.reading.used + length now.held ≤ now.limits.input → IsAtEnd left → HasSameRules now next
+      → Ends (λ r. ended (grammar now) false now.held [] (Stands r)) result now.reading files middle last → Answers result before next left_before left files_before first last
+  answer_end next last result whole fits end same ends =
+      finished before next left_before left files_before first middle now.reading now.held u.progress last result whole (fits_before (now.reading.used + length now.held) fits) end (same.ended ∙ u.ended)
+      (subst (λ (from : Grammar). Ends (λ r. ended from false now.held [] (Stands r)) result now.reading files_before middle last) same_grammar
+      (subst (λ (fs : Option (List shelf.File)). Ends (λ r. ended (grammar now) false now.held [] (Stands r)) result now.reading fs middle last) u.same_files ends))
+
+pub no_read_fault : (end : Reading → Commands) (result : Result (Option Batch) ScriptEnd) (before : Reading) (files : Option (List shelf.File)) (first last : ℕ) → Ends end result before files first last → result ≡ Err ReadFault → ⊥
+no_read_fault end (Ok found) before files first last ends e = cc e
+no_read_fault end (Err (Script number why)) before files first last ends e = cc e
+no_read_fault end (Err ReadFault) before files first last ends e = ends.ended [] []
+no_read_fault end (Err NoMemory) before files first last ends e = cc e
+
+pub no_line_fault : (step : Reading → Turn) (e : ScriptEnd) (line : ℕ) (before after : Reading) (files : Option (List shelf.File)) (first last : ℕ) → Turns step (Err e) line before after files first last → e ≡ ReadFault → ⊥
+no_line_fault step (Script number why) line before after files first last turns e = cc e
+no_line_fault step ReadFault line before after files first last turns e = turns.turned [] []
+no_line_fault step NoMemory line before after files first last turns e = cc e
+
+no_bytes : (bytes : List ℕ) → length bytes ≡ 0 → bytes ≡ []
+no_bytes [] h = refl
+no_bytes (byte ∷ bytes) h = absurd (omega (arith, h))
+
+-- Where no byte came, what is held is as before.
+pub nothing_came : (left left_next : Option (List ℕ)) (held held_next : List ℕ) (count : ℕ) → Came left left_next held held_next count → count ≡ 0 → held_next ≡ held
+nothing_came left left_next held held_next count came none =
+    came.held ∙ ap (λ (xs : List ℕ). held ++ xs) (no_bytes came.piece (came.size ∙ none)) ∙ append-nil held

@@ -119,7 +119,7 @@ commands_fail grammar reading held more why whole h fails =
     let over : Bool = nat_lt (grammar.input - reading.used) (length (held ++ more)) in
     let cut : take (grammar.input - reading.used) (held ++ more) ≡ held ++ take (grammar.input - reading.used - length held) more =
     (let e : grammar.input - reading.used ≡ length held + (grammar.input - reading.used - length held) = omega (arith, h) in
-     ap (λ (n : ℕ). take n (held ++ more)) e ∙ take-append-add held more (grammar.input - reading.used - length held)) in
+    ap (λ (n : ℕ). take n (held ++ more)) e ∙ take-append-add held more (grammar.input - reading.used - length held)) in
     let rest : Text = take (grammar.input - reading.used - length held) more in
     ap (λ (beginning : Text). given_by grammar reading beginning over) cut
     ∙ ap (by_lines grammar reading over) (lines_onto held rest whole)
@@ -144,9 +144,9 @@ size_undotted line =
 no_end : (line : Text) → 2 < length line → is_end line ≡ false
 no_end line long =
     false_from_ne_true (is_end line) (λ e.
-      let same : without_return line ≡ codes "." = (bytes_eq-Decides (without_return line) (codes ".")).0 e in
-      let size : length (without_return line) ≡ 1 = ap length same in
-      omega (arith, long, size, size_without_return line))
+    let same : without_return line ≡ codes "." = (bytes_eq-Decides (without_return line) (codes ".")).0 e in
+    let size : length (without_return line) ≡ 1 = ap length same in
+    omega (arith, long, size, size_without_return line))
 
 module _ (limits : ScriptLimits) (lanes : ℕ) (reading : Reading) (held : Text) where
   abbrev by : Grammar
@@ -187,9 +187,9 @@ module _ (limits : ScriptLimits) (lanes : ℕ) (reading : Reading) (held : Text)
             ∙ body_is_long (body_after block (held ++ more)) (size_after block long more);
         whole = λ more. ap (λ (b : Option Open). line_in by b (held ++ more) (counted_with more)) e
             ∙ ap (λ (b : Bool). cond {A = Turn} b (Goes (block_ended block (counted_with more)))
-              (unless_fault (body_fault by reading.bytes (body_after block (held ++ more) ++ 0x0A ∷ [])) (counted_with more) (Goes (with_body block (body_after block (held ++ more) ++ 0x0A ∷ []) (counted_with more))))) (goes_on more)
+            (unless_fault (body_fault by reading.bytes (body_after block (held ++ more) ++ 0x0A ∷ [])) (counted_with more) (Goes (with_body block (body_after block (held ++ more) ++ 0x0A ∷ []) (counted_with more))))) (goes_on more)
             ∙ ap (λ (f : Option Reason). unless_fault f (counted_with more) (Goes (with_body block (body_after block (held ++ more) ++ 0x0A ∷ []) (counted_with more))))
-              (body_is_long (body_after block (held ++ more) ++ 0x0A ∷ []) (omega (arith, size_after block long more, length-append (body_after block (held ++ more)) (0x0A ∷ []))));
+            (body_is_long (body_after block (held ++ more) ++ 0x0A ∷ []) (omega (arith, size_after block long more, length-append (body_after block (held ++ more)) (0x0A ∷ []))));
       }
 
 -- ---- what is held

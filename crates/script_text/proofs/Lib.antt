@@ -1,4 +1,3 @@
-pub mod ModeLemmas
 pub mod WordLemmas
 pub mod FormLemmas
 pub mod FeedLemmas
@@ -7,3 +6,4 @@ pub mod EndLemmas
 pub mod ProgressLemmas
 pub mod TurnLemmas
 pub mod BatchLemmas
+pub mod ModeLemmas

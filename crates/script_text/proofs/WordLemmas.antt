@@ -49,7 +49,7 @@ cut_space byte text t = record {
 
 cut_at : (text : Text) → Cut text
 cut_at [] = record { parts = []; split = refl; others = refl }
-cut_at (byte ∷ text) = elim (cases_Bool (is_space byte)) [ | inl t ↦ cut_space byte text t | inr f ↦ cut_letter byte text f (cut_at text) ]
+cut_at (byte ∷ text) = elim (cases_Bool (is_space byte)) [ inl t ↦ cut_space byte text t | inr f ↦ cut_letter byte text f (cut_at text) ]
 
 -- ---- spaces in front
 

@@ -2,9 +2,9 @@ pub mod Tasks
 pub mod Outcomes
 pub mod Gathering
 pub mod Gathers
-pub mod Words
 pub mod Fronts
 pub mod Readings
 pub mod Endings
 pub mod Inputs
 pub mod Parts
+pub mod Words

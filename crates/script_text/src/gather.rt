@@ -121,7 +121,8 @@ impl Gather {
     // From now on a further batch may be asked for, or not.
     fn set_ended(&mut self, ended: bool)
         requires { ended ≡ false → self.old.reading.commands ≡ [] }
-        ensures { self.new ≡ record self.old { ended = ended } }
+        ensures set { self.new ≡ record self.old { ended = ended } }
+        ensures empty { self.old.ended ≡ false → self.old.reading.commands ≡ [] }
     {
         self.ended = ended;
     }
@@ -131,6 +132,7 @@ impl Gather {
         ensures same { self.new ≡ self.old }
         ensures found { IfSome result (λ at. EndsLine self.old.held at × (self.old.reading.used + (at + 1) ≤ self.old.limits.input)) }
         ensures none { IfNone result (NoFeed (take (self.old.limits.input - self.old.reading.used) self.old.held)) }
+        ensures within { self.old.reading.used ≤ self.old.limits.input }
     {
         self.input.find_line(self.reader.room())
     }
@@ -202,6 +204,7 @@ impl Gather {
         requires fits { self.old.reading.used + length self.old.held ≤ self.old.limits.input }
         ensures ends { Ends (λ reading. ended (grammar self.old) false self.old.held [] (Stands reading)) result self.old.reading (F.files shelf.old) (F.faults shelf.old) (F.faults shelf.new) }
         ensures used { OnOk result (self.new.reading.used ≡ self.old.reading.used + length self.old.held) }
+        ensures within { self.new.reading.used ≤ self.old.reading.used + length self.old.held }
         ensures grows { IfOk result (λ found. IfSome found (λ batch. (0 < length self.old.reading.commands + length self.old.held) × (length batch ≤ length self.old.reading.commands + length self.old.held))) }
         ensures lanes { IfOk result (λ found. IfSome found (IsOfLanes self.old.lanes)) }
         ensures merges { IfOk result (λ found. IfSome found HasNoMerge) }

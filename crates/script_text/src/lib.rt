@@ -11,9 +11,9 @@ mod numbers;
 mod options;
 mod reader;
 mod refused;
-mod words;
 mod rules;
 mod spaces;
+mod words;
 
 pub use body::Body;
 pub use command::{Batch, Command, FileBody, Task};

@@ -109,7 +109,12 @@ impl OpenBlock {
         ensures in_range { IsTaskInRange result }
         ensures size { body_size (task_of result) ≡ length self.body }
     {
-        let OpenBlock { front, body, .. } = self;
+        let OpenBlock {
+            front,
+            mut body,
+            ..
+        } = self;
+        body.shrink_to_fit();
         let Some(body) = Body::new(body) else {
             unreachable!()
         };
@@ -260,6 +265,7 @@ impl Reader {
         requires { self.old.reading.used + length rest.now ≤ self.old.rules.limits.input }
         ensures ends { Ends (λ reading. ended (grammar_by self.old.rules) false rest.now [] (Stands reading)) result self.old.reading (F.files shelf.old) (F.faults shelf.old) (F.faults shelf.new) }
         ensures used { OnOk result (self.new.reading.used ≡ self.old.reading.used + length rest.now) }
+        ensures within { self.new.reading.used ≤ self.old.reading.used + length rest.now }
         ensures grows { IfOk result (λ found. IfSome found (λ batch. (0 < length self.old.reading.commands + length rest.now) × (length batch ≤ length self.old.reading.commands + length rest.now))) }
         ensures lanes { IfOk result (λ found. IfSome found (IsOfLanes self.old.rules.lanes)) }
         ensures merges { IfOk result (λ found. IfSome found HasNoMerge) }

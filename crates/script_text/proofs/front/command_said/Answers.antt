@@ -13,6 +13,6 @@ returns-clause-said c =
     let form = form_of c.in-Some.form in
     subst (λ (m : Said). Says m c.says.result)
     (sym (ap (λ (w : Text). of_form c.args.lane text (find (λ f. bytes_eq f.0 w) forms)) (sym c.first_word.ensures)
-        ∙ form_said c.args.lane text form (find (λ f. bytes_eq f.0 c.first_word.result.now) forms) c.in-Some.ensures
-        ∙ ap (λ (t : Text). says form c.args.lane (words t) t) (sym c.behind_word.ensures)))
+    ∙ form_said c.args.lane text form (find (λ f. bytes_eq f.0 c.first_word.result.now) forms) c.in-Some.ensures
+    ∙ ap (λ (t : Text). says form c.args.lane (words t) t) (sym c.behind_word.ensures)))
     c.says.ensures.said

@@ -13,7 +13,7 @@ returns-in_err-at-clause-none c =
     let all : take (from + (length text - from)) text ≡ text = take_all (from + (length text - from)) text (omega (arith, c.requires.within)) in
     let rest : take (length text - from) (drop from text) ≡ drop from text = take_rest text from in
     if_none _ c.from_residual.result (subst NoFeed all (no_feed_on text from (length text - from) (omega (arith, c.requires.within)) c.requires.searched
-      (λ k lt e. c.in_err-at.ensures k (omega arith) (omega (arith, lt, ap length rest, length-drop from text)) (ap (λ (xs : List ℕ). get_or xs k 0 == 0x0A) rest ∙ e))))
+    (λ k lt e. c.in_err-at.ensures k (omega arith) (omega (arith, lt, ap length rest, length-drop from text)) (ap (λ (xs : List ℕ). get_or xs k 0 == 0x0A) rest ∙ e))))
 
 pub returns-clause-found : goal.returns-clause-found
 returns-clause-found c =

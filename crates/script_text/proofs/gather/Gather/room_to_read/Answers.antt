@@ -15,11 +15,13 @@ returns-then-held-room-clause-fault c =
     let whole : NoFeed (take (reader.rules.limits.input - reader.reading.used) held) =
     subst (λ (g : Gathering). NoFeed (take (g.limits.input - g.reading.used) g.held)) (sym c.self.view_is) c.requires.line in
     let past : reader.rules.limits.input - reader.reading.used < length held = omega (arith, c.room-room.ensures.value, ap length c.held-held.ensures, c.if-held-room.true) in
-    let fault : c.begun_fault.result ≡ begun_fault (grammar_of reader.rules.limits reader.rules.lanes) reader.reading.block reader.reading.bytes (take (reader.rules.limits.input - reader.reading.used) held) = cc in
-    (λ e. cc e, subst (λ (g : Gathering). IsHeldFault g (Script (c.lines-line.result + 1) c.unwrap_or-reason.result)) c.self.view_is
-      (λ paths later more.
-        rw (c.lines-line.ensures.value, c.unwrap_or-reason.ensures)
-        (held_over reader.rules.limits reader.rules.lanes reader.reading held c.begun_fault.result whole past fault paths later more)))
+    let fault : c.begun_fault.result ≡ begun_fault (grammar_of reader.rules.limits reader.rules.lanes) reader.reading.block reader.reading.bytes (take (reader.rules.limits.input - reader.reading.used) held) = cc in (
+      λ e. cc e,
+      subst (λ (g : Gathering). IsHeldFault g (Script (c.lines-line.result + 1) c.unwrap_or-reason.result)) c.self.view_is
+          (λ paths later more.
+          rw (c.lines-line.ensures.value, c.unwrap_or-reason.ensures)
+          (held_over reader.rules.limits reader.rules.lanes reader.reading held c.begun_fault.result whole past fault paths later more)),
+    )
 
 pub returns-then-held-longest-clause-fault : goal.returns-then-held-longest-clause-fault
 returns-then-held-longest-clause-fault c =
@@ -29,8 +31,10 @@ returns-then-held-longest-clause-fault c =
     let short : length held ≤ reader.rules.limits.input - reader.reading.used = omega (arith, fits) in
     let whole : NoFeed held = subst NoFeed (take_all (reader.rules.limits.input - reader.reading.used) held short)
     (subst (λ (g : Gathering). NoFeed (take (g.limits.input - g.reading.used) g.held)) (sym c.self.view_is) c.requires.line) in
-    let long : c.longest.result < length held = omega (arith, ap length c.held-held.ensures, c.if-held-longest.true) in
-    (λ e. cc e, subst (λ (g : Gathering). IsHeldFault g (Script (c.lines-line.result + 1) c.too_long-reason.result)) c.self.view_is
-      (λ paths later more.
-        rw (c.lines-line.ensures.value, c.too_long-reason.ensures)
-        (held_too_long reader.rules.limits reader.rules.lanes reader.reading held c.longest.result whole fits c.longest.ensures.line c.longest.ensures.block c.longest.ensures.body long paths later more)))
+    let long : c.longest.result < length held = omega (arith, ap length c.held-held.ensures, c.if-held-longest.true) in (
+      λ e. cc e,
+      subst (λ (g : Gathering). IsHeldFault g (Script (c.lines-line.result + 1) c.too_long-reason.result)) c.self.view_is
+          (λ paths later more.
+          rw (c.lines-line.ensures.value, c.too_long-reason.ensures)
+          (held_too_long reader.rules.limits reader.rules.lanes reader.reading held c.longest.result whole fits c.longest.ensures.line c.longest.ensures.block c.longest.ensures.body long paths later more)),
+    )

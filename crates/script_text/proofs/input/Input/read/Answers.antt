@@ -11,8 +11,10 @@ invariant_of-self g c =
 
 pub returns-in_err-lengthen-clause-kept : goal.returns-in_err-lengthen-clause-kept
 returns-in_err-lengthen-clause-kept g c =
-    on_err _ c.from_residual.result (Keeps-refl (g.S.Source.left c.args.source.now),
-      held_same c.self.inside.start c.self.inside.filled c.self.inside.bytes.items c.lengthen.new.bytes.items (omega (arith, c.self.invariant.ordered)) c.in_err-lengthen.ensures.same ∙ c.self.view_is ∙ c.move_for.ensures)
+    on_err _ c.from_residual.result (
+      Keeps-refl (g.S.Source.left c.args.source.now),
+      held_same c.self.inside.start c.self.inside.filled c.self.inside.bytes.items c.lengthen.new.bytes.items (omega (arith, c.self.invariant.ordered)) c.in_err-lengthen.ensures.same ∙ c.self.view_is ∙ c.move_for.ensures,
+    )
 
 pub invariant_of-self-in_err-count : goal.invariant_of-self-in_err-count
 invariant_of-self-in_err-count g c =
@@ -33,8 +35,10 @@ returns-in_err-count-clause-kept g c =
     let size : was.len ≡ length now = cc in
     let same : take was.len (now ++ drop (length now) was.items) ≡ now = take_at now (drop (length now) was.items) was.len (sym size) in
     let first : take f now ≡ take f c.self.inside.bytes.items = c.in_err-count.ensures.same ∙ ap (take f) c.as_mut_slice.ensures.value ∙ c.in_ok-lengthen.ensures.same in
-    on_err _ c.from_residual-in_err-count.result (c.in_err-count.ensures.kept,
-      ap (λ (xs : List ℕ). take (f - s) (drop s xs)) same ∙ held_same s f c.self.inside.bytes.items now (omega (arith, c.self.invariant.ordered)) first ∙ c.self.view_is ∙ c.move_for.ensures)
+    on_err _ c.from_residual-in_err-count.result (
+      c.in_err-count.ensures.kept,
+      ap (λ (xs : List ℕ). take (f - s) (drop s xs)) same ∙ held_same s f c.self.inside.bytes.items now (omega (arith, c.self.invariant.ordered)) first ∙ c.self.view_is ∙ c.move_for.ensures,
+    )
 
 pub invariant_of-self-2 : goal.invariant_of-self-2
 invariant_of-self-2 g c =

@@ -29,7 +29,7 @@ returns-in_err-refuse_bytes-clause-turn g c =
     let passes : rules.limits.bytes < reading.bytes + file_size file = omega (arith, full.1, c.size-size.ensures) in
     rw (p.1, p.2, full.0)
     (fetched_one rules.limits rules.lanes c.args.lane c.args.name c.args.path.now reading _ _ _ _ _ _ file c.in_ok-file.ensures.came c.in_ok-file.ensures.failed
-      (λ paths later. (refl, fetch_passes rules.limits rules.lanes c.args.lane c.args.name c.args.path.now reading file paths later c.in_ok-refuse_full.ensures.room passes)))
+    (λ paths later. (refl, fetch_passes rules.limits rules.lanes c.args.lane c.args.name c.args.path.now reading file paths later c.in_ok-refuse_full.ensures.room passes)))
 
 pub returns-in_err-push_command-clause-turn : goal.returns-in_err-push_command-clause-turn
 returns-in_err-push_command-clause-turn g c =
@@ -44,5 +44,5 @@ returns-clause-turn g c =
     let fits : reading.bytes + file_size file ≤ rules.limits.bytes = omega (arith, c.in_ok-refuse_bytes.ensures.room, c.size-size.ensures) in
     rw c.in_ok-push_command.ensures.pushed
     (fetched_one rules.limits rules.lanes c.args.lane c.args.name c.args.path.now reading _ _ _ _ _ _ file c.in_ok-file.ensures.came c.in_ok-file.ensures.failed
-      (λ paths later. fetch_goes rules.limits rules.lanes c.args.lane c.args.name c.args.path.now reading file paths later c.in_ok-refuse_full.ensures.room fits
-          ∙ ap (λ (n : ℕ). Goes (reading_at (with_command c.args.lane (LoadFile c.args.name file) n reading) (paths ++ c.args.path.now ∷ []) later)) (sym c.size-size.ensures)))
+    (λ paths later. fetch_goes rules.limits rules.lanes c.args.lane c.args.name c.args.path.now reading file paths later c.in_ok-refuse_full.ensures.room fits
+    ∙ ap (λ (n : ℕ). Goes (reading_at (with_command c.args.lane (LoadFile c.args.name file) n reading) (paths ++ c.args.path.now ∷ []) later)) (sym c.size-size.ensures)))

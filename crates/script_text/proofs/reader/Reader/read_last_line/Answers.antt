@@ -27,4 +27,4 @@ returns-clause-turn g c =
     let some : is_some c.args.self.now.reading.block ≡ true = ap (λ (s : ReaderState). is_some s.reading.block) (sym c.self.view_is) ∙ c.is_none.ensures ∙ ap not c.if-is_none.false in
     unfetched _ _ _ _ _ _ _ _ (omega arith)
     (λ paths later. last_end (grammar_by c.args.self.now.rules) c.args.self.now.reading.block c.args.line.now c.args.self.now.reading c.close_block.new.self.reading paths later some
-      (sym c.is_end.ensures ∙ c.if-not-is_end.false) c.in_ok-close_block.ensures.closed)
+    (sym c.is_end.ensures ∙ c.if-not-is_end.false) c.in_ok-close_block.ensures.closed)
