@@ -6,13 +6,16 @@ mod layout;
 mod looks;
 mod numbers;
 mod pin;
+mod plan;
 mod segment;
+mod swap;
 mod version;
 
 pub use layout::{Layout, Places, TableLines};
 pub use looks::Looks;
 pub use numbers::{Marks, Numbers};
 pub use pin::Pin;
+pub use plan::{Merged, Plan};
 pub use search_model::{Look, Owner, Posting, TokenAt};
 pub use segment::Segment;
 pub use version::{Part, Version};
