@@ -6,3 +6,4 @@ pub mod SharedLemmas
 pub mod ReadLemmas
 pub mod RunLemmas
 pub mod SortLemmas
+pub mod RaisedLemmas

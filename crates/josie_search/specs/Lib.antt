@@ -3,3 +3,4 @@ pub mod Reads
 pub mod Counts
 pub mod Rows
 pub mod Ready
+pub mod Room

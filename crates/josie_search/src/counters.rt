@@ -1,13 +1,14 @@
 //! Counters of columns, with a list of those that are raised.
-ghost use Rattle.std.specs.Prelude.{◌≡◌, ◌<◌, ◌+◌, ◌^◌, ℕ, length, replicate, slice_index, slice_set, IfNone, IfOk, IfSome, OnOk};
+ghost use Rattle.std.specs.Prelude.{◌≡◌, ◌<◌, ◌+◌, ◌^◌, ℕ, length, replicate, slice_index, slice_set, IfNone, IfOk, IfSome};
 ghost use Rattle.josie_search.specs.Counts.{AreZeros};
 
+use crate::room::push_within;
 use no_memory::NoMemory;
 use std::alloc::Global;
 use std::marker::Model;
 
 /// A counter for each of some columns, which are numbered from 0. It lists the columns that are raised, so that they are found
-/// again with no walk over the others. A contract sees the list of the counts.
+/// again with no walk over the others; the list has room for them all. A contract sees the list of the counts.
 #[derive(Drop)]
 pub(crate) struct Counters {
     counts: Vec<u32>,
@@ -15,14 +16,14 @@ pub(crate) struct Counters {
 }
 
 impl Model for Counters {
-    ghost use Rattle.std.specs.Prelude.{ℕ, List};
-    ghost use Rattle.josie_search.specs.Counts.{ListsRaised};
+    ghost use Rattle.std.specs.Prelude.{ℕ, List, vec_capacity};
+    ghost use Rattle.josie_search.specs.Counts.{HasRaised};
 
     ghost Value = { List ℕ };
 
     ghost view = { λ c. c.counts.items };
 
-    ghost invariant = { λ c. ListsRaised c.counts.items c.raised.items };
+    ghost invariant = { λ c. HasRaised c.counts.items c.raised.items (vec_capacity c.raised) };
 }
 
 impl Counters {
@@ -32,21 +33,20 @@ impl Counters {
     {
         Ok(Counters {
             counts: vec![in alloc; 0; columns as usize]?,
-            raised: Vec::new(alloc),
+            raised: Vec::with_capacity(alloc, columns as usize)?,
         })
     }
 
-    /// Raises the counter of a column by one.
-    pub(crate) fn raise(&mut self, column: u32) -> Result<(), NoMemory>
+    /// Raises the counter of a column by one. It takes no memory.
+    pub(crate) fn raise(&mut self, column: u32)
         requires there { column < length self.old }
         requires small { slice_index self.old column + 1 < 2 ^ 32 }
-        ensures { OnOk result (self.new ≡ slice_set self.old column (slice_index self.old column + 1)) }
+        ensures { self.new ≡ slice_set self.old column (slice_index self.old column + 1) }
     {
         if self.counts[column as usize] == 0 {
-            self.raised.push(column)?;
+            push_within(&mut self.raised, column);
         }
         self.counts[column as usize] += 1;
-        Ok(())
     }
 
     /// Sets the counter of a raised column back to 0, and gives the column and what its count was; and `None` where all are 0.

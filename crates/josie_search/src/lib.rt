@@ -4,9 +4,12 @@
 
 mod counters;
 mod part;
+mod room;
 mod search;
 
 pub use search::{Answer, Prepared, prepare};
 
+#[cfg(test)]
+mod random_tests;
 #[cfg(test)]
 mod tests;

@@ -66,7 +66,7 @@ fn counted(rt: HostRuntime) -> Result<(), Fail> {
     let alloc = rt.alloc();
     let pin = Pin::new(worked_version(alloc)?);
     let both = query(alloc, b"a\nz\n")?;
-    let answer = prepare(alloc, pin.looks(alloc), &both, 10, None)?.run()?;
+    let answer = prepare(alloc, pin.looks(alloc), &both, 10, None)?.run();
     expect_rows(&rt, &answer.rows, &[(2, "p", 1), (1, "q", 2)]);
     let log = [
         Look::Read { part: 7, token: 0 },
@@ -74,7 +74,7 @@ fn counted(rt: HostRuntime) -> Result<(), Fail> {
     ];
     assert_eq!(rt; answer.looks.log(), log.as_slice());
     let one = query(alloc, b"a\n")?;
-    let answer = prepare(alloc, pin.looks(alloc), &one, 1, None)?.run()?;
+    let answer = prepare(alloc, pin.looks(alloc), &one, 1, None)?.run();
     expect_rows(&rt, &answer.rows, &[(1, "p", 1)]);
     Ok(())
 }

@@ -9,4 +9,6 @@ pub use segment::build;
 pub use segment_core::Segment;
 
 #[cfg(test)]
+mod pin_tests;
+#[cfg(test)]
 mod tests;

@@ -4,5 +4,6 @@ pub mod PartLemmas
 pub mod AmongLemmas
 pub mod FoundLemmas
 pub mod ShownLemmas
-pub mod WorkedSegment
 pub mod PositionLemmas
+pub mod ColumnLemmas
+mod PlanLemmas

@@ -1,6 +1,6 @@
 pub mod Versions
 pub mod Distinct
 pub mod Lines
-pub mod Worked
 pub mod Positions
+pub mod LiveColumn
 pub mod Plans

@@ -1,6 +1,7 @@
 //! Segments of a lake, the versions that hold them, and all that a search may ask of a version, with a log of what it reads.
 #![tactic(auto)]
 
+mod column;
 mod find;
 mod layout;
 mod looks;
@@ -11,6 +12,7 @@ mod segment;
 mod swap;
 mod version;
 
+pub use column::ColumnRefused;
 pub use layout::{Layout, Places, TableLines};
 pub use looks::Looks;
 pub use numbers::{Marks, Numbers};
@@ -19,6 +21,3 @@ pub use plan::{Merged, Plan};
 pub use search_model::{Look, Owner, Posting, TokenAt};
 pub use segment::Segment;
 pub use version::{Part, Version};
-
-#[cfg(test)]
-mod tests;

@@ -1,14 +1,16 @@
 //! Pins, which hold a version while it is searched.
-ghost use Rattle.std.specs.Prelude.{◌≡◌, ◌<◌, ◌≤◌, ◌+◌, [], length, map, slice_range, IfOk};
+ghost use Rattle.std.specs.Prelude.{◌≡◌, ◌⊎◌, ◌<◌, ◌≤◌, ◌+◌, [], length, map, slice_range, IfErr, IfOk, None, OnOk, Some};
 ghost use Rattle.lake_model.specs.Layout.{shown, shown_with};
 ghost use Rattle.segment_core.specs.Lines.{line_from, live_lines};
+ghost use Rattle.segment_core.specs.LiveColumn.{column_fault, column_keys};
 ghost use Rattle.segment_core.specs.Plans.{plan_run};
 
+use crate::column::{ColumnRefused, live_column};
 use crate::layout::{Layout, Places, TableLines};
 use crate::looks::Looks;
 use crate::plan::{Plan, plan_parts};
 use crate::version::{Part, Version};
-use column_set::Name;
+use column_set::{Name, QuerySet};
 use no_memory::NoMemory;
 use std::alloc::Global;
 use std::marker::Model;
@@ -115,6 +117,23 @@ impl Pin {
         ensures { IfOk result (λ lines. lines ≡ live_lines self.now.parts) }
     {
         Ok(TableLines::new(lines_of(alloc, self.version.parts())?))
+    }
+
+    /// The keys of a live table's column as a query: the table is found by its name, in a walk over the tables, and the column by
+    /// its place, counted from 1. Where it succeeds, it raises the meter of the table's segment by one.
+    ///
+    /// It is refused where no live table has the name, else where the table has no column at the place, and where memory is wanting.
+    pub fn column(
+        &self,
+        alloc: Global,
+        table: &Name,
+        place: u32,
+    ) -> Result<QuerySet, ColumnRefused>
+        ensures keys { IfOk result (λ query. query ≡ column_keys self.now.parts table.now place) }
+        ensures sound { OnOk result (column_fault self.now.parts table.now place ≡ None) }
+        ensures refused { IfErr result (λ e. (e ≡ ColumnRefused.NoMemory) ⊎ (column_fault self.now.parts table.now place ≡ Some e)) }
+    {
+        live_column(alloc, self.version.parts(), table, place)
     }
 }
 

@@ -1,9 +1,11 @@
 //! The inverted index of a list of tables, in flat arrays.
-ghost use Rattle.std.specs.Prelude.{◌≡◌, ◌+◌, ◌<◌, ◌≤◌, [], drop, get_or, length, slice_index, slice_range, IfOk};
+ghost use Rattle.std.specs.Prelude.{◌≡◌, ◌⊎◌, ◌+◌, ◌<◌, ◌≤◌, [], drop, get_or, length, slice_index, slice_range, IfErr, IfOk, None, OnOk, Some};
 ghost use Rattle.std.specs.List.Sorted.{IsPermutation};
-ghost use Rattle.search_model.specs.Arrays.{key_of, titled_at, IsToken};
+ghost use Rattle.search_model.specs.Arrays.{key_of, table_at, titled_at, IsToken};
 ghost use Rattle.search_model.specs.Segment.{segment, tokens_in};
+ghost use Rattle.segment_core.specs.LiveColumn.{fault_in, keys_in};
 
+use crate::column::ColumnRefused;
 use column_set::{QuerySet, SharedTable};
 use no_memory::NoMemory;
 use search_model::{Owner, Posting, TokenAt};
@@ -147,6 +149,27 @@ impl Segment {
     {
         self.meter.fetch_add(1, Ordering::SeqCst);
         list_at(&self.set_starts, &self.set_tokens, set, after as usize + 1)
+    }
+
+    /// The keys of the column at a place, counted from 1, of the table at an index, from 0. It raises the meter.
+    pub(crate) fn column(
+        &self,
+        alloc: Global,
+        table: usize,
+        place: u32,
+    ) -> Result<QuerySet, ColumnRefused>
+        requires { table < length self.now }
+        ensures keys { IfOk result (λ query. query ≡ keys_in place (Some (table_at self.now table))) }
+        ensures sound { OnOk result (fault_in place (Some (table_at self.now table)) ≡ None) }
+        ensures refused { IfErr result (λ e. (e ≡ ColumnRefused.NoMemory) ⊎ (fault_in place (Some (table_at self.now table)) ≡ Some e)) }
+    {
+        let table = self.tables[table].table();
+        if place == 0 || place > table.columns() {
+            return Err(ColumnRefused::UnknownColumn);
+        }
+        let query = QuerySet::of_column(alloc, table, place)?;
+        self.meter.fetch_add(1, Ordering::SeqCst);
+        Ok(query)
     }
 
     /// How often a list or a set of the segment was read. No contract sees it.

@@ -3,8 +3,10 @@ use Rattle.std.proofs.Math.ListN.{length-set}
 use Rattle.std.specs.List.Sorted.{IsPermutation}
 use Rattle.lake_model.specs.Answer.{Row}
 use Rattle.segment_core.specs.Versions.{marks_of, part_at, segment_of}
+use Rattle.josie_search.specs.Counts.{raised_of}
 use Rattle.josie_search.specs.Rows.{counted_rows}
-use Rattle.josie_search.proofs.CountLemmas.{still_within}
+use Rattle.josie_search.proofs.CountLemmas.{raised_within, still_within}
+use Rattle.josie_search.proofs.RaisedLemmas.{raised_taken}
 use Rattle.josie_search.proofs.RowLemmas.{rows_none, take_more_rows}
 use Rattle.josie_search.proofs.part.take_rows.Goals as goal
 
@@ -16,10 +18,20 @@ loop-column-preserved c =
     record {
       wide = ap length taken.emptied ∙ length-set c.loop-column.counters c.in-Some.column 0 ∙ c.loop-column.invariant.wide;
       within = still_within c.loop-column.counters c.take.new.self c.in-Some.column _ taken.emptied c.loop-column.invariant.within some;
+      space = omega (arith, c.add_row.ensures.space, c.loop-column.invariant.space);
+      few =
+          omega
+          (arith, c.add_row.ensures.few, c.loop-column.invariant.few, ap raised_of taken.emptied, raised_taken c.loop-column.counters c.in-Some.column (raised_within c.loop-column.counters c.in-Some.column some) some);
       rows =
           take_more_rows (option_copied c.args.except) part c.loop-column.counters c.take.new.self c.in-Some.column c.in-Some.overlap _ c.loop-column.rows.items c.add_row.new.rows.items (c.loop-column.invariant.within c.in-Some.column some) taken.raised
-          taken.count taken.emptied c.in_ok-add_row.ensures c.loop-column.invariant.rows;
+          taken.count taken.emptied c.add_row.ensures.rows c.loop-column.invariant.rows;
     }
+
+pub add_row-requires-clause-space : goal.add_row-requires-clause-space
+add_row-requires-clause-space c =
+    let taken = c.in-Some.ensures in
+    let some : 0 < get_or c.loop-column.counters c.in-Some.column 0 = omega (arith, taken.count, taken.raised) in
+    omega (arith, c.requires.space, c.loop-column.invariant.space, c.loop-column.invariant.few, raised_taken c.loop-column.counters c.in-Some.column (raised_within c.loop-column.counters c.in-Some.column some) some)
 
 pub returns-clause-rows : goal.returns-clause-rows
 returns-clause-rows c =

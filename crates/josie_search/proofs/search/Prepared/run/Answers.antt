@@ -1,4 +1,4 @@
-use Rattle.std.proofs.Common.{◌≡◌, ◌∙◌, sym, ap, subst, ℕ, ◌≤◌, ◌++◌, [], List, length, map, take, sum_by, arith, rules}
+use Rattle.std.proofs.Common.{◌≡◌, ◌∙◌, sym, ap, subst, ℕ, ◌≤◌, ◌++◌, [], List, length, map, take, sum_by, vec_capacity, arith, rules}
 use Rattle.std.specs.Prelude.{bytes_eq}
 use Rattle.std.specs.List.{IsDistinct}
 use Rattle.std.specs.List.Sorted.{IsPermutation}
@@ -11,9 +11,11 @@ use Rattle.lake_model.proofs.SortingLemmas.{in_order-IsPermutation}
 use Rattle.segment_core.specs.Versions.{live_of, part_at, segment_at, VersionOf}
 use Rattle.josie_search.specs.Reads.{all_lists, reads_of}
 use Rattle.josie_search.specs.Ready.{IsReady}
+use Rattle.josie_search.specs.Room.{rows_bound}
 use Rattle.josie_search.specs.Search.{SearchOf}
 use Rattle.josie_search.proofs.ReadLemmas.{lists_more}
 use Rattle.josie_search.proofs.RunLemmas.{asked_there, counts_small, room_here, rows_more_read, tokens_within}
+use Rattle.josie_search.proofs.RaisedLemmas.{space_here}
 use Rattle.josie_search.proofs.SortLemmas.{sorted_rows}
 use Rattle.josie_search.proofs.search.Prepared.run.Goals as goal
 
@@ -47,10 +49,16 @@ search_part-requires-clause-small c =
 pub search_part-requires-clause-zeros : goal.search_part-requires-clause-zeros
 search_part-requires-clause-zeros c = c.loop-part.invariant.zeros
 
+pub search_part-requires-clause-space : goal.search_part-requires-clause-space
+search_part-requires-clause-space c =
+    let kept = c.loop-part.invariant in
+    let asked = asked_there c.args.self.query.keys c.args.self.version.parts _ c.loop-part.part _ _ kept.asked (omega (arith, c.loop-part-test.true, kept.end)) c.index-tokens.ensures c.deref.ensures.value in
+    omega (arith, kept.space, ap (λ (v : VersionOf). rows_bound (part_at v.parts c.loop-part.part) c.deref.result.now) kept.version, space_here c.args.self.query.keys c.args.self.version.parts c.loop-part.part _ (omega (arith, c.loop-part-test.true, kept.end)) asked)
+
 pub loop-part-init : goal.loop-part-init
 loop-part-init c =
-    let ready : IsReady c.args.self.version.parts c.args.self.query.keys c.self.inside.looks.spare (map (λ v. v.items) c.self.inside.asked.items) c.self.inside.counters =
-    subst (λ (s : SearchOf). IsReady s.version.parts s.query.keys c.self.inside.looks.spare (map (λ v. v.items) c.self.inside.asked.items) c.self.inside.counters) c.self.view_is c.self.invariant.2 in
+    let ready : IsReady c.args.self.version.parts c.args.self.query.keys c.self.inside.looks.spare (map (λ v. v.items) c.self.inside.asked.items) c.self.inside.counters (vec_capacity c.self.inside.rows) =
+    subst (λ (s : SearchOf). IsReady s.version.parts s.query.keys c.self.inside.looks.spare (map (λ v. v.items) c.self.inside.asked.items) c.self.inside.counters (vec_capacity c.self.inside.rows)) c.self.view_is c.self.invariant.2 in
     record {
       end = c.parts-part-end.ensures ∙ ap (λ (s : SearchOf). length s.version.parts) c.self.view_is;
       version = ap (λ (s : SearchOf). s.version) c.self.view_is;
@@ -58,6 +66,7 @@ loop-part-init c =
       log = c.self.invariant.0;
       room = subst (λ (lists : List (List ℕ)). sum_by length lists ≤ c.self.inside.looks.spare) ready.asked ready.room;
       wide = ready.wide;
+      space = omega (arith, ready.space, ap length c.self.invariant.1, c.self.inside.rows.ok.0);
       zeros = ready.zeros;
       rows = subst (λ (rows : List Row). IsPermutation [] rows) (sym c.self.invariant.1) (IsPermutation-refl []);
     }
@@ -65,7 +74,7 @@ loop-part-init c =
 pub loop-part-preserved : goal.loop-part-preserved
 loop-part-preserved c =
     let kept = c.loop-part.invariant in
-    let done = c.in_ok-search_part.ensures in
+    let done = c.search_part.ensures in
     let part = c.loop-part.part in
     let parts = c.args.self.version.parts in
     let query = c.args.self.query in
@@ -77,6 +86,7 @@ loop-part-preserved c =
       log = lists_more query parts part c.loop-part.looks.log _ (omega (arith, c.loop-part-test.true, kept.end)) kept.log (done.log ∙ (λ i. c.loop-part.looks.log ++ reads_of (part_at (kept.version i).parts part).number (asked i)));
       room = omega (arith, done.room, room_here query.keys parts part _ c.loop-part.looks.spare (omega (arith, c.loop-part-test.true, kept.end)) asked kept.room);
       wide = λ i b. omega (arith, done.wide, kept.wide i b);
+      space = omega (arith, done.space, done.few, kept.space, ap (λ (v : VersionOf). rows_bound (part_at v.parts part) c.deref.result.now) kept.version, space_here query.keys parts part _ (omega (arith, c.loop-part-test.true, kept.end)) asked);
       zeros = done.zeros;
       rows =
           rows_more_read _ c.args.self.version query _ part _ c.loop-part.rows.items _ kept.version (ap (λ (s : SearchOf). s.query.except) c.self.view_is) asked (omega (arith, c.loop-part-test.true, kept.end))

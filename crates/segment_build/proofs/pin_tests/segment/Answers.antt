@@ -1,8 +1,8 @@
 use Rattle.std.proofs.Common.{◌≡◌, ◌∙◌, ap, [], ◌∷◌}
 use Rattle.lake_model.specs.Tables.{Table}
-use Rattle.segment_core.specs.Worked.{worked_table}
-use Rattle.segment_core.proofs.WorkedSegment.{worked_arrays}
-use Rattle.segment_core.proofs.tests.segment.Goals as goal
+use Rattle.segment_build.specs.Worked.{worked_table}
+use Rattle.segment_build.proofs.WorkedSegment.{worked_arrays}
+use Rattle.segment_build.proofs.pin_tests.segment.Goals as goal
 
 pub new-requires : goal.new-requires
 new-requires c =

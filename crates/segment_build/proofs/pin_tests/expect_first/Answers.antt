@@ -1,8 +1,8 @@
 use Rattle.std.proofs.Common.{◌≡◌, [], length, get_or, rules}
 use Rattle.std.specs.Prelude.{codes}
 use Rattle.lake_model.specs.Tables.{keys_at}
-use Rattle.segment_core.proofs.WorkedSegment.{two_keys}
-use Rattle.segment_core.proofs.tests.expect_first.Goals as goal
+use Rattle.segment_build.proofs.WorkedSegment.{two_keys}
+use Rattle.segment_build.proofs.pin_tests.expect_first.Goals as goal
 
 pub returns : goal.returns
 returns c =

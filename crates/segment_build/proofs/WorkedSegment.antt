@@ -11,7 +11,7 @@ use Rattle.lake_model.specs.Tables.{Column, Table, column_name, column_with, key
 use Rattle.search_model.specs.Arrays.{AreArrays, IsAt, IsByKey, key_of, token_with}
 use Rattle.search_model.specs.Segment.{segment, Token, tokens_of}
 use Rattle.search_model.specs.declared.TokenAt.{TokenAt}
-use Rattle.segment_core.specs.Worked.{worked_owners, worked_postings, worked_table, worked_tokens}
+use Rattle.segment_build.specs.Worked.{worked_owners, worked_postings, worked_table, worked_tokens}
 
 pub one_key : (keys : List Text) (a : Text) → length keys ≡ 1 → get_or keys 0 [] ≡ a → keys ≡ a ∷ []
 one_key [] a n e = absurd (omega arith)

@@ -1,13 +1,16 @@
-//! The worked segment: one table of two columns, its look-ups, its looks with their log and its meter; marks and their pins.
+//! The segment of a worked table, from arrays that were made by hand: its look-ups, its looks with their log and its meter, its columns'
+//! sets; marks and their pins.
 ghost use Rattle.std.specs.Prelude.{◌≡◌, ◌∷◌, [], codes, get_or, length, IfOk, OnOk};
 ghost use Rattle.lake_model.specs.Tables.{column_name, keys_at, titles_of};
 ghost use Rattle.segment_core.specs.Versions.{tables_of};
-ghost use Rattle.segment_core.specs.Worked.{worked_owners, worked_postings, worked_table, worked_tokens, worked_version};
+ghost use Rattle.segment_build.specs.Worked.{worked_owners, worked_postings, worked_table, worked_tokens, worked_version};
 
-use crate::{Look, Looks, Marks, Numbers, Owner, Part, Pin, Posting, Segment, TokenAt, Version};
 use column_set::{Name, QuerySet, SharedTable, TableSets};
 use csv_table::read_table;
 use no_memory::NoMemory;
+use segment_core::{
+    ColumnRefused, Look, Looks, Marks, Numbers, Owner, Part, Pin, Posting, Segment, TokenAt, Version,
+};
 use std::alloc::Global;
 use std::process::Abort;
 use std::sync::Arc;
@@ -349,4 +352,55 @@ fn pinned(rt: HostRuntime) -> Result<(), Fail> {
     expect_layout(&rt, alloc, &after, 8, true)?;
     expect_tables(&rt, alloc, &after, 0)?;
     Ok(())
+}
+
+// What a pin refuses of a column, and else that the column has these keys.
+fn expect_column(
+    rt: &impl Abort,
+    alloc: Global,
+    pin: &Pin,
+    table: &str,
+    place: u32,
+    want: Result<&[&str], ColumnRefused>,
+) -> Result<(), Fail> {
+    let name = Name::read(table.as_bytes()).ok_or("no name")?;
+    match (pin.column(alloc, &name, place), want) {
+        (Ok(query), Ok(keys)) => {
+            assert_eq!(rt; query.len() as usize, keys.len());
+            for key in keys {
+                assert!(rt; query.has(key), "{key}");
+            }
+        }
+        (Err(refused), Err(wanted)) => assert_eq!(rt; refused, wanted),
+        _ => return Err(Fail::from("another answer")),
+    }
+    Ok(())
+}
+
+// The sets of columns, by their place from 1. Each that is given is a reading of the segment, and none that is refused.
+#[test]
+fn column_sets(rt: HostRuntime) -> Result<(), Fail> {
+    let alloc = rt.alloc();
+    let pin = pin(alloc)?;
+    expect_column(&rt, alloc, &pin, "t", 1, Ok(&["z", "a"]))?;
+    expect_column(&rt, alloc, &pin, "t", 2, Ok(&["a"]))?;
+    assert_eq!(rt; pin.meter(0), 2);
+    let unknown = ColumnRefused::UnknownColumn;
+    expect_column(&rt, alloc, &pin, "t", 0, Err(unknown))?;
+    expect_column(&rt, alloc, &pin, "t", 3, Err(unknown))?;
+    expect_column(&rt, alloc, &pin, "T", 1, Err(ColumnRefused::UnknownTable))?;
+    assert_eq!(rt; pin.meter(0), 2);
+    Ok(())
+}
+
+// A marked table has no column, but in a pin that was made before.
+#[test]
+fn marked_column(rt: HostRuntime) -> Result<(), Fail> {
+    let alloc = rt.alloc();
+    let mut version = version(alloc)?;
+    let before = Pin::new(Arc::try_clone(&version)?);
+    Version::mark(&mut version, 8, 0, 0)?;
+    let after = Pin::new(version);
+    expect_column(&rt, alloc, &before, "t", 2, Ok(&["a"]))?;
+    expect_column(&rt, alloc, &after, "t", 2, Err(ColumnRefused::UnknownTable))
 }

@@ -1,6 +1,6 @@
 use Rattle.std.proofs.Common.{◌∙◌}
-use Rattle.segment_core.proofs.WorkedSegment.{is_worked}
-use Rattle.segment_core.proofs.tests.table.Goals as goal
+use Rattle.segment_build.proofs.WorkedSegment.{is_worked}
+use Rattle.segment_build.proofs.pin_tests.table.Goals as goal
 
 pub returns : goal.returns
 returns c =

@@ -1,8 +1,8 @@
 use Rattle.std.proofs.Common.{◌≡◌, [], length, get_or, rules}
 use Rattle.std.specs.Prelude.{codes}
 use Rattle.lake_model.specs.Tables.{keys_at}
-use Rattle.segment_core.proofs.WorkedSegment.{one_key}
-use Rattle.segment_core.proofs.tests.expect_second.Goals as goal
+use Rattle.segment_build.proofs.WorkedSegment.{one_key}
+use Rattle.segment_build.proofs.pin_tests.expect_second.Goals as goal
 
 pub returns : goal.returns
 returns c =
