@@ -1,29 +1,45 @@
--- The arrays of the segment of one table whose only column has no key.
-use Rattle.std.proofs.Common.{◌≡◌, refl, sym, subst, List, [], ◌∷◌, length, arith, lit<}
+-- The arrays of the segment of one table whose only column has one key, which is known.
+use Rattle.std.proofs.Common.{◌≡◌, refl, ap, sym, subst, ℕ, zero, suc, ◌<◌, List, [], ◌∷◌, length, get_or, arith, lit<, lit≤}
+use Rattle.std.specs.Prelude.{codes}
 use Rattle.std.proofs.lemmas.List.Sorted.{IsPermutation-refl}
 use Rattle.lake_model.specs.Texts.{Text}
-use Rattle.lake_model.specs.Sorting.{in_order}
+use Rattle.lake_model.specs.Sorting.{in_order, put_in_order}
 use Rattle.lake_model.specs.Tables.{Column, Table, column_with, keys_at, table_with}
-use Rattle.search_model.specs.Arrays.{AreArrays, IsByKey}
-use Rattle.search_model.specs.Segment.{segment, tokens_of}
+use Rattle.search_model.specs.Arrays.{AreArrays, IsAt, IsByKey, token_with}
+use Rattle.search_model.specs.Segment.{segment, Token, tokens_of}
 use Rattle.search_model.specs.declared.Owner.{Owner}
+use Rattle.search_model.specs.declared.Posting.{Posting}
+use Rattle.search_model.specs.declared.TokenAt.{TokenAt}
 
 abbrev pub first_column : Owner
 first_column = record { table = 0; place = 1 }
 
-abbrev bare : Text → Text → Table
-bare name column = table_with name (column_with column [] ∷ [])
+abbrev pub only_token : TokenAt
+only_token = record { table = 0; place = 1; index = 0; frequency = 1 }
 
-none_by_key : IsByKey [] []
-none_by_key = record { rising = λ k d low h. absurd (omega arith); same = IsPermutation-refl [] }
+abbrev pub only_posting : Posting
+only_posting = record { column = 0; position = 0; size = 1 }
 
-arrays : (name column : Text) → AreArrays (bare name column ∷ []) (first_column ∷ []) [] [] (0 ∷ []) [] (0 ∷ 0 ∷ []) []
-unfolding in_order tokens_of segment
+abbrev keyed : Text → Text → Table
+keyed name column = table_with name (column_with column (codes "key" ∷ []) ∷ [])
+
+within : (name column : Text) (i : ℕ) (d : TokenAt) → i < 1 → IsAt (keyed name column ∷ []) (get_or (only_token ∷ []) i d)
+within name column zero d h = record { table = lit< tt; low = lit< tt; high = lit≤ tt; index = lit< tt }
+within name column (suc i) d h = absurd (omega arith)
+
+abbrev named : List Token
+named = token_with (codes "key") 1 ∷ []
+
+one_by_key : IsByKey named (0 ∷ [])
+one_by_key = record { rising = λ k d low h. absurd (omega arith); same = IsPermutation-refl (0 ∷ []) }
+
+arrays : (name column : Text) → AreArrays (keyed name column ∷ []) (first_column ∷ []) (only_token ∷ []) (0 ∷ []) (0 ∷ 1 ∷ []) (only_posting ∷ []) (0 ∷ 1 ∷ []) (0 ∷ [])
+unfolding in_order put_in_order tokens_of segment
 arrays name column = record {
   owned = refl;
   named = refl;
-  within = λ i d h. absurd (omega arith);
-  sorted = none_by_key;
+  within = within name column;
+  sorted = one_by_key;
   list_bounds = refl;
   posted = refl;
   set_bounds = refl;
@@ -32,16 +48,17 @@ arrays name column = record {
   few = lit< tt;
 }
 
-no_keys : (keys : List Text) → length keys ≡ 0 → keys ≡ []
-no_keys [] h = refl
-no_keys (k ∷ keys) h = absurd (omega arith)
+pub one_key : (keys : List Text) (a : Text) → length keys ≡ 1 → get_or keys 0 [] ≡ a → keys ≡ a ∷ []
+one_key [] a n e = absurd (omega arith)
+one_key (k ∷ []) a n e = ap (λ (t : Text). t ∷ []) e
+one_key (k ∷ l ∷ keys) a n e = absurd (omega arith)
 
-pub bare_arrays : (t : Table) → length t.columns ≡ 1 → length (keys_at t 1) ≡ 0 → AreArrays (t ∷ []) (first_column ∷ []) [] [] (0 ∷ []) [] (0 ∷ 0 ∷ []) []
-bare_arrays t h k = by t.columns h k
+pub key_arrays : (t : Table) → length t.columns ≡ 1 → keys_at t 1 ≡ codes "key" ∷ [] → AreArrays (t ∷ []) (first_column ∷ []) (only_token ∷ []) (0 ∷ []) (0 ∷ 1 ∷ []) (only_posting ∷ []) (0 ∷ 1 ∷ []) (0 ∷ [])
+key_arrays t h k = by t.columns h k
   where
-    by : (columns : List Column) → length columns ≡ 1 → length (keys_at (table_with t.name columns) 1) ≡ 0 → AreArrays (table_with t.name columns ∷ []) (first_column ∷ []) [] [] (0 ∷ []) [] (0 ∷ 0 ∷ []) []
+    by : (columns : List Column) → length columns ≡ 1 → keys_at (table_with t.name columns) 1 ≡ codes "key" ∷ []
+        → AreArrays (table_with t.name columns ∷ []) (first_column ∷ []) (only_token ∷ []) (0 ∷ []) (0 ∷ 1 ∷ []) (only_posting ∷ []) (0 ∷ 1 ∷ []) (0 ∷ [])
     by [] h k = absurd (omega arith)
     by (c ∷ []) h k =
-        let empty : c.keys ≡ [] = no_keys c.keys k in
-        subst (λ (keys : List Text). AreArrays (table_with t.name (column_with c.name keys ∷ []) ∷ []) (first_column ∷ []) [] [] (0 ∷ []) [] (0 ∷ 0 ∷ []) []) (sym empty) (arrays t.name c.name)
+        subst (λ (keys : List Text). AreArrays (table_with t.name (column_with c.name keys ∷ []) ∷ []) (first_column ∷ []) (only_token ∷ []) (0 ∷ []) (0 ∷ 1 ∷ []) (only_posting ∷ []) (0 ∷ 1 ∷ []) (0 ∷ [])) (sym k) (arrays t.name c.name)
     by (c ∷ d ∷ columns) h k = absurd (omega arith)

@@ -3,4 +3,4 @@ pub mod PlaceLemmas
 pub mod KeptLemmas
 pub mod LoadLemmas
 pub mod DropLemmas
-pub mod BareSegment
+pub mod KeySegment

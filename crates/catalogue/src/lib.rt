@@ -29,4 +29,6 @@ pub fn standard_limits() -> Counts
 }
 
 #[cfg(test)]
+mod random_tests;
+#[cfg(test)]
 mod tests;

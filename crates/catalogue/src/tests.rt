@@ -1,5 +1,5 @@
 //! What the clauses mean on small lakes whose answers were worked out by hand, and that the calls succeed.
-ghost use Rattle.std.specs.Prelude.{◌≡◌, ◌∷◌, [], length, IfOk};
+ghost use Rattle.std.specs.Prelude.{◌≡◌, ◌∷◌, [], codes, length, IfOk, OnOk};
 ghost use Rattle.lake_model.specs.Tables.{keys_at};
 
 use crate::{
@@ -7,7 +7,7 @@ use crate::{
 };
 use column_set::{Name, SharedTable, TableSets};
 use csv_table::read_table;
-use segment_core::{Owner, Pin, Segment};
+use segment_core::{Owner, Pin, Posting, Segment, TokenAt};
 use std::alloc::Global;
 use std::sync::Arc;
 use std::test::Fail;
@@ -29,33 +29,56 @@ fn name(text: &str) -> Result<Name, Fail> {
     Ok(name)
 }
 
-// The table of a name whose one column has no key.
+// That the first column has the one key `key`.
+fn expect_key(table: &TableSets) -> Result<(), Fail>
+    requires { length table.now.columns ≡ 1 }
+    ensures { OnOk result (keys_at table.now 1 ≡ codes "key" ∷ []) }
+{
+    if table.size(1) != 1 || table.key(1, 0) != "key" {
+        return Err(Fail::from("other keys"));
+    }
+    Ok(())
+}
+
+// The table of a name with one column of one value, `key`.
 fn table(alloc: Global, text: &str) -> Result<SharedTable, Fail>
     ensures columns { IfOk result (λ table. length table.columns ≡ 1) }
-    ensures keys { IfOk result (λ table. length (keys_at table 1) ≡ 0) }
+    ensures keys { IfOk result (λ table. keys_at table 1 ≡ codes "key" ∷ []) }
 {
-    let raw = read_table(alloc, b"x\n")?;
+    let raw = read_table(alloc, b"x\nkey\n")?;
     let sets = TableSets::build(alloc, name(text)?, &raw)?;
-    if sets.columns() != 1 || sets.size(1) != 0 {
+    if sets.columns() != 1 {
         return Err(Fail::from("another table"));
     }
+    expect_key(&sets)?;
     Ok(SharedTable::new(alloc, sets)?)
 }
 
 // The segment of such a table.
 fn segment(alloc: Global, table: SharedTable) -> Result<Arc<Segment>, Fail>
     requires columns { length table.columns ≡ 1 }
-    requires keys { length (keys_at table 1) ≡ 0 }
+    requires keys { keys_at table 1 ≡ codes "key" ∷ [] }
     ensures { IfOk result (λ segment. segment.value ≡ table ∷ []) }
 {
+    let token = TokenAt {
+        table: 0,
+        place: 1,
+        index: 0,
+        frequency: 1,
+    };
+    let posting = Posting {
+        column: 0,
+        position: 0,
+        size: 1,
+    };
     let tables = vec![in alloc; table]?;
     let owners = vec![in alloc; Owner { table: 0, place: 1 }]?;
-    let tokens = Vec::new(alloc);
-    let by_key = Vec::new(alloc);
-    let list_starts = vec![in alloc; 0]?;
-    let postings = Vec::new(alloc);
-    let set_starts = vec![in alloc; 0, 0]?;
-    let set_tokens = Vec::new(alloc);
+    let tokens = vec![in alloc; token]?;
+    let by_key = vec![in alloc; 0]?;
+    let list_starts = vec![in alloc; 0, 1]?;
+    let postings = vec![in alloc; posting]?;
+    let set_starts = vec![in alloc; 0, 1]?;
+    let set_tokens = vec![in alloc; 0]?;
     let segment = Segment::new(
         tables,
         owners,
@@ -70,7 +93,7 @@ fn segment(alloc: Global, table: SharedTable) -> Result<Arc<Segment>, Fail>
 }
 
 // Loads such a table, and expects this answer.
-fn loads(
+pub fn loads(
     lake: &mut Catalogue,
     alloc: Global,
     text: &str,
@@ -85,7 +108,11 @@ fn loads(
 }
 
 // Drops a table, and expects this answer.
-fn drops(lake: &mut Catalogue, text: &str, answer: Result<u64, DropRefused>) -> Result<(), Fail> {
+pub fn drops(
+    lake: &mut Catalogue,
+    text: &str,
+    answer: Result<u64, DropRefused>,
+) -> Result<(), Fail> {
     if lake.drop_table(SECOND, &name(text)?) != answer {
         return Err(Fail::from("another answer to a drop"));
     }
@@ -100,13 +127,16 @@ fn holds(alloc: Global, pin: &Pin, at: u64, tables: usize) -> Result<(), Fail> {
     Ok(())
 }
 
-// Expects so many live tables, and so many loads and drops, which are all the entries.
-fn counts(lake: &Catalogue, live: u32, updates: u64) -> Result<(), Fail> {
+// Expects so many live tables, so many loads and drops, which are all the entries, and so many loads of a table of one key.
+pub fn counts(lake: &Catalogue, live: usize, updates: usize, loads: u64) -> Result<(), Fail> {
     let counts = lake.counts();
-    if counts.live != live || counts.updates != updates {
+    if counts.live as usize != live || counts.updates as usize != updates {
         return Err(Fail::from("other counts"));
     }
-    if lake.at() != updates || lake.journal().len() as u64 != updates {
+    if counts.members != loads || counts.key_bytes / 3 != loads || counts.key_bytes % 3 != 0 {
+        return Err(Fail::from("other members"));
+    }
+    if lake.at() as usize != updates || lake.journal().len() != updates {
         return Err(Fail::from("another journal"));
     }
     Ok(())
@@ -142,7 +172,19 @@ fn loads_and_drops_up_to_their_limit(rt: HostRuntime) -> Result<(), Fail> {
         more: 1,
         at: 2,
     };
-    drops(&mut lake, "a", Err(no_drop))
+    drops(&mut lake, "a", Err(no_drop))?;
+    counts(&lake, 2, 2, 2)
+}
+
+#[test]
+fn a_full_lake_says_first_what_is_repeated_or_unknown(rt: HostRuntime) -> Result<(), Fail> {
+    let alloc = rt.alloc();
+    let mut lake = small_lake(alloc)?;
+    loads(&mut lake, alloc, "a", Ok(1))?;
+    loads(&mut lake, alloc, "b", Ok(2))?;
+    loads(&mut lake, alloc, "a", Err(LoadRefused::Repeated { at: 2 }))?;
+    drops(&mut lake, "z", Err(DropRefused::Unknown { at: 2 }))?;
+    counts(&lake, 2, 2, 2)
 }
 
 #[test]
@@ -167,7 +209,7 @@ fn a_pin_keeps_what_is_dropped_and_loaded_later(rt: HostRuntime) -> Result<(), F
     holds(alloc, &dropped, 2, 0)?;
     holds(alloc, &lake.pin()?, 3, 1)?;
     assert!(rt; lake.live(&name("a")?));
-    counts(&lake, 1, 3)
+    counts(&lake, 1, 3, 2)
 }
 
 #[test]

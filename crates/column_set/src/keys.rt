@@ -12,7 +12,7 @@ use indexmap::IndexSet;
 use no_memory::NoMemory;
 use std::alloc::Global;
 use std::marker::Model;
-use value_key::key_of;
+use value_key::key_into;
 
 /// How many keys a column or a query has at most.
 pub const MOST_KEYS: usize = 4_194_304;
@@ -41,14 +41,25 @@ impl KeySet {
         }
     }
 
-    /// Adds the key of a value, where it has one and that is not there.
-    pub fn add(&mut self, alloc: Global, value: &str) -> Result<(), NoMemory>
+    /// Adds the key of a value, where it has one and that is not there. The key is written into the buffer, in place of what
+    /// stands there, so that a string is made only for a key that is new.
+    pub fn add(&mut self, alloc: Global, value: &str, buffer: &mut String) -> Result<(), NoMemory>
         ensures { OnOk result (self.new ≡ option_map_or (add_key self.old) (key value.now) self.old) }
     {
-        let Some(key) = key_of(alloc, value)? else {
+        if !key_into(alloc, value, buffer)? {
             return Ok(());
-        };
-        self.keys.insert(key)?;
+        }
+        self.insert(alloc, buffer.as_str())
+    }
+
+    // Adds a key, where it is not there.
+    fn insert(&mut self, alloc: Global, key: &str) -> Result<(), NoMemory>
+        ensures { OnOk result (self.new ≡ add_key self.old key.now) }
+    {
+        if self.keys.contains(key) {
+            return Ok(());
+        }
+        self.keys.insert(String::from_str(alloc, key)?)?;
         Ok(())
     }
 

@@ -115,6 +115,7 @@ fn read_keys(alloc: Global, body: &[u8]) -> Result<KeySet, QueryRefused>
     ensures refused { IfErr result (λ e. (e ≡ QueryRefused.NoMemory) ⊎ (query_fault body.now ≡ Some e)) }
 {
     let mut keys = KeySet::new(alloc);
+    let mut buffer = String::new(alloc);
     let mut rest = body;
     for number in 1..u64::MAX {
         if rest.is_empty() {
@@ -127,7 +128,7 @@ fn read_keys(alloc: Global, body: &[u8]) -> Result<KeySet, QueryRefused>
         let Ok(value) = str::from_utf8(line) else {
             return Err(QueryRefused::NotUtf8 { line: number });
         };
-        if keys.add(alloc, value).is_err() {
+        if keys.add(alloc, value, &mut buffer).is_err() {
             return Err(QueryRefused::NoMemory);
         }
         rest = after;

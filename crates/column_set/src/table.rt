@@ -204,9 +204,10 @@ fn read_sets(alloc: Global, raw: &RawTable) -> Result<Vec<KeySet>, SetRefused>
     ensures refused { IfErr result (λ e. (e ≡ SetRefused.NoMemory) ⊎ (sets_fault raw.now ≡ Some e)) }
 {
     let mut sets = Vec::new(alloc);
+    let mut buffer = String::new(alloc);
     for i in 0..raw.columns() {
         let place = i + 1;
-        let Ok(keys) = read_keys(alloc, raw, place) else {
+        let Ok(keys) = read_keys(alloc, raw, place, &mut buffer) else {
             return Err(SetRefused::NoMemory);
         };
         if keys.len() > MOST_KEYS {
@@ -219,15 +220,20 @@ fn read_sets(alloc: Global, raw: &RawTable) -> Result<Vec<KeySet>, SetRefused>
     Ok(sets)
 }
 
-// The keys of the column at a place.
-fn read_keys(alloc: Global, raw: &RawTable, place: u32) -> Result<KeySet, NoMemory>
+// The keys of the column at a place. Each is written into the buffer, which all columns share.
+fn read_keys(
+    alloc: Global,
+    raw: &RawTable,
+    place: u32,
+    buffer: &mut String,
+) -> Result<KeySet, NoMemory>
     requires low { 0 < place }
     requires high { place ≤ column_count raw.now }
     ensures { IfOk result (λ keys. keys ≡ (column_at raw.now place).keys) }
 {
     let mut keys = KeySet::new(alloc);
     for row in 0..raw.rows() {
-        keys.add(alloc, raw.field(row + 1, place))?;
+        keys.add(alloc, raw.field(row + 1, place), buffer)?;
     }
     Ok(keys)
 }

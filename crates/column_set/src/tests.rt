@@ -81,6 +81,19 @@ fn odd_columns(rt: HostRuntime) -> Result<(), Fail> {
     Ok(())
 }
 
+// A table's fields are read in turn, and nothing of a longer one, of a blank one or of one beyond ASCII is left in the next key.
+#[test]
+fn keys_in_turn(rt: HostRuntime) -> Result<(), Fail> {
+    let body = "a,b\nA long value,E\u{301}x\nOx,\u{C9}x\n \u{A0},oX\noX,a LONG value\n";
+    let mixed = table(rt.alloc(), b"mixed", body.as_bytes())?;
+    assert_eq!(rt; mixed.columns(), 2);
+    assert_eq!(rt; (mixed.size(1), mixed.size(2)), (2, 3));
+    assert!(rt; mixed.key(1, 0) == "a long value" && mixed.key(1, 1) == "ox");
+    assert!(rt; mixed.key(2, 0) == "e\u{301}x" && mixed.key(2, 1) == "ox");
+    assert!(rt; mixed.key(2, 2) == "a long value");
+    Ok(())
+}
+
 // How many keys the query of a body has, and what the body is refused for.
 fn read(alloc: Global, body: &[u8]) -> Result<u32, QueryRefused> {
     Ok(QuerySet::read(alloc, body)?.len())

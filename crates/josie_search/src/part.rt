@@ -47,12 +47,7 @@ pub(crate) fn search_part<'a>(
 }
 
 // Counts each column as often as it stands in the lists of these tokens.
-fn count_lists(
-    looks: &mut Looks<'_>,
-    part: u32,
-    tokens: &[u32],
-    counters: &mut Counters,
-)
+fn count_lists(looks: &mut Looks<'_>, part: u32, tokens: &[u32], counters: &mut Counters)
     requires part { part < length looks.old.version.parts }
     requires tokens { All (λ token. token < length (segment_at looks.old.version.parts part).tokens) tokens.now }
     requires room { length tokens.now ≤ looks.old.spare }

@@ -1,4 +1,6 @@
 //! Twenty searches of random lakes, against counting from scratch over a plain list of tables.
+ghost use Rattle.std.specs.Prelude.{◌≤◌};
+
 use crate::prepare;
 use catalogue::{Catalogue, Who, standard_limits};
 use column_set::{Name, QuerySet, Row, SharedTable, TableSets};
@@ -195,7 +197,7 @@ fn all_rows(
             add_rows(&mut rows, plain, asked)?;
         }
     }
-    rows.sort();
+    rows.sort()?;
     Ok(rows)
 }
 

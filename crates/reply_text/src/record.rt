@@ -6,6 +6,7 @@ ghost use Rattle.reply_text.specs.Callers.{who_by};
 use crate::reply::Reply;
 use catalogue::Entry;
 use no_memory::NoMemory;
+use script_text::Options;
 use std::alloc::Global;
 use std::marker::Model;
 
@@ -58,9 +59,10 @@ impl Model for Answered {
     ghost view = { λ a. answered_with (who_by a.by) (reply_of a.reply) };
 }
 
-/// The record of a run with plain options, and how many more answers, entries and syncs it has room for.
+/// The record of a run, its options among it, and how many more answers, entries and syncs it has room for.
 #[derive(Drop)]
 pub struct RunRecord {
+    options: Options,
     journal: Vec<Entry>,
     answers: Vec<Answered>,
     syncs: Vec<u64>,
@@ -76,17 +78,18 @@ impl Model for RunRecord {
 
     ghost Value = { RecordOf };
 
-    ghost view = { λ r. record_with (made_of r.journal.items r.answers.items r.syncs.items r.ended) r.answers_room r.entries_room r.syncs_room };
+    ghost view = { λ r. record_with (made_of r.options r.journal.items r.answers.items r.syncs.items r.ended) r.answers_room r.entries_room r.syncs_room };
 
     ghost invariant = { λ r. HasRoom r.answers.items (vec_capacity r.answers) r.answers_room × HasRoom r.journal.items (vec_capacity r.journal) r.entries_room × HasRoom r.syncs.items (vec_capacity r.syncs) r.syncs_room };
 }
 
 impl RunRecord {
-    /// The record of a run that has done nothing. It takes no memory, and has room for nothing.
+    /// The record of a run that has done nothing, with one lane, no stated order, no merger and no trace. It takes no memory, and has room for nothing.
     pub fn new(alloc: Global) -> RunRecord
         ensures { result.made ≡ empty plain }
     {
         RunRecord {
+            options: Options::plain(),
             journal: Vec::new(alloc),
             answers: Vec::new(alloc),
             syncs: Vec::new(alloc),
@@ -95,6 +98,23 @@ impl RunRecord {
             answers_room: 0,
             syncs_room: 0,
         }
+    }
+
+    /// What the words of the command line say of the run.
+    pub fn options(&self) -> &Options
+        ensures { result.now ≡ self.now.made.options }
+    {
+        &self.options
+    }
+
+    /// Puts these options in the place of those that the record has. It takes no memory.
+    pub fn set_options(&mut self, what: Options)
+        ensures made { self.new.made ≡ record self.old.made { options = what } }
+        ensures answers_room { self.new.answers_room ≡ self.old.answers_room }
+        ensures entries_room { self.new.entries_room ≡ self.old.entries_room }
+        ensures syncs_room { self.new.syncs_room ≡ self.old.syncs_room }
+    {
+        self.options = what;
     }
 
     /// The journal.

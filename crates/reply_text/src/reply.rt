@@ -30,6 +30,14 @@ pub enum Reply {
         rows: KeptRows,
         layout: Layout,
     },
+    /// The `parts` parts that were planned gave way to one of `tables` tables, or to none where `tables` is 0, by the entry numbered
+    /// `at` of the journal. The layout is the one in which the merge was planned.
+    Merged {
+        layout: Layout,
+        parts: u64,
+        tables: u64,
+        at: u64,
+    },
     /// The bytes have no record.
     NoHeader,
     /// The header has `got` fields, more than 1,024.
@@ -51,6 +59,12 @@ pub enum Reply {
     TooManyValues {
         place: u32,
     },
+    /// The shelf failed when the file was fetched, and counted a fault.
+    FileFailed,
+    /// No file has the path.
+    FileMissing,
+    /// The file has more than 67,108,864 bytes.
+    FileTooLong,
     /// A table of this name is live.
     Repeated {
         name: Name,
@@ -59,6 +73,12 @@ pub enum Reply {
     /// No table of this name is live.
     Unknown {
         name: Name,
+        at: u64,
+    },
+    /// The live table of this name has no column at the place, which counts from 1.
+    NoColumn {
+        name: Name,
+        place: u32,
         at: u64,
     },
     /// The limit would be passed by `more` beyond the `count` that there is.
@@ -74,6 +94,16 @@ pub enum Reply {
     },
     /// The query has more than 4,194,304 distinct keys.
     QueryTooLarge,
+    /// No parts of this layout are to be merged.
+    NothingToMerge {
+        layout: Layout,
+    },
+    /// The merge was planned in this layout, and `gone` is the number of the first planned part that is no longer there at `at`.
+    Stale {
+        layout: Layout,
+        gone: u64,
+        at: u64,
+    },
     /// Memory was wanting.
     NoMemory,
 }

@@ -1,24 +1,91 @@
 //! The text of each reply, letter by letter.
 use crate::{Answered, By, Reply, RunRecord, write_replies};
-use column_set::{KeptRow, KeptRows, Name, Row, Titles};
-use lake_model::Which;
+use catalogue::Entry;
+use column_set::{KeptRow, KeptRows, Name, Row, SharedTable, TableSets, Titles};
+use csv_table::read_table;
+use lake_model::{Which, Who};
 use no_memory::NoMemory;
-use segment_core::{Layout, TableLines};
+use script_text::{Options, Order};
+use segment_core::{Layout, Places, TableLines};
 use std::alloc::Global;
 use std::process::Abort;
 use std::sync::Arc;
 use std::test::Fail;
 
-// The text of a reply to command 7 of lane 1 is this.
-fn shows(rt: &(impl Abort + AllocGlobal), reply: Reply, wanted: &str) -> Result<(), NoMemory> {
-    let mut record = RunRecord::new(rt.alloc());
-    record.room(1, 0)?;
-    let by = By::Command { number: 7, lane: 1 };
-    record.add_answer(Answered { by, reply });
+// The text of a record is this, with or without a trace.
+fn writes(
+    rt: &(impl Abort + AllocGlobal),
+    record: &RunRecord,
+    trace: bool,
+    wanted: &str,
+) -> Result<(), NoMemory> {
     let mut text = Vec::new(rt.alloc());
-    write_replies(&record, 0, &mut text)?;
+    write_replies(record, 0, trace, &mut text)?;
     assert_eq!(rt; text.as_slice(), wanted.as_bytes());
     Ok(())
+}
+
+// The record of this one reply.
+fn answered(alloc: Global, by: By, reply: Reply) -> Result<RunRecord, NoMemory> {
+    let mut record = RunRecord::new(alloc);
+    record.room(1, 0)?;
+    record.add_answer(Answered { by, reply });
+    Ok(record)
+}
+
+// The text of a reply to command 7 of lane 1 is this.
+fn shows(rt: &(impl Abort + AllocGlobal), reply: Reply, wanted: &str) -> Result<(), NoMemory> {
+    let by = By::Command { number: 7, lane: 1 };
+    let record = answered(rt.alloc(), by, reply)?;
+    writes(rt, &record, false, wanted)
+}
+
+// With a trace, the text of a reply to command 7 of lane 1 is this.
+fn traces(rt: &(impl Abort + AllocGlobal), reply: Reply, wanted: &str) -> Result<(), NoMemory> {
+    let by = By::Command { number: 7, lane: 1 };
+    let record = answered(rt.alloc(), by, reply)?;
+    writes(rt, &record, true, wanted)
+}
+
+// The text of a reply to the merger's command 2 is this with a trace, and nothing without.
+fn merger_traces(
+    rt: &(impl Abort + AllocGlobal),
+    reply: Reply,
+    wanted: &str,
+) -> Result<(), NoMemory> {
+    let record = answered(rt.alloc(), By::Merger { number: 2 }, reply)?;
+    writes(rt, &record, true, wanted)?;
+    writes(rt, &record, false, "")
+}
+
+// The layout of these parts, each with its number and its load positions, at a position.
+fn layout(alloc: Global, at: u64, parts: &[(u64, &[(u64, bool)])]) -> Result<Layout, NoMemory> {
+    let mut held = Vec::new(alloc);
+    for (number, places) in parts {
+        held.push((*number, Places::new(Vec::from_slice(alloc, places)?)))?;
+    }
+    Ok(Layout::new(at, held))
+}
+
+// A reply with no row, found for a query of one key in this layout.
+fn nothing_found(alloc: Global, layout: Layout) -> Reply {
+    Reply::Found {
+        query: 1,
+        rows: KeptRows::new(Vec::new(alloc)),
+        layout,
+    }
+}
+
+// The table of a name with the column `c`, which has the value `x`.
+fn table(alloc: Global, name: &[u8]) -> Result<SharedTable, Fail> {
+    let name = Name::read(name).ok_or("no name")?;
+    let Ok(raw) = read_table(alloc, b"c\nx\n") else {
+        return Err(Fail::from("no table"));
+    };
+    let Ok(sets) = TableSets::build(alloc, name, &raw) else {
+        return Err(Fail::from("no sets"));
+    };
+    Ok(SharedTable::new(alloc, sets)?)
 }
 
 // The row of a table's column, which is at place 2 of its columns.
@@ -107,6 +174,20 @@ fn refused_tables(rt: HostRuntime) -> Result<(), Fail> {
 }
 
 #[test]
+fn refused_files_and_columns(rt: HostRuntime) -> Result<(), Fail> {
+    shows(&rt, Reply::FileFailed, "7 refused file failed\n")?;
+    shows(&rt, Reply::FileMissing, "7 refused file missing\n")?;
+    shows(&rt, Reply::FileTooLong, "7 refused file longer\n")?;
+    let column = Reply::NoColumn {
+        name: Name::read(b"t").ok_or("no name")?,
+        place: 3,
+        at: 1,
+    };
+    shows(&rt, column, "7 refused column t 3 at 1\n")?;
+    Ok(())
+}
+
+#[test]
 fn refused_loads_and_queries(rt: HostRuntime) -> Result<(), Fail> {
     let repeated = Reply::Repeated {
         name: Name::read(b"t1").ok_or("no name")?,
@@ -156,7 +237,7 @@ fn text_begins_at_an_answer_and_leaves_out_the_merger(rt: HostRuntime) -> Result
     record.add_sync();
     record.close();
     let mut text = Vec::from_slice(alloc, b"before\n")?;
-    write_replies(&record, 1, &mut text)?;
+    write_replies(&record, 1, false, &mut text)?;
     assert_eq!(rt;
         text.as_slice(),
         b"before\n2 refused query values\n".as_slice()
@@ -164,4 +245,140 @@ fn text_begins_at_an_answer_and_leaves_out_the_merger(rt: HostRuntime) -> Result
     assert_eq!(rt; record.syncs(), [0].as_slice());
     assert!(rt; record.ended() && record.answers().len() == 3 && record.journal().is_empty());
     Ok(())
+}
+
+#[test]
+fn layout_stands_behind_the_rows_of_a_traced_answer(rt: HostRuntime) -> Result<(), Fail> {
+    let alloc = rt.alloc();
+    let city = row(alloc, 2, Name::read(b"t1").ok_or("no name")?, "city")?;
+    let mut rows = Vec::new(alloc);
+    rows.push(city)?;
+    let found = Reply::Found {
+        query: 3,
+        rows: KeptRows::new(rows),
+        layout: layout(alloc, 1, &[(1, &[(1, false)])])?,
+    };
+    let wanted = "7 answer 1 of 3 at 1\n  2 t1 2 \"city\"\n  layout at 1 parts 1:1\n";
+    traces(&rt, found, wanted)?;
+    Ok(())
+}
+
+#[test]
+fn a_layout_shows_its_parts_and_marks_or_none(rt: HostRuntime) -> Result<(), Fail> {
+    let alloc = rt.alloc();
+    let dropped = layout(alloc, 3, &[(1, &[(1, true)]), (3, &[(3, false)])])?;
+    traces(
+        &rt,
+        nothing_found(alloc, dropped),
+        "7 answer 0 of 1 at 3\n  layout at 3 parts 1:1- 3:3\n",
+    )?;
+    let merged = layout(alloc, 5, &[(4, &[(1, false), (2, true), (3, false)])])?;
+    traces(
+        &rt,
+        nothing_found(alloc, merged),
+        "7 answer 0 of 1 at 5\n  layout at 5 parts 4:1,2-,3\n",
+    )?;
+    let none = layout(alloc, 3, &[])?;
+    traces(
+        &rt,
+        nothing_found(alloc, none),
+        "7 answer 0 of 1 at 3\n  layout at 3 parts none\n",
+    )?;
+    Ok(())
+}
+
+#[test]
+fn merges_show_the_layout_of_their_plan(rt: HostRuntime) -> Result<(), Fail> {
+    let alloc = rt.alloc();
+    let merged = Reply::Merged {
+        layout: layout(alloc, 2, &[(1, &[(1, true)])])?,
+        parts: 1,
+        tables: 0,
+        at: 3,
+    };
+    let wanted = "7 merged 1 parts into 0 tables at 3\n  layout at 2 parts 1:1-\n";
+    traces(&rt, merged, wanted)?;
+    let stale = Reply::Stale {
+        layout: layout(alloc, 2, &[(1, &[(1, false)]), (2, &[(2, false)])])?,
+        gone: 1,
+        at: 3,
+    };
+    let wanted = "7 refused stale part 1 at 3\n  layout at 2 parts 1:1 2:2\n";
+    traces(&rt, stale, wanted)?;
+    let layout = layout(alloc, 3, &[])?;
+    shows(
+        &rt,
+        Reply::NothingToMerge { layout },
+        "7 refused nothing to merge at 3\n",
+    )?;
+    Ok(())
+}
+
+#[test]
+fn the_merger_answers_with_a_trace_alone(rt: HostRuntime) -> Result<(), Fail> {
+    let alloc = rt.alloc();
+    let merged = Reply::Merged {
+        layout: layout(alloc, 4, &[(1, &[(1, false)]), (2, &[(2, false)])])?,
+        parts: 2,
+        tables: 2,
+        at: 5,
+    };
+    let wanted = "m2 merged 2 parts into 2 tables at 5\n  layout at 4 parts 1:1 2:2\n";
+    merger_traces(&rt, merged, wanted)?;
+    let layout = layout(
+        alloc,
+        5,
+        &[(5, &[(1, false), (2, false), (3, false), (4, false)])],
+    )?;
+    merger_traces(
+        &rt,
+        Reply::NothingToMerge { layout },
+        "m2 refused nothing to merge at 5\n  layout at 5 parts 5:1,2,3,4\n",
+    )?;
+    merger_traces(&rt, Reply::NoMemory, "m2 no memory\n")?;
+    Ok(())
+}
+
+#[test]
+fn the_journal_stands_behind_a_traced_record_that_ended(rt: HostRuntime) -> Result<(), Fail> {
+    let alloc = rt.alloc();
+    let mut record = RunRecord::new(alloc);
+    record.room(0, 3)?;
+    let first = Who {
+        caller: 1,
+        command: 1,
+    };
+    record.add_entry(Entry::loaded(first, table(alloc, b"a")?));
+    let second = Who {
+        caller: 1,
+        command: 2,
+    };
+    record.add_entry(Entry::dropped(second, Name::read(b"a").ok_or("no name")?));
+    let third = Who {
+        caller: 2,
+        command: 3,
+    };
+    record.add_entry(Entry::loaded(third, table(alloc, b"b")?));
+    writes(&rt, &record, true, "")?;
+    record.close();
+    writes(&rt, &record, false, "")?;
+    let wanted =
+        "journal 3\n  1 load lane 1 command 1 a\n  2 drop lane 1 command 2 a\n  3 load lane 2 command 3 b\n";
+    writes(&rt, &record, true, wanted)?;
+    Ok(())
+}
+
+#[test]
+fn options_are_those_that_were_set(rt: HostRuntime) {
+    let alloc = rt.alloc();
+    let mut record = RunRecord::new(alloc);
+    assert!(rt; record.options().lanes == 1 && !record.options().merge && !record.options().trace);
+    record.set_options(Options {
+        lanes: 4,
+        order: Some(Order::new(Vec::new(alloc))),
+        merge: true,
+        trace: true,
+    });
+    assert!(rt; record.options().lanes == 4 && record.options().order.is_some());
+    assert!(rt; record.options().merge && record.options().trace && !record.ended());
 }

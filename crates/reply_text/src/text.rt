@@ -1,16 +1,18 @@
-//! The text of the answers of a record.
-ghost use Rattle.std.specs.Prelude.{◌≡◌, ◌++◌, drop, false, flat_map, map, OnErr, OnOk};
-ghost use Rattle.script_model.specs.Texts.{answers_text, line_text, more_lines, row_line, table_line, written_lines};
+//! The text of a record: of its answers, of what a trace adds to them, and of its journal.
+ghost use Rattle.std.specs.Prelude.{◌≡◌, ◌++◌, false, flat_map, map, true, OnErr, OnOk};
+ghost use Rattle.script_model.specs.Texts.{answer_lines, answers_text, line_text, more_lines, row_line, table_line, text_behind, trace_lines, written_lines};
 ghost use Rattle.lake_model.specs.Tables.{line_with};
 ghost use Rattle.segment_core.specs.Lines.{line_from};
 ghost use Rattle.reply_text.specs.Keeping.{Keeps};
 ghost use Rattle.reply_text.specs.Replies.{reply_of};
 
+use crate::journal::push_journal;
+use crate::layout::push_layout;
 use crate::lines::push_first_line;
 use crate::record::{Answered, RunRecord};
 use crate::reply::Reply;
 use crate::words::Word::{Number, Quoted, Text};
-use crate::words::{push_bytes, push_line, push_words};
+use crate::words::{merger_mark, push_bytes, push_line, push_words};
 use column_set::{KeptRow, Name};
 use no_memory::NoMemory;
 
@@ -78,38 +80,93 @@ fn push_more_lines(reply: &Reply, into: &mut Vec<u8>) -> Result<(), NoMemory>
     }
 }
 
-// The lines of an answer. The merger's are not written.
-fn push_answer(answer: &Answered, into: &mut Vec<u8>) -> Result<(), NoMemory>
-    ensures ok { OnOk result (into.new.items ≡ into.old.items ++ flat_map line_text (written_lines false answer.now)) }
+// The lines that a trace puts behind a reply: the layout that was searched, or in which a merge was planned.
+fn push_trace_lines(reply: &Reply, into: &mut Vec<u8>) -> Result<(), NoMemory>
+    ensures ok { OnOk result (into.new.items ≡ into.old.items ++ flat_map line_text (trace_lines (reply_of reply.now))) }
     ensures kept { Keeps into.old.items into.new.items }
 {
-    if answer.by.caller() == 0 {
-        return Ok(());
+    match reply {
+        Reply::Found { layout, .. }
+        | Reply::Merged { layout, .. }
+        | Reply::NothingToMerge { layout }
+        | Reply::Stale { layout, .. } => push_layout(layout, into),
+        _ => Ok(()),
     }
+}
+
+// The lines of an answer without what a trace adds to them.
+fn push_plain_answer(answer: &Answered, into: &mut Vec<u8>) -> Result<(), NoMemory>
+    ensures ok { OnOk result (into.new.items ≡ into.old.items ++ flat_map line_text (answer_lines false answer.now)) }
+    ensures kept { Keeps into.old.items into.new.items }
+{
+    push_bytes(merger_mark(answer.by.caller()).as_bytes(), into)?;
     push_first_line(answer.by.number(), &answer.reply, into)?;
     push_more_lines(&answer.reply, into)
 }
 
+// The lines of an answer with what a trace adds to them.
+fn push_traced_answer(answer: &Answered, into: &mut Vec<u8>) -> Result<(), NoMemory>
+    ensures ok { OnOk result (into.new.items ≡ into.old.items ++ flat_map line_text (answer_lines true answer.now)) }
+    ensures kept { Keeps into.old.items into.new.items }
+{
+    push_plain_answer(answer, into)?;
+    push_trace_lines(&answer.reply, into)
+}
+
+// The lines of an answer. The merger's are written with a trace alone.
+fn push_answer(answer: &Answered, trace: bool, into: &mut Vec<u8>) -> Result<(), NoMemory>
+    ensures ok { OnOk result (into.new.items ≡ into.old.items ++ flat_map line_text (written_lines trace answer.now)) }
+    ensures kept { Keeps into.old.items into.new.items }
+{
+    if trace {
+        return push_traced_answer(answer, into);
+    }
+    if answer.by.caller() == 0 {
+        return Ok(());
+    }
+    push_plain_answer(answer, into)
+}
+
 // The lines of answers.
-fn push_answers(answers: &[Answered], into: &mut Vec<u8>) -> Result<(), NoMemory>
-    ensures ok { OnOk result (into.new.items ≡ into.old.items ++ answers_text false answers.now) }
+fn push_answers(answers: &[Answered], trace: bool, into: &mut Vec<u8>) -> Result<(), NoMemory>
+    ensures ok { OnOk result (into.new.items ≡ into.old.items ++ answers_text trace answers.now) }
     ensures kept { Keeps into.old.items into.new.items }
 {
     for answer in answers {
-        push_answer(answer, into)?;
+        push_answer(answer, trace, into)?;
+    }
+    Ok(())
+}
+
+// The text of the answers of a record from an index on, and of its journal where that is due.
+fn push_text(of: &RunRecord, first: usize, trace: bool, into: &mut Vec<u8>) -> Result<(), NoMemory>
+    ensures ok { OnOk result (into.new.items ≡ into.old.items ++ text_behind trace first of.now.made) }
+    ensures kept { Keeps into.old.items into.new.items }
+{
+    let answers = of.answers();
+    push_answers(&answers[first.min(answers.len())..], trace, into)?;
+    if trace && of.ended() {
+        return push_journal(of.journal(), into);
     }
     Ok(())
 }
 
 /// Appends the text of the answers of a record from an index on, which counts from 0: for each, a line with the number of the
 /// command and what it is answered, and behind that a line for each table or row. Where memory is wanting, the text stands as it was.
-pub fn write_replies(of: &RunRecord, first: usize, into: &mut Vec<u8>) -> Result<(), NoMemory>
-    ensures ok { OnOk result (into.new.items ≡ into.old.items ++ answers_text false (drop first of.now.made.answers)) }
+///
+/// With a trace, the merger's answers are written too, the layout stands behind each answer to a search or a merge, and the journal
+/// stands behind the answers where the source was read to its end.
+pub fn write_replies(
+    of: &RunRecord,
+    first: usize,
+    trace: bool,
+    into: &mut Vec<u8>,
+) -> Result<(), NoMemory>
+    ensures ok { OnOk result (into.new.items ≡ into.old.items ++ text_behind trace first of.now.made) }
     ensures err { OnErr result (into.new.items ≡ into.old.items) }
 {
-    let answers = of.answers();
     let written = into.len();
-    if push_answers(&answers[first.min(answers.len())..], into).is_err() {
+    if push_text(of, first, trace, into).is_err() {
         into.truncate(written);
         return Err(NoMemory);
     }

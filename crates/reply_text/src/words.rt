@@ -1,11 +1,12 @@
 //! Numbers, words and lines, put behind what a text has already. Where memory is wanting, the text keeps what it had.
-ghost use Rattle.std.specs.Prelude.{◌≡◌, ◌++◌, ◌∷◌, [], decimal, flat_map, map, OnOk};
-ghost use Rattle.script_model.specs.Texts.{line_text, spaced};
+ghost use Rattle.std.specs.Prelude.{◌≡◌, ◌==◌, ◌++◌, ◌∷◌, [], decimal, flat_map, if◌then◌else◌, map, OnOk};
+ghost use Rattle.script_model.specs.Texts.{command_text, line_text, spaced};
 ghost use Rattle.reply_text.specs.Keeping.{Keeps};
 ghost use Rattle.reply_text.specs.Words.{word_text};
 
 use crate::quoted::push_quoted;
 use itoa::Buffer;
+use lake_model::Who;
 use no_memory::NoMemory;
 
 /// A word of a line.
@@ -17,6 +18,8 @@ pub enum Word<'a> {
     Number(u64),
     /// In quotes, with escapes.
     Quoted(&'a str),
+    /// The number of a command, behind `m` where it is the merger's.
+    Command(Who),
 }
 
 /// Appends these bytes.
@@ -37,6 +40,22 @@ pub fn push_number(number: u64, into: &mut Vec<u8>) -> Result<(), NoMemory>
     push_bytes(buffer.format(number).as_bytes(), into)
 }
 
+/// What stands before the number of a command: `m` for the merger, which is caller 0.
+pub fn merger_mark(caller: u32) -> &'static str
+    ensures { result.now ≡ (if caller == 0 then 0x6D ∷ [] else []) }
+{
+    if caller == 0 { "m" } else { "" }
+}
+
+// Appends the number of a command, behind `m` where it is the merger's.
+fn push_command(who: Who, into: &mut Vec<u8>) -> Result<(), NoMemory>
+    ensures ok { OnOk result (into.new.items ≡ into.old.items ++ command_text who) }
+    ensures kept { Keeps into.old.items into.new.items }
+{
+    push_bytes(merger_mark(who.caller).as_bytes(), into)?;
+    push_number(who.command, into)
+}
+
 // Appends a word.
 fn push_word(word: &Word<'_>, into: &mut Vec<u8>) -> Result<(), NoMemory>
     ensures ok { OnOk result (into.new.items ≡ into.old.items ++ word_text word.now) }
@@ -46,6 +65,7 @@ fn push_word(word: &Word<'_>, into: &mut Vec<u8>) -> Result<(), NoMemory>
         Word::Text(text) => push_bytes(text.as_bytes(), into),
         Word::Number(number) => push_number(*number, into),
         Word::Quoted(text) => push_quoted(text, into),
+        Word::Command(who) => push_command(*who, into),
     }
 }
 

@@ -10,10 +10,9 @@ use Rattle.lake_model.specs.Journal.{Entry}
 use Rattle.script_model.specs.Commands.{Command, Batch}
 use Rattle.script_model.specs.Replies.{Reply}
 use Rattle.script_model.specs.Answered.{answer_to, has_pin}
-use Rattle.script_model.specs.Record.{RunRecord, plain, empty}
-use Rattle.script_model.specs.Script.{last_batch}
-use Rattle.script_model.specs.Play.{Done, done_with, Lane, lane_with, Play, play_with, reply_or_denied, entries_of, answered, step_of, step, with_denials, play, gathered, answers_of, record_after, batch_after, played_from, played}
-use Rattle.script_model.specs.InTurn.{after_command, in_turn, with_sync, record_in_turn, IsOneLane}
+use Rattle.script_model.specs.Record.{RunRecord}
+use Rattle.script_model.specs.Play.{Done, done_with, Lane, lane_with, Play, play_with, reply_or_denied, entries_of, answered, step_of, step, with_denials, play, gathered, answers_of, record_after, batch_after}
+use Rattle.script_model.specs.InTurn.{after_command, in_turn, with_sync, IsOneLane}
 
 -- One more command comes behind all others.
 pub in_turn_more : (limits : Counts) (commands : List Command) (denials : List Bool) (command : Command) (denied : Bool) (before : RunRecord) → length denials ≡ length commands
@@ -170,9 +169,3 @@ in_turn_played limits batch denials before one =
     let ran = lane_plays limits others batch denials n [] before (omega arith) in
     let ends = ap (λ todo. runs limits n others ran.turns (alone before.journal (lane_with todo None []))) (own_commands batch one) ∙ ran.ends in
     (ran.turns, record_of_one before (in_turn limits batch denials before) batch ran.more _ one ends ran.size ran.is)
-
--- So is a script of one batch, or of none.
-pub script_in_turn : (limits : Counts) (batch : Batch) (denials : List Bool) → IsOneLane batch → (denied : List (List Bool)) × (played limits plain (last_batch batch) denied ≡ record_in_turn limits batch denials)
-unfolding played_from
-script_in_turn limits [] denials one = ([], refl)
-script_in_turn limits (command ∷ commands) denials one = let batch = in_turn_played limits (command ∷ commands) denials (empty plain) one in (batch.0 ∷ [], batch.1)

@@ -15,16 +15,12 @@ use Rattle.lake_model.specs.Limits.{Bounded, is_passed, load_bounds, drop_bounds
 use Rattle.script_model.specs.Replies.{Loaded, Dropped, Repeated, Unknown, unless_lake_full}
 use Rattle.script_model.specs.Answered.{TableRead, IsTable, NoTable, table_read, file_read, load_answer, loads, answer_to, adds, has_pin, is_accepted, standing}
 use Rattle.script_model.specs.Record.{Options, RunRecord, plain, empty, with_end}
-use Rattle.script_model.specs.Script.{last_batch}
 use Rattle.script_model.specs.Play.{Done, done_with, Lane, lane_with, Play, play_with, who_of, entries_of, reply_or_denied, answered, step_of, lane_step, step_at, step, with_denials, play, play_batch, whole_order, lane_of, lanes_of, batch_after, head_or_empty, updates, pieces_of, played_from, played, IsPlayed}
 use Rattle.script_model.specs.Right.{IsRecordRight, AreBatchesRight}
-use Rattle.script_model.specs.InTurn.{record_in_turn, IsOneLane}
 use Rattle.script_model.specs.Merges.{is_merge, HasNoMerge, IsOfLanes}
 use Rattle.script_model.specs.PlayLaws.{IsWithoutMerges}
-use Rattle.script_model.specs.Statuses.{IsRecordOf}
 use Rattle.script_model.proofs.RightLemmas.{all_append}
 use Rattle.script_model.proofs.PlayedLemmas.{played_right}
-use Rattle.script_model.proofs.InTurnLemmas.{script_in_turn}
 
 -- ---- a legal journal that goes on
 
@@ -212,26 +208,3 @@ pub record_right : (limits : Counts) (options : Options) (batches : List Batch) 
 record_right limits options batches made none (denials, is) =
     subst (λ r. IsRecordRight limits options.lanes options.merge batches r) (sym is)
     (ended_right limits options.lanes options.merge batches (played limits options batches denials) made.ended (right_from limits options batches denials options.merge none.merger none.lanes none.commands))
-
--- ---- one lane
-
--- The record of a script that has one batch, or none, of one lane, its commands in turn, was played.
-pub script_played : (limits : Counts) (batch : Batch) (denials : List Bool) (ended : Bool) → IsOneLane batch → IsPlayed limits plain (last_batch batch) (with_end ended (record_in_turn limits batch denials))
-script_played limits batch denials ended one = let made = script_in_turn limits batch denials one in (made.0, ap (with_end ended) (sym made.1))
-
-of_lane_one : (batch : Batch) → IsOneLane batch → IsOfLanes 1 batch
-of_lane_one [] one = tt
-of_lane_one (command ∷ batch) one = ((omega (arith, one.0), omega (arith, one.0)), of_lane_one batch one.1)
-
-without_merges : (batch : Batch) → IsOneLane batch → HasNoMerge batch → IsWithoutMerges plain (last_batch batch)
-without_merges [] one none = record { merger = refl; lanes = tt; commands = tt }
-without_merges (command ∷ batch) one none = record { merger = refl; lanes = (of_lane_one (command ∷ batch) one, tt); commands = (none, tt) }
-
--- And so it is right.
-pub script_right : (limits : Counts) (batch : Batch) (denials : List Bool) (ended : Bool) → IsOneLane batch → HasNoMerge batch
-    → IsRecordRight limits 1 false (last_batch batch) (with_end ended (record_in_turn limits batch denials))
-script_right limits batch denials ended one none = record_right limits plain (last_batch batch) _ (without_merges batch one none) (script_played limits batch denials ended one)
-
--- Behind the end of its source it is the record of the script.
-pub script_record : (limits : Counts) (batch : Batch) (denials : List Bool) → IsOneLane batch → HasNoMerge batch → IsRecordOf limits (last_batch batch) (with_end true (record_in_turn limits batch denials))
-script_record limits batch denials one none = record { ended = refl; right = script_right limits batch denials true one none; played = script_played limits batch denials true one }

@@ -1,4 +1,6 @@
 pub mod ScriptLemmas
+pub mod AskedLemmas
+pub mod LinesLemmas
 pub mod InTurnLemmas
 pub mod RightLemmas
 pub mod PlayLemmas
@@ -9,3 +11,4 @@ pub mod LegalLemmas
 pub mod PlayedLemmas
 pub mod LimitLemmas
 mod WorkedRuns
+mod WorkedWords

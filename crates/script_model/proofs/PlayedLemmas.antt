@@ -1,7 +1,8 @@
 -- A played record is right for its batches.
-use Rattle.std.proofs.Common.{◌≡◌, refl, ap, sym, ◌∙◌, subst, ℕ, zero, suc, ◌+◌, ◌-◌, ◌≤◌, List, [], ◌∷◌, ◌++◌, append_assoc, map, Bool, true, false, length, take, drop, arith, length-append}
+use Rattle.std.proofs.Common.{◌≡◌, refl, ap, sym, ◌∙◌, subst, ℕ, zero, suc, ◌+◌, ◌-◌, ◌≤◌, List, [], ◌∷◌, ◌++◌, append_assoc, map, Bool, true, false, length, take, drop, arith, length-append, get_or, sum_by}
 use Rattle.std.specs.List.{AllByRecursion, range_with_len}
 use Rattle.std.proofs.lemmas.List.{append-nil, length-map}
+use Rattle.std.proofs.lemmas.List.Sums.{sum_by-cons}
 use Rattle.std.proofs.Math.Seq.{take-append_seam}
 use Rattle.lake_model.specs.declared.Who.{Who}
 use Rattle.lake_model.specs.declared.Counts.{Counts}
@@ -100,3 +101,36 @@ played_right limits n merge next (batch ∷ batches) pieces denials before lanes
     (played_from limits n merge (next + updates batch) batches (drop 1 pieces) (drop 1 denials) (batch_after limits n batch (merger_commands merge next batch) (head_or_empty pieces) (head_or_empty denials) before))
     lanes.0
     (played_right limits n merge (next + updates batch) batches (drop 1 pieces) (drop 1 denials) (batch_after limits n batch (merger_commands merge next batch) (head_or_empty pieces) (head_or_empty denials) before) lanes.1)
+
+-- ---- one batch behind another
+
+abbrev batch_behind : Counts → ℕ → Bool → Batch → List Bool → RunRecord → ℕ → List ℕ → RunRecord
+batch_behind limits lanes merge batch turns before next piece = batch_after limits lanes batch (merger_commands merge next batch) piece turns before
+
+first_piece : (pieces : List (List ℕ)) → head_or_empty pieces ≡ get_or pieces 0 []
+first_piece [] = refl
+first_piece (piece ∷ pieces) = refl
+
+later_piece : (pieces : List (List ℕ)) (n : ℕ) → get_or (drop 1 pieces) n [] ≡ get_or pieces (suc n) []
+later_piece [] n = refl
+later_piece (piece ∷ pieces) n = refl
+
+-- One more batch is played behind the others.
+pub batches_go_on : (limits : Counts) (lanes : ℕ) (merge : Bool) (next : ℕ) (batches : List Batch) (batch : Batch) (pieces : List (List ℕ)) (denials : List (List Bool)) (turns : List Bool) (before : RunRecord)
+    → length denials ≡ length batches
+    → played_from limits lanes merge next (batches ++ batch ∷ []) pieces (denials ++ turns ∷ []) before
+    ≡ batch_after limits lanes batch (merger_commands merge (next + sum_by updates batches) batch) (get_or pieces (length batches) []) turns (played_from limits lanes merge next batches pieces denials before)
+unfolding played_from
+batches_go_on limits lanes merge next [] batch pieces [] turns before same =
+    let none : next ≡ next + sum_by updates [] = omega arith in
+    ap (batch_behind limits lanes merge batch turns before next) (first_piece pieces)
+    ∙ ap (λ (n : ℕ). batch_behind limits lanes merge batch turns before n (get_or pieces 0 [])) none
+batches_go_on limits lanes merge next [] batch pieces (d ∷ denials) turns before same = absurd (omega (arith, same))
+batches_go_on limits lanes merge next (b ∷ batches) batch pieces [] turns before same = absurd (omega (arith, same))
+batches_go_on limits lanes merge next (b ∷ batches) batch pieces (d ∷ denials) turns before same =
+    let first : RunRecord = batch_after limits lanes b (merger_commands merge next b) (head_or_empty pieces) d before in
+    let made : RunRecord = played_from limits lanes merge (next + updates b) batches (drop 1 pieces) denials first in
+    let sum : next + updates b + sum_by updates batches ≡ next + sum_by updates (b ∷ batches) = omega (arith, sum_by-cons updates b batches) in
+    batches_go_on limits lanes merge (next + updates b) batches batch (drop 1 pieces) denials turns first (omega (arith, same))
+    ∙ ap (λ (n : ℕ). batch_behind limits lanes merge batch turns made n (get_or (drop 1 pieces) (length batches) [])) sum
+    ∙ ap (batch_behind limits lanes merge batch turns made (next + sum_by updates (b ∷ batches))) (later_piece pieces (length batches))

@@ -9,7 +9,7 @@ use Rattle.std.proofs.lemmas.Bool.Decides.{nat_tests}
 use Rattle.script_model.specs.declared.Reason.{Reason}
 use Rattle.script_model.specs.declared.Reason.TheVariants as reason
 use Rattle.lake_model.specs.Texts.{Text, Lines, lines_with, onto_lines, lines_of}
-use Rattle.script_model.specs.Numbers.{without_return}
+use Rattle.script_model.specs.Words.{NoFeed, without_return}
 use Rattle.script_model.specs.Reading.{Grammar, Open, Reading, Reached, Stands, AtFault, LinesRead, read_with, Turn, Goes, Gives, Fails, turned, turn_of, read_more, read, counted, does, with_command, opened, fetched, file_size, next_file, unless_fault, line_fault, body_fault, line_in, is_end, body_after, with_body, block_ended}
 use Rattle.script_model.specs.Commands.{Batch}
 use Rattle.script_model.specs.Saying.{Said, Nothing, Wrong, Sync, Does, Opens, Fetches}
@@ -33,9 +33,6 @@ pub lines_more : (xs ys : Text) → lines_of (xs ++ ys) ≡ joined (lines_of xs)
 unfolding lines_of
 lines_more [] ys = refl
 lines_more (b ∷ xs) ys = ap (onto_lines b) (lines_more xs ys) ∙ joined_byte b (b == 0x0A) (lines_of xs).ended (lines_of xs).rest ys refl
-
-abbrev pub NoFeed : Text → Type 0
-NoFeed line = AllByRecursion (λ b. (b == 0x0A) ≡ false) line
 
 -- A text that begins with a line.
 pub lines_first : (line more : Text) → NoFeed line → lines_of (line ++ 0x0A ∷ more) ≡ lines_with (line ∷ (lines_of more).ended) (lines_of more).rest
@@ -79,7 +76,7 @@ read_behind grammar given before (line ∷ lines) =
     ap (λ (b : LinesRead). read grammar b lines) (more_behind grammar given before.batches before.reached line)
     ∙ read_behind grammar given (read_more grammar before.batches before.reached line) lines
 
-read_fault : (grammar : Grammar) (batches : List Batch) (at : ℕ) (why : Reason) (asked : List Text) (lines : List Text)
+pub read_fault : (grammar : Grammar) (batches : List Batch) (at : ℕ) (why : Reason) (asked : List Text) (lines : List Text)
     → read grammar (read_with batches (AtFault at why asked)) lines ≡ read_with batches (AtFault at why asked)
 unfolding read
 read_fault grammar batches at why asked [] = refl
@@ -111,7 +108,7 @@ ended_behind grammar over rest given batches (AtFault line why asked) = refl
 
 -- ---- the bytes that a turn used
 
-abbrev UsesUpTo : ℕ → Turn → Type 0
+abbrev pub UsesUpTo : ℕ → Turn → Type 0
 UsesUpTo n (Goes reading) = reading.used ≡ n
 UsesUpTo n (Gives batch reading) = reading.used ≡ n
 UsesUpTo n (Fails why asked) = ⊤
@@ -145,6 +142,10 @@ line_uses grammar None line reading = unless_uses (line_fault grammar line) read
 line_uses grammar (Some block) line reading =
     either (is_end line) reading.used (Goes (block_ended block reading)) _ refl
     (unless_uses (body_fault grammar reading.bytes (body_after block line ++ 0x0A ∷ [])) reading.used reading (Goes (with_body block (body_after block line ++ 0x0A ∷ []) reading)) refl)
+
+-- A turn uses its line and the line feed.
+pub turn_uses : (grammar : Grammar) (line : Text) (reading : Reading) → UsesUpTo (reading.used + (length line + 1)) (turn_of grammar line reading)
+turn_uses grammar line reading = line_uses grammar reading.block line (counted (length line + 1) reading)
 
 -- ---- one line
 

@@ -14,7 +14,7 @@ use Rattle.lake_model.specs.Sorting.{in_order, put_in_order}
 use Rattle.lake_model.specs.Journal.{standard_limits}
 use Rattle.script_model.specs.declared.Reason.TheVariants as reason
 use Rattle.script_model.specs.Reading.{read}
-use Rattle.script_model.specs.Script.{commands_of, FaultAt}
+use Rattle.script_model.specs.Script.{Commands, commands, standard, FaultAt}
 use Rattle.script_model.specs.Answered.{table_read, query_read}
 use Rattle.script_model.specs.Record.{plain}
 use Rattle.script_model.specs.Play.{play, played, played_from}
@@ -22,6 +22,9 @@ use Rattle.script_model.specs.Texts.{line_text, text}
 
 abbrev lines : List (List ℕ) → List ℕ
 lines texts = flat_map line_text texts
+
+abbrev commands_of : List ℕ → Commands
+commands_of script = commands standard 1 script []
 
 abbrev written : List ℕ → List ℕ
 written script = text (played standard_limits plain (commands_of script).batches [])
@@ -72,7 +75,7 @@ unfolding lines_of read
 unknown = refl
 
 -- more rows than may be asked for
-too_many_rows : (commands_of (lines (codes "search 10001" ∷ []))).end ≡ FaultAt 1 reason.Unknown
+too_many_rows : (commands_of (lines (codes "search 10001" ∷ []))).end ≡ FaultAt 1 reason.Words
 unfolding lines_of read
 too_many_rows = refl
 

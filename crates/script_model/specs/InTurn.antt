@@ -4,7 +4,7 @@ use Rattle.std.specs.List.{AllByRecursion}
 use Rattle.lake_model.specs.declared.Counts.{Counts}
 use Rattle.script_model.specs.Commands.{Command, Batch}
 use Rattle.script_model.specs.Answered.{answer_to}
-use Rattle.script_model.specs.Record.{answered_with, RunRecord, plain, empty}
+use Rattle.script_model.specs.Record.{answered_with, RunRecord}
 use Rattle.script_model.specs.Play.{who_of, reply_or_denied, entries_of}
 
 -- the record behind one more command, which is answered at the journal as it stands; `denied` says that memory is wanting
@@ -22,11 +22,6 @@ in_turn limits (command ∷ commands) (denied ∷ denials) before = in_turn limi
 -- the record behind a batch: the length of the journal is noted
 abbrev pub with_sync : RunRecord → RunRecord
 with_sync made = record made { syncs = made.syncs ++ length made.journal ∷ [] }
-
--- The record of a script that has this batch and no other. A batch without a command is none.
-abbrev pub record_in_turn : Counts → Batch → List Bool → RunRecord
-record_in_turn limits [] denials = empty plain
-record_in_turn limits (command ∷ commands) denials = with_sync (in_turn limits (command ∷ commands) denials (empty plain))
 
 -- all commands are of lane 1
 abbrev pub IsOneLane : Batch → Type 0

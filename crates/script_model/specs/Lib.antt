@@ -1,4 +1,4 @@
-pub mod Numbers
+pub mod Words
 pub mod Commands
 pub mod Saying
 pub mod Reading
@@ -6,6 +6,7 @@ pub mod Script
 pub mod Replies
 pub mod Answered
 pub mod Record
+pub mod Ranges
 pub mod Play
 pub mod Right
 pub mod InTurn
@@ -13,3 +14,4 @@ pub mod Merges
 pub mod PlayLaws
 pub mod Texts
 pub mod Statuses
+pub mod Plain

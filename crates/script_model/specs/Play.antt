@@ -84,6 +84,11 @@ abbrev pub merger_commands : Bool → ℕ → Batch → List Command
 merger_commands false next batch = []
 merger_commands true next batch = map (λ n. command_with n 0 (Merge false)) (range_with_len next (updates batch))
 
+-- the same, where the merger's next number is given if there is a merger
+abbrev pub merges_of : Option ℕ → Batch → List Command
+merges_of None batch = []
+merges_of (Some next) batch = merger_commands true next batch
+
 abbrev pub lane_of : Batch → ℕ → Lane
 lane_of batch l = lane_with (filter (λ command. command.lane == l) batch) None []
 

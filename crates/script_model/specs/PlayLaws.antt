@@ -1,13 +1,12 @@
 -- The laws of play, for batches without a merge and with no merger beside them.
-use Rattle.std.specs.Prelude.{◌≡◌, Bool, false, List, [], ◌∷◌, ◌++◌, length}
+use Rattle.std.specs.Prelude.{ℕ, ◌+◌, ◌≡◌, Bool, false, List, [], ◌∷◌, ◌++◌, get_or, length, sum_by}
 use Rattle.std.specs.List.{AllByRecursion}
 use Rattle.lake_model.specs.declared.Counts.{Counts}
 use Rattle.script_model.specs.Commands.{Command, Batch}
-use Rattle.script_model.specs.Script.{last_batch}
-use Rattle.script_model.specs.Record.{Options, RunRecord, plain, with_end}
-use Rattle.script_model.specs.Play.{IsPlayed, batch_after}
+use Rattle.script_model.specs.Record.{Options, RunRecord}
+use Rattle.script_model.specs.Play.{IsPlayed, batch_after, merger_commands, played_from, updates}
 use Rattle.script_model.specs.Right.{IsRecordRight}
-use Rattle.script_model.specs.InTurn.{after_command, in_turn, with_sync, record_in_turn, IsOneLane}
+use Rattle.script_model.specs.InTurn.{after_command, in_turn, with_sync, IsOneLane}
 use Rattle.script_model.specs.Merges.{HasNoMerge, IsOfLanes}
 
 -- the merger is off, every command is of a lane of the options, and none is a merge
@@ -31,7 +30,9 @@ abbrev pub BatchIsPlayed : Type 0
 BatchIsPlayed = (limits : Counts) (batch : Batch) (denials : List Bool) (before : RunRecord) → IsOneLane batch
     → (turns : List Bool) × (batch_after limits 1 batch [] [] turns before ≡ with_sync (in_turn limits batch denials before))
 
--- So is the record of a script of one batch, or of none, whether or not its source was read to the end.
-abbrev pub ScriptIsPlayed : Type 0
-ScriptIsPlayed = (limits : Counts) (batch : Batch) (denials : List Bool) (ended : Bool) → IsOneLane batch
-    → IsPlayed limits plain (last_batch batch) (with_end ended (record_in_turn limits batch denials))
+-- One more batch is played behind the others, where its piece is the one at its place and `next` was the merger's next number before them.
+abbrev pub BatchesGoOn : Type 0
+BatchesGoOn = (limits : Counts) (lanes : ℕ) (merge : Bool) (next : ℕ) (batches : List Batch) (batch : Batch) (pieces : List (List ℕ)) (denials : List (List Bool)) (turns : List Bool) (before : RunRecord)
+    → length denials ≡ length batches
+    → played_from limits lanes merge next (batches ++ batch ∷ []) pieces (denials ++ turns ∷ []) before
+    ≡ batch_after limits lanes batch (merger_commands merge (next + sum_by updates batches) batch) (get_or pieces (length batches) []) turns (played_from limits lanes merge next batches pieces denials before)

@@ -4,7 +4,7 @@ use Rattle.script_model.specs.declared.Reason.{Reason}
 use Rattle.script_model.specs.declared.Reason.TheVariants as reason
 use Rattle.lake_model.specs.Texts.{Text}
 use Rattle.script_model.specs.Commands.{File, Bytes, Failed, Missing, TooLong, Task, LoadFile, command_with, Batch}
-use Rattle.script_model.specs.Numbers.{without_return}
+use Rattle.script_model.specs.Words.{without_return}
 use Rattle.script_model.specs.Saying.{Front, closed, Said, Nothing, Wrong, Sync, Does, Fetches, Opens}
 
 -- what a line outside a block says, which sizes pass their limits, and how many bytes an input may have

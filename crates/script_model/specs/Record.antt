@@ -11,6 +11,9 @@ pub record Options : Type 0 where
   pub merge : Bool
   pub trace : Bool
 
+abbrev pub options_with : ℕ → Option (List (List ℕ)) → Bool → Bool → Options
+options_with lanes order merge trace = record { lanes = lanes; order = order; merge = merge; trace = trace }
+
 abbrev pub plain : Options
 plain = record { lanes = 1; order = None; merge = false; trace = false }
 

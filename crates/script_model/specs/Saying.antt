@@ -1,12 +1,13 @@
 -- What one line outside a block says, by its words alone.
-use Rattle.std.specs.Prelude.{ℕ, Bool, ◌||◌, ◌==◌, if◌then◌else◌, List, length, take, drop, get_or, bytes_eq, codes, Option, Some, None}
+use Rattle.std.specs.Prelude.{ℕ, ◌==◌, Bool, ◌&&◌, ◌||◌, if◌then◌else◌, List, [], ◌∷◌, drop, find, get_or, nat_lt, bytes_eq, codes, Option, Some, None}
 use Rattle.std.specs.List.{list_all}
+use Rattle.std.specs.Str.{is_utf8}
 use Rattle.script_model.specs.declared.Reason.{Reason}
 use Rattle.script_model.specs.declared.Reason.TheVariants as reason
 use Rattle.lake_model.specs.Texts.{Text}
 use Rattle.lake_model.specs.Tables.{is_name}
-use Rattle.script_model.specs.Commands.{Task, Load, DropTable, Tables, Search}
-use Rattle.script_model.specs.Numbers.{number}
+use Rattle.script_model.specs.Commands.{Task, Load, DropTable, Tables, Search, Like}
+use Rattle.script_model.specs.Words.{is_space, before_spaces, first_word, behind_word, words, number, number_of}
 
 -- the front of a command that has a block
 pub data Front : Type 0 where
@@ -25,36 +26,67 @@ pub data Said : Type 0 where
   Fetches : (lane : ℕ) (name path : Text) → Said
   Opens : (lane : ℕ) (front : Front) → Said
 
--- what stands behind this beginning of the text
-abbrev pub behind : Text → Text → Option Text
-behind beginning text = if bytes_eq (take (length beginning) text) beginning then Some (drop (length beginning) text) else None
+-- with a number, where there is one
+abbrev pub said_with : Option ℕ → (ℕ → Said) → Said
+said_with None said = Wrong reason.Words
+said_with (Some n) said = said n
 
-abbrev pub load_said : Text → Said
-load_said name = if is_name name then Opens 1 (LoadBlock name) else Wrong reason.Unknown
+abbrev pub said_if : Bool → Said → Said
+said_if holds said = if holds then said else Wrong reason.Words
 
-abbrev pub search_said : Option ℕ → Said
-search_said None = Wrong reason.Unknown
-search_said (Some k) = Opens 1 (SearchBlock k)
+-- ---- the forms of a command
 
-abbrev pub drop_said : Text → Said
-drop_said name = if is_name name then Does 1 (DropTable name) else Wrong reason.Unknown
+pub data Form : Type 0 where
+  LoadForm LoadFileForm DropForm TablesForm SearchForm LikeForm SyncForm : Form
 
-abbrev pub said_by : Option Text → Option Text → Option Text → Said
-said_by (Some loaded) dropped k = load_said loaded
-said_by None (Some dropped) k = drop_said dropped
-said_by None None (Some k) = search_said (number 1 10000 k)
-said_by None None None = Wrong reason.Unknown
+-- the command words
+abbrev pub forms : List (Text × Form)
+forms = (codes "load", LoadForm) ∷ (codes "loadfile", LoadFileForm) ∷ (codes "drop", DropForm) ∷ (codes "tables", TablesForm)
+    ∷ (codes "search", SearchForm) ∷ (codes "like", LikeForm) ∷ (codes "sync", SyncForm) ∷ []
 
--- The commands are `load NAME` and `search K`, each followed by a block, `drop NAME`, and `tables`; between words stands one space, and K
--- is 1 to 10,000.
-abbrev pub command_said : Text → Said
-command_said text =
-    if bytes_eq text (codes "tables") then Does 1 Tables
-    else said_by (behind (codes "load ") text) (behind (codes "drop ") text) (behind (codes "search ") text)
+-- a path is the text behind the name, without the spaces at its end, and is UTF-8
+abbrev pub fetch_said : ℕ → Text → Text → Said
+fetch_said lane name path = said_if (is_name name && is_utf8 path) (Fetches lane name path)
+
+abbrev pub like_said : ℕ → Text → Text → Text → Said
+like_said lane k name place = said_with (number 10000 k) (λ k. said_with (number 4294967295 place) (λ place. said_if (is_name name) (Does lane (Like k name place))))
+
+-- a command of this form, where these words stand behind its command word; `text` is what they stand in
+abbrev pub says : Form → ℕ → List Text → Text → Said
+says LoadForm lane (name ∷ []) text = said_if (is_name name) (Opens lane (LoadBlock name))
+says LoadFileForm lane (name ∷ word ∷ more) text = fetch_said lane name (before_spaces (behind_word text))
+says DropForm lane (name ∷ []) text = said_if (is_name name) (Does lane (DropTable name))
+says TablesForm lane [] text = Does lane Tables
+says SearchForm lane (k ∷ []) text = said_with (number 10000 k) (λ k. Opens lane (SearchBlock k))
+says LikeForm lane (k ∷ name ∷ place ∷ []) text = like_said lane k name place
+says SyncForm lane [] text = Sync
+says form lane more text = Wrong reason.Words
+
+-- ---- lines
+
+abbrev pub of_form : ℕ → Text → Option (Text × Form) → Said
+of_form lane text None = Wrong reason.Unknown
+of_form lane text (Some form) = says form.1 lane (words (behind_word text)) (behind_word text)
+
+-- the command of a text without its lane
+abbrev pub command_said : ℕ → Text → Said
+command_said lane text = of_form lane text (find (λ form. bytes_eq form.0 (first_word text)) forms)
+
+-- the command of a text behind its lane word; every lane is at most `lanes`, and `sync` has none
+abbrev pub lane_said : ℕ → Option ℕ → Text → Said
+lane_said lanes None text = Wrong reason.Words
+lane_said lanes (Some lane) text =
+    if bytes_eq (first_word text) (codes "sync") then Wrong reason.Words
+    else if nat_lt lanes lane then Wrong reason.Lane
+    else command_said lane text
 
 -- a line that is empty, has only spaces, or begins with `#`
 abbrev pub is_skipped : Text → Bool
-is_skipped text = list_all (λ byte. byte == 0x20) text || get_or text 0 0 == 0x23
+is_skipped text = list_all is_space text || get_or text 0 0 == 0x23
 
-abbrev pub said : Text → Said
-said text = if is_skipped text then Nothing else command_said text
+-- a first word that begins with `@` names the lane, which is 1 without it
+abbrev pub said : ℕ → Text → Said
+said lanes text =
+    if is_skipped text then Nothing
+    else if get_or (first_word text) 0 0 == 0x40 then lane_said lanes (number_of (drop 1 (first_word text))) (behind_word text)
+    else command_said 1 text

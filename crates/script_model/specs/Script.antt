@@ -1,7 +1,8 @@
 -- The commands of a script: what its lines give, and its end.
-use Rattle.std.specs.Prelude.{ℕ, ◌+◌, ◌-◌, Bool, false, if◌then◌else◌, List, [], ◌∷◌, ◌++◌, length, take, nat_lt, Option, Some, None}
+use Rattle.std.specs.Prelude.{ℕ, ◌+◌, ◌-◌, Bool, if◌then◌else◌, List, [], ◌∷◌, ◌++◌, length, take, nat_lt, nat_le, Option, Some, None}
 use Rattle.script_model.specs.declared.Reason.{Reason}
 use Rattle.script_model.specs.declared.Reason.TheVariants as reason
+use Rattle.script_model.specs.declared.ScriptLimits.{ScriptLimits}
 use Rattle.lake_model.specs.Texts.{Text, lines_of}
 use Rattle.script_model.specs.Commands.{File, Batch}
 use Rattle.script_model.specs.Saying.{said}
@@ -72,12 +73,20 @@ commands_from grammar reading bytes =
     let read = read_from grammar reading bytes in
     ended grammar (nat_lt (grammar.input - reading.used) (length bytes)) (lines_of (within grammar reading bytes)).rest read.batches read.reached
 
--- The script has one batch and one limit: it has at most so many bytes.
-abbrev pub most_bytes : ℕ
-most_bytes = 1048576
+-- the grammar of a script with these limits, whose lanes are 1 to `lanes`
+abbrev pub grammar_of : ScriptLimits → ℕ → Grammar
+grammar_of limits lanes = record {
+  says = said lanes;
+  line_passes = nat_lt limits.line;
+  block_passes = nat_lt limits.block;
+  is_full = nat_le limits.commands;
+  bytes_pass = nat_lt limits.bytes;
+  input = limits.input;
+}
 
-abbrev pub script_grammar : Grammar
-script_grammar = record { says = said; line_passes = λ _. false; block_passes = λ _. false; is_full = λ _. false; bytes_pass = λ _. false; input = most_bytes }
+-- The commands of a whole script, where these come of its fetches, in their order.
+abbrev pub commands : ScriptLimits → ℕ → List ℕ → List File → Commands
+commands limits lanes bytes files = commands_from (grammar_of limits lanes) (start files) bytes
 
-abbrev pub commands_of : List ℕ → Commands
-commands_of bytes = commands_from script_grammar (start []) bytes
+abbrev pub standard : ScriptLimits
+standard = record { line = 4096; block = 67108864; commands = 4096; bytes = 536870912; input = 68719476736 }

@@ -1,6 +1,6 @@
 //! The laws of play: each is the contract of a function that does nothing.
 
-ghost use Rattle.script_model.specs.PlayLaws.{PlayedIsRight, GoesOnInTurn, BatchIsPlayed, ScriptIsPlayed};
+ghost use Rattle.script_model.specs.PlayLaws.{BatchIsPlayed, BatchesGoOn, GoesOnInTurn, PlayedIsRight};
 
 /// A record that was played of batches is right: its journal is legal, no entry's caller is past the number of lanes, and between the
 /// lengths of the journal that its syncs name each lane's answers are right. It may be played in any stated order, on any number of
@@ -14,5 +14,10 @@ pub fn played_is_right_law()
 pub fn in_turn_law()
     ensures one_more { GoesOnInTurn }
     ensures batch { BatchIsPlayed }
-    ensures script { ScriptIsPlayed }
+{}
+
+/// Batches are played one behind another: the record of some batches and one more is that of this one played from the record of the
+/// others.
+pub fn batches_law()
+    ensures { BatchesGoOn }
 {}

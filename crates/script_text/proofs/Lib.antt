@@ -1,3 +1,1 @@
-pub mod LineLemmas
-pub mod ReadLemmas
-pub mod EndLemmas
+pub mod WordLemmas

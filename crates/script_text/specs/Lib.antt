@@ -1,5 +1,5 @@
-pub mod Fronts
-pub mod Readings
-pub mod Scripts
 pub mod Tasks
-pub mod Refusals
+pub mod Outcomes
+pub mod Gathering
+pub mod Gathers
+pub mod Words

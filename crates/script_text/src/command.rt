@@ -1,26 +1,46 @@
 //! Commands, and the batch of them that a script asks for.
 ghost use Rattle.std.specs.Prelude.{◌≡◌, ◌≤◌};
+ghost use Rattle.script_model.specs.Answered.{is_update_task};
+ghost use Rattle.script_model.specs.Play.{updates};
 ghost use Rattle.script_text.specs.Tasks.{IsTaskInRange, task_of};
 
 use crate::body::Body;
 use column_set::Name;
 use std::marker::Model;
 
+/// What came of the fetch of a file.
+#[derive(Drop)]
+pub enum FileBody {
+    /// The bytes of the file.
+    Bytes(Body),
+    /// The shelf failed.
+    Failed,
+    /// No file has the path.
+    Missing,
+    /// The file has more than 67,108,864 bytes.
+    TooLong,
+}
+
 /// What a command asks for.
 #[derive(Drop)]
 pub enum Task {
     /// The table of the name is loaded from the body, which is CSV.
     Load { name: Name, body: Body },
+    /// The table of the name is loaded from a file, which is CSV.
+    LoadFile { name: Name, file: FileBody },
     /// The live table of the name is dropped.
     Drop { name: Name },
     /// The live tables are listed.
     Tables,
     /// The `k` columns with the greatest overlap with the lines of the body are searched for, `k` from 1 to 10,000.
     Search { k: u32, body: Body },
+    /// The `k` columns with the greatest overlap with the column at the place of the live table of the name are searched for, `k` from 1
+    /// to 10,000, and places from 1. That table is excepted.
+    Like { k: u32, name: Name, place: u32 },
 }
 
 /// A command of a script. A contract sees its number, its lane and its task. Commands are numbered from 1, in the order of the
-/// script, and lanes from 1. The `k` of a search is 1 to 10,000.
+/// script, and lanes from 1. The `k` of a search is 1 to 10,000, and so is that of a like, whose place counts from 1.
 #[derive(Drop)]
 pub struct Command {
     pub number: u64,
@@ -64,6 +84,16 @@ impl Command {
     {
         &self.task
     }
+
+    // Whether the command is a load or a drop.
+    fn is_update(&self) -> bool
+        ensures { result ≡ is_update_task self.now.task }
+    {
+        match &self.task {
+            Task::Load { .. } | Task::LoadFile { .. } | Task::Drop { .. } => true,
+            Task::Tables | Task::Search { .. } | Task::Like { .. } => false,
+        }
+    }
 }
 
 /// The commands of a batch, in the order of the script. A contract sees their list.
@@ -82,8 +112,8 @@ impl Model for Batch {
 }
 
 impl Batch {
-    // These commands.
-    pub(crate) fn new(commands: Vec<Command>) -> Batch
+    /// These commands. It takes no memory.
+    pub fn new(commands: Vec<Command>) -> Batch
         ensures { result ≡ commands.items }
     {
         Batch { commands }
@@ -94,5 +124,15 @@ impl Batch {
         ensures { result.now ≡ self.now }
     {
         &self.commands
+    }
+
+    /// How many of the commands are loads and drops.
+    pub fn updates(&self) -> u64
+        ensures { result ≡ updates self.now }
+    {
+        self.commands
+            .iter()
+            .filter(|command| command.is_update())
+            .count() as u64
     }
 }

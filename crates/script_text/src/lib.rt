@@ -1,19 +1,18 @@
-//! The text of a script as the batch of commands that it asks for, or the first line at fault.
+//! The words of a command line and the bytes of a script: the options of a run, and the batches of commands that it is to answer.
 #![tactic(auto)]
 
 mod body;
 mod command;
-mod front;
+mod gather;
 mod line;
-mod reader;
+mod options;
 mod refused;
-mod script;
+mod words;
 
 pub use body::Body;
-pub use command::{Batch, Command, Task};
-pub use refused::ScriptRefused;
-pub use script::read_script;
-pub use script_model::Reason;
-
-#[cfg(test)]
-mod tests;
+pub use command::{Batch, Command, FileBody, Task};
+pub use gather::Gather;
+pub use options::{Options, Order, Piece};
+pub use refused::ScriptEnd;
+pub use script_model::{Reason, ScriptLimits};
+pub use words::{Mode, WordsRefused, read_words};

@@ -1,28 +1,9 @@
 //! Lines, as they are cut from a script and from a block.
-ghost use Rattle.std.specs.Prelude.{◌≡◌, ◌+◌, ◌==◌, ◌≤◌, IfNone, IfSome, [], drop, length, position};
+ghost use Rattle.std.specs.Prelude.{◌≡◌, ◌==◌};
 ghost use Rattle.std.specs.List.{list_all};
-ghost use Rattle.lake_model.specs.Texts.{lines_of, lines_with};
-ghost use Rattle.script_model.specs.Numbers.{without_return};
+ghost use Rattle.script_model.specs.Words.{without_return};
 ghost use Rattle.script_model.specs.Reading.{is_end, undotted};
 ghost use Rattle.script_model.specs.Saying.{is_skipped};
-ghost use Rattle.script_text.specs.Scripts.{with_line};
-
-// The first line of the text, without the line feed that ends it, and `None` where no line feed is left.
-pub(crate) fn first_line(text: &[u8]) -> Option<&[u8]>
-    ensures line { IfSome result (λ line. lines_of text.now ≡ with_line line.now (lines_of (drop (length line.now + 1) text.now))) }
-    ensures within { IfSome result (λ line. length line.now + 1 ≤ length text.now) }
-    ensures last { IfNone result (lines_of text.now ≡ lines_with [] text.now) }
-{
-    let end = first_feed(text)?;
-    Some(&text[..end])
-}
-
-// Where the first line feed is.
-fn first_feed(text: &[u8]) -> Option<usize>
-    ensures { result ≡ position (λ byte. byte == 0x0A) text.now }
-{
-    text.iter().position(|byte| *byte == b'\n')
-}
 
 // The line without one carriage return at its end.
 pub(crate) fn without_return(line: &[u8]) -> &[u8]

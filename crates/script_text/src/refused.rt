@@ -1,23 +1,25 @@
-//! Why a script gives no commands.
+//! Why a gatherer gives no batch.
 use no_memory::NoMemory;
 use script_model::Reason;
 
-/// Why a script gives no commands.
+/// Why a gatherer gives no batch.
 #[derive(Clone, Copy, Debug, PartialEq, Eq)]
-pub enum ScriptRefused {
+pub enum ScriptEnd {
     /// The line, counted from 1, is the first that is at fault.
     Script { line: u64, reason: Reason },
+    /// The source failed, and counted a fault.
+    ReadFault,
     /// Memory was wanting.
     NoMemory,
 }
 
-impl From<NoMemory> for ScriptRefused {
+impl From<NoMemory> for ScriptEnd {
     ghost use Rattle.std.specs.Prelude.{◌≡◌};
-    ghost use Rattle.script_text.specs.declared.refused.ScriptRefused.TheVariants as refused;
+    ghost use Rattle.script_text.specs.declared.refused.ScriptEnd.TheVariants as refused;
 
     ghost from_gives = { λ _ e. e ≡ refused.NoMemory };
 
-    fn from(_error: NoMemory) -> ScriptRefused {
-        ScriptRefused::NoMemory
+    fn from(_error: NoMemory) -> ScriptEnd {
+        ScriptEnd::NoMemory
     }
 }

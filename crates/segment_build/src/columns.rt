@@ -135,7 +135,7 @@ fn found_tokens(
     ensures same { IfOk result (λ tokens. IsPermutation (tokens_in (all_tokens vocab.now) (keys_at table.now place)) tokens.items) }
     ensures long { IfOk result (λ tokens. length tokens.items ≡ length (keys_at table.now place)) }
 {
-    let mut tokens = Vec::new(alloc);
+    let mut tokens = Vec::with_capacity(alloc, table.size(place) as usize)?;
     for i in 0..table.size(place) {
         tokens.push(vocab.token_of_member(first + i))?;
     }

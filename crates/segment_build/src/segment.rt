@@ -13,12 +13,11 @@ use token_order::Vocab;
 /// The segment of these tables. Its index is that of Zhu, Deng, Nargesian and Miller, "JOSIE: Overlap Set Similarity Search for Finding
 /// Joinable Tables in Data Lakes", SIGMOD 2019.
 ///
-/// It takes the time to sort all keys of all columns by their bytes, and the distinct keys twice more, into the order of tokens and by
-/// their bytes. The first sort gives the token of each key of each column; the sets, which are sorted as numbers, and the posting lists
-/// are then written in one pass each, and compare no key. While the keys are sorted, they take 20 bytes for each key of each column,
-/// and 16 of these are let go before the sets and the lists are made, which take at most 20 bytes for each key of each column. To these
-/// come 28 bytes for each distinct key, and 12 for each column. The segment keeps 16 bytes for each key of each column, 24 for each
-/// distinct key, and 12 for each column. It is refused only for want of memory.
+/// It takes the time to sort all keys of all columns by their bytes, once. That gives the token of each key of each column; the distinct
+/// keys and the sets are then sorted as numbers, and the posting lists written in one pass, and no key is compared again. The most
+/// memory is taken at the end, and is what the segment keeps: 16 bytes for each key of each column, 24 for each distinct key, and 12
+/// for each column. (While the keys are sorted, they take 12 bytes for each key of each column, and at most 32 for each distinct key;
+/// where few keys stand in two columns, that is more.) It is refused only for want of memory.
 pub fn build(alloc: Global, tables: Vec<SharedTable>) -> Result<Segment, NoMemory>
     requires columns { sum_by (λ t. length t.columns) tables.items < 2 ^ 32 }
     requires members { sum_by members tables.items < 2 ^ 32 }
@@ -27,14 +26,15 @@ pub fn build(alloc: Global, tables: Vec<SharedTable>) -> Result<Segment, NoMemor
     let vocab = Vocab::build(alloc, &tables)?;
     let sets = column_sets(alloc, &tables, &vocab)?;
     let (tokens, by_key) = vocab.into_lists();
-    let list_starts = list_starts(alloc, &tokens)?;
-    let postings = postings_of(alloc, &sets.starts, &sets.tokens, &list_starts)?;
+    let next = list_starts(alloc, &tokens)?;
+    let postings = postings_of(alloc, &sets.starts, &sets.tokens, next)?;
+    let starts = list_starts(alloc, &tokens)?;
     Ok(Segment::new(
         tables,
         sets.owners,
         tokens,
         by_key,
-        list_starts,
+        starts,
         postings,
         sets.starts,
         sets.tokens,

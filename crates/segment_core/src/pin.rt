@@ -123,12 +123,7 @@ impl Pin {
     /// its place, counted from 1. Where it succeeds, it raises the meter of the table's segment by one.
     ///
     /// It is refused where no live table has the name, else where the table has no column at the place, and where memory is wanting.
-    pub fn column(
-        &self,
-        alloc: Global,
-        table: &Name,
-        place: u32,
-    ) -> Result<QuerySet, ColumnRefused>
+    pub fn column(&self, alloc: Global, table: &Name, place: u32) -> Result<QuerySet, ColumnRefused>
         ensures keys { IfOk result (λ query. query ≡ column_keys self.now.parts table.now place) }
         ensures sound { OnOk result (column_fault self.now.parts table.now place ≡ None) }
         ensures refused { IfErr result (λ e. (e ≡ ColumnRefused.NoMemory) ⊎ (column_fault self.now.parts table.now place ≡ Some e)) }

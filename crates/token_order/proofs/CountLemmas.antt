@@ -2,24 +2,21 @@
 use Rattle.std.proofs.Common.{◌≡◌, refl, ap, sym, ◌∙◌, subst, ℕ, ◌+◌, ◌<◌, ◌≤◌, List, [], ◌∷◌, ◌++◌, map, length, get_or, set, take, drop, inl, inr, ◌-◌, Bool, true, false, cond, arith, append_assoc, length-append}
 use Rattle.std.specs.Prelude.{bytes_eq}
 use Rattle.std.specs.List.{All}
-use Rattle.std.proofs.lemmas.Bool.{cases_eq}
+use Rattle.std.proofs.lemmas.Bool.{cases_eq, cases_lt}
 use Rattle.std.proofs.lemmas.Slice.Eq.{bytes_eq-Decides}
-use Rattle.std.proofs.lemmas.List.{at_drop_more, at_drop_all, get_or-append_right, get_or-set_other, get_or-set_same, length-map, length_push, map-append, map_push}
+use Rattle.std.proofs.lemmas.List.{at_drop_more, at_drop_all, get_or-append_right, get_or_append_left, get_or_push, get_or-set_other, get_or-set_same, length-map, length_push, map-append, map_push}
 use Rattle.std.proofs.lemmas.List.Elements.{All-more, All-push}
 use Rattle.lake_model.specs.Texts.{Text}
 use Rattle.lake_model.specs.Tables.{Table}
-use Rattle.search_model.specs.declared.TokenAt.{TokenAt}
 use Rattle.search_model.specs.Segment.{Token}
-use Rattle.search_model.specs.Arrays.{pointed, token_at, token_with, IsAt}
+use Rattle.search_model.specs.Arrays.{token_with}
 use Rattle.token_order.specs.Counting.{IsCounting}
-use Rattle.token_order.specs.Places.{at_of, counted, pointed_by}
+use Rattle.token_order.specs.Places.{pointed_by, IsThere}
 use Rattle.token_order.specs.Ranks.{IsRank}
+use Rattle.token_order.specs.declared.columns.ColumnAt.{ColumnAt}
 use Rattle.token_order.specs.declared.places.Member.{Member}
-use Rattle.token_order.specs.Runs.{runs_from, runs_of}
-
--- another frequency, the same place
-pub at_counted : (tables : List Table) (at : TokenAt) (n : ℕ) → IsAt tables at → IsAt tables (counted at n)
-at_counted tables at n h = record { table = h.table; low = h.low; high = h.high; index = h.index }
+use Rattle.token_order.specs.declared.runs.Run.{Run}
+use Rattle.token_order.specs.Runs.{run_token, runs_from, runs_of, AreRanked}
 
 -- the first of the runs
 first_run : (first : Token) (keys : List Text) → (0 < length (map (λ t. t.key) (runs_from first keys))) × (get_or (map (λ t. t.key) (runs_from first keys)) 0 [] ≡ first.key)
@@ -32,71 +29,99 @@ first_run first (key ∷ keys) = by (bytes_eq key first.key) (first_run (token_w
     by true u = u
     by false u = (omega arith, refl)
 
-module _ (tables : List Table) (all : List Token) (members : List Member) (ended : List TokenAt) (run : TokenAt) (i : ℕ) where
+-- a run with so many members
+abbrev pub longer : Run → ℕ → Run
+longer run n = record { first = run.first; frequency = n; rank = run.rank }
+
+-- a run that begins at a member
+abbrev pub run_with : Member → ℕ → Run
+run_with m rank = record { first = m; frequency = 1; rank = rank }
+
+ranked_push : (runs : List Run) (run : Run) → run.rank ≡ length runs → AreRanked runs → AreRanked (runs ++ run ∷ [])
+ranked_push runs run e h i d b = elim (cases_lt i (length runs)) [
+  | inl l ↦ ap (λ (r : Run). r.rank) (get_or_append_left runs (run ∷ []) d i l) ∙ h i d l
+  | inr g ↦
+      let at : i ≡ length runs = omega (arith, g, b, length_push runs run) in
+      ap (λ (r : Run). r.rank) (get_or_push runs run d i (sym at)) ∙ e ∙ sym at
+]
+
+module _ (tables : List Table) (all : List Token) (columns : List ColumnAt) (members : List Member) (ended : List Run) (run : Run) (i : ℕ) where
   abbrev then : Bool → Member → List Token
-  then b m = cond b (runs_from (token_with (pointed tables run) (run.frequency + 1)) (map (pointed_by tables) (drop (i + 1) members))) (token_at tables run ∷ runs_from (token_with (pointed_by tables m) 1) (map (pointed_by tables) (drop (i + 1) members)))
+  then b m = cond b (runs_from (token_with (pointed_by tables columns run.first) (run.frequency + 1)) (map (pointed_by tables columns) (drop (i + 1) members))) (run_token tables columns run ∷ runs_from (token_with (pointed_by tables columns m) 1) (map (pointed_by tables columns) (drop (i + 1) members)))
 
-  one_more : (b : Bool) (m : Member) → IsCounting tables all members ended run i → i < length members → m ≡ get_or members i m → bytes_eq (pointed_by tables m) (pointed tables run) ≡ b → map (token_at tables) ended ++ then b m ≡ all
+  one_more : (b : Bool) (m : Member) → IsCounting tables all columns members ended run i → i < length members → m ≡ get_or members i m → bytes_eq (pointed_by tables columns m) (pointed_by tables columns run.first) ≡ b → map (run_token tables columns) ended ++ then b m ≡ all
   one_more b m h within is test =
-      let from : List Member → List Token = λ ms. map (token_at tables) ended ++ runs_from (token_at tables run) (map (pointed_by tables) ms) in
-      sym (ap (λ b. map (token_at tables) ended ++ then b m) test) ∙ ap (λ (n : Member). from (n ∷ drop (i + 1) members)) is ∙ sym (at_drop_more from members i m within) ∙ h.runs
+      let from : List Member → List Token = λ ms. map (run_token tables columns) ended ++ runs_from (run_token tables columns run) (map (pointed_by tables columns) ms) in
+      sym (ap (λ b. map (run_token tables columns) ended ++ then b m) test) ∙ ap (λ (n : Member). from (n ∷ drop (i + 1) members)) is ∙ sym (at_drop_more from members i m within) ∙ h.runs
 
-  pub counting_same : (m : Member) → IsCounting tables all members ended run i → i < length members → m ≡ get_or members i m → bytes_eq (pointed_by tables m) (pointed tables run) ≡ true → IsCounting tables all members ended (counted run (run.frequency + 1)) (i + 1)
+  pub counting_same : (m : Member) → IsCounting tables all columns members ended run i → i < length members → m ≡ get_or members i m → bytes_eq (pointed_by tables columns m) (pointed_by tables columns run.first) ≡ true → IsCounting tables all columns members ended (longer run (run.frequency + 1)) (i + 1)
   counting_same m h within is test =
-      record { runs = one_more true m h within is test; within = h.within; here = at_counted tables run (run.frequency + 1) h.here; short = omega (arith, h.short); few = omega (arith, h.few) }
+      record { runs = one_more true m h within is test; within = h.within; here = h.here; ranked = h.ranked; rank = h.rank; short = omega (arith, h.short); few = omega (arith, h.few) }
 
-  pub counting_next : (m : Member) → IsCounting tables all members ended run i → i < length members → m ≡ get_or members i m → bytes_eq (pointed_by tables m) (pointed tables run) ≡ false → IsAt tables (at_of m 1) → IsCounting tables all members (ended ++ run ∷ []) (at_of m 1) (i + 1)
+  pub counting_next : (m : Member) → IsCounting tables all columns members ended run i → i < length members → m ≡ get_or members i m → bytes_eq (pointed_by tables columns m) (pointed_by tables columns run.first) ≡ false → IsThere tables columns m → IsCounting tables all columns members (ended ++ run ∷ []) (run_with m (run.rank + 1)) (i + 1)
   counting_next m h within is test here =
-      let more = runs_from (token_with (pointed_by tables m) 1) (map (pointed_by tables) (drop (i + 1) members)) in
+      let more = runs_from (token_with (pointed_by tables columns m) 1) (map (pointed_by tables columns) (drop (i + 1) members)) in
       record {
-        runs = ap (λ (ts : List Token). ts ++ more) (map_push (token_at tables) ended run) ∙ append_assoc (map (token_at tables) ended) (token_at tables run ∷ []) more ∙ one_more false m h within is test;
-        within = All-push (IsAt tables) ended run h.within h.here;
+        runs =
+            ap (λ (ts : List Token). ts ++ more) (map_push (run_token tables columns) ended run)
+            ∙ append_assoc (map (run_token tables columns) ended) (run_token tables columns run ∷ []) more
+            ∙ one_more false m h within is test;
+        within = All-push (λ r. IsThere tables columns r.first) ended run h.within h.here;
         here = here;
+        ranked = ranked_push ended run h.rank h.ranked;
+        rank = omega (arith, h.rank, length_push ended run);
         short = omega arith;
         few = omega (arith, length_push ended run, h.few);
       }
 
-  pub counting_ends : IsCounting tables all members ended run i → length members ≤ i → map (token_at tables) (ended ++ run ∷ []) ≡ all
+  pub counting_ends : IsCounting tables all columns members ended run i → length members ≤ i → map (run_token tables columns) (ended ++ run ∷ []) ≡ all
   counting_ends h past =
-      let from : List Member → List Token = λ ms. map (token_at tables) ended ++ runs_from (token_at tables run) (map (pointed_by tables) ms) in
-      map_push (token_at tables) ended run ∙ sym (at_drop_all from members i past) ∙ h.runs
+      let from : List Member → List Token = λ ms. map (run_token tables columns) ended ++ runs_from (run_token tables columns run) (map (pointed_by tables columns) ms) in
+      map_push (run_token tables columns) ended run ∙ sym (at_drop_all from members i past) ∙ h.runs
+
+  pub counting_ranked : IsCounting tables all columns members ended run i → AreRanked (ended ++ run ∷ [])
+  counting_ranked h = ranked_push ended run h.rank h.ranked
 
   -- the present run's key is that of its number among all
-  pub counting_here : IsCounting tables all members ended run i → IsRank (map (λ t. t.key) all) (pointed tables run) (length ended)
+  pub counting_here : IsCounting tables all columns members ended run i → IsRank (map (λ t. t.key) all) (pointed_by tables columns run.first) run.rank
   counting_here h =
       let key : Token → Text = λ t. t.key in
-      let rest = runs_from (token_at tables run) (map (pointed_by tables) (drop i members)) in
-      let before = map (token_at tables) ended in
+      let rest = runs_from (run_token tables columns run) (map (pointed_by tables columns) (drop i members)) in
+      let before = map (run_token tables columns) ended in
       let split : map key all ≡ map key before ++ map key rest = ap (map key) (sym h.runs) ∙ map-append key before rest in
-      let long : length (map key before) ≡ length ended = length-map before key ∙ length-map ended (token_at tables) in
-      let first = first_run (token_at tables run) (map (pointed_by tables) (drop i members)) in
-      (omega (arith, ap length split, length-append (map key before) (map key rest), long, first.0), ap (λ (ks : List Text). get_or ks (length ended) []) split ∙ get_or-append_right (map key before) (map key rest) (length ended) (length ended) [] long (omega arith) ∙ (let z : length ended - length ended ≡ 0 = omega arith in ap (λ (n : ℕ). get_or (map key rest) n []) z) ∙ first.1)
+      let long : length (map key before) ≡ length ended = length-map before key ∙ length-map ended (run_token tables columns) in
+      let first = first_run (run_token tables columns run) (map (pointed_by tables columns) (drop i members)) in
+      let number : IsRank (map key all) (pointed_by tables columns run.first) (length ended) =
+      (omega (arith, ap length split, length-append (map key before) (map key rest), long, first.0), ap (λ (ks : List Text). get_or ks (length ended) []) split ∙ get_or-append_right (map key before) (map key rest) (length ended) (length ended) [] long (omega arith) ∙ (let z : length ended - length ended ≡ 0 = omega arith in ap (λ (n : ℕ). get_or (map key rest) n []) z) ∙ first.1) in
+      subst (IsRank (map key all) (pointed_by tables columns run.first)) (sym h.rank) number
 
-pub counting_starts : (tables : List Table) (members : List Member) (first : TokenAt) → first.frequency ≡ 0 → IsAt tables first → IsCounting tables (runs_from (token_at tables first) (map (pointed_by tables) members)) members [] first 0
-counting_starts tables members first none h = record { runs = refl; within = λ k d b. absurd (omega arith); here = h; short = omega arith; few = omega arith }
+pub counting_starts : (tables : List Table) (columns : List ColumnAt) (members : List Member) (first : Run) → first.frequency ≡ 0 → first.rank ≡ 0 → IsThere tables columns first.first → IsCounting tables (runs_from (run_token tables columns first) (map (pointed_by tables columns) members)) columns members [] first 0
+counting_starts tables columns members first none zero h =
+    record { runs = refl; within = λ k d b. absurd (omega arith); here = h; ranked = λ k d b. absurd (omega arith); rank = zero; short = omega arith; few = omega arith }
 
 -- ---- ranks
 
--- one more rank is written
-pub rank_written : (P : ℕ → ℕ → Type 0) (ranks : List ℕ) (members : List Member) (i : ℕ) (m : Member) (r : ℕ) → i < length members → m ≡ get_or members i m → m.number < length ranks → P m.number r
-    → All (λ q. P q.number (get_or ranks q.number 0)) (take i members) → All (λ q. P q.number (get_or (set ranks m.number r) q.number 0)) (take (i + 1) members)
-rank_written P ranks members i m r within is inside holds before =
-    let here : (q : Member) → q.number ≡ m.number → P q.number (get_or (set ranks m.number r) q.number 0) = λ q e.
-    subst (λ (n : ℕ). P n (get_or (set ranks m.number r) n 0)) (sym e) (subst (P m.number) (sym (get_or-set_same ranks m.number r 0 inside)) holds) in
-    let each : All (λ q. P q.number (get_or (set ranks m.number r) q.number 0)) (take i members) = λ k d b.
-    (let q = get_or (take i members) k d in
-    elim (cases_eq q.number m.number) [
+-- one more number is written, at a slot that is the element's
+pub slot_written : {X : Type 0} (P : ℕ → ℕ → Type 0) (slot : X → ℕ) (written : List ℕ) (xs : List X) (i : ℕ) (x : X) (n : ℕ) → i < length xs → x ≡ get_or xs i x → slot x < length written → P (slot x) n
+    → All (λ q. P (slot q) (get_or written (slot q) 0)) (take i xs) → All (λ q. P (slot q) (get_or (set written (slot x) n) (slot q) 0)) (take (i + 1) xs)
+slot_written {X = X} P slot written xs i x n within is inside holds before =
+    let here : (q : X) → slot q ≡ slot x → P (slot q) (get_or (set written (slot x) n) (slot q) 0) = λ q e.
+    subst (λ (s : ℕ). P s (get_or (set written (slot x) n) s 0)) (sym e) (subst (P (slot x)) (sym (get_or-set_same written (slot x) n 0 inside)) holds) in
+    let each : All (λ q. P (slot q) (get_or (set written (slot x) n) (slot q) 0)) (take i xs) = λ k d b.
+    (let q = get_or (take i xs) k d in
+    elim (cases_eq (slot q) (slot x)) [
       | inl e ↦ here q e
-      | inr n ↦ subst (P q.number) (sym (get_or-set_other ranks m.number q.number r 0 n)) (before k d b)
+      | inr ne ↦ subst (P (slot q)) (sym (get_or-set_other written (slot x) (slot q) n 0 ne)) (before k d b)
     ]) in
-    All-more (λ q. P q.number (get_or (set ranks m.number r) q.number 0)) members i m within each (here (get_or members i m) (ap (λ (q : Member). q.number) (sym is)))
+    All-more (λ q. P (slot q) (get_or (set written (slot x) n) (slot q) 0)) xs i x within each (here (get_or xs i x) (ap slot (sym is)))
 
 -- the runs from a first one that is not counted yet
-pub from_first : (tables : List Table) (members : List Member) (first : TokenAt) (m : Member) → first ≡ at_of m 0 → 0 < length members → m ≡ get_or members 0 m → runs_from (token_at tables first) (map (pointed_by tables) members) ≡ runs_of (map (pointed_by tables) members)
-from_first tables [] first m e h is = absurd (omega arith)
-from_first tables (n ∷ members) first m e h is =
-    let key = pointed_by tables n in
-    let keys = map (pointed_by tables) members in
-    let at : first ≡ at_of n 0 = e ∙ ap (λ (q : Member). at_of q 0) is in
+pub from_first : (tables : List Table) (columns : List ColumnAt) (members : List Member) (first : Run) (m : Member) → first.first ≡ m → first.frequency ≡ 0 → 0 < length members → m ≡ get_or members 0 m
+    → runs_from (run_token tables columns first) (map (pointed_by tables columns) members) ≡ runs_of (map (pointed_by tables columns) members)
+from_first tables columns [] first m e f h is = absurd (omega arith)
+from_first tables columns (n ∷ members) first m e f h is =
+    let key = pointed_by tables columns n in
+    let keys = map (pointed_by tables columns) members in
+    let at : run_token tables columns first ≡ token_with key 0 = (λ i. token_with (pointed_by tables columns ((e ∙ is) i)) (f i)) in
     let same : bytes_eq key key ≡ true = (bytes_eq-Decides key key).1 refl in
-    ap (λ (a : TokenAt). runs_from (token_at tables a) (key ∷ keys)) at ∙ ap (λ b. cond b (runs_from (token_with key 1) keys) (token_with key 0 ∷ runs_from (token_with key 1) keys)) same
+    ap (λ (t : Token). runs_from t (key ∷ keys)) at ∙ ap (λ b. cond b (runs_from (token_with key 1) keys) (token_with key 0 ∷ runs_from (token_with key 1) keys)) same

@@ -1,4 +1,7 @@
+pub mod ColumnLemmas
 pub mod PlaceLemmas
+pub mod NameLemmas
+pub mod OrderLemmas
 pub mod RunLemmas
 pub mod SortLemmas
 pub mod TokenLemmas

@@ -1,11 +1,9 @@
 -- The ranks of members, and their tokens.
-use Rattle.std.proofs.Common.{◌≡◌, refl, ap, sym, ◌∙◌, subst, ℕ, suc, ◌+◌, ◌<◌, List, [], ◌∷◌, map, length, get_or, Some, arith}
+use Rattle.std.proofs.Common.{◌≡◌, refl, ap, sym, ◌∙◌, subst, ℕ, suc, ◌+◌, ◌<◌, ◌^◌, List, [], ◌∷◌, map, length, get_or, Some, arith}
 use Rattle.std.specs.List.{All, enumerate_from, range_with_len}
 use Rattle.std.specs.List.Sorted.{IsPermutation, IsSorted}
 use Rattle.std.specs.Cmp.Lexicographic.{slice_cmp}
-use Rattle.std.specs.Ordering.{nat_cmp, ordering_reverse}
-use Rattle.std.specs.declared.cmp.Ordering.{Ordering}
-use Rattle.std.specs.declared.cmp.Ordering.TheVariants.{Less, Equal, Greater}
+use Rattle.std.specs.Ordering.{nat_cmp}
 use Rattle.std.proofs.lemmas.Cmp.{nat_list_cmp_total}
 use Rattle.std.proofs.lemmas.Grind.{get_or_default_zero}
 use Rattle.std.proofs.lemmas.List.{get_or-map, length-map}
@@ -20,12 +18,16 @@ use Rattle.search_model.specs.declared.TokenAt.{TokenAt}
 use Rattle.search_model.specs.Segment.{Token, columns_of, tokens_of}
 use Rattle.search_model.specs.Arrays.{key_of, numbers_of, IsByKey, IsToken}
 use Rattle.search_model.proofs.KeyLemmas.{found}
-use Rattle.token_order.specs.Places.{keys_of, AreMembers}
+use Rattle.token_order.specs.Counted.{sorted_keys, AreCounted}
+use Rattle.token_order.specs.Places.{keys_of, number_of, pointed_by, AreMembers, IsThere}
 use Rattle.token_order.specs.Ranks.{names_of, AreRanks, HaveRanks, IsRank}
-use Rattle.token_order.specs.Runs.{runs_of}
+use Rattle.token_order.specs.Runs.{run_keys, run_token, runs_of, AreRanked}
+use Rattle.token_order.specs.declared.runs.Run.{Run}
 use Rattle.token_order.specs.Vocabulary.{IsVocabulary}
+use Rattle.token_order.specs.declared.columns.ColumnAt.{ColumnAt}
 use Rattle.token_order.specs.declared.places.Member.{Member}
-use Rattle.token_order.proofs.RunLemmas.{runs_rise}
+use Rattle.token_order.proofs.NameLemmas.{level_itself}
+use Rattle.token_order.proofs.RunLemmas.{runs_few, runs_rise}
 use Rattle.token_order.proofs.SortLemmas.{rises, sorted_from_rises, sorted_map}
 
 -- ---- the keys of the tokens, by their bytes
@@ -54,27 +56,35 @@ runs_named keys tokens up moved =
     sorted_is nat_list_cmp_total exact_bytes names (sorted_from_rises names (runs_rise keys (rises keys up)))
     ∙ in_order-IsPermutation nat_list_cmp_total exact_bytes (map key tokens) names (IsPermutation-sym names (map key tokens) (IsPermutation-map key (runs_of keys) tokens moved))
 
-level_itself : (r : Ordering) → r ≡ ordering_reverse r → r ≡ Equal
-level_itself Less e = cc
-level_itself Equal e = refl
-level_itself Greater e = cc
-
 -- ---- the ranks
 
 -- what is written for all members are the ranks
-pub ranks_are : (tables : List Table) (members : List Member) (runs : List Token) (ranks : List ℕ) → AreMembers tables members → HaveRanks runs (keys_of tables) ranks members → length ranks ≡ length (keys_of tables) → map (λ t. t.key) runs ≡ names_of (tokens_of (columns_of tables))
-    → AreRanks tables ranks
-ranks_are tables members runs ranks all written long named =
+pub ranks_are : (tables : List Table) (columns : List ColumnAt) (members : List Member) (names : List Text) (ranks : List ℕ) → AreMembers tables columns members → HaveRanks names (keys_of tables) ranks columns members
+    → (n : ℕ) → n < length (keys_of tables) → IsRank names (get_or (keys_of tables) n []) (get_or ranks n 0)
+ranks_are tables columns members names ranks all written n b =
     let keys = keys_of tables in
-    let numbers = map (λ (m : Member). m.number) members in
-    let names = map (λ (t : Token). t.key) runs in
+    let numbers = map (number_of columns) members in
     let IsHere : ℕ → Type 0 = λ n. IsRank names (get_or keys n []) (get_or ranks n 0) in
-    let each : All IsHere (range_with_len 0 (length keys)) = All-permutation IsHere numbers (range_with_len 0 (length keys)) (IsPermutation-sym _ _ all.all) (All-map IsHere (λ (m : Member). m.number) members written) in
+    let each : All IsHere (range_with_len 0 (length keys)) = All-permutation IsHere numbers (range_with_len 0 (length keys)) (IsPermutation-sym _ _ all.all) (All-map IsHere (number_of columns) members written) in
+    let at : get_or (range_with_len 0 (length keys)) n 0 ≡ n = get_or-range_with_len 0 (length keys) n 0 b ∙ (let z : 0 + n ≡ n = omega arith in z) in
+    subst IsHere at (each n 0 (omega (arith, b, length-range_with_len 0 (length keys))))
+
+-- the runs of sorted members are counted
+pub counted : (tables : List Table) (columns : List ColumnAt) (members : List Member) (runs : List Run) (ranks : List ℕ) → IsSorted (slice_cmp nat_cmp) (map (pointed_by tables columns) members) → IsPermutation (keys_of tables) (map (pointed_by tables columns) members) → AreMembers tables columns members
+    → map (run_token tables columns) runs ≡ runs_of (map (pointed_by tables columns) members) → All (λ r. IsThere tables columns r.first) runs → AreRanked runs → HaveRanks (run_keys (map (pointed_by tables columns) members)) (keys_of tables) ranks columns members
+    → length ranks ≡ length (keys_of tables) → length members < 2 ^ 32 → AreCounted tables columns runs ranks
+counted tables columns members runs ranks up same all made within numbered written long few =
+    let found = map (pointed_by tables columns) members in
+    let is : found ≡ sorted_keys tables = sorted_is nat_list_cmp_total exact_bytes found up ∙ in_order-IsPermutation nat_list_cmp_total exact_bytes (keys_of tables) found same in
     record {
+      sorted = subst (IsSorted (slice_cmp nat_cmp)) is up;
+      same = subst (IsPermutation (keys_of tables)) is same;
+      counted = made ∙ ap runs_of is;
+      within = within;
+      numbered = numbered;
+      few = omega (arith, length-map runs (run_token tables columns), ap (λ (ts : List Token). length ts) made, runs_few found, length-map members (pointed_by tables columns), few);
       long = long;
-      each = λ n b.
-          (let at : get_or (range_with_len 0 (length keys)) n 0 ≡ n = get_or-range_with_len 0 (length keys) n 0 b ∙ (let z : 0 + n ≡ n = omega arith in z) in
-          subst (λ (ks : List Text). IsRank ks (get_or keys n []) (get_or ranks n 0)) named (subst IsHere at (each n 0 (omega (arith, b, length-range_with_len 0 (length keys))))));
+      ranked = ranks_are tables columns members (run_keys (sorted_keys tables)) ranks all (subst (λ (ks : List Text). HaveRanks (run_keys ks) (keys_of tables) ranks columns members) is written);
     }
 
 pub rank_there : (tokens : List Token) (numbers : List ℕ) (key : Text) (rank : ℕ) → IsByKey tokens numbers → IsRank (names_of tokens) key rank → rank < length numbers

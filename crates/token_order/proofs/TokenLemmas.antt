@@ -1,7 +1,7 @@
--- The runs of the sorted keys of tables, in the order of tokens, are the tokens of the tables; and the numbers of tokens.
-use Rattle.std.proofs.Common.{◌≡◌, refl, ap, sym, ◌∙◌, subst, ℕ, zero, suc, ◌+◌, ◌<◌, List, [], ◌∷◌, ◌++◌, map, length, take, cond, arith}
+-- The runs of the sorted keys of tables, in the order of tokens, are the tokens of the tables.
+use Rattle.std.proofs.Common.{◌≡◌, refl, ap, sym, ◌∙◌, subst, ℕ, List, [], ◌∷◌, map, cond}
 use Rattle.std.specs.Prelude.{bytes_eq, flat_map}
-use Rattle.std.specs.List.{All, AllByRecursion, count_by, list_any, enumerate_from}
+use Rattle.std.specs.List.{All, AllByRecursion, count_by, list_any}
 use Rattle.std.specs.List.Sorted.{IsPermutation, IsSorted}
 use Rattle.std.specs.Cmp.Lexicographic.{slice_cmp}
 use Rattle.std.specs.Ordering.{nat_cmp}
@@ -9,7 +9,6 @@ use Rattle.std.proofs.lemmas.List.Sorted.{list_any-IsPermutation, sum_by-IsPermu
 use Rattle.column_set.specs.Columns.{HasDistinctKeys}
 use Rattle.lake_model.specs.Texts.{Text}
 use Rattle.lake_model.specs.Tables.{Table, has_key}
-use Rattle.search_model.specs.Arrays.{numbers_of}
 use Rattle.search_model.specs.Segment.{Titled, Token, columns_of, token_cmp, token_of, tokens_of}
 use Rattle.search_model.proofs.TokenLemmas.{frequency_flat, tokens_from_sorted}
 use Rattle.token_order.specs.Places.{keys_of}
@@ -35,16 +34,3 @@ tokens_are tables keys tokens different same up moved in_order =
     let often : (q : Text) → count_by (bytes_eq q) keys ≡ count_by (λ c. has_key c.column.keys q) columns = λ q. sum_by-IsPermutation (λ (y : Text). cond (bytes_eq q y) 1 0) (keys_of tables) keys same ∙ ap (λ (ks : List Text). count_by (bytes_eq q) ks) (sym flat) ∙ frequency_flat q columns (columns_differ tables different) in
     let again = named_again columns (λ q. count_by (bytes_eq q) keys) often (runs_of keys) (runs_counted keys rising) in
     tokens_from_sorted columns names (runs_differ keys rising) has tokens in_order (subst (λ (ts : List Token). IsPermutation ts tokens) again moved)
-
-numbers_from : (n : ℕ) (tokens : List Token) (i : ℕ) → i < length tokens → map (λ t. t.0) (enumerate_from n (take (suc i) tokens)) ≡ map (λ t. t.0) (enumerate_from n (take i tokens)) ++ (n + i) ∷ []
-numbers_from n [] i h = absurd (omega arith)
-numbers_from n (t ∷ tokens) zero h = let z : n + 0 ≡ n = omega arith in ap (λ (m : ℕ). m ∷ []) (sym z)
-numbers_from n (t ∷ tokens) (suc i) h =
-    let e : n + 1 + i ≡ n + suc i = omega arith in
-    ap (λ (ns : List ℕ). n ∷ ns) (numbers_from (n + 1) tokens i (omega arith) ∙ ap (λ (m : ℕ). map (λ (t : ℕ × Token). t.0) (enumerate_from (n + 1) (take i tokens)) ++ m ∷ []) e)
-
-pub numbers_more : (tokens : List Token) (i : ℕ) → i < length tokens → numbers_of (take (i + 1) tokens) ≡ numbers_of (take i tokens) ++ i ∷ []
-numbers_more tokens i h =
-    let one : i + 1 ≡ suc i = omega arith in
-    let z : 0 + i ≡ i = omega arith in
-    ap (λ (n : ℕ). numbers_of (take n tokens)) one ∙ numbers_from 0 tokens i h ∙ ap (λ (m : ℕ). numbers_of (take i tokens) ++ m ∷ []) z

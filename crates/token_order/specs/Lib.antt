@@ -1,3 +1,5 @@
+pub mod Columns
+pub mod Counted
 pub mod Counting
 pub mod Places
 pub mod Ranks

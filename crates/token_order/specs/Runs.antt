@@ -1,8 +1,15 @@
 -- Keys as runs of equal neighbours. A run is a token: its key, and how many keys it has.
-use Rattle.std.specs.Prelude.{◌+◌, List, [], ◌∷◌, bytes_eq, if◌then◌else◌}
+use Rattle.std.specs.Prelude.{◌≡◌, ℕ, ◌+◌, ◌<◌, List, [], ◌∷◌, bytes_eq, get_or, if◌then◌else◌, length, map}
+use Rattle.std.specs.Ordering.{nat_cmp, ordering_then}
+use Rattle.std.specs.declared.cmp.Ordering.{Ordering}
 use Rattle.lake_model.specs.Texts.{Text}
+use Rattle.lake_model.specs.Tables.{Table}
+use Rattle.search_model.specs.declared.TokenAt.{TokenAt}
 use Rattle.search_model.specs.Segment.{Token}
 use Rattle.search_model.specs.Arrays.{token_with}
+use Rattle.token_order.specs.Places.{at_of, pointed_by}
+use Rattle.token_order.specs.declared.columns.ColumnAt.{ColumnAt}
+use Rattle.token_order.specs.declared.runs.Run.{Run}
 
 -- the runs, where the keys follow those of the first run
 abbrev pub runs_from : Token → List Text → List Token
@@ -12,3 +19,23 @@ runs_from first (key ∷ keys) = if bytes_eq key first.key then runs_from (token
 abbrev pub runs_of : List Text → List Token
 runs_of [] = []
 runs_of (key ∷ keys) = runs_from (token_with key 1) keys
+
+-- the keys of runs
+abbrev pub run_keys : List Text → List Text
+run_keys keys = map (λ t. t.key) (runs_of keys)
+
+-- the token of a run of members
+abbrev pub run_token : List Table → List ColumnAt → Run → Token
+run_token tables columns run = token_with (pointed_by tables columns run.first) run.frequency
+
+-- where the key of a run stands, with the run's length as its frequency
+abbrev pub run_at : List ColumnAt → Run → TokenAt
+run_at columns run = at_of columns run.first run.frequency
+
+-- the shorter run first, and then by number
+abbrev pub run_cmp : Run → Run → Ordering
+run_cmp a b = ordering_then (nat_cmp a.frequency b.frequency) (nat_cmp a.rank b.rank)
+
+-- each run's number is its place in the list
+abbrev pub AreRanked : List Run → Type 0
+AreRanked runs = (i : ℕ) (d : Run) → i < length runs → (get_or runs i d).rank ≡ i

@@ -1,7 +1,9 @@
 //! The vocabulary of a list of tables: its distinct keys, numbered as tokens by rising frequency, and then by their bytes.
 #![tactic(auto)]
 
+mod columns;
 mod numbers;
+mod order;
 mod places;
 mod runs;
 mod vocab;

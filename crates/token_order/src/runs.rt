@@ -1,69 +1,127 @@
 //! Members of equal keys, counted.
-ghost use Rattle.std.specs.Prelude.{◌≡◌, ◌<◌, ◌≤◌, ◌^◌, length, map, IfOk, OnOk};
+ghost use Rattle.std.specs.Prelude.{◌≡◌, ◌<◌, ◌^◌, length, map, sum_by, IfOk, OnOk};
 ghost use Rattle.std.specs.List.{All};
-ghost use Rattle.search_model.specs.Arrays.{pointed, token_at, IsAt};
-ghost use Rattle.token_order.specs.Places.{keys_of, pointed_by, AreMembers};
+ghost use Rattle.column_set.specs.Columns.{HasDistinctKeys};
+ghost use Rattle.lake_model.specs.Tables.{members};
+ghost use Rattle.token_order.specs.Counted.{AreCounted};
+ghost use Rattle.token_order.specs.Places.{keys_of, pointed_by, AreMembers, IsThere};
 ghost use Rattle.token_order.specs.Ranks.{HaveRanks};
-ghost use Rattle.token_order.specs.Runs.{runs_from, runs_of};
+ghost use Rattle.token_order.specs.Runs.{run_cmp, run_keys, run_token, runs_from, runs_of, AreRanked};
 
-use crate::places::{Member, key_at};
+use crate::columns::{ColumnAt, all_columns};
+use crate::places::{Member, key_at, members_by_key};
 use column_set::SharedTable;
 use no_memory::NoMemory;
-use search_model::TokenAt;
 use std::alloc::Global;
+use std::cmp::Ordering;
 
-/// Of each run of neighbours of equal keys the first, with the length of the run as its frequency. The number of its run, from 0, is
-/// written for each member, at the member's number.
-pub fn count_runs(
-    alloc: Global,
-    tables: &[SharedTable],
-    members: &[Member],
-    ranks: &mut [u32],
-) -> Result<Vec<TokenAt>, NoMemory>
-    requires members { AreMembers tables.now members.now }
-    requires few { length members.now < 2 ^ 32 }
-    requires room { length ranks.old ≡ length (keys_of tables.now) }
-    ensures runs { IfOk result (λ tokens. map (token_at tables.now) tokens.items ≡ runs_of (map (pointed_by tables.now) members.now)) }
-    ensures within { IfOk result (λ tokens. All (IsAt tables.now) tokens.items) }
-    ensures ranked { OnOk result (HaveRanks (runs_of (map (pointed_by tables.now) members.now)) (keys_of tables.now) ranks.new members.now) }
-    ensures long { length ranks.new ≡ length ranks.old }
+/// A run of neighbours of equal keys among the sorted members: its first member, how many it has, and its number among the runs, from 0.
+#[derive(Clone, Copy)]
+pub struct Run {
+    pub first: Member,
+    pub frequency: u32,
+    pub rank: u32,
+}
+
+/// The columns, the runs of their members by the bytes of their keys, and the number of the run of each member, at the member's number.
+#[derive(Drop)]
+pub struct CountedRuns {
+    pub columns: Vec<ColumnAt>,
+    pub runs: Vec<Run>,
+    pub ranks: Vec<u32>,
+}
+
+/// The runs of the members of all columns of the tables. The members are let go at the end.
+pub fn counted_runs(alloc: Global, tables: &[SharedTable]) -> Result<CountedRuns, NoMemory>
+    requires { sum_by members tables.now < 2 ^ 32 }
+    ensures counted { IfOk result (λ made. AreCounted tables.now made.columns.items made.runs.items made.ranks.items) }
+    ensures different { OnOk result (All HasDistinctKeys tables.now) }
 {
-    match members.first() {
-        Some(first) => count_from(alloc, tables, first.at(0), members, ranks),
-        None => Ok(Vec::new(alloc)),
+    let columns = all_columns(alloc, tables)?;
+    let members = members_by_key(alloc, tables, &columns)?;
+    let mut ranks = vec![in alloc; 0; members.len()]?;
+    let runs = count_runs(alloc, tables, &columns, &members, &mut ranks)?;
+    Ok(CountedRuns {
+        columns,
+        runs,
+        ranks,
+    })
+}
+
+/// The order of runs: the shorter first, and then the lower number, which has the lower key.
+pub fn run_order(a: Run, b: Run) -> Ordering
+    ensures { result ≡ run_cmp a b }
+{
+    match a.frequency.cmp(&b.frequency) {
+        Ordering::Equal => a.rank.cmp(&b.rank),
+        unequal => unequal,
     }
 }
 
-// The runs, where the first begins at a place that is not counted yet.
+// The runs of the members. The number of its run is written for each member, at the member's number.
+fn count_runs(
+    alloc: Global,
+    tables: &[SharedTable],
+    columns: &[ColumnAt],
+    members: &[Member],
+    ranks: &mut [u32],
+) -> Result<Vec<Run>, NoMemory>
+    requires members { AreMembers tables.now columns.now members.now }
+    requires few { length members.now < 2 ^ 32 }
+    requires room { length ranks.old ≡ length (keys_of tables.now) }
+    ensures runs { IfOk result (λ runs. map (run_token tables.now columns.now) runs.items ≡ runs_of (map (pointed_by tables.now columns.now) members.now)) }
+    ensures within { IfOk result (λ runs. All (λ r. IsThere tables.now columns.now r.first) runs.items) }
+    ensures numbered { IfOk result (λ runs. AreRanked runs.items) }
+    ensures ranked { OnOk result (HaveRanks (run_keys (map (pointed_by tables.now columns.now) members.now)) (keys_of tables.now) ranks.new columns.now members.now) }
+    ensures long { length ranks.new ≡ length ranks.old }
+{
+    let Some(first) = members.first() else {
+        return Ok(Vec::new(alloc));
+    };
+    let none = Run {
+        first: *first,
+        frequency: 0,
+        rank: 0,
+    };
+    count_from(alloc, tables, columns, none, members, ranks)
+}
+
+// The runs, where the first begins at a member that is not counted yet.
 fn count_from(
     alloc: Global,
     tables: &[SharedTable],
-    first: TokenAt,
+    columns: &[ColumnAt],
+    first: Run,
     members: &[Member],
     ranks: &mut [u32],
-) -> Result<Vec<TokenAt>, NoMemory>
+) -> Result<Vec<Run>, NoMemory>
     requires none { first.frequency ≡ 0 }
-    requires first { IsAt tables.now first }
-    requires members { AreMembers tables.now members.now }
+    requires zero { first.rank ≡ 0 }
+    requires first { IsThere tables.now columns.now first.first }
+    requires members { AreMembers tables.now columns.now members.now }
     requires few { length members.now < 2 ^ 32 }
     requires room { length ranks.old ≡ length (keys_of tables.now) }
-    ensures runs { IfOk result (λ tokens. map (token_at tables.now) tokens.items ≡ runs_from (token_at tables.now first) (map (pointed_by tables.now) members.now)) }
-    ensures within { IfOk result (λ tokens. All (IsAt tables.now) tokens.items) }
-    ensures ranked { OnOk result (HaveRanks (runs_from (token_at tables.now first) (map (pointed_by tables.now) members.now)) (keys_of tables.now) ranks.new members.now) }
+    ensures runs { IfOk result (λ runs. map (run_token tables.now columns.now) runs.items ≡ runs_from (run_token tables.now columns.now first) (map (pointed_by tables.now columns.now) members.now)) }
+    ensures within { IfOk result (λ runs. All (λ r. IsThere tables.now columns.now r.first) runs.items) }
+    ensures numbered { IfOk result (λ runs. AreRanked runs.items) }
+    ensures ranked { OnOk result (HaveRanks (map (λ t. t.key) (runs_from (run_token tables.now columns.now first) (map (pointed_by tables.now columns.now) members.now))) (keys_of tables.now) ranks.new columns.now members.now) }
     ensures long { length ranks.new ≡ length ranks.old }
 {
-    let mut tokens = Vec::new(alloc);
+    let mut runs = Vec::new(alloc);
     let mut run = first;
     for member in members {
-        let at = member.at(1);
-        if key_at(tables, at) == key_at(tables, run) {
+        if key_at(tables, member.at(columns, 1)) == key_at(tables, run.first.at(columns, 1)) {
             run.frequency += 1;
         } else {
-            tokens.push(run)?;
-            run = at;
+            runs.push(run)?;
+            run = Run {
+                first: *member,
+                frequency: 1,
+                rank: run.rank + 1,
+            };
         }
-        ranks[member.number as usize] = tokens.len() as u32;
+        ranks[member.number(columns)] = run.rank;
     }
-    tokens.push(run)?;
-    Ok(tokens)
+    runs.push(run)?;
+    Ok(runs)
 }

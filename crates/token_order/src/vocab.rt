@@ -7,13 +7,11 @@ ghost use Rattle.search_model.specs.Segment.{columns_of, token_cmp, tokens_of};
 ghost use Rattle.token_order.specs.Ranks.{AreRanks};
 
 use crate::numbers;
-use crate::places::{key_at, members_by_key};
-use crate::runs::count_runs;
+use crate::order::{OrderedTokens, ordered_tokens};
 use column_set::SharedTable;
 use no_memory::NoMemory;
 use search_model::TokenAt;
 use std::alloc::Global;
-use std::cmp::Ordering;
 use std::marker::Model;
 
 /// The distinct keys of the columns of a list of tables, as tokens. They are numbered from 0 by rising frequency, which is how many
@@ -46,16 +44,20 @@ impl<'a> Vocab<'a> {
     ghost use Rattle.token_order.specs.Places.{keys_of};
     ghost use Rattle.token_order.specs.Vocabulary.{frequency_of};
 
-    /// The vocabulary of the tables. It takes the time to sort all keys of all columns by their bytes. While it is made, it takes at most
-    /// 20 bytes for each key of each column and 16 for each distinct key; then 4 for each key of each column, and 20 for each distinct
-    /// key. It is refused only for want of memory.
+    /// The vocabulary of the tables. It takes the time to sort all keys of all columns by their bytes, once. While the keys are sorted
+    /// and counted, they take 12 bytes for each key of each column and at most 32 for each distinct key; while these are put in order,
+    /// 4 for each key of each column and at most 52 for each distinct key; and at most 24 for each column all the time. What is left
+    /// is 4 for each key of each column, and 20 for each distinct key. It is refused only for want of memory.
     pub fn build(alloc: Global, tables: &'a [SharedTable]) -> Result<Vocab<'a>, NoMemory>
         requires columns { sum_by (λ t. length t.columns) tables.now < 2 ^ 32 }
         requires members { sum_by members tables.now < 2 ^ 32 }
         ensures { IfOk result (λ vocab. vocab ≡ tables.now) }
     {
-        let RankedTokens { tokens, ranks } = tokens_in_order(alloc, tables)?;
-        let by_key = numbers::numbers_by_key(alloc, tables, &tokens)?;
+        let OrderedTokens {
+            tokens,
+            by_key,
+            ranks,
+        } = ordered_tokens(alloc, tables)?;
         Ok(Vocab {
             tables,
             tokens,
@@ -114,38 +116,5 @@ impl<'a> Vocab<'a> {
         ensures few { length result.0.items < 2 ^ 32 }
     {
         (self.tokens, self.by_key)
-    }
-}
-
-// The places of the tokens in the order of tokens, and the ranks of all members: which of the distinct keys, by their bytes, each has.
-#[derive(Drop)]
-struct RankedTokens {
-    tokens: Vec<TokenAt>,
-    ranks: Vec<u32>,
-}
-
-// The tokens of the tables, and the ranks of their members.
-fn tokens_in_order(alloc: Global, tables: &[SharedTable]) -> Result<RankedTokens, NoMemory>
-    requires { sum_by members tables.now < 2 ^ 32 }
-    ensures named { IfOk result (λ made. map (token_at tables.now) made.tokens.items ≡ tokens_of (columns_of tables.now)) }
-    ensures within { IfOk result (λ made. All (IsAt tables.now) made.tokens.items) }
-    ensures few { IfOk result (λ made. length made.tokens.items < 2 ^ 32) }
-    ensures counted { IfOk result (λ made. sum_by (λ at. at.frequency) made.tokens.items ≡ sum_by members tables.now) }
-    ensures ranked { IfOk result (λ made. AreRanks tables.now made.ranks.items) }
-{
-    let members = members_by_key(alloc, tables)?;
-    let mut ranks = vec![in alloc; 0; members.len()]?;
-    let mut tokens = count_runs(alloc, tables, &members, &mut ranks)?;
-    tokens.sort_unstable_by(|a, b| token_order(tables, *a, *b));
-    Ok(RankedTokens { tokens, ranks })
-}
-
-// The order of tokens: the lower frequency first, and then by the bytes of the key.
-fn token_order(tables: &[SharedTable], a: TokenAt, b: TokenAt) -> Ordering
-    ensures { result ≡ token_cmp (token_at tables.now a) (token_at tables.now b) }
-{
-    match a.frequency.cmp(&b.frequency) {
-        Ordering::Equal => key_at(tables, a).cmp(key_at(tables, b)),
-        unequal => unequal,
     }
 }

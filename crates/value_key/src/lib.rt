@@ -1,7 +1,8 @@
 //! The key of a value: canonical caseless matching of two values, made into a text that both have where they match.
 #![tactic(auto)]
 
-ghost use Rattle.std.specs.Prelude.{◌≡◌, ◌↔◌, IfOk, IsAscii, IsOk, IsTrue, option_map, string_bytes};
+ghost use Rattle.std.specs.Prelude.{◌≡◌, ◌↔◌, ◌⊎◌, ◌≤◌, [], if◌then◌else◌, length, IfOk, IsAscii, IsOk, IsTrue, None, OnErr, OnOk, Some, option_map, string_bytes};
+ghost use Rattle.std.specs.String.{string_capacity};
 ghost use Rattle.lake_model.specs.Keys.{key, key_of_text, IsSameValue};
 
 use caseless::{canonical_caseless_match_str, default_case_fold_str};
@@ -14,7 +15,8 @@ use unicode_normalization::to_nfd;
 /// canonical caseless match of The Unicode Standard, section 3.13, D145, with the full case folding of `CaseFolding.txt` and no
 /// locale (the dotted capital İ is i and a combining dot, the dotless ı is no i). White space is the property White_Space.
 ///
-/// A key may be longer than its value in bytes. For a value of ASCII it is the value in small letters, and one allocation.
+/// A key may be longer than its value in bytes. For a value of ASCII it is the value in small letters: one pass over the value, and
+/// one allocation of just its length.
 pub fn key_of(alloc: Global, value: &str) -> Result<Option<String>, NoMemory>
     ensures { IfOk result (λ found. option_map string_bytes found ≡ key value.now) }
 {
@@ -23,6 +25,27 @@ pub fn key_of(alloc: Global, value: &str) -> Result<Option<String>, NoMemory>
         return Ok(None);
     }
     Ok(Some(trimmed_key(alloc, trimmed)?))
+}
+
+/// Writes the key of a value into a buffer that is used again, and answers whether the value has one. What stood in the buffer is
+/// gone: it holds the key and nothing else, and it is empty where the value has no key and after an error.
+///
+/// A value of ASCII takes one pass, and no memory where the buffer has room for as many bytes as the value has. The buffer's
+/// room only grows.
+pub fn key_into(alloc: Global, value: &str, into: &mut String) -> Result<bool, NoMemory>
+    ensures key { IfOk result (λ found. (if found then Some (string_bytes into.new) else None) ≡ key value.now) }
+    ensures blank { IfOk result (λ found. IsTrue found ⊎ (string_bytes into.new ≡ [])) }
+    ensures error { OnErr result (string_bytes into.new ≡ []) }
+    ensures ascii { IsAscii value.now → length value.now ≤ string_capacity into.old → IsOk result }
+    ensures capacity { string_capacity into.old ≤ string_capacity into.new }
+{
+    into.clear();
+    let text = value.trim();
+    if text.is_empty() {
+        return Ok(false);
+    }
+    write_key(alloc, text, into)?;
+    Ok(true)
 }
 
 /// Whether two values are the same: they match by the canonical caseless match (D145) without the white space at their ends, which
@@ -41,21 +64,48 @@ pub fn same_value(alloc: Global, a: &str, b: &str) -> Result<bool, NoMemory>
 fn trimmed_key(alloc: Global, text: &str) -> Result<String, NoMemory>
     ensures { IfOk result (λ found. string_bytes found ≡ key_of_text text.now) }
 {
-    if text.is_ascii() {
-        ascii_key(alloc, text)
-    } else {
-        folded_key(alloc, text)
+    let mut key = String::with_capacity(alloc, text.len())?;
+    if push_small(text, &mut key) {
+        return Ok(key);
     }
+    folded_key(alloc, text)
 }
 
-// The key of a text of ASCII: no character decomposes, and folding makes the letters small.
-fn ascii_key(alloc: Global, text: &str) -> Result<String, NoMemory>
-    requires { IsAscii text.now }
-    ensures { IfOk result (λ found. string_bytes found ≡ key_of_text text.now) }
+// Writes the key of a text that has no white space at its ends into an empty buffer.
+fn write_key(alloc: Global, text: &str, into: &mut String) -> Result<(), NoMemory>
+    requires { string_bytes into.old ≡ [] }
+    ensures key { OnOk result (string_bytes into.new ≡ key_of_text text.now) }
+    ensures error { OnErr result (string_bytes into.new ≡ []) }
+    ensures ascii { IsAscii text.now → length text.now ≤ string_capacity into.old → IsOk result }
+    ensures capacity { string_capacity into.old ≤ string_capacity into.new }
 {
-    let mut key = String::from_str(alloc, text)?;
-    key.make_ascii_lowercase();
-    Ok(key)
+    into.reserve(text.len())?;
+    if push_small(text, into) {
+        return Ok(());
+    }
+    write_folded(alloc, text, into)
+}
+
+// Writes a text of ASCII in small letters into an empty buffer that has room for it, and answers whether the text is of ASCII: then
+// this is its key, since none of its characters decomposes, and folding makes the letters small. Of another text a part may stand
+// there.
+fn push_small(text: &str, into: &mut String) -> bool
+    requires empty { string_bytes into.old ≡ [] }
+    requires room { length text.now ≤ string_capacity into.old }
+    ensures ascii { IsTrue result ↔ IsAscii text.now }
+    ensures key { IsTrue result → string_bytes into.new ≡ key_of_text text.now }
+    ensures capacity { string_capacity into.old ≤ string_capacity into.new }
+{
+    for byte in text.as_bytes() {
+        if !byte.is_ascii() {
+            return false;
+        }
+        match into.push(byte.to_ascii_lowercase() as char) {
+            Ok(()) => (),
+            Err(_) => unreachable!(),
+        }
+    }
+    true
 }
 
 // The key of any text, in the three steps of its definition.
@@ -65,6 +115,18 @@ fn folded_key(alloc: Global, text: &str) -> Result<String, NoMemory>
     let decomposed = to_nfd(alloc, text)?;
     let folded = default_case_fold_str(alloc, decomposed.as_str())?;
     Ok(to_nfd(alloc, folded.as_str())?)
+}
+
+// Writes the key of any text into a buffer, in place of what stands there.
+fn write_folded(alloc: Global, text: &str, buffer: &mut String) -> Result<(), NoMemory>
+    ensures key { OnOk result (string_bytes buffer.new ≡ key_of_text text.now) }
+    ensures error { OnErr result (string_bytes buffer.new ≡ []) }
+    ensures capacity { string_capacity buffer.old ≤ string_capacity buffer.new }
+{
+    buffer.clear();
+    let key = folded_key(alloc, text)?;
+    buffer.push_str(key.as_str())?;
+    Ok(())
 }
 
 #[cfg(test)]

@@ -1,5 +1,5 @@
 //! Keys and matches of values out of the Unicode Standard and its data files, which no clause of this crate repeats.
-use crate::{key_of, same_value};
+use crate::{key_into, key_of, same_value};
 use no_memory::NoMemory;
 use std::alloc::Global;
 use std::test::Fail;
@@ -64,6 +64,29 @@ fn blanks_have_no_key(rt: HostRuntime) -> Result<(), Fail> {
         "\u{85}\u{1680}\u{2028}",
     ] {
         assert!(rt; has_key(rt.alloc(), value, None)?, "{value:?}");
+    }
+    Ok(())
+}
+
+// A buffer holds the key of the last value alone: nothing is left of a longer one, of a blank, or of the way beyond ASCII.
+#[test]
+fn keys_in_turn(rt: HostRuntime) -> Result<(), Fail> {
+    let turns = [
+        ("  The Quick BROWN Fox ", Some("the quick brown fox")),
+        ("Ox", Some("ox")),
+        (" \t", None),
+        ("Stra\u{DF}e \u{C9}", Some("strasse e\u{301}")),
+        ("A", Some("a")),
+        ("", None),
+        ("ABC\u{130}", Some("abci\u{307}")),
+        ("\u{A0}\u{3000}", None),
+        ("ROME-1", Some("rome-1")),
+    ];
+    let mut buffer = String::new(rt.alloc());
+    for (value, key) in turns {
+        let found = key_into(rt.alloc(), value, &mut buffer)?;
+        assert_eq!(rt; found, key.is_some(), "{value:?}");
+        assert!(rt; buffer.as_str() == key.unwrap_or(""), "{value:?}");
     }
     Ok(())
 }

@@ -1,6 +1,6 @@
-use Rattle.std.proofs.Common.{◌≡◌, ◌++◌, false, take}
+use Rattle.std.proofs.Common.{◌≡◌, ◌++◌, take}
 use Rattle.script_model.specs.Texts.{answers_text}
 use Rattle.reply_text.proofs.text.push_answers.Given as goal
 
 abbrev pub invariant-loop-answer : goal.invariant-loop-answer
-invariant-loop-answer l = l.into.items ≡ l.initial.into.items ++ answers_text false (take l.answer-index l.answers)
+invariant-loop-answer l = l.into.items ≡ l.initial.into.items ++ answers_text l.trace (take l.answer-index l.answers)

@@ -1,8 +1,7 @@
 use Rattle.std.proofs.Common.{[], take}
-use Rattle.std.specs.List.{All}
-use Rattle.column_set.specs.Columns.{HasDistinctKeys}
-use Rattle.token_order.specs.Places.{keys_of, IsMore}
+use Rattle.token_order.specs.Columns.{keys_through}
+use Rattle.token_order.specs.Places.{IsMore}
 use Rattle.token_order.proofs.places.all_members.Given as goal
 
-abbrev pub invariant-loop-table : goal.invariant-loop-table
-invariant-loop-table l = record { more : IsMore l.tables [] l.members.items (keys_of (take l.table l.tables)); different : All HasDistinctKeys (take l.table l.tables) }
+abbrev pub invariant-loop-column : goal.invariant-loop-column
+invariant-loop-column l = IsMore l.tables l.columns [] l.members.items (keys_through l.tables (take l.column l.columns))

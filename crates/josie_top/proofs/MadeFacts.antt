@@ -1,0 +1,114 @@
+-- The record of batches that were played one behind another.
+use Rattle.std.proofs.Common.{◌≡◌, refl, ap, sym, ◌∙◌, subst, ℕ, ◌+◌, ◌≤◌, List, [], ◌∷◌, ◌++◌, Bool, true, false, length, map, take, drop, get_or, sum_by, arith, length-append}
+use Rattle.std.specs.Prelude.{if◌then◌else◌, Option, None}
+use Rattle.std.specs.List.{AllByRecursion}
+use Rattle.std.proofs.lemmas.List.{length-map, take-append-drop}
+use Rattle.std.proofs.lemmas.List.FromFn.{length-map-range_with_len}
+use Rattle.std.proofs.lemmas.List.Sums.{sum_by-cons}
+use Rattle.lake_model.specs.declared.Counts.{Counts}
+use Rattle.lake_model.specs.declared.Who.{Who}
+use Rattle.lake_model.specs.Journal.{Entry}
+use Rattle.script_model.specs.Commands.{Command, command_with, Merge, Batch}
+use Rattle.script_model.specs.Record.{Options, Answered, RunRecord, empty, with_end}
+use Rattle.script_model.specs.Play.{batch_after, merger_commands, played_from, pieces_of, updates, head_or_empty, who_of}
+use Rattle.script_model.specs.Right.{AreBatchesRight}
+use Rattle.script_model.specs.Merges.{HasNoMerge, IsOfLanes}
+use Rattle.script_model.specs.Statuses.{IsRecordOf, answer_count}
+use Rattle.script_model.proofs.RightLemmas.{all_append}
+use Rattle.script_model.proofs.PlayedLemmas.{batches_go_on}
+use Rattle.script_model.proofs.LegalLemmas.{record_right}
+use Rattle.josie_top.specs.Progress.{IsMade}
+
+-- ---- what stays
+
+options_played : (limits : Counts) (lanes : ℕ) (merge : Bool) (next : ℕ) (batches : List Batch) (pieces : List (List ℕ)) (denials : List (List Bool)) (before : RunRecord)
+    → (played_from limits lanes merge next batches pieces denials before).options ≡ before.options
+unfolding played_from
+options_played limits lanes merge next [] pieces denials before = refl
+options_played limits lanes merge next (batch ∷ batches) pieces denials before =
+    options_played limits lanes merge (next + updates batch) batches (drop 1 pieces) (drop 1 denials)
+    (batch_after limits lanes batch (merger_commands merge next batch) (head_or_empty pieces) (head_or_empty denials) before)
+
+ended_played : (limits : Counts) (lanes : ℕ) (merge : Bool) (next : ℕ) (batches : List Batch) (pieces : List (List ℕ)) (denials : List (List Bool)) (before : RunRecord)
+    → (played_from limits lanes merge next batches pieces denials before).ended ≡ before.ended
+unfolding played_from
+ended_played limits lanes merge next [] pieces denials before = refl
+ended_played limits lanes merge next (batch ∷ batches) pieces denials before =
+    ended_played limits lanes merge (next + updates batch) batches (drop 1 pieces) (drop 1 denials)
+    (batch_after limits lanes batch (merger_commands merge next batch) (head_or_empty pieces) (head_or_empty denials) before)
+
+pub made_options : (limits : Counts) (options : Options) (batches : List Batch) (made : RunRecord) → IsMade limits options batches made → made.options ≡ options
+made_options limits options batches made is =
+    ap (λ (m : RunRecord). m.options) is.played ∙ options_played limits options.lanes options.merge 1 batches (pieces_of options.order) is.denials (empty options)
+
+pub made_unended : (limits : Counts) (options : Options) (batches : List Batch) (made : RunRecord) → IsMade limits options batches made → made.ended ≡ false
+made_unended limits options batches made is =
+    ap (λ (m : RunRecord). m.ended) is.played ∙ ended_played limits options.lanes options.merge 1 batches (pieces_of options.order) is.denials (empty options)
+
+-- ---- one batch after another
+
+pub made_start : (limits : Counts) (options : Options) → IsMade limits options [] (empty options)
+unfolding played_from
+made_start limits options = record { denials = []; size = refl; played = refl; lanes = tt; merges = tt }
+
+pub made_more : (limits : Counts) (options : Options) (batches : List Batch) (before now : RunRecord) (batch : Batch) (merges : List Command) (piece : List ℕ) (turns : List Bool)
+    → IsMade limits options batches before → now ≡ batch_after limits options.lanes batch merges piece turns before
+    → merges ≡ merger_commands options.merge (1 + sum_by updates batches) batch → piece ≡ get_or (pieces_of options.order) (length batches) []
+    → IsOfLanes options.lanes batch → HasNoMerge batch → IsMade limits options (batches ++ batch ∷ []) now
+made_more limits options batches before now batch merges piece turns is after merges_are piece_is lanes none = record {
+  denials = is.denials ++ turns ∷ [];
+  size = omega (arith, is.size, length-append is.denials (turns ∷ []), length-append batches (batch ∷ []));
+  played = after
+      ∙ ap (λ (m : List Command). batch_after limits options.lanes batch m piece turns before) merges_are
+      ∙ ap (λ (p : List ℕ). batch_after limits options.lanes batch (merger_commands options.merge (1 + sum_by updates batches) batch) p turns before) piece_is
+      ∙ ap (batch_after limits options.lanes batch (merger_commands options.merge (1 + sum_by updates batches) batch) (get_or (pieces_of options.order) (length batches) []) turns) is.played
+      ∙ sym (batches_go_on limits options.lanes options.merge 1 batches batch (pieces_of options.order) is.denials turns (empty options) is.size);
+  lanes = all_append (IsOfLanes options.lanes) batches (batch ∷ []) is.lanes (lanes, tt);
+  merges = all_append HasNoMerge batches (batch ∷ []) is.merges (none, tt);
+}
+
+pub no_merges : (merge : Bool) (next : ℕ) (batch : Batch) → merge ≡ false → [] ≡ merger_commands merge next batch
+no_merges merge next batch off = ap (λ (b : Bool). merger_commands b next batch) (sym off)
+
+pub no_piece : (order : Option (List (List ℕ))) (n : ℕ) → order ≡ None → [] ≡ get_or (pieces_of order) n []
+no_piece order n none = ap (λ (o : Option (List (List ℕ))). get_or (pieces_of o) n []) (sym none)
+
+-- ---- the record is right
+
+pub made_record : (limits : Counts) (options : Options) (batches : List Batch) (made : RunRecord) (ended : Bool) → options.merge ≡ false → IsMade limits options batches made
+    → IsRecordOf limits options batches (with_end ended made)
+made_record limits options batches made ended off is = record {
+  options_are = made_options limits options batches made is;
+  right = record_right limits options batches (with_end ended made) (record { merger = off; lanes = is.lanes; commands = is.merges }) (is.denials, ap (with_end ended) is.played);
+  played = (is.denials, ap (with_end ended) is.played);
+}
+
+same_record : (made : RunRecord) → made.ended ≡ false → with_end false made ≡ made
+same_record made not_ended = ap (λ (b : Bool). with_end b made) (sym not_ended)
+
+pub made_record_now : (limits : Counts) (options : Options) (batches : List Batch) (made : RunRecord) → options.merge ≡ false → IsMade limits options batches made → IsRecordOf limits options batches made
+made_record_now limits options batches made off is =
+    subst (IsRecordOf limits options batches) (same_record made (made_unended limits options batches made is)) (made_record limits options batches made false off is)
+
+-- ---- how many answers there are
+
+command_count : (merge : Bool) (next : ℕ) (batch : Batch) → length (batch ++ merger_commands merge next batch) ≡ length batch + (if merge then updates batch else 0)
+command_count true next batch = omega (arith, length-append batch (merger_commands true next batch), length-map-range_with_len (λ n. command_with n 0 (Merge false)) next (updates batch))
+command_count false next batch = omega (arith, length-append batch (merger_commands false next batch))
+
+right_count : (limits : Counts) (lanes : ℕ) (merge : Bool) (next : ℕ) (journal : List Entry) (from : ℕ) (batches : List Batch) (syncs : List ℕ) (answers : List Answered)
+    → AreBatchesRight limits lanes merge next journal from batches syncs answers → length answers ≡ answer_count merge batches
+right_count limits lanes merge next journal from [] [] [] h = refl
+right_count limits lanes merge next journal from [] [] (answer ∷ answers) h = absurd h
+right_count limits lanes merge next journal from [] (sync ∷ syncs) answers h = absurd h
+right_count limits lanes merge next journal from (batch ∷ batches) [] answers h = absurd h
+right_count limits lanes merge next journal from (batch ∷ batches) (sync ∷ syncs) answers (up, here, others) =
+    let commands : List Command = batch ++ merger_commands merge next batch in
+    let whos : length (map (λ (a : Answered). a.who) (take (length commands) answers)) ≡ length (map who_of commands) = ap (λ (ws : List Who). length ws) here.answered in
+    let whole : length (take (length commands) answers ++ drop (length commands) answers) ≡ length answers = ap (λ (xs : List Answered). length xs) (take-append-drop (length commands) answers) in
+    omega (arith, whos, whole, length-map (take (length commands) answers) (λ (a : Answered). a.who), length-map commands who_of, length-append (take (length commands) answers) (drop (length commands) answers),
+      command_count merge next batch, right_count limits lanes merge (next + updates batch) journal sync batches syncs (drop (length commands) answers) others,
+      sum_by-cons (λ (b : Batch). length b + (if merge then updates b else 0)) batch batches)
+
+pub record_count : (limits : Counts) (options : Options) (batches : List Batch) (made : RunRecord) → IsRecordOf limits options batches made → length made.answers ≡ answer_count options.merge batches
+record_count limits options batches made is = right_count limits options.lanes options.merge 1 made.journal 0 batches made.syncs made.answers is.right.each

@@ -1,0 +1,110 @@
+-- What was read call by call was read in one.
+use Rattle.std.proofs.Common.{◌≡◌, refl, ap, sym, ◌∙◌, subst, ℕ, suc, Bool, ◌+◌, ◌-◌, ◌^◌, ◌≤◌, List, [], ◌∷◌, ◌++◌, append_assoc, length, take, drop, flat_map, arith, length-append}
+use Rattle.std.specs.Prelude.{Option, Some, None, count_by, filter, min}
+use Rattle.std.specs.Io.KnownBytes.{Consumes, IsAtEnd}
+use Rattle.std.proofs.KnownBytes.{Consumes-nil, Consumes-trans}
+use Rattle.std.proofs.lemmas.List.{append-nil}
+use Rattle.std.proofs.lemmas.Grind.{flat_map-append}
+use Rattle.std.proofs.lemmas.List.Elements.{filter-append}
+use Rattle.std.proofs.lemmas.List.Sums.{length-filter}
+use Rattle.std.proofs.Math.Seq.{take-append_seam}
+use Rattle.lake_io.specs.Files as shelf
+use Rattle.lake_model.specs.Texts.{Text, Lines, lines_of}
+use Rattle.script_model.specs.declared.Reason.{Reason}
+use Rattle.script_model.specs.Commands.{File, Batch}
+use Rattle.script_model.specs.Words.{NoFeed}
+use Rattle.script_model.specs.Reading.{Grammar, Reading, Stands, AtFault, LinesRead, read_with, read}
+use Rattle.script_model.specs.Script.{Commands, Whole, FaultAt, commands_with, commands_from, grammar_of, standard, start}
+use Rattle.script_model.specs.Record.{Options}
+use Rattle.script_model.specs.Statuses.{left_of, script_of, begun, HasNoFault, asked_by}
+use Rattle.script_model.specs.Texts.{line_text}
+use Rattle.script_model.proofs.ScriptLemmas.{read_on, behind_batches, read_behind, lines_none, with_batches}
+use Rattle.script_model.proofs.AskedLemmas.{asking, lines_asking, reached_asking, read_asking, commands_asking, commands_from_asking}
+use Rattle.script_model.proofs.LinesLemmas.{lines_whole, commands_lines}
+use Rattle.script_model.proofs.RightLemmas.{all_append}
+use Rattle.script_text.specs.Outcomes.{MayCome, AreOutcomes, AreFetched, RoseBy, is_failed}
+use Rattle.script_text.specs.Gathering.{Gathering, ReadsOn, IsUnfinished, reading_at, grammar}
+use Rattle.josie_top.specs.Progress.{AreRead, IsGoingOn}
+
+-- ---- lines behind lines
+
+-- these batches and paths came before
+abbrev read_before : List Batch → List Text → LinesRead → LinesRead
+read_before batches asked made = read_with (batches ++ made.batches) (reached_asking asked made.reached)
+
+read_from : (from : Grammar) (batches : List Batch) (reading : Reading) (asked : List Text) (later : List File) (lines : List Text)
+    → read from (read_with batches (Stands (reading_at reading asked later))) lines ≡ read_before batches asked (read from (read_with [] (Stands (reading_at reading [] later))) lines)
+read_from from batches reading asked later lines =
+    ap (λ (paths : List Text). read from (read_with batches (Stands (reading_at reading paths later))) lines) (sym (append-nil asked))
+    ∙ ap (λ (b : List Batch). read from (read_with b (Stands (asking asked (reading_at reading [] later)))) lines) (sym (append-nil batches))
+    ∙ read_behind from batches (lines_asking asked (read_with [] (Stands (reading_at reading [] later)))) lines
+    ∙ ap (behind_batches batches) (read_asking from asked (read_with [] (Stands (reading_at reading [] later))) lines)
+
+pub reads_more : (from : Grammar) (before mid after : Reading) (bytes more held left : List ℕ) (outcomes others : List File) (made later : List Batch) (asked paths : List Text)
+    → ReadsOn from before bytes outcomes made mid held asked → ReadsOn from mid (held ++ more) others later after left paths
+    → ReadsOn from before (bytes ++ more) (outcomes ++ others) (made ++ later) after left (asked ++ paths)
+reads_more from before mid after bytes more held left outcomes others made later asked paths first second = record {
+  lines = first.lines ++ second.lines;
+  whole = all_append NoFeed first.lines second.lines first.whole second.whole;
+  cut = ap (λ (b : List ℕ). b ++ more) first.cut ∙ append_assoc (flat_map line_text first.lines) held more
+      ∙ ap (λ (b : List ℕ). flat_map line_text first.lines ++ b) second.cut
+      ∙ sym (append_assoc (flat_map line_text first.lines) (flat_map line_text second.lines) left)
+      ∙ ap (λ (b : List ℕ). b ++ left) (sym (flat_map-append line_text first.lines second.lines));
+  reads = λ to_come.
+      ap (λ (files : List File). read from (read_with [] (Stands (reading_at before [] files))) (first.lines ++ second.lines)) (append_assoc outcomes others to_come)
+      ∙ read_on from (read_with [] (Stands (reading_at before [] (outcomes ++ (others ++ to_come))))) first.lines second.lines
+      ∙ ap (λ (b : LinesRead). read from b second.lines) (first.reads (others ++ to_come))
+      ∙ read_from from made mid asked (others ++ to_come) second.lines
+      ∙ ap (read_before made asked) (second.reads to_come);
+}
+
+-- ---- what comes behind whole lines
+
+abbrev pub given_before : List Batch → List Text → Commands → Commands
+given_before batches asked made = commands_with (batches ++ made.batches) made.end (asked ++ made.asked)
+
+pub reads_commands : (from : Grammar) (before after : Reading) (bytes held : List ℕ) (outcomes : List File) (made : List Batch) (asked : List Text) (later : List File) (more : List ℕ)
+    → ReadsOn from before bytes outcomes made after held asked → after.used ≤ from.input
+    → commands_from from (reading_at before [] (outcomes ++ later)) (bytes ++ more) ≡ given_before made asked (commands_from from (reading_at after [] later) (held ++ more))
+reads_commands from before after bytes held outcomes made asked later more lines_read within =
+    ap (λ (b : List ℕ). commands_from from (reading_at before [] (outcomes ++ later)) (b ++ more)) lines_read.cut
+    ∙ ap (commands_from from (reading_at before [] (outcomes ++ later))) (append_assoc (flat_map line_text lines_read.lines) held more)
+    ∙ commands_lines from lines_read.lines (reading_at before [] (outcomes ++ later)) made (reading_at after asked later) (held ++ more) lines_read.whole (lines_read.reads later) within
+    ∙ ap (λ (paths : List Text). with_batches made (commands_from from (reading_at after paths later) (held ++ more))) (sym (append-nil asked))
+    ∙ ap (with_batches made) (commands_from_asking from asked (reading_at after [] later) (held ++ more))
+
+-- ---- outcomes
+
+outcomes_more : (files : Option (List shelf.File)) (asked paths : List Text) (outcomes others : List File) → AreOutcomes files asked outcomes → AreOutcomes files paths others → AreOutcomes files (asked ++ paths) (outcomes ++ others)
+outcomes_more files [] paths [] others h k = k
+outcomes_more files [] paths (outcome ∷ outcomes) others h k = absurd h
+outcomes_more files (path ∷ asked) paths [] others h k = absurd h
+outcomes_more files (path ∷ asked) paths (outcome ∷ outcomes) others h k = (h.0, outcomes_more files asked paths outcomes others h.1 k)
+
+pub outcomes_size : (files : Option (List shelf.File)) (asked : List Text) (outcomes : List File) → AreOutcomes files asked outcomes → length outcomes ≡ length asked
+outcomes_size files [] [] h = refl
+outcomes_size files [] (outcome ∷ outcomes) h = absurd h
+outcomes_size files (path ∷ asked) [] h = absurd h
+outcomes_size files (path ∷ asked) (outcome ∷ outcomes) h = ap (λ (n : ℕ). suc n) (outcomes_size files asked outcomes h.1)
+
+count_more : {X : Type 0} (p : X → Bool) (xs ys : List X) → count_by p (xs ++ ys) ≡ count_by p xs + count_by p ys
+count_more p xs ys =
+    let both : length (filter p (xs ++ ys)) ≡ length (filter p xs ++ filter p ys) = ap (λ zs. length zs) (filter-append p xs ys) in
+    omega (arith, both, length-append (filter p xs) (filter p ys), length-filter p (xs ++ ys), length-filter p xs, length-filter p ys)
+
+rose_more : (top first second third n m k : ℕ) → k ≡ n + m → min (first + n) top ≤ second → min (second + m) top ≤ third → min (first + k) top ≤ third
+rose_more top first second third n m k is h i = omega (arith, is, h, i)
+
+pub fetched_more : (files : Option (List shelf.File)) (first second third : ℕ) (asked paths : List Text) (outcomes others : List File) → AreFetched files first second asked outcomes → AreFetched files second third paths others
+    → AreFetched files first third (asked ++ paths) (outcomes ++ others)
+fetched_more files first second third asked paths outcomes others h k = record {
+  each = outcomes_more files asked paths outcomes others h.each k.each;
+  failed = rose_more (2 ^ 64 - 1) first second third (count_by is_failed outcomes) (count_by is_failed others) (count_by is_failed (outcomes ++ others)) (count_more is_failed outcomes others) h.failed k.failed;
+}
+
+-- a count of faults that rose further
+rose_on : (top first second third n : ℕ) → min (first + n) top ≤ second → second ≤ third → min (first + n) top ≤ third
+rose_on top first second third n h i = omega (arith, h, i)
+
+pub fetched_on : (files : Option (List shelf.File)) (first second third : ℕ) (asked : List Text) (outcomes : List File) → AreFetched files first second asked outcomes → second ≤ third → AreFetched files first third asked outcomes
+fetched_on files first second third asked outcomes h k = record { each = h.each; failed = rose_on (2 ^ 64 - 1) first second third (count_by is_failed outcomes) h.failed k }

@@ -1,0 +1,256 @@
+-- The rows of the table of statuses, from how far a run is.
+use Rattle.std.proofs.Common.{◌≡◌, refl, ap, sym, ◌∙◌, subst, ℕ, ◌+◌, ◌-◌, ◌≤◌, inl, inr, List, [], ◌∷◌, ◌++◌, append_assoc, Bool, true, false, length, take, arith, length-append, flat_map}
+use Rattle.std.specs.Prelude.{Option, Some, None}
+use Rattle.std.specs.Io.KnownBytes.{Consumes, Appends, IsAtEnd}
+use Rattle.std.proofs.KnownBytes.{Consumes-trans, Appends-trans}
+use Rattle.std.proofs.lemmas.List.{append-nil}
+use Rattle.std.proofs.Math.Seq.{take-append_seam, take-length}
+use Rattle.lake_io.specs.Files as shelf
+use Rattle.lake_model.specs.declared.Counts.{Counts}
+use Rattle.lake_model.specs.Texts.{Text, Lines, lines_of}
+use Rattle.script_model.specs.declared.Reason.{Reason}
+use Rattle.script_model.specs.declared.ScriptLimits.{ScriptLimits}
+use Rattle.script_model.specs.declared.Status.{Status}
+use Rattle.script_model.specs.declared.Status.TheVariants as status
+use Rattle.script_model.specs.Commands.{File, Batch}
+use Rattle.script_model.specs.Words.{NoFeed}
+use Rattle.script_model.specs.Reading.{Grammar, Reading, Stands, Reached, LinesRead, read, read_with}
+use Rattle.script_model.specs.Script.{Commands, Whole, FaultAt, commands, commands_with, commands_from, grammar_of, standard, start}
+use Rattle.script_model.specs.Record.{Options, Answered, RunRecord, plain, empty, with_end}
+use Rattle.script_model.specs.Statuses.{left_of, script_of, begun, HasNoFault, asked_by, answer_count, IsPrefix, IsRecordOf, IsDone, IsRefused, IsBrokenOff, IsCutOff, Row}
+use Rattle.script_model.specs.Texts.{answers_text, line_text, text, text_behind}
+use Rattle.script_model.proofs.ScriptLemmas.{lines_none}
+use Rattle.script_model.proofs.LinesLemmas.{lines_whole}
+use Rattle.script_text.specs.Outcomes.{AreFetched}
+use Rattle.script_text.specs.Gathering.{Gathering, ReadsOn, IsSynced, IsWhole, IsFaulty, IsUnfinished, reading_at, grammar}
+use Rattle.josie_top.specs.Meets.{Meets}
+use Rattle.josie_top.specs.Progress.{AreRead, AreWritten, IsGoingOn, IsMade}
+use Rattle.josie_top.proofs.ReadFacts.{given_before, reads_more, reads_commands, outcomes_size, fetched_more, fetched_on}
+use Rattle.josie_top.proofs.MadeFacts.{made_options, made_unended, made_record, made_record_now, record_count}
+use Rattle.josie_top.proofs.TextFacts.{text_unended, text_more, text_ended, whole_prefix, prefix_more, prefix_behind, answers_prefix}
+
+-- ---- the script
+
+pub grammar_is : (options : Options) (gathering : Gathering) → IsGoingOn options gathering → grammar gathering ≡ grammar_of standard options.lanes
+grammar_is options gathering goes = ap (λ (l : ScriptLimits). grammar_of l gathering.lanes) goes.limits_are ∙ ap (grammar_of standard) goes.lanes_are
+
+used_within : (options : Options) (gathering : Gathering) → IsGoingOn options gathering → gathering.reading.used ≤ (grammar_of standard options.lanes).input
+used_within options gathering goes = subst (λ (l : ScriptLimits). gathering.reading.used ≤ l.input) goes.limits_are goes.within
+
+-- The whole script: the batches that were read, and what the rest gives.
+pub script_front : (options : Options) (left_before left_now left : Option (List ℕ)) (files : Option (List shelf.File)) (first second : ℕ) (gathering : Gathering) (batches : List Batch)
+    → (been : AreRead options left_before left_now files first second gathering batches) → IsGoingOn options gathering → (more : List ℕ) (later : List File)
+    → script_of options (been.outcomes ++ later) (been.given ++ more) left ≡ given_before batches been.asked (commands_from (grammar_of standard options.lanes) (reading_at gathering.reading [] later) ((gathering.held ++ more) ++ left_of left))
+script_front options left_before left_now left files first second gathering batches been goes more later =
+    ap (commands_from (grammar_of standard options.lanes) (start (been.outcomes ++ later))) (append_assoc been.given more (left_of left))
+    ∙ reads_commands (grammar_of standard options.lanes) (start []) gathering.reading been.given gathering.held been.outcomes batches been.asked later (more ++ left_of left) been.lines_read (used_within options gathering goes)
+    ∙ ap (λ (bytes : List ℕ). given_before batches been.asked (commands_from (grammar_of standard options.lanes) (reading_at gathering.reading [] later) bytes)) (sym (append_assoc gathering.held more (left_of left)))
+
+-- ---- cut off
+
+front_batches : (script rest : Commands) (batches : List Batch) (asked : List Text) → script ≡ given_before batches asked rest → take (length batches) script.batches ≡ batches
+front_batches script rest batches asked is = ap (λ (s : Commands). take (length batches) s.batches) is ∙ take-append_seam batches rest.batches
+
+front_asked : (script rest : Commands) (batches : List Batch) (asked : List Text) (outcomes : List File) → script ≡ given_before batches asked rest → length outcomes ≡ length asked → take (length outcomes) script.asked ≡ asked
+front_asked script rest batches asked outcomes is size =
+    ap (λ (n : ℕ). take n script.asked) size ∙ ap (λ (s : Commands). take (length asked) s.asked) is ∙ take-append_seam asked rest.asked
+
+-- a run that ends behind some batches, whose source may have more
+pub cut : (limits : Counts) (options : Options) (outcomes : List File) (came : List Text → Type 0) (script rest : Commands) (left : Option (List ℕ)) (taken : List ℕ) (made : RunRecord) (batches : List Batch) (asked : List Text)
+    → script ≡ given_before batches asked rest → length outcomes ≡ length asked → came asked → IsRecordOf limits options batches made → made.ended ≡ false
+    → IsPrefix taken (text made) → IsPrefix (answers_text options.trace (take (answer_count options.merge (take (length batches - 1) script.batches)) made.answers)) taken
+    → IsCutOff limits options outcomes came script left taken made
+cut limits options outcomes came script rest left taken made batches asked is size fetched record_of not_ended beginning holds = record {
+  count = length batches;
+  fetched = subst came (sym (front_asked script rest batches asked outcomes is size)) fetched;
+  record_of = subst (λ (b : List Batch). IsRecordOf limits options b made) (sym (front_batches script rest batches asked is)) record_of;
+  ended = λ e. absurd (let no : true ≡ false = sym e ∙ not_ended in cc);
+  beginning = beginning;
+  holds = holds;
+}
+
+-- a run that ends between two batches, all whose text is written
+pub meets_between : (limits : Counts) (options : Options) (left0 left1 left2 written0 written1 : Option (List ℕ)) (files : Option (List shelf.File)) (f0 f1 f2 : ℕ) (gathering : Gathering) (batches : List Batch) (made : RunRecord) (more : List ℕ)
+    → options.merge ≡ false → (been : AreRead options left0 left1 files f0 f1 gathering batches) → IsGoingOn options gathering → IsMade limits options batches made → (writ : AreWritten options written0 written1 made)
+    → Consumes left1 left2 more → f1 ≤ f2 → Meets limits options status.NoMemory left0 left2 written0 written1 files f0 f2 made
+meets_between limits options left0 left1 left2 written0 written1 files f0 f1 f2 gathering batches made more off been goes is writ gave later =
+    let not_ended = made_unended limits options batches made is in
+    let front = script_front options left0 left1 left2 files f0 f1 gathering batches been goes more [] in
+    let same : been.outcomes ++ [] ≡ been.outcomes = append-nil been.outcomes in
+    let script : script_of options been.outcomes (been.given ++ more) left2 ≡ given_before batches been.asked _ = ap (λ (o : List File). script_of options o (been.given ++ more) left2) (sym same) ∙ front in
+    let all : writ.taken ≡ text made = writ.text_is ∙ sym (text_unended options made (made_options limits options batches made is) not_ended) in
+    let row : IsCutOff limits options been.outcomes (λ asked. AreFetched files f0 f2 asked been.outcomes) (script_of options been.outcomes (been.given ++ more) left2) left2 writ.taken made =
+    cut limits options been.outcomes (λ asked. AreFetched files f0 f2 asked been.outcomes) _ _ left2 writ.taken made batches been.asked script (outcomes_size files been.asked been.outcomes been.fetched.each)
+    (fetched_on files f0 f1 f2 been.asked been.outcomes been.fetched later) (made_record_now limits options batches made off is) not_ended
+    (whole_prefix writ.taken (text made) all) (subst (IsPrefix _) (sym writ.text_is) (answers_prefix options.trace _ made.answers)) in
+    record {
+      given = been.given ++ more;
+      taken = writ.taken;
+      outcomes = been.outcomes;
+      gave = Consumes-trans left0 left1 left2 been.given more been.gave gave;
+      took = writ.took;
+      row = inr row;
+    }
+
+-- ---- a batch that was answered, and whose text was written in part
+
+-- the text of one batch more
+batch_text : (options : Options) (before now : RunRecord) (new : List Answered) → now.options ≡ options → now.answers ≡ before.answers ++ new → now.ended ≡ false
+    → text now ≡ answers_text options.trace before.answers ++ text_behind options.trace (length before.answers) now
+batch_text options before now new options_are are not_ended = text_unended options now options_are not_ended ∙ text_more options.trace before now new are not_ended
+
+-- the answers of the batches before the last
+first_answers : (options : Options) (script rest : Commands) (batches : List Batch) (batch : Batch) (asked : List Text) (before now : RunRecord) (new : List Answered)
+    → script ≡ given_before (batches ++ batch ∷ []) asked rest → length before.answers ≡ answer_count options.merge batches → now.answers ≡ before.answers ++ new
+    → take (answer_count options.merge (take (length (batches ++ batch ∷ []) - 1) script.batches)) now.answers ≡ before.answers
+first_answers options script rest batches batch asked before now new is count are =
+    let many : length (batches ++ batch ∷ []) - 1 ≡ length batches = omega (arith, length-append batches (batch ∷ [])) in
+    let there : take (length batches) script.batches ≡ batches =
+    ap (λ (s : Commands). take (length batches) s.batches) is ∙ ap (take (length batches)) (append_assoc batches (batch ∷ []) rest.batches) ∙ take-append_seam batches (batch ∷ rest.batches) in
+    ap (λ (n : ℕ). take (answer_count options.merge (take n script.batches)) now.answers) many
+    ∙ ap (λ (b : List Batch). take (answer_count options.merge b) now.answers) there
+    ∙ ap (λ (n : ℕ). take n now.answers) (sym count) ∙ ap (take (length before.answers)) are ∙ take-append_seam before.answers new
+
+-- The run ended while a batch's text was written.
+pub cut_within : (limits : Counts) (options : Options) (outcomes : List File) (came : List Text → Type 0) (script rest : Commands) (left : Option (List ℕ)) (before now : RunRecord) (new : List Answered) (batches : List Batch) (batch : Batch) (asked : List Text) (taken part : List ℕ)
+    → script ≡ given_before (batches ++ batch ∷ []) asked rest → length outcomes ≡ length asked → came asked → options.merge ≡ false
+    → IsMade limits options batches before → IsMade limits options (batches ++ batch ∷ []) now → now.answers ≡ before.answers ++ new
+    → taken ≡ answers_text options.trace before.answers → IsPrefix part (text_behind options.trace (length before.answers) now)
+    → IsCutOff limits options outcomes came script left (taken ++ part) now
+cut_within limits options outcomes came script rest left before now new batches batch asked taken part is size fetched off made_before made_now are taken_is beginning =
+    let not_ended = made_unended limits options (batches ++ batch ∷ []) now made_now in
+    let whole : text now ≡ taken ++ text_behind options.trace (length before.answers) now =
+    batch_text options before now new (made_options limits options (batches ++ batch ∷ []) now made_now) are not_ended ∙ ap (λ (t : List ℕ). t ++ text_behind options.trace (length before.answers) now) (sym taken_is) in
+    let count : length before.answers ≡ answer_count options.merge batches = record_count limits options batches before (made_record_now limits options batches before off made_before) in
+    let first : answers_text options.trace (take (answer_count options.merge (take (length (batches ++ batch ∷ []) - 1) script.batches)) now.answers) ≡ taken =
+    ap (answers_text options.trace) (first_answers options script rest batches batch asked before now new is count are) ∙ sym taken_is in
+    cut limits options outcomes came script rest left (taken ++ part) now (batches ++ batch ∷ []) asked is size fetched (made_record_now limits options (batches ++ batch ∷ []) now off made_now) not_ended
+    (subst (IsPrefix (taken ++ part)) (sym whole) (prefix_behind taken part _ beginning))
+    (prefix_more _ taken part (whole_prefix _ taken first))
+
+-- ---- the whole input
+
+-- the script of an input that is at its end
+pub script_whole : (options : Options) (left_before left_now left : Option (List ℕ)) (files : Option (List shelf.File)) (first second : ℕ) (before now : Gathering) (batches later : List Batch) (more : List ℕ) (paths : List Text) (others : List File)
+    → (been : AreRead options left_before left_now files first second before batches) → IsGoingOn options before → IsWhole before now left more paths others later
+    → script_of options (been.outcomes ++ others) (been.given ++ more) left ≡ commands_with (batches ++ later) Whole (been.asked ++ paths)
+script_whole options left_before left_now left files first second before now batches later more paths others been goes whole =
+    let here : commands_from (grammar_of standard options.lanes) (reading_at before.reading [] others) (before.held ++ more) ≡ commands_with later Whole paths =
+    subst (λ (g : Grammar). commands_from g (reading_at before.reading [] others) (before.held ++ more) ≡ commands_with later Whole paths) (grammar_is options before goes) whole.commands in
+    script_front options left_before left_now left files first second before batches been goes more others
+    ∙ ap (λ (bytes : List ℕ). given_before batches been.asked (commands_from (grammar_of standard options.lanes) (reading_at before.reading [] others) bytes)) (end_of left (before.held ++ more) whole.at_end)
+    ∙ ap (given_before batches been.asked) here
+  where
+    end_of : (left : Option (List ℕ)) (bytes : List ℕ) → IsAtEnd left → bytes ++ left_of left ≡ bytes
+    end_of None bytes h = append-nil bytes
+    end_of (Some more) bytes h = ap (λ (m : List ℕ). bytes ++ m) h ∙ append-nil bytes
+
+-- such a script as batches and then nothing
+pub whole_front : (script : Commands) (batches : List Batch) (asked : List Text) → script ≡ commands_with batches Whole asked → script ≡ given_before batches asked (commands_with [] Whole [])
+whole_front script batches asked is =
+    is ∙ ap (λ (b : List Batch). commands_with b Whole asked) (sym (append-nil batches)) ∙ ap (λ (a : List Text). commands_with (batches ++ []) Whole a) (sym (append-nil asked))
+
+-- All batches were answered, and all their text was written.
+pub done : (limits : Counts) (options : Options) (came : List Text → Type 0) (script : Commands) (left : Option (List ℕ)) (batches : List Batch) (asked : List Text) (made : RunRecord) (taken : List ℕ)
+    → script ≡ commands_with batches Whole asked → came asked → options.merge ≡ false → IsAtEnd left → IsMade limits options batches made
+    → taken ≡ answers_text options.trace made.answers → IsDone limits options came script left (taken ++ text_behind options.trace (length made.answers) (with_end true made)) (with_end true made)
+done limits options came script left batches asked made taken is fetched off at_end is_made taken_is = record {
+  read = at_end;
+  whole = ap (λ (s : Commands). s.end) is;
+  fetched = subst came (sym (ap (λ (s : Commands). s.asked) is)) fetched;
+  ended = refl;
+  record_of = subst (λ (b : List Batch). IsRecordOf limits options b (with_end true made)) (sym (ap (λ (s : Commands). s.batches) is)) (made_record limits options batches made true off is_made);
+  written = ap (λ (t : List ℕ). t ++ text_behind options.trace (length made.answers) (with_end true made)) taken_is ∙ sym (text_ended options made (made_options limits options batches made is_made));
+}
+
+-- All batches were answered, and their text was written, but of the journal's only a part.
+pub cut_at_end : (limits : Counts) (options : Options) (outcomes : List File) (came : List Text → Type 0) (script : Commands) (left : Option (List ℕ)) (batches : List Batch) (asked : List Text) (made : RunRecord) (taken part : List ℕ)
+    → script ≡ commands_with batches Whole asked → length outcomes ≡ length asked → came asked → options.merge ≡ false → IsAtEnd left → IsMade limits options batches made
+    → taken ≡ answers_text options.trace made.answers → IsPrefix part (text_behind options.trace (length made.answers) (with_end true made))
+    → IsCutOff limits options outcomes came script left (taken ++ part) (with_end true made)
+cut_at_end limits options outcomes came script left batches asked made taken part is size fetched off at_end is_made taken_is beginning =
+    let front = whole_front script batches asked is in
+    let all : take (length batches) script.batches ≡ script.batches = front_batches script (commands_with [] Whole []) batches asked front ∙ sym (ap (λ (s : Commands). s.batches) is) in
+    let whole : text (with_end true made) ≡ taken ++ text_behind options.trace (length made.answers) (with_end true made) =
+    text_ended options made (made_options limits options batches made is_made) ∙ ap (λ (t : List ℕ). t ++ text_behind options.trace (length made.answers) (with_end true made)) (sym taken_is) in
+    record {
+      count = length batches;
+      fetched = subst came (sym (front_asked script (commands_with [] Whole []) batches asked outcomes front size)) fetched;
+      record_of = subst (λ (b : List Batch). IsRecordOf limits options b (with_end true made)) (sym (front_batches script (commands_with [] Whole []) batches asked front)) (made_record limits options batches made true off is_made);
+      ended = λ e. (at_end, ap (λ (s : Commands). s.end) is, all);
+      beginning = subst (IsPrefix (taken ++ part)) (sym whole) (prefix_behind taken part _ beginning);
+      holds = prefix_more _ taken part (subst (IsPrefix _) (sym taken_is) (answers_prefix options.trace _ made.answers));
+    }
+
+-- ---- faults of the script and of the source
+
+-- The line is the first at fault.
+pub refused : (limits : Counts) (options : Options) (left0 left1 left2 : Option (List ℕ)) (files : Option (List shelf.File)) (f0 f1 f2 : ℕ) (gathering : Gathering) (batches : List Batch) (made : RunRecord) (taken more : List ℕ) (paths : List Text) (others : List File) (line : ℕ) (why : Reason)
+    → options.merge ≡ false → (been : AreRead options left0 left1 files f0 f1 gathering batches) → IsGoingOn options gathering → IsMade limits options batches made → taken ≡ answers_text options.trace made.answers
+    → AreFetched files f1 f2 paths others → IsFaulty gathering left2 more paths others line why
+    → IsRefused limits options (λ asked. AreFetched files f0 f2 asked (been.outcomes ++ others)) (script_of options (been.outcomes ++ others) (been.given ++ more) left2) line why taken made
+refused limits options left0 left1 left2 files f0 f1 f2 gathering batches made taken more paths others line why off been goes is taken_is fetched faulty =
+    let here : commands_from (grammar_of standard options.lanes) (reading_at gathering.reading [] others) ((gathering.held ++ more) ++ left_of left2) ≡ commands_with [] (FaultAt line why) paths =
+    subst (λ (g : Grammar). commands_from g (reading_at gathering.reading [] others) ((gathering.held ++ more) ++ left_of left2) ≡ commands_with [] (FaultAt line why) paths) (grammar_is options gathering goes) faulty.commands in
+    let script : script_of options (been.outcomes ++ others) (been.given ++ more) left2 ≡ commands_with (batches ++ []) (FaultAt line why) (been.asked ++ paths) =
+    script_front options left0 left1 left2 files f0 f1 gathering batches been goes more others ∙ ap (given_before batches been.asked) here in
+    let same : (script_of options (been.outcomes ++ others) (been.given ++ more) left2).batches ≡ batches = ap (λ (s : Commands). s.batches) script ∙ append-nil batches in
+    let not_ended = made_unended limits options batches made is in
+    record {
+      fault = ap (λ (s : Commands). s.end) script;
+      fetched = subst (λ (asked : List Text). AreFetched files f0 f2 asked (been.outcomes ++ others)) (sym (ap (λ (s : Commands). s.asked) script)) (fetched_more files f0 f1 f2 been.asked paths been.outcomes others been.fetched fetched);
+      ended = not_ended;
+      record_of = subst (λ (b : List Batch). IsRecordOf limits options b made) (sym same) (made_record_now limits options batches made off is);
+      written = taken_is ∙ sym (text_unended options made (made_options limits options batches made is) not_ended);
+    }
+
+-- what was begun, where these lines came whole
+begun_is : (options : Options) (outcomes : List File) (given held : List ℕ) (batches : List Batch) (after : Reading) (asked : List Text)
+    → ReadsOn (grammar_of standard options.lanes) (start []) given outcomes batches after held asked → NoFeed held → begun options outcomes given ≡ read_with batches (Stands (reading_at after asked []))
+begun_is options outcomes given held batches after asked lines_read no_feed =
+    let lines : lines_of given ≡ lines_of (flat_map line_text lines_read.lines ++ held) = ap lines_of lines_read.cut in
+    let whole = lines_whole lines_read.lines held lines_read.whole in
+    let ends : (lines_of given).ended ≡ lines_read.lines =
+    ap (λ (ls : Lines). ls.ended) (lines ∙ whole) ∙ ap (λ (ls : Lines). lines_read.lines ++ ls.ended) (lines_none held no_feed) ∙ append-nil lines_read.lines in
+    ap (read (grammar_of standard options.lanes) (read_with [] (Stands (start outcomes)))) ends
+    ∙ ap (λ (files : List File). read (grammar_of standard options.lanes) (read_with [] (Stands (start files))) lines_read.lines) (sym (append-nil outcomes)) ∙ lines_read.reads []
+
+-- The source failed behind these batches.
+pub broken_off : (limits : Counts) (options : Options) (left0 left1 : Option (List ℕ)) (files : Option (List shelf.File)) (f0 f1 f2 : ℕ) (gathering : Gathering) (batches : List Batch) (made : RunRecord) (taken more : List ℕ) (paths : List Text) (others : List File)
+    → options.merge ≡ false → (been : AreRead options left0 left1 files f0 f1 gathering batches) → IsGoingOn options gathering → IsMade limits options batches made → taken ≡ answers_text options.trace made.answers
+    → AreFetched files f1 f2 paths others → IsUnfinished gathering more paths others
+    → IsBrokenOff limits options (λ asked. AreFetched files f0 f2 asked (been.outcomes ++ others)) (begun options (been.outcomes ++ others) (been.given ++ more)) taken made
+broken_off limits options left0 left1 files f0 f1 f2 gathering batches made taken more paths others off been goes is taken_is fetched unfinished =
+    let here : ReadsOn (grammar_of standard options.lanes) gathering.reading (gathering.held ++ more) others [] unfinished.reading unfinished.held paths =
+    subst (λ (g : Grammar). ReadsOn g gathering.reading (gathering.held ++ more) others [] unfinished.reading unfinished.held paths) (grammar_is options gathering goes) unfinished.lines_read in
+    let all = reads_more (grammar_of standard options.lanes) (start []) gathering.reading unfinished.reading been.given more gathering.held unfinished.held been.outcomes others batches [] been.asked paths been.lines_read here in
+    let begun_here : begun options (been.outcomes ++ others) (been.given ++ more) ≡ read_with (batches ++ []) (Stands (reading_at unfinished.reading (been.asked ++ paths) [])) =
+    begun_is options (been.outcomes ++ others) (been.given ++ more) unfinished.held (batches ++ []) unfinished.reading (been.asked ++ paths) all unfinished.rest in
+    let not_ended = made_unended limits options batches made is in
+    let row : IsBrokenOff limits options (λ asked. AreFetched files f0 f2 asked (been.outcomes ++ others)) (read_with (batches ++ []) (Stands (reading_at unfinished.reading (been.asked ++ paths) []))) taken made =
+    record {
+      no_fault = tt;
+      fetched = fetched_more files f0 f1 f2 been.asked paths been.outcomes others been.fetched fetched;
+      ended = not_ended;
+      record_of = subst (λ (b : List Batch). IsRecordOf limits options b made) (sym (append-nil batches)) (made_record_now limits options batches made off is);
+      written = taken_is ∙ sym (text_unended options made (made_options limits options batches made is) not_ended);
+    } in
+    subst (λ (b : LinesRead). IsBrokenOff limits options (λ asked. AreFetched files f0 f2 asked (been.outcomes ++ others)) b taken made) (sym begun_here) row
+
+-- ---- one batch more
+
+-- what was read, up to one more `sync`
+unfoldable pub read_synced : (options : Options) (left0 left1 left2 : Option (List ℕ)) (files : Option (List shelf.File)) (f0 f1 f2 : ℕ) (before now : Gathering) (batches : List Batch) (batch : Batch) (more : List ℕ) (paths : List Text) (others : List File)
+    → (been : AreRead options left0 left1 files f0 f1 before batches) → IsGoingOn options before → Consumes left1 left2 more → AreFetched files f1 f2 paths others → IsSynced before now more paths others batch
+    → AreRead options left0 left2 files f0 f2 now (batches ++ batch ∷ [])
+read_synced options left0 left1 left2 files f0 f1 f2 before now batches batch more paths others been goes gave fetched synced =
+    let here : ReadsOn (grammar_of standard options.lanes) before.reading (before.held ++ more) others (batch ∷ []) now.reading now.held paths =
+    subst (λ (g : Grammar). ReadsOn g before.reading (before.held ++ more) others (batch ∷ []) now.reading now.held paths) (grammar_is options before goes) synced.lines_read in
+    record {
+      given = been.given ++ more;
+      asked = been.asked ++ paths;
+      outcomes = been.outcomes ++ others;
+      gave = Consumes-trans left0 left1 left2 been.given more been.gave gave;
+      fetched = fetched_more files f0 f1 f2 been.asked paths been.outcomes others been.fetched fetched;
+      lines_read = reads_more (grammar_of standard options.lanes) (start []) before.reading now.reading been.given more before.held now.held been.outcomes others batches (batch ∷ []) been.asked paths been.lines_read here;
+    }

@@ -1,0 +1,296 @@
+-- The ends of a run, and one batch more.
+use Rattle.std.proofs.Common.{◌≡◌, refl, ap, sym, ◌∙◌, subst, ℕ, ◌+◌, ◌≤◌, ◌⊎◌, inl, inr, List, [], ◌∷◌, ◌++◌, Bool, true, false, length, arith, sum_by, map}
+use Rattle.std.specs.Prelude.{Option, Some, None, Result, Ok, Err, min}
+use Rattle.std.specs.Io.KnownBytes.{Consumes, Appends, IsAtEnd}
+use Rattle.std.proofs.KnownBytes.{Consumes-nil, Consumes-trans, Appends-nil, Appends-trans}
+use Rattle.std.proofs.lemmas.List.{append-nil}
+use Rattle.lake_io.specs.Files as shelf
+use Rattle.lake_model.specs.declared.Counts.{Counts}
+use Rattle.lake_model.specs.Texts.{Text}
+use Rattle.script_model.specs.declared.Reason.{Reason}
+use Rattle.script_model.specs.declared.ScriptLimits.{ScriptLimits}
+use Rattle.script_model.specs.declared.Status.{Status}
+use Rattle.script_model.specs.declared.Status.TheVariants as status
+use Rattle.script_model.specs.Commands.{Command, File, Batch}
+use Rattle.script_model.specs.Reading.{read}
+use Rattle.script_model.specs.Script.{Commands, Whole, FaultAt, commands, commands_with, standard, start}
+use Rattle.script_model.specs.Record.{Options, Answered, RunRecord, plain, empty, with_end}
+use Rattle.script_model.specs.Play.{Lane, answers_of, batch_after, gathered, merges_of, play_batch, updates}
+use Rattle.script_model.specs.Merges.{HasNoMerge, IsOfLanes}
+use Rattle.script_model.specs.Statuses.{left_of, script_of, IsPrefix, IsCutOff}
+use Rattle.script_model.specs.Texts.{answers_text, text_behind}
+use Rattle.script_text.specs.declared.refused.ScriptEnd.{ScriptEnd}
+use Rattle.script_text.specs.declared.refused.ScriptEnd.TheVariants as end
+use Rattle.script_text.specs.Outcomes.{AreFetched}
+use Rattle.script_text.specs.Gathering.{Gathering, gathering_with, ReadsOn, IsSynced, IsWhole, reading_at}
+use Rattle.script_text.specs.Gathers.{Gathers, Taken}
+use Rattle.josie_top.specs.declared.writing.WriteStop.{WriteStop}
+use Rattle.josie_top.specs.declared.writing.WriteStop.TheVariants as stop
+use Rattle.josie_top.specs.Ends.{IsWritten, status_of_end, status_of_stop}
+use Rattle.josie_top.specs.Meets.{Meets}
+use Rattle.josie_top.specs.Progress.{AreRead, AreWritten, IsGoingOn, IsMade, IsUnderWay}
+use Rattle.josie_top.proofs.ReadFacts.{given_before, outcomes_size, fetched_more}
+use Rattle.josie_top.proofs.MadeFacts.{made_start, made_more, made_unended, no_merges, no_piece}
+use Rattle.josie_top.proofs.TextFacts.{text_more}
+use Rattle.josie_top.proofs.RowFacts.{script_front, script_whole, whole_front, meets_between, cut_within, done, cut_at_end, refused, broken_off, read_synced}
+
+-- ---- the start
+
+-- Nothing was read, answered or written.
+pub starts : (limits : Counts) (options : Options) (left written : Option (List ℕ)) (files : Option (List shelf.File)) (faults : ℕ) (gathering : Gathering) (made : RunRecord) (lanes : ℕ)
+    → gathering ≡ gathering_with (start []) [] false standard lanes → lanes ≡ options.lanes → made ≡ empty options → IsUnderWay limits options left left written written files faults faults gathering made
+unfolding read
+starts limits options left written files faults gathering made lanes gathers are is =
+    subst (λ (g : Gathering). IsUnderWay limits options left left written written files faults faults g made) (sym gathers)
+    (subst (IsUnderWay limits options left left written written files faults faults (gathering_with (start []) [] false standard lanes)) (sym is) (record {
+      batches = [];
+      been = record { given = []; asked = []; outcomes = []; gave = Consumes-nil left; fetched = record { each = tt; failed = none_failed faults _ }; lines_read = record { lines = []; whole = tt; cut = refl; reads = λ later. refl } };
+      goes = record { limits_are = refl; lanes_are = are; within = omega arith };
+      is_made = made_start limits options;
+      writ = record { taken = []; took = Appends-nil written; text_is = refl };
+    }))
+  where
+    none_failed : (n top : ℕ) → min (n + 0) top ≤ n
+    none_failed n top = omega arith
+
+-- ---- the end of the input
+
+-- All batches were answered and written, and the rest of the text as this status has it.
+finished : (limits : Counts) (options : Options) (ends : Status) (left0 left2 written0 written1 written2 : Option (List ℕ)) (files : Option (List shelf.File)) (f0 f2 : ℕ) (given : List ℕ) (outcomes : List File) (asked : List Text) (batches : List Batch) (made now : RunRecord)
+    → Consumes left0 left2 given → IsAtEnd left2 → AreFetched files f0 f2 asked outcomes → script_of options outcomes given left2 ≡ commands_with batches Whole asked → options.merge ≡ false
+    → IsMade limits options batches made → (writ : AreWritten options written0 written1 made) → now ≡ with_end true made → IsWritten ends written1 written2 (text_behind options.trace (length made.answers) (with_end true made))
+    → Meets limits options ends left0 left2 written0 written2 files f0 f2 now
+finished limits options status.Done left0 left2 written0 written1 written2 files f0 f2 given outcomes asked batches made now gave at_end fetched script off is writ closed all =
+    subst (Meets limits options status.Done left0 left2 written0 written2 files f0 f2) (sym closed) (record {
+      given = given;
+      taken = writ.taken ++ text_behind options.trace (length made.answers) (with_end true made);
+      outcomes = outcomes;
+      gave = gave;
+      took = Appends-trans written0 written1 written2 writ.taken _ writ.took all;
+      row = done limits options (λ paths. AreFetched files f0 f2 paths outcomes) _ left2 batches asked made writ.taken script fetched off at_end is writ.text_is;
+    })
+finished limits options status.WriteFault left0 left2 written0 written1 written2 files f0 f2 given outcomes asked batches made now gave at_end fetched script off is writ closed (part, beginning, took) =
+    subst (Meets limits options status.WriteFault left0 left2 written0 written2 files f0 f2) (sym closed) (record {
+      given = given;
+      taken = writ.taken ++ part;
+      outcomes = outcomes;
+      gave = gave;
+      took = Appends-trans written0 written1 written2 writ.taken part writ.took took;
+      row = cut_at_end limits options outcomes (λ paths. AreFetched files f0 f2 paths outcomes) _ left2 batches asked made writ.taken part script (outcomes_size files asked outcomes fetched.each) fetched off at_end is writ.text_is beginning;
+    })
+finished limits options status.NoMemory left0 left2 written0 written1 written2 files f0 f2 given outcomes asked batches made now gave at_end fetched script off is writ closed (part, beginning, took) =
+    subst (Meets limits options status.NoMemory left0 left2 written0 written2 files f0 f2) (sym closed) (record {
+      given = given;
+      taken = writ.taken ++ part;
+      outcomes = outcomes;
+      gave = gave;
+      took = Appends-trans written0 written1 written2 writ.taken part writ.took took;
+      row = inr (cut_at_end limits options outcomes (λ paths. AreFetched files f0 f2 paths outcomes) _ left2 batches asked made writ.taken part script (outcomes_size files asked outcomes fetched.each) fetched off at_end is writ.text_is beginning);
+    })
+finished limits options status.Usage left0 left2 written0 written1 written2 files f0 f2 given outcomes asked batches made now gave at_end fetched script off is writ closed none = absurd none
+finished limits options status.ReadFault left0 left2 written0 written1 written2 files f0 f2 given outcomes asked batches made now gave at_end fetched script off is writ closed none = absurd none
+finished limits options (status.Script line why) left0 left2 written0 written1 written2 files f0 f2 given outcomes asked batches made now gave at_end fetched script off is writ closed none = absurd none
+
+-- The input ended behind a `sync`, or behind no command.
+pub ends_without : (limits : Counts) (options : Options) (ends : Status) (left0 left1 left2 written0 written1 written2 : Option (List ℕ)) (files : Option (List shelf.File)) (f0 f1 f2 : ℕ) (before after : Gathering) (made now : RunRecord)
+    → options.merge ≡ false → IsUnderWay limits options left0 left1 written0 written1 files f0 f1 before made → (took : Taken left1 left2 files f1 f2) → IsWhole before after left2 took.given took.asked took.outcomes []
+    → now ≡ with_end true made → IsWritten ends written1 written2 (text_behind options.trace (length made.answers) (with_end true made))
+    → Meets limits options ends left0 left2 written0 written2 files f0 f2 now
+ends_without limits options ends left0 left1 left2 written0 written1 written2 files f0 f1 f2 before after made now off way took whole closed rest =
+    let script : script_of options (way.been.outcomes ++ took.outcomes) (way.been.given ++ took.given) left2 ≡ commands_with (way.batches ++ []) Whole (way.been.asked ++ took.asked) =
+    script_whole options left0 left1 left2 files f0 f1 before after way.batches [] took.given took.asked took.outcomes way.been way.goes whole in
+    finished limits options ends left0 left2 written0 written1 written2 files f0 f2 (way.been.given ++ took.given) (way.been.outcomes ++ took.outcomes) (way.been.asked ++ took.asked) way.batches made now
+    (Consumes-trans left0 left1 left2 way.been.given took.given way.been.gave took.gave) whole.at_end
+    (fetched_more files f0 f1 f2 way.been.asked took.asked way.been.outcomes took.outcomes way.been.fetched took.fetched)
+    (script ∙ ap (λ (b : List Batch). commands_with b Whole (way.been.asked ++ took.asked)) (append-nil way.batches)) off way.is_made way.writ closed rest
+
+-- ---- one batch more
+
+-- a batch adds answers behind those that were there
+pub record Adds (before now : RunRecord) : Type 0 where
+  pub new : List Answered
+  pub are : now.answers ≡ before.answers ++ new
+
+pub batch_adds : (limits : Counts) (lanes : ℕ) (batch : Batch) (merges : List Command) (piece : List ℕ) (turns : List Bool) (before now : RunRecord) → now ≡ batch_after limits lanes batch merges piece turns before → Adds before now
+batch_adds limits lanes batch merges piece turns before now is = record {
+  new = answers_of (gathered (batch ++ merges) (map (λ (lane : Lane). lane.done) (play_batch limits lanes batch merges piece turns before.journal).lanes));
+  are = ap (λ (m : RunRecord). m.answers) is;
+}
+
+-- the record and the text of one batch more
+pub batch_made : (limits : Counts) (options : Options) (batches : List Batch) (before now : RunRecord) (batch : Batch) (lanes : ℕ) (turns : List Bool) → options.merge ≡ false → options.order ≡ None → lanes ≡ options.lanes
+    → IsMade limits options batches before → IsOfLanes lanes batch → HasNoMerge batch → now ≡ batch_after limits lanes batch (merges_of None batch) [] turns before → IsMade limits options (batches ++ batch ∷ []) now
+batch_made limits options batches before now batch lanes turns off unordered are is of_lanes none after =
+    made_more limits options batches before now batch [] [] turns is (after ∙ ap (λ (l : ℕ). batch_after limits l batch [] [] turns before) are)
+    (no_merges options.merge (1 + sum_by updates batches) batch off) (no_piece options.order (length batches) unordered) (subst (λ (l : ℕ). IsOfLanes l batch) are of_lanes) none
+
+pub batch_written : (limits : Counts) (options : Options) (written0 written1 written2 : Option (List ℕ)) (batches : List Batch) (before now : RunRecord) (new : List Answered) → AreWritten options written0 written1 before → IsMade limits options batches now
+    → now.answers ≡ before.answers ++ new → Appends written1 written2 (text_behind options.trace (length before.answers) now) → AreWritten options written0 written2 now
+batch_written limits options written0 written1 written2 batches before now new writ is are took =
+    let text : List ℕ = text_behind options.trace (length before.answers) now in
+    record {
+      taken = writ.taken ++ text;
+      took = Appends-trans written0 written1 written2 writ.taken text writ.took took;
+      text_is = ap (λ (t : List ℕ). t ++ text) writ.text_is ∙ sym (text_more options.trace before now new are (made_unended limits options batches now is));
+    }
+
+goes_on : (options : Options) (before now : Gathering) → IsGoingOn options before → now.limits ≡ before.limits → now.lanes ≡ before.lanes → now.reading.used ≤ now.limits.input → IsGoingOn options now
+goes_on options before now goes limits_are lanes_are within = record { limits_are = limits_are ∙ goes.limits_are; lanes_are = lanes_are ∙ goes.lanes_are; within = within }
+
+not_whole : (before now : Gathering) (left : Option (List ℕ)) (given : List ℕ) (asked : List Text) (outcomes : List File) (batch : Batch) → now.ended ≡ false
+    → IsSynced before now given asked outcomes batch ⊎ IsWhole before now left given asked outcomes (batch ∷ []) → IsSynced before now given asked outcomes batch
+not_whole before now left given asked outcomes batch on (inl synced) = synced
+not_whole before now left given asked outcomes batch on (inr whole) = absurd (let no : true ≡ false = sym whole.ended ∙ on in cc)
+
+not_synced : (before now : Gathering) (left : Option (List ℕ)) (given : List ℕ) (asked : List Text) (outcomes : List File) (batch : Batch) → now.ended ≡ true
+    → IsSynced before now given asked outcomes batch ⊎ IsWhole before now left given asked outcomes (batch ∷ []) → IsWhole before now left given asked outcomes (batch ∷ [])
+not_synced before now left given asked outcomes batch off (inr whole) = whole
+not_synced before now left given asked outcomes batch off (inl synced) = absurd (let no : true ≡ false = sym off ∙ synced.goes_on in cc)
+
+-- The batch was answered and written, and the gatherer goes on.
+pub one_more : (limits : Counts) (options : Options) (left0 left1 left2 written0 written1 written2 : Option (List ℕ)) (files : Option (List shelf.File)) (f0 f1 f2 : ℕ) (before after : Gathering) (made now : RunRecord) (batch : Batch) (new : List Answered)
+    → (way : IsUnderWay limits options left0 left1 written0 written1 files f0 f1 before made) → (took : Taken left1 left2 files f1 f2) → after.ended ≡ false
+    → IsSynced before after took.given took.asked took.outcomes batch ⊎ IsWhole before after left2 took.given took.asked took.outcomes (batch ∷ [])
+    → after.limits ≡ before.limits → after.lanes ≡ before.lanes → after.reading.used ≤ after.limits.input
+    → IsMade limits options (way.batches ++ batch ∷ []) now → now.answers ≡ made.answers ++ new → Appends written1 written2 (text_behind options.trace (length made.answers) now)
+    → IsUnderWay limits options left0 left2 written0 written2 files f0 f2 after now
+one_more limits options left0 left1 left2 written0 written1 written2 files f0 f1 f2 before after made now batch new way took on gathered limits_are lanes_are within is are written = record {
+  batches = way.batches ++ batch ∷ [];
+  been = read_synced options left0 left1 left2 files f0 f1 f2 before after way.batches batch took.given took.asked took.outcomes way.been way.goes took.gave took.fetched
+      (not_whole before after left2 took.given took.asked took.outcomes batch on gathered);
+  goes = goes_on options before after way.goes limits_are lanes_are within;
+  is_made = is;
+  writ = batch_written limits options written0 written1 written2 (way.batches ++ batch ∷ []) made now new way.writ is are written;
+}
+
+-- The last batch was answered and written.
+pub ends_with : (limits : Counts) (options : Options) (ends : Status) (left0 left1 left2 written0 written1 written2 written3 : Option (List ℕ)) (files : Option (List shelf.File)) (f0 f1 f2 : ℕ) (before after : Gathering) (made mid now : RunRecord) (batch : Batch) (new : List Answered)
+    → options.merge ≡ false → (way : IsUnderWay limits options left0 left1 written0 written1 files f0 f1 before made) → (took : Taken left1 left2 files f1 f2) → after.ended ≡ true
+    → IsSynced before after took.given took.asked took.outcomes batch ⊎ IsWhole before after left2 took.given took.asked took.outcomes (batch ∷ [])
+    → IsMade limits options (way.batches ++ batch ∷ []) mid → mid.answers ≡ made.answers ++ new → Appends written1 written2 (text_behind options.trace (length made.answers) mid)
+    → now ≡ with_end true mid → IsWritten ends written2 written3 (text_behind options.trace (length mid.answers) (with_end true mid))
+    → Meets limits options ends left0 left2 written0 written3 files f0 f2 now
+ends_with limits options ends left0 left1 left2 written0 written1 written2 written3 files f0 f1 f2 before after made mid now batch new off way took last gathered is are written closed rest =
+    let whole = not_synced before after left2 took.given took.asked took.outcomes batch last gathered in
+    finished limits options ends left0 left2 written0 written2 written3 files f0 f2 (way.been.given ++ took.given) (way.been.outcomes ++ took.outcomes) (way.been.asked ++ took.asked) (way.batches ++ batch ∷ []) mid now
+    (Consumes-trans left0 left1 left2 way.been.given took.given way.been.gave took.gave) whole.at_end
+    (fetched_more files f0 f1 f2 way.been.asked took.asked way.been.outcomes took.outcomes way.been.fetched took.fetched)
+    (script_whole options left0 left1 left2 files f0 f1 before after way.batches (batch ∷ []) took.given took.asked took.outcomes way.been way.goes whole) off is
+    (batch_written limits options written0 written1 written2 (way.batches ++ batch ∷ []) made mid new way.writ is are written) closed rest
+
+-- ---- ends within a batch
+
+-- what the whole script begins with, behind one batch more
+record Begins (options : Options) (outcomes : List File) (given : List ℕ) (left : Option (List ℕ)) (batches : List Batch) (asked : List Text) : Type 0 where
+  pub rest : Commands
+  pub is : script_of options outcomes given left ≡ given_before batches asked rest
+
+begins : (limits : Counts) (options : Options) (left0 left1 left2 written0 written1 : Option (List ℕ)) (files : Option (List shelf.File)) (f0 f1 f2 : ℕ) (before after : Gathering) (made : RunRecord) (batch : Batch)
+    → (way : IsUnderWay limits options left0 left1 written0 written1 files f0 f1 before made) → (took : Taken left1 left2 files f1 f2) → after.limits ≡ before.limits → after.lanes ≡ before.lanes → after.reading.used ≤ after.limits.input
+    → IsSynced before after took.given took.asked took.outcomes batch ⊎ IsWhole before after left2 took.given took.asked took.outcomes (batch ∷ [])
+    → Begins options (way.been.outcomes ++ took.outcomes) (way.been.given ++ took.given) left2 (way.batches ++ batch ∷ []) (way.been.asked ++ took.asked)
+unfolding read_synced
+begins limits options left0 left1 left2 written0 written1 files f0 f1 f2 before after made batch way took limits_are lanes_are within (inl synced) =
+    let been = read_synced options left0 left1 left2 files f0 f1 f2 before after way.batches batch took.given took.asked took.outcomes way.been way.goes took.gave took.fetched synced in
+    let front = script_front options left0 left2 left2 files f0 f2 after (way.batches ++ batch ∷ []) been (goes_on options before after way.goes limits_are lanes_are within) [] [] in
+    record {
+      rest = _;
+      is = ap (λ (o : List File). script_of options o (way.been.given ++ took.given) left2) (sym (append-nil (way.been.outcomes ++ took.outcomes)))
+          ∙ ap (λ (b : List ℕ). script_of options ((way.been.outcomes ++ took.outcomes) ++ []) b left2) (sym (append-nil (way.been.given ++ took.given))) ∙ front;
+    }
+begins limits options left0 left1 left2 written0 written1 files f0 f1 f2 before after made batch way took limits_are lanes_are within (inr whole) = record {
+  rest = commands_with [] Whole [];
+  is = whole_front _ (way.batches ++ batch ∷ []) (way.been.asked ++ took.asked)
+      (script_whole options left0 left1 left2 files f0 f1 before after way.batches (batch ∷ []) took.given took.asked took.outcomes way.been way.goes whole);
+}
+
+-- a run that is cut off, by why its text is not written whole
+cut_meets : (limits : Counts) (options : Options) (why : WriteStop) (left0 left2 written0 written2 : Option (List ℕ)) (files : Option (List shelf.File)) (f0 f2 : ℕ) (now : RunRecord) (given taken : List ℕ) (outcomes : List File)
+    → Consumes left0 left2 given → Appends written0 written2 taken → IsCutOff limits options outcomes (λ paths. AreFetched files f0 f2 paths outcomes) (script_of options outcomes given left2) left2 taken now
+    → Meets limits options (status_of_stop why) left0 left2 written0 written2 files f0 f2 now
+cut_meets limits options stop.Failed left0 left2 written0 written2 files f0 f2 now given taken outcomes gave wrote row = record { given = given; taken = taken; outcomes = outcomes; gave = gave; took = wrote; row = row }
+cut_meets limits options stop.NoMemory left0 left2 written0 written2 files f0 f2 now given taken outcomes gave wrote row = record { given = given; taken = taken; outcomes = outcomes; gave = gave; took = wrote; row = inr row }
+
+-- The batch was answered, but its text not written whole.
+pub ends_writing : (limits : Counts) (options : Options) (why : WriteStop) (left0 left1 left2 written0 written1 written2 : Option (List ℕ)) (files : Option (List shelf.File)) (f0 f1 f2 : ℕ) (before after : Gathering) (made now : RunRecord) (batch : Batch) (new : List Answered) (part : List ℕ)
+    → options.merge ≡ false → (way : IsUnderWay limits options left0 left1 written0 written1 files f0 f1 before made) → (took : Taken left1 left2 files f1 f2) → after.limits ≡ before.limits → after.lanes ≡ before.lanes → after.reading.used ≤ after.limits.input
+    → IsSynced before after took.given took.asked took.outcomes batch ⊎ IsWhole before after left2 took.given took.asked took.outcomes (batch ∷ [])
+    → IsMade limits options (way.batches ++ batch ∷ []) now → now.answers ≡ made.answers ++ new → IsPrefix part (text_behind options.trace (length made.answers) now) → Appends written1 written2 part
+    → Meets limits options (status_of_stop why) left0 left2 written0 written2 files f0 f2 now
+ends_writing limits options why left0 left1 left2 written0 written1 written2 files f0 f1 f2 before after made now batch new part off way took limits_are lanes_are within gathered is are beginning written =
+    let script = begins limits options left0 left1 left2 written0 written1 files f0 f1 f2 before after made batch way took limits_are lanes_are within gathered in
+    let fetched = fetched_more files f0 f1 f2 way.been.asked took.asked way.been.outcomes took.outcomes way.been.fetched took.fetched in
+    cut_meets limits options why left0 left2 written0 written2 files f0 f2 now (way.been.given ++ took.given) (way.writ.taken ++ part) (way.been.outcomes ++ took.outcomes)
+    (Consumes-trans left0 left1 left2 way.been.given took.given way.been.gave took.gave) (Appends-trans written0 written1 written2 way.writ.taken part way.writ.took written)
+    (cut_within limits options (way.been.outcomes ++ took.outcomes) (λ paths. AreFetched files f0 f2 paths (way.been.outcomes ++ took.outcomes)) _ script.rest left2 made now new way.batches batch (way.been.asked ++ took.asked) way.writ.taken part
+      script.is (outcomes_size files (way.been.asked ++ took.asked) (way.been.outcomes ++ took.outcomes) fetched.each) fetched off way.is_made is are way.writ.text_is beginning)
+
+-- Memory was wanting between two batches.
+pub ends_between : (limits : Counts) (options : Options) (left0 left1 left2 written0 written1 : Option (List ℕ)) (files : Option (List shelf.File)) (f0 f1 f2 : ℕ) (before : Gathering) (made : RunRecord) (given : List ℕ)
+    → options.merge ≡ false → IsUnderWay limits options left0 left1 written0 written1 files f0 f1 before made → Consumes left1 left2 given → f1 ≤ f2
+    → Meets limits options status.NoMemory left0 left2 written0 written1 files f0 f2 made
+ends_between limits options left0 left1 left2 written0 written1 files f0 f1 f2 before made given off way gave later =
+    meets_between limits options left0 left1 left2 written0 written1 files f0 f1 f2 before way.batches made given off way.been way.goes way.is_made way.writ gave later
+
+-- The gatherer gave no batch.
+pub ends_gathering : (limits : Counts) (options : Options) (why : ScriptEnd) (left0 left1 left2 written0 written1 : Option (List ℕ)) (files : Option (List shelf.File)) (f0 f1 f2 : ℕ) (before after : Gathering) (made : RunRecord)
+    → options.merge ≡ false → IsUnderWay limits options left0 left1 written0 written1 files f0 f1 before made → (took : Taken left1 left2 files f1 f2) → Gathers (Err why) before after left2 took.given took.asked took.outcomes → f1 ≤ f2
+    → Meets limits options (status_of_end why) left0 left2 written0 written1 files f0 f2 made
+ends_gathering limits options (end.Script line why) left0 left1 left2 written0 written1 files f0 f1 f2 before after made off way took faulty later = record {
+  given = way.been.given ++ took.given;
+  taken = way.writ.taken;
+  outcomes = way.been.outcomes ++ took.outcomes;
+  gave = Consumes-trans left0 left1 left2 way.been.given took.given way.been.gave took.gave;
+  took = way.writ.took;
+  row = refused limits options left0 left1 left2 files f0 f1 f2 before way.batches made way.writ.taken took.given took.asked took.outcomes line why off way.been way.goes way.is_made way.writ.text_is took.fetched faulty;
+}
+ends_gathering limits options end.ReadFault left0 left1 left2 written0 written1 files f0 f1 f2 before after made off way took unfinished later = record {
+  given = way.been.given ++ took.given;
+  taken = way.writ.taken;
+  outcomes = way.been.outcomes ++ took.outcomes;
+  gave = Consumes-trans left0 left1 left2 way.been.given took.given way.been.gave took.gave;
+  took = way.writ.took;
+  row = broken_off limits options left0 left1 files f0 f1 f2 before way.batches made way.writ.taken took.given took.asked took.outcomes off way.been way.goes way.is_made way.writ.text_is took.fetched unfinished;
+}
+ends_gathering limits options end.NoMemory left0 left1 left2 written0 written1 files f0 f1 f2 before after made off way took nothing later =
+    ends_between limits options left0 left1 left2 written0 written1 files f0 f1 f2 before made took.given off way took.gave later
+
+-- ---- completeness
+
+whole_input : (before now : Option (List ℕ)) (given script : List ℕ) → Consumes before now given → before ≡ Some script → script ≡ given ++ left_of now
+whole_input None now given script gave told = absurd (let no : None ≡ Some script = told in cc)
+whole_input (Some xs) None given script gave told = absurd gave
+whole_input (Some xs) (Some ys) given script gave told = let same : xs ≡ script = same_some told in sym same ∙ gave
+  where
+    same_some : {x y : List ℕ} → Some x ≡ Some y → x ≡ y
+    same_some h = ap (λ (o : Option (List ℕ)). left_of o) h
+
+-- A script without a fault is not refused.
+pub not_refused : (limits : Counts) (options : Options) (line : ℕ) (why : Reason) (left0 left1 written0 written1 : Option (List ℕ)) (files : Option (List shelf.File)) (f0 f1 : ℕ) (made : RunRecord) (script : List ℕ)
+    → Meets limits options (status.Script line why) left0 left1 written0 written1 files f0 f1 made → left0 ≡ Some script → ((outcomes : List File) → (commands standard options.lanes script outcomes).end ≡ Whole) → ⊥
+not_refused limits options line why left0 left1 written0 written1 files f0 f1 made script met told whole =
+    let input = whole_input left0 left1 met.given script met.gave told in
+    let no : FaultAt line why ≡ Whole = sym met.row.fault ∙ ap (λ (bytes : List ℕ). (commands standard options.lanes bytes met.outcomes).end) (sym input) ∙ whole met.outcomes in cc
+
+-- ---- which end gives which status
+
+pub end_read : (why : ScriptEnd) → status_of_end why ≡ status.ReadFault → why ≡ end.ReadFault
+end_read (end.Script line reason) is = absurd (let no : status.Script line reason ≡ status.ReadFault = is in cc)
+end_read end.ReadFault is = refl
+end_read end.NoMemory is = absurd (let no : status.NoMemory ≡ status.ReadFault = is in cc)
+
+pub stop_failed : (why : WriteStop) → status_of_stop why ≡ status.WriteFault → why ≡ stop.Failed
+stop_failed stop.Failed is = refl
+stop_failed stop.NoMemory is = absurd (let no : status.NoMemory ≡ status.WriteFault = is in cc)
+
+-- ---- nothing done
+
+-- Memory was wanting before anything was read.
+pub nothing_done : (limits : Counts) (options : Options) (left written : Option (List ℕ)) (files : Option (List shelf.File)) (faults : ℕ) (made : RunRecord) → made ≡ empty plain
+    → Meets limits options status.NoMemory left left written written files faults faults made
+nothing_done limits options left written files faults made is = record { given = []; taken = []; outcomes = []; gave = Consumes-nil left; took = Appends-nil written; row = inl (refl, is) }
+
+-- The words are refused.
+pub nothing_asked : (limits : Counts) (options : Options) (left written : Option (List ℕ)) (files : Option (List shelf.File)) (faults : ℕ) (made : RunRecord) → made ≡ empty plain
+    → Meets limits options status.Usage left left written written files faults faults made
+nothing_asked limits options left written files faults made is = record { given = []; taken = []; outcomes = []; gave = Consumes-nil left; took = Appends-nil written; row = (refl, (refl, is)) }

@@ -1,0 +1,28 @@
+-- The status of a run whose gatherer gives no batch, and of one whose text is not written whole.
+use Rattle.std.specs.Prelude.{ℕ, List, Option}
+use Rattle.std.specs.Io.KnownBytes.{Appends}
+use Rattle.script_model.specs.Statuses.{IsPrefix}
+use Rattle.script_model.specs.declared.Status.{Status}
+use Rattle.script_model.specs.declared.Status.TheVariants as status
+use Rattle.script_text.specs.declared.refused.ScriptEnd.{ScriptEnd}
+use Rattle.script_text.specs.declared.refused.ScriptEnd.TheVariants as end
+use Rattle.josie_top.specs.declared.writing.WriteStop.{WriteStop}
+use Rattle.josie_top.specs.declared.writing.WriteStop.TheVariants as stop
+
+abbrev pub status_of_end : ScriptEnd → Status
+status_of_end (end.Script line reason) = status.Script line reason
+status_of_end end.ReadFault = status.ReadFault
+status_of_end end.NoMemory = status.NoMemory
+
+abbrev pub status_of_stop : WriteStop → Status
+status_of_stop stop.Failed = status.WriteFault
+status_of_stop stop.NoMemory = status.NoMemory
+
+-- what was written of a text, by the status
+abbrev pub IsWritten : Status → Option (List ℕ) → Option (List ℕ) → List ℕ → Type 0
+IsWritten status.Done before now text = Appends before now text
+IsWritten (status.Script line reason) before now text = ⊥
+IsWritten status.Usage before now text = ⊥
+IsWritten status.ReadFault before now text = ⊥
+IsWritten status.WriteFault before now text = (part : List ℕ) × IsPrefix part text × Appends before now part
+IsWritten status.NoMemory before now text = (part : List ℕ) × IsPrefix part text × Appends before now part

@@ -1,0 +1,52 @@
+-- How far a run is: what it has read, answered and written between two batches.
+use Rattle.std.specs.Prelude.{ℕ, ◌+◌, ◌≡◌, ◌≤◌, Bool, false, List, [], ◌∷◌, ◌++◌, length, sum_by, Option}
+use Rattle.std.specs.List.{AllByRecursion}
+use Rattle.std.specs.Io.KnownBytes.{Consumes, Appends}
+use Rattle.lake_io.specs.Files as shelf
+use Rattle.lake_model.specs.declared.Counts.{Counts}
+use Rattle.lake_model.specs.Texts.{Text}
+use Rattle.script_model.specs.Commands.{File, Batch}
+use Rattle.script_model.specs.Script.{grammar_of, standard, start}
+use Rattle.script_model.specs.Record.{Options, RunRecord, empty}
+use Rattle.script_model.specs.Play.{played_from, pieces_of}
+use Rattle.script_model.specs.Merges.{HasNoMerge, IsOfLanes}
+use Rattle.script_model.specs.Texts.{answers_text}
+use Rattle.script_text.specs.Outcomes.{AreFetched}
+use Rattle.script_text.specs.Gathering.{Gathering, ReadsOn}
+
+-- The record was made of these batches, one played behind another, and the source is not at its end.
+pub record IsMade (limits : Counts) (options : Options) (batches : List Batch) (made : RunRecord) : Type 0 where
+  pub denials : List (List Bool)
+  pub size : length denials ≡ length batches
+  pub played : made ≡ played_from limits options.lanes options.merge 1 batches (pieces_of options.order) denials (empty options)
+  pub lanes : AllByRecursion (IsOfLanes options.lanes) batches
+  pub merges : AllByRecursion HasNoMerge batches
+
+-- The gatherer is of these options, and goes on.
+pub record IsGoingOn (options : Options) (gathering : Gathering) : Type 0 where
+  pub limits_are : gathering.limits ≡ standard
+  pub lanes_are : gathering.lanes ≡ options.lanes
+  pub within : gathering.reading.used ≤ gathering.limits.input
+
+-- The batches were read from what the source gave, and stand in no fault.
+pub record AreRead (options : Options) (left_before left_now : Option (List ℕ)) (files : Option (List shelf.File)) (faults_before faults_now : ℕ) (gathering : Gathering) (batches : List Batch) : Type 0 where
+  pub given : List ℕ
+  pub asked : List Text
+  pub outcomes : List File
+  pub gave : Consumes left_before left_now given
+  pub fetched : AreFetched files faults_before faults_now asked outcomes
+  pub lines_read : ReadsOn (grammar_of standard options.lanes) (start []) given outcomes batches gathering.reading gathering.held asked
+
+-- Their answers were written.
+pub record AreWritten (options : Options) (written_before written_now : Option (List ℕ)) (made : RunRecord) : Type 0 where
+  pub taken : List ℕ
+  pub took : Appends written_before written_now taken
+  pub text_is : taken ≡ answers_text options.trace made.answers
+
+-- A run between two batches.
+pub record IsUnderWay (limits : Counts) (options : Options) (left_before left_now written_before written_now : Option (List ℕ)) (files : Option (List shelf.File)) (faults_before faults_now : ℕ) (gathering : Gathering) (made : RunRecord) : Type 0 where
+  pub batches : List Batch
+  pub been : AreRead options left_before left_now files faults_before faults_now gathering batches
+  pub goes : IsGoingOn options gathering
+  pub is_made : IsMade limits options batches made
+  pub writ : AreWritten options written_before written_now made

@@ -1,0 +1,68 @@
+//! The text of a journal: how many entries it has, and a line for each.
+ghost use Rattle.std.specs.Prelude.{◌≡◌, ◌++◌, ◌∷◌, [], codes, decimal, flat_map, map, OnOk};
+ghost use Rattle.std.specs.List.{enumerate_from};
+ghost use Rattle.script_model.specs.Texts.{command_text, entry_line, journal_lines, line_text, spaced};
+ghost use Rattle.reply_text.specs.Keeping.{Keeps};
+
+use crate::words::Word::{Command, Number, Text};
+use crate::words::{push_bytes, push_line, push_number};
+use catalogue::{Entry, What};
+use column_set::Name;
+use lake_model::Who;
+use no_memory::NoMemory;
+
+// `  P WHAT lane C command N NAME`
+fn push_update<'a>(
+    position: u64,
+    what: &'a str,
+    who: Who,
+    name: &'a Name,
+    into: &mut Vec<u8>,
+) -> Result<(), NoMemory>
+    ensures ok { OnOk result (into.new.items ≡ into.old.items ++ line_text (codes "  " ++ spaced (decimal position ∷ what.now ∷ codes "lane" ∷ decimal who.caller ∷ codes "command" ∷ command_text who ∷ name.now ∷ []))) }
+    ensures kept { Keeps into.old.items into.new.items }
+{
+    let words = [
+        Text(what),
+        Text("lane"),
+        Number(u64::from(who.caller)),
+        Text("command"),
+        Command(who),
+        Text(name.text()),
+    ];
+    push_line("  ", position, &words, into)
+}
+
+// The line of the entry at a position.
+fn push_entry(position: u64, entry: &Entry, into: &mut Vec<u8>) -> Result<(), NoMemory>
+    ensures ok { OnOk result (into.new.items ≡ into.old.items ++ line_text (entry_line (position, entry.now))) }
+    ensures kept { Keeps into.old.items into.new.items }
+{
+    match &entry.what {
+        What::Loaded(table) => push_update(position, "load", entry.who, table.table().name(), into),
+        What::Dropped(name) => push_update(position, "drop", entry.who, name, into),
+    }
+}
+
+// The lines of entries, of which the first is at position 1.
+fn push_entries(entries: &[Entry], into: &mut Vec<u8>) -> Result<(), NoMemory>
+    ensures ok { OnOk result (into.new.items ≡ into.old.items ++ flat_map line_text (map entry_line (enumerate_from 1 entries.now))) }
+    ensures kept { Keeps into.old.items into.new.items }
+{
+    for (index, entry) in entries.iter().enumerate() {
+        push_entry(index as u64 + 1, entry, into)?;
+    }
+    Ok(())
+}
+
+/// Appends the text of a journal: `journal L` for its L entries, and for each a line with its position, `load` or `drop`, the lane
+/// and the command that made it, and the name of the table.
+pub fn push_journal(entries: &[Entry], into: &mut Vec<u8>) -> Result<(), NoMemory>
+    ensures ok { OnOk result (into.new.items ≡ into.old.items ++ flat_map line_text (journal_lines entries.now)) }
+    ensures kept { Keeps into.old.items into.new.items }
+{
+    push_bytes(b"journal ", into)?;
+    push_number(entries.len() as u64, into)?;
+    push_bytes(b"\n", into)?;
+    push_entries(entries, into)
+}

@@ -1,0 +1,80 @@
+//! The columns of tables, with the numbers of their members.
+ghost use Rattle.std.specs.Prelude.{◌≡◌, ◌<◌, ◌^◌, length, IfOk, OnOk};
+ghost use Rattle.std.specs.List.{All};
+ghost use Rattle.column_set.specs.Columns.{HasDistinctKeys};
+ghost use Rattle.search_model.specs.Arrays.{table_at};
+ghost use Rattle.token_order.specs.Columns.{keys_through, AreColumns, AreMoreColumns};
+ghost use Rattle.token_order.specs.Places.{keys_in, keys_of};
+
+use column_set::{SharedTable, TableSets};
+use no_memory::NoMemory;
+use std::alloc::Global;
+
+/// A column: the index of its table in a list of tables, from 0, its place there, from 1, and the number of its first member among the
+/// members of all columns, by table, place and index, from 0.
+#[derive(Clone, Copy)]
+pub struct ColumnAt {
+    pub table: u32,
+    pub place: u32,
+    pub first: u32,
+}
+
+/// The columns of the tables, by table, and then by place. They are refused for want of memory where there are 2^32 tables, columns or
+/// members, or more.
+pub fn all_columns(alloc: Global, tables: &[SharedTable]) -> Result<Vec<ColumnAt>, NoMemory>
+    ensures columns { IfOk result (λ columns. AreColumns tables.now columns.items) }
+    ensures keys { IfOk result (λ columns. keys_through tables.now columns.items ≡ keys_of tables.now) }
+    ensures few { IfOk result (λ columns. length columns.items < 2 ^ 32) }
+    ensures different { OnOk result (All HasDistinctKeys tables.now) }
+{
+    if tables.len() > 0xFFFF_FFFF {
+        return Err(NoMemory);
+    }
+    let mut columns = Vec::new(alloc);
+    let mut first = 0u32;
+    for table in 0..tables.len() as u32 {
+        first = push_columns(&mut columns, tables, table, first)?;
+    }
+    if columns.len() > 0xFFFF_FFFF {
+        return Err(NoMemory);
+    }
+    Ok(columns)
+}
+
+// Adds the columns of a table, and gives the number of the first member behind them.
+fn push_columns(
+    columns: &mut Vec<ColumnAt>,
+    tables: &[SharedTable],
+    table: u32,
+    first: u32,
+) -> Result<u32, NoMemory>
+    requires table { table < length tables.now }
+    requires columns { AreColumns tables.now columns.old.items }
+    requires first { first ≡ length (keys_through tables.now columns.old.items) }
+    ensures more { IfOk result (λ next. AreMoreColumns tables.now columns.old.items columns.new.items (keys_in (table_at tables.now table)) next) }
+    ensures different { OnOk result (HasDistinctKeys (table_at tables.now table)) }
+{
+    let sets = table_of(tables, table);
+    let mut first = first;
+    for i in 0..sets.columns() {
+        let place = i + 1;
+        columns.push(ColumnAt {
+            table,
+            place,
+            first,
+        })?;
+        let Some(next) = first.checked_add(sets.size(place)) else {
+            return Err(NoMemory);
+        };
+        first = next;
+    }
+    Ok(first)
+}
+
+/// The table of a number.
+pub fn table_of(tables: &[SharedTable], number: u32) -> &TableSets
+    requires { number < length tables.now }
+    ensures { result.now ≡ table_at tables.now number }
+{
+    tables[number as usize].table()
+}

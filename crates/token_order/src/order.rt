@@ -1,0 +1,77 @@
+//! The runs of members in the order of tokens.
+ghost use Rattle.std.specs.Prelude.{◌≡◌, ◌<◌, ◌^◌, length, map, sum_by, IfOk};
+ghost use Rattle.lake_model.specs.Tables.{members};
+ghost use Rattle.token_order.specs.Counted.{AreNumbers, ArePlaces};
+ghost use Rattle.token_order.specs.Runs.{run_at};
+ghost use Rattle.token_order.specs.Vocabulary.{IsVocabulary};
+
+use crate::columns::ColumnAt;
+use crate::runs::{CountedRuns, Run, counted_runs, run_order};
+use column_set::SharedTable;
+use no_memory::NoMemory;
+use search_model::TokenAt;
+use std::alloc::Global;
+
+/// Where the keys of the tokens stand, in the order of tokens, the numbers of the tokens by the bytes of their keys, and for each member,
+/// at its number, which of the distinct keys it has, by their bytes.
+#[derive(Drop)]
+pub struct OrderedTokens {
+    pub tokens: Vec<TokenAt>,
+    pub by_key: Vec<u32>,
+    pub ranks: Vec<u32>,
+}
+
+/// The tokens of the tables. The runs are numbered by their keys, so that no key is compared to put them in order.
+pub fn ordered_tokens(alloc: Global, tables: &[SharedTable]) -> Result<OrderedTokens, NoMemory>
+    requires { sum_by members tables.now < 2 ^ 32 }
+    ensures { IfOk result (λ made. IsVocabulary tables.now made.tokens.items made.by_key.items made.ranks.items) }
+{
+    let CountedRuns {
+        columns,
+        mut runs,
+        ranks,
+    } = counted_runs(alloc, tables)?;
+    runs.sort_unstable_by(|a, b| run_order(*a, *b));
+    let by_key = numbers_by_rank(alloc, &runs)?;
+    let tokens = places_of(alloc, &columns, &runs)?;
+    Ok(OrderedTokens {
+        tokens,
+        by_key,
+        ranks,
+    })
+}
+
+// For each rank the number of the run that has it. It takes one write a run.
+fn numbers_by_rank(alloc: Global, runs: &[Run]) -> Result<Vec<u32>, NoMemory>
+    requires few { length runs.now < 2 ^ 32 }
+    requires ranks { AreNumbers (map (λ r. r.rank) runs.now) }
+    ensures { IfOk result (λ numbers. ArePlaces (map (λ r. r.rank) runs.now) numbers.items) }
+{
+    let mut numbers = vec![in alloc; 0; runs.len()]?;
+    number_runs(runs, &mut numbers);
+    Ok(numbers)
+}
+
+// Writes the number of each run at its rank.
+fn number_runs(runs: &[Run], numbers: &mut [u32])
+    requires few { length runs.now < 2 ^ 32 }
+    requires ranks { AreNumbers (map (λ r. r.rank) runs.now) }
+    requires room { length numbers.old ≡ length runs.now }
+    ensures places { ArePlaces (map (λ r. r.rank) runs.now) numbers.new }
+    ensures long { length numbers.new ≡ length numbers.old }
+{
+    for number in 0..runs.len() as u32 {
+        numbers[runs[number as usize].rank as usize] = number;
+    }
+}
+
+// Where the keys of the runs stand.
+fn places_of(alloc: Global, columns: &[ColumnAt], runs: &[Run]) -> Result<Vec<TokenAt>, NoMemory>
+    ensures { IfOk result (λ tokens. tokens.items ≡ map (run_at columns.now) runs.now) }
+{
+    let mut tokens = Vec::with_capacity(alloc, runs.len())?;
+    for run in runs {
+        tokens.push(run.first.at(columns, run.frequency))?;
+    }
+    Ok(tokens)
+}
