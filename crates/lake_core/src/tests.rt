@@ -3,7 +3,7 @@ ghost use Rattle.std.specs.Prelude.{IfOk};
 ghost use Rattle.script_model.specs.Merges.{HasNoMerge, IsOfLanes};
 
 use super::drive;
-use catalogue::{Catalogue, standard_limits};
+use catalogue::{Catalogue, Limits};
 use column_set::Name;
 use reply_text::{Reply, RunRecord};
 use script_text::{Batch, Body, Command, Task};
@@ -82,7 +82,7 @@ fn found(record: &RunRecord, index: usize) -> Option<(usize, u64)> {
 
 // What lane 2's search and then lane 1's find in this order.
 fn finds(alloc: Global, piece: &[u32]) -> Result<[Option<(usize, u64)>; 2], Fail> {
-    let mut catalogue = Catalogue::new(alloc, standard_limits())?;
+    let mut catalogue = Catalogue::new(alloc, Limits::standard())?;
     let mut record = RunRecord::new(alloc);
     let batch = two_lanes(alloc)?;
     drive(alloc, &mut catalogue, &batch, piece, 2, None, &mut record)?;
