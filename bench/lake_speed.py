@@ -9,7 +9,7 @@ in an order that a fixed seed mixes. The time of a load is that of the first scr
 of a drop is the difference between the two. A time is the least of N whole runs; both have in them what josie takes to read
 the command and to write its reply.
 
-A script has at most 1,048,576 bytes. All tables are dropped where their drops fit into it, and else as many as fit.
+Each batch has 4,000 commands, so there is a `sync` for as many loads or drops.
 """
 import argparse
 import os
@@ -17,7 +17,7 @@ import random
 import subprocess
 import time
 
-MOST_BYTES = 1_048_576
+BATCH = 4_000
 SIZES = (1_000, 10_000, 50_000)
 DIGITS = "abcdefghijklmnopqrstuvwxyzABCDEFGHIJKLMNOPQRSTUVWXYZ0123456789"
 
@@ -31,22 +31,19 @@ def name(number):
     return text
 
 
+def batched(commands):
+    """The commands, with a `sync` behind each batch."""
+    return "".join(command + ("sync\n" if number % BATCH == 0 else "") for number, command in enumerate(commands, 1))
+
+
 def loads(tables):
-    return "".join(f"load {name(number)}\nv\nx\n.\n" for number in range(tables))
+    return batched([f"load {name(number)}\nv\nx\n.\n" for number in range(tables)]) + "sync\n"
 
 
-def drops(tables, room):
-    """The drops of the tables, as many as have room, and how many these are."""
+def drops(tables):
     order = list(range(tables))
     random.Random(1).shuffle(order)
-    lines, size = [], 0
-    for number in order:
-        line = f"drop {name(number)}\n"
-        if size + len(line) > room:
-            break
-        lines.append(line)
-        size += len(line)
-    return "".join(lines), len(lines)
+    return batched([f"drop {name(number)}\n" for number in order])
 
 
 def least_time(times, josie, script):
@@ -73,12 +70,11 @@ def main():
     print(f"start of the program alone: {begin * 1000:.1f} ms")
     for tables in SIZES:
         loading = loads(tables)
-        dropping, dropped = drops(tables, MOST_BYTES - len(loading))
         filled = least_time(given.times, josie, loading)
-        emptied = least_time(given.times, josie, loading + dropping)
+        emptied = least_time(given.times, josie, loading + drops(tables))
         load_time = (filled - begin) / tables * 1e6
-        drop_time = (emptied - filled) / dropped * 1e6
-        print(f"{tables:6} tables: {load_time:8.2f} microseconds a load   {drop_time:8.2f} microseconds a drop, of {dropped}")
+        drop_time = (emptied - filled) / tables * 1e6
+        print(f"{tables:6} tables: {load_time:8.2f} microseconds a load   {drop_time:8.2f} microseconds a drop")
 
 
 if __name__ == "__main__":

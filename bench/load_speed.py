@@ -3,7 +3,7 @@
 
     bench/load_speed.py [--josie PATH] [--times N]
 
-The table is generated, always the same, and as large as one script may be: 1,048,576 bytes with its two command lines.
+The table is generated, always the same, and of 16 MiB with its two command lines (a block may have 64).
 Two tables are measured: one whose values are ASCII, and one in which every fourth value has accents or full-width letters,
 so that it takes the longer way to its key. A time is the least of N whole runs of the program, with its start, which is
 shown by itself. The plain pass is `wc -w` over the same bytes, in the C locale: it looks at each byte once and keeps
@@ -18,14 +18,14 @@ import subprocess
 import time
 import unicodedata
 
-MOST_BYTES = 1_048_576
+MOST_BYTES = 16 * 1_048_576
 ASCII_WORDS = "amber basalt cedar delta ember fjord garnet heron iris juniper kelp linden maple nectar onyx pearl".split()
 OTHER_WORDS = ["Zürich", "Malmo\u0308", "Straße", "ΑΘΗΝΑΣ", "İzmir", "ＬＩＭＡ", "São Paulo", "Łódź"]
 COLUMNS = 8
 
 
 def table(other_words):
-    """The bytes of a script that loads a table of eight columns and asks one search, as long as a script may be."""
+    """The bytes of a script that loads a table of eight columns and asks one search, of so many bytes."""
     chance = random.Random(1)
     head, tail = b"load speed\n", b".\nsearch 1\namber 1\n.\n"
     rows = [",".join(f"column {place}" for place in range(1, COLUMNS + 1)).encode()]

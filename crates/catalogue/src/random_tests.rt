@@ -3,7 +3,7 @@
 ghost use Rattle.std.specs.Prelude.{◌<◌, ◌^◌};
 
 use crate::tests::{counts, drops, loads};
-use crate::{Catalogue, Counts, DropRefused, LoadRefused, Which, standard_limits};
+use crate::{Catalogue, Counts, DropRefused, Limits, LoadRefused, Which};
 use segment_core::Pin;
 use std::alloc::Global;
 use std::test::Fail;
@@ -199,14 +199,14 @@ fn two_hundred_calls(alloc: Global, limits: Counts, seed: u64) -> Result<(), Fai
 
 #[test]
 fn no_limit_is_reached(rt: HostRuntime) -> Result<(), Fail> {
-    two_hundred_calls(rt.alloc(), standard_limits(), 1)
+    two_hundred_calls(rt.alloc(), Limits::standard(), 1)
 }
 
 #[test]
 fn few_tables_may_be_live(rt: HostRuntime) -> Result<(), Fail> {
     let limits = Counts {
         live: 3,
-        ..standard_limits()
+        ..Limits::standard()
     };
     two_hundred_calls(rt.alloc(), limits, 2)
 }
@@ -215,7 +215,7 @@ fn few_tables_may_be_live(rt: HostRuntime) -> Result<(), Fail> {
 fn few_loads_and_drops_may_be_made(rt: HostRuntime) -> Result<(), Fail> {
     let limits = Counts {
         updates: 60,
-        ..standard_limits()
+        ..Limits::standard()
     };
     two_hundred_calls(rt.alloc(), limits, 3)
 }
@@ -224,7 +224,7 @@ fn few_loads_and_drops_may_be_made(rt: HostRuntime) -> Result<(), Fail> {
 fn few_members_may_be_loaded(rt: HostRuntime) -> Result<(), Fail> {
     let limits = Counts {
         members: 40,
-        ..standard_limits()
+        ..Limits::standard()
     };
     two_hundred_calls(rt.alloc(), limits, 4)
 }
@@ -234,7 +234,7 @@ fn few_key_bytes_may_be_loaded(rt: HostRuntime) -> Result<(), Fail> {
     let limits = Counts {
         live: 6,
         key_bytes: 100,
-        ..standard_limits()
+        ..Limits::standard()
     };
     two_hundred_calls(rt.alloc(), limits, 5)
 }

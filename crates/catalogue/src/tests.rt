@@ -2,9 +2,7 @@
 ghost use Rattle.std.specs.Prelude.{◌≡◌, ◌∷◌, [], codes, length, IfOk, OnOk};
 ghost use Rattle.lake_model.specs.Tables.{keys_at};
 
-use crate::{
-    Catalogue, Counts, DropRefused, Entry, LoadRefused, What, Which, Who, standard_limits,
-};
+use crate::{Catalogue, Counts, DropRefused, Entry, Limits, LoadRefused, What, Which, Who};
 use column_set::{Name, SharedTable, TableSets};
 use csv_table::read_table;
 use segment_core::{Owner, Pin, Posting, Segment, TokenAt};
@@ -190,7 +188,7 @@ fn a_full_lake_says_first_what_is_repeated_or_unknown(rt: HostRuntime) -> Result
 #[test]
 fn a_live_name_is_repeated_and_another_unknown(rt: HostRuntime) -> Result<(), Fail> {
     let alloc = rt.alloc();
-    let mut lake = Catalogue::new(alloc, standard_limits())?;
+    let mut lake = Catalogue::new(alloc, Limits::standard())?;
     loads(&mut lake, alloc, "a", Ok(1))?;
     loads(&mut lake, alloc, "a", Err(LoadRefused::Repeated { at: 1 }))?;
     drops(&mut lake, "b", Err(DropRefused::Unknown { at: 1 }))
@@ -199,7 +197,7 @@ fn a_live_name_is_repeated_and_another_unknown(rt: HostRuntime) -> Result<(), Fa
 #[test]
 fn a_pin_keeps_what_is_dropped_and_loaded_later(rt: HostRuntime) -> Result<(), Fail> {
     let alloc = rt.alloc();
-    let mut lake = Catalogue::new(alloc, standard_limits())?;
+    let mut lake = Catalogue::new(alloc, Limits::standard())?;
     loads(&mut lake, alloc, "a", Ok(1))?;
     let loaded = lake.pin()?;
     drops(&mut lake, "a", Ok(2))?;

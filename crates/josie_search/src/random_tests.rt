@@ -2,7 +2,7 @@
 ghost use Rattle.std.specs.Prelude.{◌≤◌};
 
 use crate::prepare;
-use catalogue::{Catalogue, Who, standard_limits};
+use catalogue::{Catalogue, Limits, Who};
 use column_set::{Name, QuerySet, Row, SharedTable, TableSets};
 use csv_table::read_table;
 use segment_build::build;
@@ -259,7 +259,7 @@ fn asked_by(alloc: Global, number: u64) -> Result<Vec<usize>, Fail> {
 
 // Twenty-five loads and drops of an empty lake, and a search behind each fifth of them.
 fn five_searches(alloc: Global, seed: u64) -> Result<(), Fail> {
-    let mut lake = Catalogue::new(alloc, standard_limits())?;
+    let mut lake = Catalogue::new(alloc, Limits::standard())?;
     let mut live = Vec::new(alloc);
     for step in 0..25u64 {
         let number = chance(seed.wrapping_add(step));

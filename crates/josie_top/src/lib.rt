@@ -14,7 +14,7 @@ ghost use Rattle.josie_top.specs.Ends.{status_of_refused};
 ghost use Rattle.josie_top.specs.Meets.{IsRunMode, IsSaid, Meets, options_in};
 
 use batches::run_batches;
-use catalogue::{Catalogue, standard_limits};
+use catalogue::{Catalogue, Limits};
 use lake_io::{Gate, Shelf, Sink, Source};
 pub use reply_text::RunRecord;
 pub use script_model::{Reason, Status};
@@ -59,7 +59,7 @@ pub fn run_ordered<S: Source, K: Sink, F: Shelf>(
     let Ok(mut gather) = Gather::new(alloc, lanes, ScriptLimits::standard()) else {
         return Status::NoMemory;
     };
-    let Ok(mut catalogue) = Catalogue::new(alloc, standard_limits()) else {
+    let Ok(mut catalogue) = Catalogue::new(alloc, Limits::standard()) else {
         return Status::NoMemory;
     };
     out.set_options(options);

@@ -1,3 +1,7 @@
 mod LoadLemmas
-mod DriveLemmas
 mod SearchLemmas
+mod LaneLemmas
+mod TurnLemmas
+mod ShareLemmas
+mod GatherLemmas
+mod BatchLemmas

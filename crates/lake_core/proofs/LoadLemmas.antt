@@ -128,7 +128,7 @@ unfolding query_read
 query_found k bytes journal keys none same =
     (false, ap (λ ks. search_answer k (IsQuery ks) journal) same ∙ ap (λ fault. search_answer k (keys_read bytes fault) journal) (sym none))
 
-either_none : (b : Bool) → cond {A = List What} b [] [] ≡ []
+pub either_none : (b : Bool) → cond {A = List What} b [] [] ≡ []
 either_none true = refl
 either_none false = refl
 

@@ -1,3 +1,5 @@
 pub mod Loads
 pub mod Drops
 pub mod Searches
+pub mod Lanes
+pub mod Plays

@@ -1,70 +1,171 @@
-//! The commands of a batch, one after another.
-ghost use Rattle.std.specs.Prelude.{◌≡◌, ◌<◌, ◌≤◌, ◌+◌, Bool, List, None, OnOk, OnErr};
-ghost use Rattle.script_model.specs.Answered.{answer_to, adds};
-ghost use Rattle.script_model.specs.InTurn.{after_command};
+//! The commands of a batch on one thread, with the steps of its lanes in a stated order.
+ghost use Rattle.std.specs.Prelude.{◌≡◌, ◌<◌, ◌≤◌, ◌*◌, ◌++◌, [], ◌∷◌, Bool, List, length, map, replicate, flat_map, drop, get_or, slice_set, take, true, None, OnOk, OnErr, IfOk, option_to_list};
+ghost use Rattle.std.specs.List.{range_with_len};
 ghost use Rattle.script_model.specs.Merges.{HasNoMerge, IsOfLanes};
-ghost use Rattle.script_model.specs.Play.{batch_after, merges_of, reply_or_denied, who_of};
-ghost use Rattle.reply_text.specs.Replies.{reply_of};
-ghost use Rattle.lake_core.specs.Loads.{with_added};
+ghost use Rattle.script_model.specs.Play.{answers_of, batch_after, gathered, merges_of, play, record_after, whole_order};
+ghost use Rattle.lake_core.specs.Lanes.{AreShared, done_in, lane_from, play_of};
+ghost use Rattle.lake_core.specs.Plays.{Goes, IsReady, state_with};
 
-use crate::dropping::drop_table;
-use crate::loading::load;
-use crate::searching::{list, search};
-use catalogue::{Catalogue, Who};
+use crate::lane::Lane;
+use catalogue::Catalogue;
 use no_memory::NoMemory;
-use reply_text::{Answered, By, Reply, RunRecord};
-use script_text::{Batch, Command, Task};
+use reply_text::{Answered, RunRecord};
+use script_text::{Batch, Command};
 use std::alloc::Global;
 
-// The reply to a command. An accepted load puts its entry into the record.
-fn reply_to(
+// So many lanes besides the merger's, all of them idle. The merger's is the first.
+fn idle_lanes<'a>(alloc: Global, lanes: u32) -> Result<Vec<Lane<'a>>, NoMemory>
+    ensures { IfOk result (λ all. AreShared lanes [] all.items) }
+{
+    let mut all = Vec::new(alloc);
+    all.push(Lane::new(alloc))?;
+    for _made in 0..lanes {
+        all.push(Lane::new(alloc))?;
+    }
+    Ok(all)
+}
+
+// The lanes with the commands that each has to do, in the order of the batch.
+fn share_out<'a>(
+    alloc: Global,
+    commands: &'a [Command],
+    lanes: u32,
+) -> Result<Vec<Lane<'a>>, NoMemory>
+    requires { IsOfLanes lanes commands.now }
+    ensures { IfOk result (λ all. AreShared lanes commands.now all.items) }
+{
+    let mut all = idle_lanes(alloc, lanes)?;
+    for command in commands {
+        all[command.lane() as usize].add(command)?;
+    }
+    Ok(all)
+}
+
+// The next step of a lane, where there is such a lane and it has one.
+fn step(
     alloc: Global,
     catalogue: &mut Catalogue,
-    command: &Command,
+    lanes: &mut [Lane<'_>],
+    lane: usize,
     out: &mut RunRecord,
-) -> Reply
-    requires journal { out.old.made.journal ≡ catalogue.old.journal }
-    requires entries { 0 < out.old.entries_room }
-    ensures answered { (denied : Bool) × (reply_of result ≡ reply_or_denied denied (answer_to catalogue.old.limits command.now.task out.old.made.journal out.old.made.journal)) }
-    ensures made { out.new.made ≡ with_added (who_of command.now) (adds command.now.task out.old.made.journal (reply_of result)) out.old.made }
-    ensures journal { out.new.made.journal ≡ catalogue.new.journal }
-    ensures limits { catalogue.new.limits ≡ catalogue.old.limits }
-    ensures answers_room { out.new.answers_room ≡ out.old.answers_room }
-    ensures entries_room { out.old.entries_room ≤ out.new.entries_room + 1 }
-    ensures syncs_room { out.new.syncs_room ≡ out.old.syncs_room }
+)
+    requires { IsReady (state_with catalogue.old lanes.old out.old) }
+    ensures { Goes (lane ∷ []) (state_with catalogue.old lanes.old out.old) (state_with catalogue.new lanes.new out.new) }
 {
-    let who = Who {
-        caller: command.lane(),
-        command: command.number(),
-    };
-    match command.task() {
-        Task::Load { name, body } => load(alloc, catalogue, who, name, body, out),
-        Task::Drop { name } => drop_table(catalogue, who, name, out),
-        Task::Tables => list(alloc, catalogue),
-        Task::Search { k, body } => search(alloc, catalogue, *k, body),
+    if lane < lanes.len() {
+        lanes[lane].step(alloc, catalogue, out);
     }
 }
 
-// Answers a command.
-fn answer(alloc: Global, catalogue: &mut Catalogue, command: &Command, out: &mut RunRecord)
-    requires journal { out.old.made.journal ≡ catalogue.old.journal }
-    requires answers { 0 < out.old.answers_room }
-    requires entries { 0 < out.old.entries_room }
-    ensures made { (denied : Bool) × (out.new.made ≡ after_command catalogue.old.limits out.old.made command.now denied) }
-    ensures journal { out.new.made.journal ≡ catalogue.new.journal }
-    ensures limits { catalogue.new.limits ≡ catalogue.old.limits }
-    ensures answers_room { out.new.answers_room + 1 ≡ out.old.answers_room }
-    ensures entries_room { out.old.entries_room ≤ out.new.entries_room + 1 }
+// The steps of a piece, one after another.
+fn play_piece(
+    alloc: Global,
+    catalogue: &mut Catalogue,
+    lanes: &mut [Lane<'_>],
+    piece: &[u32],
+    out: &mut RunRecord,
+)
+    requires { IsReady (state_with catalogue.old lanes.old out.old) }
+    ensures { Goes piece.now (state_with catalogue.old lanes.old out.old) (state_with catalogue.new lanes.new out.new) }
+{
+    for lane in piece {
+        step(alloc, catalogue, lanes, *lane as usize, out);
+    }
+}
+
+// Whether a lane has nothing left to do, as one that does not exist.
+fn is_idle(lanes: &[Lane<'_>], lane: usize) -> bool
+    ensures { result ≡ true → length (get_or lanes.now lane (lane_from [] None [])).todo ≡ 0 }
+{
+    lane >= lanes.len() || lanes[lane].is_idle()
+}
+
+// What is left of a lane that has at most so many commands. None of them has more than two steps.
+fn play_lane(
+    alloc: Global,
+    catalogue: &mut Catalogue,
+    lanes: &mut [Lane<'_>],
+    lane: usize,
+    commands: usize,
+    out: &mut RunRecord,
+)
+    requires { IsReady (state_with catalogue.old lanes.old out.old) }
+    ensures { Goes (replicate (2 * commands) lane) (state_with catalogue.old lanes.old out.old) (state_with catalogue.new lanes.new out.new) }
+{
+    for _taken in 0..commands {
+        if is_idle(lanes, lane) {
+            return;
+        }
+        step(alloc, catalogue, lanes, lane, out);
+        step(alloc, catalogue, lanes, lane, out);
+    }
+}
+
+// What is left, lane by lane, the merger last.
+fn play_rest(
+    alloc: Global,
+    catalogue: &mut Catalogue,
+    lanes: &mut [Lane<'_>],
+    count: u32,
+    commands: usize,
+    out: &mut RunRecord,
+)
+    requires { IsReady (state_with catalogue.old lanes.old out.old) }
+    ensures { Goes (flat_map (λ l. replicate (2 * commands) l) (range_with_len 1 count ++ 0 ∷ [])) (state_with catalogue.old lanes.old out.old) (state_with catalogue.new lanes.new out.new) }
+{
+    for before in 0..count {
+        play_lane(alloc, catalogue, lanes, before as usize + 1, commands, out);
+    }
+    play_lane(alloc, catalogue, lanes, 0, commands, out);
+}
+
+// The first answer of those that a lane has done, taken out.
+fn next_done(lanes: &mut [Lane<'_>], lane: usize) -> Option<Answered>
+    ensures answer { option_to_list result ≡ answers_of (take 1 (get_or (map done_in lanes.old) lane [])) }
+    ensures rest { map done_in lanes.new ≡ slice_set (map done_in lanes.old) lane (drop 1 (get_or (map done_in lanes.old) lane [])) }
+{
+    if lane < lanes.len() {
+        lanes[lane].next_done()
+    } else {
+        None
+    }
+}
+
+// The answers to the commands, in their order, taken out of the lanes and put into the record.
+fn gather(commands: &[Command], lanes: &mut [Lane<'_>], out: &mut RunRecord)
+    requires { length commands.now ≤ out.old.answers_room }
+    ensures made { out.new.made ≡ record out.old.made { answers = out.old.made.answers ++ answers_of (gathered commands.now (map done_in lanes.old)) } }
     ensures syncs_room { out.new.syncs_room ≡ out.old.syncs_room }
 {
-    let reply = reply_to(alloc, catalogue, command, out);
-    out.add_answer(Answered {
-        by: By::Command {
-            number: command.number(),
-            lane: command.lane(),
-        },
-        reply,
-    });
+    for command in commands {
+        if let Some(answered) = next_done(lanes, command.lane() as usize) {
+            out.add_answer(answered);
+        }
+    }
+}
+
+// All steps of the lanes: first those of the piece, and then what is left. The answers come into the record in the order of the
+// commands, and it notes how long the journal is.
+fn play(
+    alloc: Global,
+    catalogue: &mut Catalogue,
+    commands: &[Command],
+    lanes: &mut [Lane<'_>],
+    piece: &[u32],
+    count: u32,
+    out: &mut RunRecord,
+)
+    requires ready { IsReady (state_with catalogue.old lanes.old out.old) }
+    requires answers { length commands.now ≤ out.old.answers_room }
+    requires syncs { 0 < out.old.syncs_room }
+    ensures played { (denials : List Bool) × (out.new.made ≡ record_after out.old.made commands.now (play catalogue.old.limits (whole_order piece.now count (2 * length commands.now)) denials (play_of catalogue.old.journal lanes.old))) }
+    ensures journal { out.new.made.journal ≡ catalogue.new.journal }
+    ensures limits { catalogue.new.limits ≡ catalogue.old.limits }
+{
+    play_piece(alloc, catalogue, lanes, piece, out);
+    play_rest(alloc, catalogue, lanes, count, commands.len(), out);
+    gather(commands, lanes, out);
+    out.add_sync();
 }
 
 /// Answers the commands of a batch, of which each is of a lane from 1 to `lanes`: the steps of the lanes are taken in the order of the
@@ -91,5 +192,9 @@ pub fn drive(
     ensures limits { catalogue.new.limits ≡ catalogue.old.limits }
     ensures err { OnErr result ((out.new.made ≡ out.old.made) × (catalogue.new ≡ catalogue.old)) }
 {
-    Err(NoMemory)
+    let commands = batch.commands();
+    let mut all = share_out(alloc, commands, lanes)?;
+    out.room(commands.len(), commands.len())?;
+    play(alloc, catalogue, commands, &mut all, piece, lanes, out);
+    Ok(())
 }

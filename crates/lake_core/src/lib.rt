@@ -3,8 +3,13 @@
 
 mod driving;
 mod dropping;
+mod lane;
 mod loading;
 mod searching;
 
 pub use driving::drive;
-pub use loading::{Loadable, make_table};
+pub use loading::{Loadable, make_table, make_table_of_file};
+pub use searching::finish;
+
+#[cfg(test)]
+mod tests;

@@ -1,11 +1,12 @@
 //! Loads: the table of a block, and its entry.
 ghost use Rattle.std.specs.Prelude.{◌≡◌, ◌<◌, ◌+◌, ◌≤◌, ◌∷◌, [], Bool, IfOk, IfErr};
 ghost use Rattle.lake_model.specs.Tables.{members};
-ghost use Rattle.script_model.specs.Commands.{Load};
+ghost use Rattle.script_model.specs.Commands.{Load, LoadFile};
 ghost use Rattle.script_model.specs.Replies.{csv_reply, sets_reply, load_reply};
-ghost use Rattle.script_model.specs.Answered.{IsTable, table_read, load_answer, adds};
+ghost use Rattle.script_model.specs.Answered.{IsTable, file_read, table_read, load_answer, adds};
 ghost use Rattle.script_model.specs.Play.{reply_or_denied};
 ghost use Rattle.reply_text.specs.Replies.{reply_of};
+ghost use Rattle.script_text.specs.Tasks.{file_of};
 ghost use Rattle.lake_core.specs.Loads.{IsRefusal, refusal_reply, with_added, loaded_by};
 
 use catalogue::{Catalogue, Entry, LoadRefused, Who};
@@ -13,7 +14,7 @@ use column_set::{Name, SetRefused, SharedTable, TableSets};
 use csv_table::{CsvRefused, read_table};
 use no_memory::NoMemory;
 use reply_text::{Reply, RunRecord};
-use script_text::Body;
+use script_text::{Body, FileBody};
 use segment_build::build;
 use segment_core::Segment;
 use std::alloc::Global;
@@ -40,6 +41,21 @@ pub fn make_table(alloc: Global, name: &Name, body: &Body) -> Result<Loadable, R
     match index_table(alloc, &table) {
         Ok(segment) => Ok(Loadable { table, segment }),
         Err(NoMemory) => Err(Reply::NoMemory),
+    }
+}
+
+/// The table of a file under a name with its segment, or the reply that refuses it: where no file came, for the reason of that, and
+/// else as a block of its bytes is refused.
+pub fn make_table_of_file(alloc: Global, name: &Name, file: &FileBody) -> Result<Loadable, Reply>
+    ensures table { IfOk result (λ made. file_read name.now (file_of file.now) ≡ IsTable made.table) }
+    ensures segment { IfOk result (λ made. made.segment.value ≡ made.table ∷ []) }
+    ensures refused { IfErr result (λ reply. IsRefusal (file_read name.now (file_of file.now)) (reply_of reply)) }
+{
+    match file {
+        FileBody::Bytes(body) => make_table(alloc, name, body),
+        FileBody::Failed => Err(Reply::FileFailed),
+        FileBody::Missing => Err(Reply::FileMissing),
+        FileBody::TooLong => Err(Reply::FileTooLong),
     }
 }
 
@@ -179,6 +195,31 @@ pub(crate) fn load(
     ensures syncs_room { out.new.syncs_room ≡ out.old.syncs_room }
 {
     match make_table(alloc, name, body) {
+        Ok(Loadable { table, segment }) => accept(catalogue, who, table, segment, out),
+        Err(reply) => reply,
+    }
+}
+
+/// Answers a load from a file: as a load of its bytes, where they came.
+pub(crate) fn load_file(
+    alloc: Global,
+    catalogue: &mut Catalogue,
+    who: Who,
+    name: &Name,
+    file: &FileBody,
+    out: &mut RunRecord,
+) -> Reply
+    requires journal { out.old.made.journal ≡ catalogue.old.journal }
+    requires room { 0 < out.old.entries_room }
+    ensures answered { (denied : Bool) × (reply_of result ≡ reply_or_denied denied (load_answer catalogue.old.limits (file_read name.now (file_of file.now)) catalogue.old.journal)) }
+    ensures made { out.new.made ≡ with_added who (adds (LoadFile name.now (file_of file.now)) out.old.made.journal (reply_of result)) out.old.made }
+    ensures journal { out.new.made.journal ≡ catalogue.new.journal }
+    ensures limits { catalogue.new.limits ≡ catalogue.old.limits }
+    ensures answers_room { out.new.answers_room ≡ out.old.answers_room }
+    ensures entries_room { out.old.entries_room ≤ out.new.entries_room + 1 }
+    ensures syncs_room { out.new.syncs_room ≡ out.old.syncs_room }
+{
+    match make_table_of_file(alloc, name, file) {
         Ok(Loadable { table, segment }) => accept(catalogue, who, table, segment, out),
         Err(reply) => reply,
     }

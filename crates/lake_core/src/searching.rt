@@ -1,18 +1,21 @@
-//! What is asked of the lake at a pin: searches, and the list of the live tables.
-ghost use Rattle.std.specs.Prelude.{◌≡◌, ◌≤◌, Bool, IfOk};
-ghost use Rattle.script_model.specs.Replies.{query_reply, search_reply, tables_reply};
-ghost use Rattle.script_model.specs.Answered.{plain_query, query_read, search_answer};
+//! What is asked of the lake at a pin: searches, likes, and the list of the live tables.
+ghost use Rattle.std.specs.Prelude.{◌≡◌, ◌≤◌, Bool, List, false, option_copied, IfOk};
+ghost use Rattle.josie_search.specs.Search.{query_with};
+ghost use Rattle.lake_model.specs.declared.Counts.{Counts};
+ghost use Rattle.lake_model.specs.Journal.{Entry};
+ghost use Rattle.script_model.specs.Replies.{like_reply, query_reply, tables_reply};
+ghost use Rattle.script_model.specs.Answered.{answer_to, is_update_task, query_read, search_answer};
 ghost use Rattle.script_model.specs.Play.{reply_or_denied};
-ghost use Rattle.lake_core.specs.Searches.{found_at};
+ghost use Rattle.script_text.specs.Tasks.{IsTaskInRange, task_of};
+ghost use Rattle.lake_core.specs.Searches.{column_reply, found_at, IsPinOf};
 ghost use Rattle.reply_text.specs.Replies.{reply_of};
 
-use catalogue::Catalogue;
-use column_set::{QueryRefused, QuerySet};
+use column_set::{Name, QueryRefused, QuerySet};
 use josie_search::prepare;
 use no_memory::NoMemory;
 use reply_text::Reply;
-use script_text::Body;
-use segment_core::Pin;
+use script_text::{Body, Task};
+use segment_core::{ColumnRefused, Pin};
 use std::alloc::Global;
 
 // The reply to a body that is no query.
@@ -26,15 +29,33 @@ fn reply_to_query(refused: QueryRefused) -> Reply
     }
 }
 
-// What a query finds at a pin.
-fn find(alloc: Global, pin: &Pin, query: &QuerySet, k: u32) -> Result<Reply, NoMemory>
+// The reply to the name of a table and a place, counted from 1, that name no column at this position.
+fn reply_to_column(refused: ColumnRefused, name: &Name, place: u32, at: u64) -> Reply
+    ensures { reply_of result ≡ column_reply name.now place at refused }
+{
+    let name = name.copy();
+    match refused {
+        ColumnRefused::UnknownTable => Reply::Unknown { name, at },
+        ColumnRefused::UnknownColumn => Reply::NoColumn { name, place, at },
+        ColumnRefused::NoMemory => Reply::NoMemory,
+    }
+}
+
+// What a query finds at a pin, with the columns of the excepted table left out.
+fn find(
+    alloc: Global,
+    pin: &Pin,
+    query: &QuerySet,
+    k: u32,
+    except: Option<&Name>,
+) -> Result<Reply, NoMemory>
     requires low { 1 ≤ k }
     requires high { k ≤ 10000 }
-    ensures { IfOk result (λ reply. reply_of reply ≡ found_at pin.now k query.now) }
+    ensures { IfOk result (λ reply. reply_of reply ≡ found_at pin.now (query_with k query.now (option_copied except.entry))) }
 {
     let layout = pin.layout(alloc)?;
-    let prepared = prepare(alloc, pin.looks(alloc), query, k, None)?;
-    let answer = prepared.run()?;
+    let prepared = prepare(alloc, pin.looks(alloc), query, k, except)?;
+    let answer = prepared.run();
     Ok(Reply::Found {
         query: query.len(),
         rows: answer.rows.keep_all(alloc)?,
@@ -42,54 +63,63 @@ fn find(alloc: Global, pin: &Pin, query: &QuerySet, k: u32) -> Result<Reply, NoM
     })
 }
 
-// What a query finds in the lake as it stands.
-fn find_now(
-    alloc: Global,
-    catalogue: &Catalogue,
-    query: &QuerySet,
-    k: u32,
-) -> Result<Reply, NoMemory>
+// The reply to a search: the k columns of the live tables that share most keys with the lines of the body.
+fn search(alloc: Global, pin: &Pin, k: u32, body: &Body) -> Reply
     requires low { 1 ≤ k }
     requires high { k ≤ 10000 }
-    ensures { IfOk result (λ reply. reply_of reply ≡ search_reply (plain_query k query.now) catalogue.now.journal) }
-{
-    let pin = catalogue.pin()?;
-    find(alloc, &pin, query, k)
-}
-
-/// Answers a search: the k columns of the live tables that share most keys with the lines of the body.
-pub(crate) fn search(alloc: Global, catalogue: &Catalogue, k: u32, body: &Body) -> Reply
-    requires low { 1 ≤ k }
-    requires high { k ≤ 10000 }
-    ensures { (denied : Bool) × (reply_of result ≡ reply_or_denied denied (search_answer k (query_read body.now) catalogue.now.journal)) }
+    ensures { (journal : List Entry) → IsPinOf journal pin.now → (denied : Bool) × (reply_of result ≡ reply_or_denied denied (search_answer k (query_read body.now) journal)) }
 {
     let query = match QuerySet::read(alloc, body.bytes()) {
         Ok(query) => query,
         Err(refused) => return reply_to_query(refused),
     };
-    match find_now(alloc, catalogue, &query, k) {
+    match find(alloc, pin, &query, k, None) {
         Ok(reply) => reply,
-        Err(_) => Reply::NoMemory,
+        Err(NoMemory) => Reply::NoMemory,
     }
 }
 
-// The lines of the live tables.
-fn list_now(alloc: Global, catalogue: &Catalogue) -> Result<Reply, NoMemory>
-    ensures { IfOk result (λ reply. reply_of reply ≡ tables_reply catalogue.now.journal) }
+// The reply to a like: the k columns of the other live tables that share most keys with the column at the place of this one.
+fn like(alloc: Global, pin: &Pin, k: u32, name: &Name, place: u32) -> Reply
+    requires low { 1 ≤ k }
+    requires high { k ≤ 10000 }
+    requires place { 1 ≤ place }
+    ensures { (journal : List Entry) → IsPinOf journal pin.now → (denied : Bool) × (reply_of result ≡ reply_or_denied denied (like_reply k name.now place journal)) }
 {
-    let pin = catalogue.pin()?;
-    Ok(Reply::Listed {
-        tables: pin.tables(alloc)?,
-        at: pin.at(),
-    })
+    let query = match pin.column(alloc, name, place) {
+        Ok(query) => query,
+        Err(refused) => return reply_to_column(refused, name, place, pin.at()),
+    };
+    match find(alloc, pin, &query, k, Some(name)) {
+        Ok(reply) => reply,
+        Err(NoMemory) => Reply::NoMemory,
+    }
 }
 
-/// Answers with the live tables, in the order of their loads.
-pub(crate) fn list(alloc: Global, catalogue: &Catalogue) -> Reply
-    ensures { (denied : Bool) × (reply_of result ≡ reply_or_denied denied (tables_reply catalogue.now.journal)) }
+// The reply to a request for the live tables, in the order of their loads.
+fn list(alloc: Global, pin: &Pin) -> Reply
+    ensures { (journal : List Entry) → IsPinOf journal pin.now → (denied : Bool) × (reply_of result ≡ reply_or_denied denied (tables_reply journal)) }
 {
-    match list_now(alloc, catalogue) {
-        Ok(reply) => reply,
-        Err(_) => Reply::NoMemory,
+    match pin.tables(alloc) {
+        Ok(tables) => Reply::Listed {
+            tables,
+            at: pin.at(),
+        },
+        Err(NoMemory) => Reply::NoMemory,
+    }
+}
+
+/// Answers a search, a like or a request for the live tables at a pin: the reply is that at the journal whose version the pin holds, or
+/// that memory is wanting.
+pub fn finish(alloc: Global, pin: Pin, task: &Task) -> Reply
+    requires asks { is_update_task (task_of task.now) ≡ false }
+    requires in_range { IsTaskInRange task.now }
+    ensures { (limits : Counts) (journal : List Entry) → IsPinOf journal pin → (denied : Bool) × (reply_of result ≡ reply_or_denied denied (answer_to limits (task_of task.now) journal journal)) }
+{
+    match task {
+        Task::Search { k, body } => search(alloc, &pin, *k, body),
+        Task::Like { k, name, place } => like(alloc, &pin, *k, name, *place),
+        Task::Tables => list(alloc, &pin),
+        Task::Load { .. } | Task::LoadFile { .. } | Task::Drop { .. } => unreachable!(),
     }
 }

@@ -3,6 +3,9 @@
 //! types that both the code and the definitions use, and the laws of the definitions.
 #![tactic(auto)]
 
+ghost use Rattle.std.specs.Prelude.{◌≡◌};
+ghost use Rattle.lake_model.specs.Journal.{standard_limits};
+
 pub use no_memory::NoMemory;
 
 /// Why bytes are no table of fields. Records and fields are numbered from 1, and the header is record 1.
@@ -54,6 +57,21 @@ pub struct Counts {
     pub updates: u64,
     pub members: u64,
     pub key_bytes: u64,
+}
+
+impl Counts {
+    /// The limits of a lake as it is shipped: 65,536 live tables, 1,048,576 loads and drops, and, of all loads together, 16,777,216
+    /// members and 1,073,741,824 bytes of keys.
+    pub fn standard() -> Counts
+        ensures { result ≡ standard_limits }
+    {
+        Counts {
+            live: 65_536,
+            updates: 1_048_576,
+            members: 16_777_216,
+            key_bytes: 1_073_741_824,
+        }
+    }
 }
 
 /// Which of the limits of a lake.

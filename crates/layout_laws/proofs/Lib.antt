@@ -6,5 +6,6 @@ pub mod LiveLemmas
 pub mod LaidLemmas
 pub mod PlanLemmas
 pub mod WeightLemmas
+pub mod IndexLemmas
 pub mod LawLemmas
 mod WorkedRuns

@@ -6,3 +6,4 @@ pub mod FoundLemmas
 pub mod ShownLemmas
 pub mod PositionLemmas
 pub mod ColumnLemmas
+mod PlanLemmas

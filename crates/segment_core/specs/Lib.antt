@@ -3,3 +3,4 @@ pub mod Distinct
 pub mod Lines
 pub mod Positions
 pub mod LiveColumn
+pub mod Plans

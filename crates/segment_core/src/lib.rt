@@ -7,7 +7,9 @@ mod layout;
 mod looks;
 mod numbers;
 mod pin;
+mod plan;
 mod segment;
+mod swap;
 mod version;
 
 pub use column::ColumnRefused;
@@ -15,6 +17,7 @@ pub use layout::{Layout, Places, TableLines};
 pub use looks::Looks;
 pub use numbers::{Marks, Numbers};
 pub use pin::Pin;
+pub use plan::{Merged, Plan};
 pub use search_model::{Look, Owner, Posting, TokenAt};
 pub use segment::Segment;
 pub use version::{Part, Version};

@@ -1,12 +1,14 @@
 //! Pins, which hold a version while it is searched.
-ghost use Rattle.std.specs.Prelude.{◌≡◌, ◌⊎◌, ◌<◌, [], length, map, IfErr, IfOk, None, OnOk, Some};
+ghost use Rattle.std.specs.Prelude.{◌≡◌, ◌⊎◌, ◌<◌, ◌≤◌, ◌+◌, [], length, map, slice_range, IfErr, IfOk, None, OnOk, Some};
 ghost use Rattle.lake_model.specs.Layout.{shown, shown_with};
 ghost use Rattle.segment_core.specs.Lines.{line_from, live_lines};
 ghost use Rattle.segment_core.specs.LiveColumn.{column_fault, column_keys};
+ghost use Rattle.segment_core.specs.Plans.{plan_run};
 
 use crate::column::{ColumnRefused, live_column};
 use crate::layout::{Layout, Places, TableLines};
 use crate::looks::Looks;
+use crate::plan::{Plan, plan_parts};
 use crate::version::{Part, Version};
 use column_set::{Name, QuerySet};
 use no_memory::NoMemory;
@@ -30,7 +32,7 @@ impl Model for Pin {
 }
 
 impl Pin {
-    ghost use Rattle.segment_core.specs.Versions.{looks_with, part_at, segment_at};
+    ghost use Rattle.segment_core.specs.Versions.{looks_with, marks_of, part_at, segment_at};
 
     /// A pin of this version. It takes no memory.
     pub fn new(version: Arc<Version>) -> Pin
@@ -74,6 +76,25 @@ impl Pin {
         requires { part < length self.now.parts }
     {
         self.version.part(part).segment().meter()
+    }
+
+    /// The marks of a part's tables, in their order: `true` where the table was dropped.
+    pub fn marks(&self, part: u32) -> &[bool]
+        requires { part < length self.now.parts }
+        ensures { result.now ≡ marks_of (part_at self.now.parts part) }
+    {
+        self.version.part(part).marks()
+    }
+
+    /// The plan of a merge of this many adjacent parts, from the index `first` on. It takes the time to copy the positions of their loads.
+    pub fn plan_run(&self, alloc: Global, first: u32, parts: u32) -> Result<Plan, NoMemory>
+        requires some { 0 < parts }
+        requires within { first + parts ≤ length self.now.parts }
+        ensures { IfOk result (λ plan. plan ≡ plan_run self.now.at (slice_range self.now.parts first (first + parts))) }
+    {
+        let first = first as usize;
+        let run = &self.version.parts()[first..first + parts as usize];
+        plan_parts(alloc, self.version.at(), run)
     }
 
     /// All that a search may ask of the version, with an empty log that has no room. It takes no memory.

@@ -1,9 +1,10 @@
 //! Versions: the parts in which the tables of a lake are searched at a position of its journal.
-ghost use Rattle.std.specs.Prelude.{◌≡◌, ◌<◌, ◌+◌, ◌^◌, ◌++◌, ◌∷◌, [], length, map, slice_set, IfOk, OnErr, OnOk};
+ghost use Rattle.std.specs.Prelude.{◌≡◌, ◌<◌, ◌≤◌, ◌+◌, ◌^◌, ◌++◌, ◌∷◌, [], length, map, slice_set, IfOk, OnErr, OnOk};
 ghost use Rattle.std.specs.List.{zip};
 ghost use Rattle.lake_model.specs.Layout.{positions_of};
 ghost use Rattle.segment_core.specs.Distinct.{unmarked_names, AreDistinct};
 ghost use Rattle.segment_core.specs.Lines.{line_from, lines_without, shown_places, unmarked_lines};
+ghost use Rattle.segment_core.specs.Plans.{replaced};
 ghost use Rattle.segment_core.specs.Positions.{loads_of};
 ghost use Rattle.segment_core.specs.Versions.{marked_at, marks_of, part_at, tables_of, version_with};
 
@@ -218,6 +219,27 @@ impl Version {
     {
         self.parts[part as usize].mark(place);
         self.at = at;
+    }
+
+    // A part or none in the place of others, in a version with no other owner.
+    pub(crate) fn replace(
+        &mut self,
+        at: u64,
+        first: u32,
+        count: u32,
+        part: Option<Part>,
+    ) -> Result<(), NoMemory>
+        requires some { 0 < count }
+        requires within { first + count ≤ length self.old.parts }
+        requires positions { AreDistinct (positions_of (replaced first count part self.old.parts)) }
+        requires names { AreDistinct (unmarked_names (replaced first count part self.old.parts)) }
+        ensures ok { OnOk result (self.new ≡ version_with at (replaced first count part self.old.parts)) }
+        ensures err { OnErr result (self.new ≡ self.old) }
+    {
+        let first = first as usize;
+        self.parts.splice(first..first + count as usize, part)?;
+        self.at = at;
+        Ok(())
     }
 }
 

@@ -1,0 +1,110 @@
+-- The turns of a batch, and the record that they make.
+use Rattle.std.proofs.Common.{◌≡◌, refl, ap, sym, ◌∙◌, subst, ℕ, zero, suc, ◌+◌, ◌-◌, ◌*◌, ◌≤◌, List, [], ◌∷◌, ◌++◌, append_assoc, append-nil, Bool, length, map, arith, replicate, Option, Some, None}
+use Rattle.std.specs.List.{AllByRecursion, flat_map, range_with_len}
+use Rattle.std.proofs.lemmas.Simd.{map-map}
+use Rattle.std.proofs.lemmas.List.{replicate-append-replicate}
+use Rattle.std.proofs.lemmas.Grind.{flat_map-append, replicate_next}
+use Rattle.lake_model.specs.declared.Counts.{Counts}
+use Rattle.lake_model.specs.Journal.{Entry}
+use Rattle.catalogue.specs.Kept.{CatalogueOf}
+use Rattle.reply_text.specs.Rooms.{RecordOf}
+use Rattle.script_model.specs.Commands.{Command, Batch}
+use Rattle.script_model.specs.Record.{Answered, RunRecord}
+use Rattle.script_model.specs.Play.{Done, Lane, Play, play_with, play, whole_order, lanes_of, merges_of, gathered, answers_of, record_after, batch_after}
+use Rattle.lake_core.specs.Lanes.{LaneOf, played, play_of, AreHeld, AreNew, done_in, IsHeld, left}
+use Rattle.lake_core.specs.Plays.{StateOf, state_with, play_at, IsReady, Goes}
+use Rattle.lake_core.proofs.GatherLemmas.{with_answers, lists_of}
+use Rattle.lake_core.proofs.TurnLemmas.{goes_on}
+
+-- ---- orders
+
+-- two more turns
+pub two_more : (n l : ℕ) → replicate (2 * (n + 1)) l ≡ (replicate (2 * n) l ++ l ∷ []) ++ l ∷ []
+two_more n l =
+    let e : 2 * (n + 1) ≡ 2 * n + 1 + 1 = omega arith in
+    ap (λ (k : ℕ). replicate k l) e ∙ replicate_next (2 * n + 1) l ∙ ap (λ (ls : List ℕ). ls ++ l ∷ []) (replicate_next (2 * n) l)
+
+-- all turns, of which some were taken
+pub turns_left : (n all l : ℕ) → n ≤ all → replicate (2 * n) l ++ replicate (2 * all - 2 * n) l ≡ replicate (2 * all) l
+turns_left n all l h =
+    let e : 2 * n + (2 * all - 2 * n) ≡ 2 * all = omega (arith, h) in
+    replicate-append-replicate (2 * n) (2 * all - 2 * n) l ∙ ap (λ (k : ℕ). replicate k l) e
+
+range_more : (a n : ℕ) → range_with_len a (suc n) ≡ range_with_len a n ++ (a + n) ∷ []
+range_more a zero = let e : a ≡ a + 0 = omega arith in ap (λ (m : ℕ). m ∷ []) e
+range_more a (suc n) =
+    let e : a + 1 + n ≡ a + suc n = omega arith in
+    ap (λ (ms : List ℕ). a ∷ ms) (range_more (a + 1) n) ∙ ap (λ (m : ℕ). a ∷ (range_with_len (a + 1) n ++ m ∷ [])) e
+
+abbrev pub turns_each : ℕ → List ℕ → List ℕ
+turns_each steps lanes = flat_map (λ l. replicate steps l) lanes
+
+one_lane : (steps l : ℕ) → turns_each steps (l ∷ []) ≡ replicate steps l
+one_lane steps l = append-nil (replicate steps l)
+
+-- the turns of one lane more
+pub lane_more : (steps n : ℕ) → turns_each steps (range_with_len 1 (n + 1)) ≡ turns_each steps (range_with_len 1 n) ++ replicate steps (n + 1)
+lane_more steps n =
+    let e : n + 1 ≡ suc n = omega arith in
+    let f : 1 + n ≡ n + 1 = omega arith in
+    ap (λ (m : ℕ). turns_each steps (range_with_len 1 m)) e
+    ∙ ap (turns_each steps) (range_more 1 n)
+    ∙ flat_map-append (λ l. replicate steps l) (range_with_len 1 n) ((1 + n) ∷ [])
+    ∙ ap (λ (ls : List ℕ). turns_each steps (range_with_len 1 n) ++ ls) (one_lane steps (1 + n))
+    ∙ ap (λ (m : ℕ). turns_each steps (range_with_len 1 n) ++ replicate steps m) f
+
+-- the merger's turns behind those of the lanes
+pub merger_last : (steps n : ℕ) → turns_each steps (range_with_len 1 n ++ 0 ∷ []) ≡ turns_each steps (range_with_len 1 n) ++ replicate steps 0
+merger_last steps n = flat_map-append (λ l. replicate steps l) (range_with_len 1 n) (0 ∷ []) ∙ ap (λ (ls : List ℕ). turns_each steps (range_with_len 1 n) ++ ls) (one_lane steps 0)
+
+-- ---- the start
+
+new_held : (journal : List Entry) (lanes : List LaneOf) → AreNew lanes → AreHeld journal lanes
+new_held journal [] are = are
+new_held journal (lane ∷ lanes) are = (subst (IsHeld journal) (sym are.0.0) tt, new_held journal lanes are.1)
+
+-- lanes that have not begun
+pub ready_new : (catalogue : CatalogueOf) (lanes : List LaneOf) (out : RecordOf) (before : RunRecord) (commands : ℕ) → before.journal ≡ catalogue.journal → out.made ≡ before → AreNew lanes
+    → left lanes ≡ commands → commands ≤ out.entries_room → IsReady (state_with catalogue lanes out)
+ready_new catalogue lanes out before commands same made are all room = record {
+  journal = ap (λ (m : RunRecord). m.journal) made ∙ same;
+  held = new_held catalogue.journal lanes are;
+  entries = omega (arith, all, room);
+}
+
+-- ---- the end
+
+abbrev pub synced : RunRecord → RunRecord
+synced made = record made { syncs = made.syncs ++ length made.journal ∷ [] }
+
+-- The record of lanes that were played, gathered and synced.
+pub batch_made : (count : ℕ) (commands : List Command) (piece : List ℕ) (made final : RunRecord) (catalogue mid after : CatalogueOf) (lanes some rest : List LaneOf) (out out' out'' : RecordOf)
+    → Goes piece (state_with catalogue lanes out) (state_with mid some out')
+    → Goes (turns_each (2 * length commands) (range_with_len 1 count ++ 0 ∷ [])) (state_with mid some out') (state_with after rest out'')
+    → made ≡ with_answers (answers_of (gathered commands (lists_of rest))) out''.made → final ≡ synced made
+    → (denials : List Bool) × (final ≡ record_after out.made commands (play catalogue.limits (whole_order piece count (2 * length commands)) denials (play_of catalogue.journal lanes)))
+batch_made count commands piece made final catalogue mid after lanes some rest out out' out'' first second gathers syncs =
+    let goes = goes_on piece (turns_each (2 * length commands) (range_with_len 1 count ++ 0 ∷ [])) (state_with catalogue lanes out) (state_with mid some out') (state_with after rest out'') first second in
+    let lists : map (λ (lane : Lane). lane.done) (map played rest) ≡ lists_of rest = map-map (λ (lane : Lane). lane.done) played rest in (
+      goes.leads.0,
+      syncs
+          ∙ ap synced (gathers ∙ ap (with_answers (answers_of (gathered commands (lists_of rest)))) goes.made)
+          ∙ (λ i. record out.made {
+            journal = after.journal;
+            answers = out.made.answers ++ answers_of (gathered commands (sym lists i));
+            syncs = out.made.syncs ++ length after.journal ∷ [];
+          })
+          ∙ ap (record_after out.made commands) goes.leads.2,
+    )
+
+-- The record of a batch whose commands were shared out to its lanes.
+pub batch_played : (limits : Counts) (count : ℕ) (batch commands : Batch) (piece : List ℕ) (merger : Option ℕ) (denials : List Bool) (before made final : RunRecord) (journal : List Entry) (lanes all : List LaneOf)
+    → merger ≡ None → before.journal ≡ journal → made ≡ before → commands ≡ batch → lanes ≡ all → map played all ≡ lanes_of count commands []
+    → final ≡ record_after made commands (play limits (whole_order piece count (2 * length commands)) denials (play_of journal lanes))
+    → final ≡ batch_after limits count batch (merges_of merger batch) piece denials before
+batch_played limits count batch commands piece merger denials before made final journal lanes all none same room is lent shared played_is =
+    let steps : 2 * length commands ≡ 2 * (length commands + 0) = omega arith in
+    let start : play_of journal lanes ≡ play_with before.journal (lanes_of count commands []) = λ i. play_with (sym same i) ((ap (map played) lent ∙ shared) i) in
+    played_is
+    ∙ (λ i. record_after (room i) (sym (append-nil commands) i) (play limits (whole_order piece count (steps i)) denials (start i)))
+    ∙ (λ i. batch_after limits count (is i) (merges_of (sym none i) (is i)) piece denials before)

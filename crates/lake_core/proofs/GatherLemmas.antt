@@ -1,0 +1,60 @@
+-- The answers of a batch gathered from its lanes.
+use Rattle.std.proofs.Common.{◌≡◌, refl, ap, sym, ◌∙◌, ℕ, suc, ◌+◌, ◌<◌, ◌≤◌, List, [], ◌∷◌, ◌++◌, append_assoc, append-nil, length, take, drop, map, get_or, Option, arith}
+use Rattle.std.specs.Prelude.{slice_set, option_to_list}
+use Rattle.std.proofs.Math.Seq.{drop-cons}
+use Rattle.std.proofs.lemmas.List.{drop_all, map-append}
+use Rattle.reply_text.specs.Rooms.{RecordOf}
+use Rattle.script_model.specs.Commands.{Command}
+use Rattle.script_model.specs.Record.{Answered, RunRecord}
+use Rattle.script_model.specs.Play.{Done, answers_of, gathered}
+use Rattle.lake_core.specs.Lanes.{LaneOf, done_in}
+
+-- a record with these answers behind its own
+abbrev pub with_answers : List Answered → RunRecord → RunRecord
+with_answers answers made = record made { answers = made.answers ++ answers }
+
+abbrev pub lists_of : List LaneOf → List (List Done)
+lists_of lanes = map done_in lanes
+
+-- how far the answers were gathered: those of the first n commands, with room for the others
+pub record Gathers (commands : List Command) (n : ℕ) (lanes now : List LaneOf) (before out : RecordOf) : Type 0 where
+  pub rest : with_answers (answers_of (gathered (drop n commands) (lists_of now))) out.made ≡ with_answers (answers_of (gathered commands (lists_of lanes))) before.made
+  pub room : length commands ≤ out.answers_room + n
+  pub syncs : out.syncs_room ≡ before.syncs_room
+
+-- the answer to the next command, if there is one
+pub gathers_more : (commands : List Command) (n : ℕ) (lanes now later : List LaneOf) (before out after : RecordOf) (command : Command) (answer : Option Answered)
+    → Gathers commands n lanes now before out → n < length commands → command ≡ get_or commands n command
+    → option_to_list answer ≡ answers_of (take 1 (get_or (lists_of now) command.lane []))
+    → lists_of later ≡ slice_set (lists_of now) command.lane (drop 1 (get_or (lists_of now) command.lane []))
+    → after.made ≡ with_answers (option_to_list answer) out.made → out.answers_room ≤ after.answers_room + 1 → after.syncs_room ≡ out.syncs_room
+    → Gathers commands (n + 1) lanes later before after
+gathers_more commands n lanes now later before out after command answer so_far within is answers rest makes room syncs =
+    let next : suc n ≡ n + 1 = omega arith in
+    let first : drop n commands ≡ command ∷ drop (n + 1) commands =
+    drop-cons commands n command within ∙ (λ i. sym is i ∷ drop (next i) commands) in
+    let own : List Done = take 1 (get_or (lists_of now) command.lane []) in
+    let others : List Done = gathered (drop (n + 1) commands) (lists_of later) in
+    let all : answers_of (gathered (drop n commands) (lists_of now)) ≡ option_to_list answer ++ answers_of others =
+    ap (λ (cs : List Command). answers_of (gathered cs (lists_of now))) first
+    ∙ ap (λ (lists : List (List Done)). answers_of (own ++ gathered (drop (n + 1) commands) lists)) (sym rest)
+    ∙ map-append _ own others
+    ∙ ap (λ (xs : List Answered). xs ++ answers_of others) (sym answers) in
+    record {
+      rest = ap (with_answers (answers_of others)) makes
+          ∙ ap (λ (xs : List Answered). record out.made { answers = xs }) (append_assoc out.made.answers (option_to_list answer) (answers_of others))
+          ∙ ap (λ (xs : List Answered). with_answers xs out.made) (sym all)
+          ∙ so_far.rest;
+      room = omega (arith, room, so_far.room);
+      syncs = syncs ∙ so_far.syncs;
+    }
+
+pub gathers_none : (commands : List Command) (lanes : List LaneOf) (out : RecordOf) → length commands ≤ out.answers_room → Gathers commands 0 lanes lanes out out
+gathers_none commands lanes out room = record { rest = refl; room = omega (arith, room); syncs = refl }
+
+pub gathers_all : (commands : List Command) (n : ℕ) (lanes now : List LaneOf) (before out : RecordOf) → Gathers commands n lanes now before out → length commands ≤ n
+    → out.made ≡ with_answers (answers_of (gathered commands (lists_of lanes))) before.made
+gathers_all commands n lanes now before out so_far all =
+    sym (ap (λ (xs : List Answered). record out.made { answers = xs }) (append-nil out.made.answers))
+    ∙ sym (ap (λ (cs : List Command). with_answers (answers_of (gathered cs (lists_of now))) out.made) (drop_all n commands all))
+    ∙ so_far.rest

@@ -1,0 +1,70 @@
+-- The lanes of a batch as the code holds them, and the play that they are at.
+use Rattle.std.specs.Prelude.{◌≡◌, ◌≤◌, ℕ, ⊤, List, [], ◌∷◌, length, map, take, sum_by, Option, Some, None}
+use Rattle.std.specs.List.{AllByRecursion}
+use Rattle.lake_model.specs.Journal.{Entry}
+use Rattle.script_model.specs.Commands.{Command}
+use Rattle.script_model.specs.Play.{Done, Lane, lane_with, lanes_of, Play, play_with}
+use Rattle.lake_core.specs.declared.lane.Held.{Held}
+use Rattle.lake_core.specs.declared.lane.Held.TheVariants.{At, Denied}
+use Rattle.lake_core.specs.Searches.{IsPinOf}
+
+-- a lane: the commands still to do, what is held for the first of them, and what is done
+pub record LaneOf : Type 0 where
+  pub todo : List Command
+  pub held : Option Held
+  pub done : List Done
+
+abbrev pub lane_from : List Command → Option Held → List Done → LaneOf
+lane_from todo held done = record { todo = todo; held = held; done = done }
+
+-- the position that is held
+abbrev pub position_of : Held → ℕ
+position_of (At version) = version.at
+position_of (Denied at) = at
+
+abbrev pub pin_of : Option Held → Option ℕ
+pin_of None = None
+pin_of (Some held) = Some (position_of held)
+
+-- the lane as the play has it
+abbrev pub played : LaneOf → Lane
+played lane = lane_with lane.todo (pin_of lane.held) lane.done
+
+abbrev pub play_of : List Entry → List LaneOf → Play
+play_of journal lanes = play_with journal (map played lanes)
+
+-- a pin that is held is that of the beginning of the journal
+abbrev pub IsHeldAt : List Entry → Held → Type 0
+IsHeldAt journal (At version) = (version.at ≤ length journal) × IsPinOf (take version.at journal) version
+IsHeldAt journal (Denied at) = ⊤
+
+abbrev pub IsHeld : List Entry → Option Held → Type 0
+IsHeld journal None = ⊤
+IsHeld journal (Some held) = IsHeldAt journal held
+
+abbrev pub AreHeld : List Entry → List LaneOf → Type 0
+AreHeld journal lanes = AllByRecursion (λ lane. IsHeld journal lane.held) lanes
+
+-- how many commands are still to do
+abbrev pub left_in : LaneOf → ℕ
+left_in lane = length lane.todo
+
+abbrev pub left : List LaneOf → ℕ
+left lanes = sum_by left_in lanes
+
+-- a play of one lane alone
+abbrev pub alone : List Entry → LaneOf → Play
+alone journal lane = play_with journal (played lane ∷ [])
+
+-- no lane has begun
+abbrev pub AreNew : List LaneOf → Type 0
+AreNew lanes = AllByRecursion (λ lane. (lane.held ≡ None) × (lane.done ≡ [])) lanes
+
+abbrev pub done_in : LaneOf → List Done
+done_in lane = lane.done
+
+-- so many lanes besides the merger's, with the commands that each has to do, none of which is begun
+pub record AreShared (count : ℕ) (commands : List Command) (lanes : List LaneOf) : Type 0 where
+  pub lanes_are : map played lanes ≡ lanes_of count commands []
+  pub all : left lanes ≡ length commands
+  pub fresh : AreNew lanes

@@ -1,0 +1,60 @@
+//! What comes of a plan.
+ghost use Rattle.std.specs.Prelude.{◌≡◌, ◌<◌, ◌^◌, [], length, map, option_map, sum_by, unwrap_or, IfOk, IfSome};
+ghost use Rattle.lake_model.specs.Tables.{members};
+ghost use Rattle.segment_core.specs.Plans.{merged_with};
+ghost use Rattle.segment_merge.specs.Planned.{load_positions, load_tables};
+
+use column_set::SharedTable;
+use no_memory::NoMemory;
+use segment_build::build;
+use segment_core::{Merged, Numbers, Plan, Segment};
+use std::alloc::Global;
+use std::sync::Arc;
+
+/// The segment of the tables that a plan keeps, with what the plan says; `None` where it keeps nothing. No table is copied. It takes the
+/// time to build that segment, and is refused only for want of memory.
+pub fn merge(alloc: Global, plan: Plan) -> Result<Merged, NoMemory>
+    requires columns { sum_by (λ t. length t.columns) (load_tables plan.kept) < 2 ^ 32 }
+    requires members { sum_by members (load_tables plan.kept) < 2 ^ 32 }
+    ensures { IfOk result (λ merged. merged ≡ merged_with plan.from (load_positions plan.kept) (load_tables plan.kept) plan.at) }
+{
+    let Plan { from, kept, at } = plan;
+    let (positions, tables) = split_loads(alloc, &kept)?;
+    let segment = segment_of(alloc, tables)?;
+    Ok(Merged {
+        from,
+        kept: Numbers::new(positions),
+        segment,
+        at,
+    })
+}
+
+// The positions of loads, and their tables.
+fn split_loads(
+    alloc: Global,
+    loads: &[(u64, SharedTable)],
+) -> Result<(Vec<u64>, Vec<SharedTable>), NoMemory>
+    ensures positions { IfOk result (λ lists. lists.0.items ≡ load_positions loads.now) }
+    ensures tables { IfOk result (λ lists. lists.1.items ≡ load_tables loads.now) }
+{
+    let mut positions = Vec::with_capacity(alloc, loads.len())?;
+    let mut tables = Vec::with_capacity(alloc, loads.len())?;
+    for load in loads {
+        positions.push(load.0)?;
+        tables.push(load.1.share()?)?;
+    }
+    Ok((positions, tables))
+}
+
+// The segment of the tables, where there are any.
+fn segment_of(alloc: Global, tables: Vec<SharedTable>) -> Result<Option<Arc<Segment>>, NoMemory>
+    requires columns { sum_by (λ t. length t.columns) tables.items < 2 ^ 32 }
+    requires members { sum_by members tables.items < 2 ^ 32 }
+    ensures tables { IfOk result (λ segment. unwrap_or (option_map (λ s. s.value) segment) [] ≡ tables.items) }
+    ensures some { IfOk result (λ segment. IfSome segment (λ s. 0 < length s.value)) }
+{
+    if tables.is_empty() {
+        return Ok(None);
+    }
+    Ok(Some(Arc::new(alloc, build(alloc, tables)?)?))
+}
