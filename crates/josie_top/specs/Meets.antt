@@ -1,5 +1,5 @@
 -- What a run comes to: what moved, and the row of its status.
-use Rattle.std.specs.Prelude.{ℕ, ◌≡◌, ⊤, false, List, Option, Some, None}
+use Rattle.std.specs.Prelude.{ℕ, ◌≡◌, ◌≤◌, ⊤, false, List, Option, Some, None}
 use Rattle.std.specs.Io.KnownBytes.{Consumes, Appends}
 use Rattle.lake_io.specs.Files as shelf
 use Rattle.lake_model.specs.declared.Counts.{Counts}
@@ -29,6 +29,6 @@ abbrev pub IsSaid : Option Mode → Options → Type 0
 IsSaid None options = ⊤
 IsSaid (Some mode) options = options ≡ options_in mode
 
--- a script is read, in no stated order and without a merger
+-- a script is read, on lanes that there may be, in no stated order and without a merger
 abbrev pub IsRunMode : Mode → Type 0
-IsRunMode (Run options) = (options.order ≡ None) × (options.merge ≡ false)
+IsRunMode (Run options) = (1 ≤ options.lanes) × (options.order ≡ None) × (options.merge ≡ false)

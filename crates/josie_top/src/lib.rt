@@ -38,7 +38,7 @@ pub fn run_ordered<S: Source, K: Sink, F: Shelf>(
     out: &mut RunRecord,
 ) -> Status
     requires empty { out.old.made ≡ empty plain }
-    // the options state no order and no merger
+    // the options state a lane or more, no order and no merger
     requires mode { IsRunMode (mode_of mode) }
     // what was read, recorded and written
     ensures table { Meets standard_limits (options_in (mode_of mode)) result (S.left source.old) (S.left source.new) (K.written sink.old) (K.written sink.new) (F.files shelf.old) (F.faults shelf.old) (F.faults shelf.new) out.new.made }
