@@ -8,13 +8,14 @@ query is not UTF-8, so it is refused at once, and what is measured is the gather
 the same file in pieces of 65,536 bytes into one buffer in memory, in Python, which only moves them. A time is the least of N runs; the peak
 memory is that of the process at its greatest (`ru_maxrss`).
 """
-import argparse
 import os
 import resource
 import subprocess
 import sys
 import tempfile
 import time
+
+from program import given_words
 
 BLOCK = 67_108_864
 BLOCKS = 8
@@ -62,12 +63,8 @@ def copy(path):
 
 
 def main():
-    here = os.path.dirname(os.path.abspath(__file__))
-    words = argparse.ArgumentParser(description=__doc__.splitlines()[0])
-    words.add_argument("josie", nargs="?", default=os.path.join(here, "..", "crates", "josie", "out", "josie"))
-    words.add_argument("--times", type=int, default=3)
-    given = words.parse_args()
-    josie = os.path.abspath(given.josie)
+    given = given_words(__doc__, 3)
+    josie = given.josie
     with tempfile.TemporaryDirectory() as folder:
         path = os.path.join(folder, "batch.josie")
         for line_bytes in (32, 1024):

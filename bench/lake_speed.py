@@ -11,11 +11,11 @@ the command and to write its reply.
 
 Each batch has 4,000 commands, so there is a `sync` for as many loads or drops.
 """
-import argparse
-import os
 import random
 import subprocess
 import time
+
+from program import given_words
 
 BATCH = 4_000
 SIZES = (1_000, 10_000, 50_000)
@@ -60,12 +60,8 @@ def least_time(times, josie, script):
 
 
 def main():
-    here = os.path.dirname(os.path.abspath(__file__))
-    words = argparse.ArgumentParser(description=__doc__.splitlines()[0])
-    words.add_argument("josie", nargs="?", default=os.path.join(here, "..", "crates", "josie", "out", "josie"))
-    words.add_argument("--times", type=int, default=3)
-    given = words.parse_args()
-    josie = os.path.abspath(given.josie)
+    given = given_words(__doc__, 3)
+    josie = given.josie
     begin = least_time(given.times, josie, "")
     print(f"start of the program alone: {begin * 1000:.1f} ms")
     for tables in SIZES:

@@ -1,7 +1,7 @@
 #!/usr/bin/env python3
 """How fast josie loads a table: megabytes of CSV a second, beside a plain pass over the same bytes.
 
-    bench/load_speed.py [--josie PATH] [--times N]
+    bench/load_speed.py [JOSIE] [--times N]
 
 The table is generated, always the same, and of 16 MiB with its two command lines (a block may have 64).
 Two tables are measured: one whose values are ASCII, and one in which every fourth value has accents or full-width letters,
@@ -9,7 +9,6 @@ so that it takes the longer way to its key. A time is the least of N whole runs 
 shown by itself. The plain pass is `wc -w` over the same bytes, in the C locale: it looks at each byte once and keeps
 nothing. The third number is Python's csv and unicodedata doing the same work as josie: records, keys, distinct values.
 """
-import argparse
 import csv
 import io
 import os
@@ -17,6 +16,8 @@ import random
 import subprocess
 import time
 import unicodedata
+
+from program import given_words
 
 MOST_BYTES = 16 * 1_048_576
 ASCII_WORDS = "amber basalt cedar delta ember fjord garnet heron iris juniper kelp linden maple nectar onyx pearl".split()
@@ -76,11 +77,7 @@ def python_time(times, data):
 
 
 def main():
-    here = os.path.dirname(os.path.abspath(__file__))
-    words = argparse.ArgumentParser(description=__doc__.splitlines()[0])
-    words.add_argument("--josie", default=os.path.join(here, "..", "crates", "josie", "out", "josie"))
-    words.add_argument("--times", type=int, default=5)
-    given = words.parse_args()
+    given = given_words(__doc__, 5)
     begin = least_time(given.times, [given.josie, "run"], b"")
     print(f"start of the program alone: {begin * 1000:.1f} ms")
     for name, other_words in (("ASCII values", False), ("one value in four beyond ASCII", True)):

@@ -7,10 +7,10 @@ A lake of 1,000 tables of one value each is loaded, and listed 1,000 times: a mi
 its value 2,000 times, which gives 200,000 rows with their columns' names quoted. The time is that of the whole run, less that of the same
 run without what is measured; the text is what came more. A time is the least of N runs.
 """
-import argparse
-import os
 import subprocess
 import time
+
+from program import given_words
 
 
 def least(times, josie, script):
@@ -32,12 +32,8 @@ def show(what, times, josie, before, asked):
 
 
 def main():
-    here = os.path.dirname(os.path.abspath(__file__))
-    words = argparse.ArgumentParser(description=__doc__.splitlines()[0])
-    words.add_argument("josie", nargs="?", default=os.path.join(here, "..", "crates", "josie", "out", "josie"))
-    words.add_argument("--times", type=int, default=3)
-    given = words.parse_args()
-    josie = os.path.abspath(given.josie)
+    given = given_words(__doc__, 3)
+    josie = given.josie
     tables = "".join(f"load table-{number}\nv\nx\n.\n" for number in range(1000)) + "sync\n"
     show("lists of 1,000 tables", given.times, josie, tables, "tables\n" * 1000)
     columns = "load wide\n" + ",".join(f'"column ""{place}"""' for place in range(100)) + "\n" + ",".join(["x"] * 100) + "\n.\nsync\n"
