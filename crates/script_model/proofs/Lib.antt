@@ -12,3 +12,4 @@ pub mod PlayedLemmas
 pub mod LimitLemmas
 mod WorkedRuns
 mod WorkedWords
+mod WorkedMakes

@@ -15,3 +15,4 @@ pub mod PlayLaws
 pub mod Texts
 pub mod Statuses
 pub mod Plain
+pub mod Generator

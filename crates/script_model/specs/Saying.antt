@@ -1,12 +1,12 @@
 -- What one line outside a block says, by its words alone.
-use Rattle.std.specs.Prelude.{ℕ, ◌==◌, Bool, ◌&&◌, ◌||◌, if◌then◌else◌, List, [], ◌∷◌, drop, find, get_or, nat_lt, bytes_eq, codes, Option, Some, None}
+use Rattle.std.specs.Prelude.{ℕ, ◌==◌, Bool, ◌&&◌, ◌||◌, if◌then◌else◌, List, [], ◌∷◌, drop, find, get_or, nat_lt, bytes_eq, codes, true, false, Option, Some, None}
 use Rattle.std.specs.List.{list_all}
 use Rattle.std.specs.Str.{is_utf8}
 use Rattle.script_model.specs.declared.Reason.{Reason}
 use Rattle.script_model.specs.declared.Reason.TheVariants as reason
 use Rattle.lake_model.specs.Texts.{Text}
 use Rattle.lake_model.specs.Tables.{is_name}
-use Rattle.script_model.specs.Commands.{Task, Load, DropTable, Tables, Search, Like}
+use Rattle.script_model.specs.Commands.{Task, Load, DropTable, Tables, Search, Like, Merge}
 use Rattle.script_model.specs.Words.{is_space, before_spaces, first_word, behind_word, words, number, number_of}
 
 -- the front of a command that has a block
@@ -37,12 +37,12 @@ said_if holds said = if holds then said else Wrong reason.Words
 -- ---- the forms of a command
 
 pub data Form : Type 0 where
-  LoadForm LoadFileForm DropForm TablesForm SearchForm LikeForm SyncForm : Form
+  LoadForm LoadFileForm DropForm TablesForm SearchForm LikeForm MergeForm SyncForm : Form
 
 -- the command words
 abbrev pub forms : List (Text × Form)
 forms = (codes "load", LoadForm) ∷ (codes "loadfile", LoadFileForm) ∷ (codes "drop", DropForm) ∷ (codes "tables", TablesForm)
-    ∷ (codes "search", SearchForm) ∷ (codes "like", LikeForm) ∷ (codes "sync", SyncForm) ∷ []
+    ∷ (codes "search", SearchForm) ∷ (codes "like", LikeForm) ∷ (codes "merge", MergeForm) ∷ (codes "sync", SyncForm) ∷ []
 
 -- a path is the text behind the name, without the spaces at its end, and is UTF-8
 abbrev pub fetch_said : ℕ → Text → Text → Said
@@ -59,6 +59,8 @@ says DropForm lane (name ∷ []) text = said_if (is_name name) (Does lane (DropT
 says TablesForm lane [] text = Does lane Tables
 says SearchForm lane (k ∷ []) text = said_with (number 10000 k) (λ k. Opens lane (SearchBlock k))
 says LikeForm lane (k ∷ name ∷ place ∷ []) text = like_said lane k name place
+says MergeForm lane [] text = Does lane (Merge false)
+says MergeForm lane (word ∷ []) text = said_if (bytes_eq word (codes "all")) (Does lane (Merge true))
 says SyncForm lane [] text = Sync
 says form lane more text = Wrong reason.Words
 

@@ -1,6 +1,6 @@
 -- The table of statuses: what holds behind a run of each status, of the bytes that the source gave, of what it has left where that is told,
 -- of the outcomes of the fetches, of the bytes that the sink took, and of the record. `came` says of paths that these outcomes came of them.
-use Rattle.std.specs.Prelude.{ℕ, ◌-◌, ◌≡◌, ◌⊎◌, ⊤, Bool, true, false, if◌then◌else◌, List, [], ◌++◌, ◌+◌, length, take, sum_by, Option, Some, None}
+use Rattle.std.specs.Prelude.{ℕ, ◌-◌, ◌≡◌, ◌⊎◌, ⊤, Bool, true, false, if◌then◌else◌, List, [], ◌∷◌, ◌++◌, ◌+◌, length, take, sum_by, Option, Some, None}
 use Rattle.std.specs.Io.KnownBytes.{IsAtEnd}
 use Rattle.lake_model.specs.declared.Counts.{Counts}
 use Rattle.lake_model.specs.Texts.{Text, lines_of}
@@ -14,6 +14,7 @@ use Rattle.script_model.specs.Record.{Options, RunRecord, plain, empty}
 use Rattle.script_model.specs.Play.{IsPlayed, updates}
 use Rattle.script_model.specs.Right.{IsRecordRight}
 use Rattle.script_model.specs.Texts.{answers_text, text}
+use Rattle.script_model.specs.Generator.{made_batch, made_options, summary}
 
 -- the first bytes of the text
 abbrev pub IsPrefix : List ℕ → List ℕ → Type 0
@@ -97,3 +98,19 @@ Row limits options outcomes came Usage given left taken made = (given ≡ []) ×
 Row limits options outcomes came ReadFault given left taken made = IsBrokenOff limits options came (begun options outcomes given) taken made
 Row limits options outcomes came WriteFault given left taken made = IsCutOff limits options outcomes came (script_of options outcomes given left) left taken made
 Row limits options outcomes came NoMemory given left taken made = NothingDone taken made ⊎ IsCutOff limits options outcomes came (script_of options outcomes given left) left taken made
+
+-- ---- the runs that make a lake
+
+-- The lake of this seed was made: the record is that of its commands.
+pub record IsLakeMade (limits : Counts) (seed tables rows : ℕ) (made : RunRecord) : Type 0 where
+  pub ended : made.ended ≡ true
+  pub record_of : IsRecordOf limits made_options (made_batch seed tables rows ∷ []) made
+
+-- the row of a status: the summary was written, or its first bytes
+abbrev pub MakeRow : Counts → ℕ → ℕ → ℕ → Status → List ℕ → RunRecord → Type 0
+MakeRow limits seed tables rows Done taken made = IsLakeMade limits seed tables rows made × (taken ≡ summary made)
+MakeRow limits seed tables rows (Script line reason) taken made = ⊥
+MakeRow limits seed tables rows Usage taken made = ⊥
+MakeRow limits seed tables rows ReadFault taken made = ⊥
+MakeRow limits seed tables rows WriteFault taken made = IsLakeMade limits seed tables rows made × IsPrefix taken (summary made)
+MakeRow limits seed tables rows NoMemory taken made = NothingDone taken made ⊎ (IsLakeMade limits seed tables rows made × IsPrefix taken (summary made))
