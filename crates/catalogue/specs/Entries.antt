@@ -1,8 +1,9 @@
 -- What an entry says, as the definitions have it.
 use Rattle.lake_model.specs.Journal as journal
 use Rattle.catalogue.specs.declared.entry.What.{What}
-use Rattle.catalogue.specs.declared.entry.What.TheVariants.{Loaded, Dropped}
+use Rattle.catalogue.specs.declared.entry.What.TheVariants.{Loaded, Dropped, Swapped}
 
 abbrev pub what_of : What → journal.What
 what_of (Loaded table) = journal.Loaded table
 what_of (Dropped name) = journal.Dropped name
+what_of (Swapped from kept) = journal.Swapped from kept

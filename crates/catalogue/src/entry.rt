@@ -1,18 +1,20 @@
 //! An entry of the journal.
 ghost use Rattle.std.specs.Prelude.{◌≡◌, IfOk};
-ghost use Rattle.lake_model.specs.Journal.{entry_with, Dropped, Loaded};
+ghost use Rattle.lake_model.specs.Journal.{entry_with, Dropped, Loaded, Swapped};
 
 use column_set::{Name, SharedTable};
 use lake_model::Who;
 use no_memory::NoMemory;
+use segment_core::Numbers;
 use std::marker::Model;
 
 /// What an entry of the journal says: the table that was loaded, of which it keeps a share, or the name of the table that was
-/// dropped.
+/// dropped, or the numbers of the parts that gave way to one and the positions of the loads that this one keeps.
 #[derive(Drop)]
 pub enum What {
     Loaded(SharedTable),
     Dropped(Name),
+    Swapped { from: Numbers, kept: Numbers },
 }
 
 /// An entry of the journal: who made it, and what it says. A contract sees it as an entry of the definitions.
@@ -52,6 +54,16 @@ impl Entry {
         }
     }
 
+    /// The entry of a swap.
+    pub fn swapped(who: Who, from: Numbers, kept: Numbers) -> Entry
+        ensures { result ≡ entry_with who (Swapped from kept) }
+    {
+        Entry {
+            who,
+            what: What::Swapped { from, kept },
+        }
+    }
+
     /// The same entry, with a share of its table. It copies no table.
     pub fn share(&self) -> Result<Entry, NoMemory>
         ensures { IfOk result (λ other. other ≡ self.now) }
@@ -59,6 +71,7 @@ impl Entry {
         match &self.what {
             What::Loaded(table) => Ok(Entry::loaded(self.who, table.share()?)),
             What::Dropped(name) => Ok(Entry::dropped(self.who, name.copy())),
+            What::Swapped { from, kept } => Ok(Entry::swapped(self.who, from.copy()?, kept.copy()?)),
         }
     }
 }

@@ -1,5 +1,6 @@
 //! The journal of a lake, entry by entry, with what follows from it: the version in which its live tables are searched, their names,
-//! and what counts against the limits of the lake. A load or a drop that is refused changes nothing.
+//! and what counts against the limits of the lake. A load, a drop or a swap that is
+//! refused changes nothing.
 #![tactic(auto)]
 
 mod catalogue;
@@ -10,7 +11,7 @@ mod refusal;
 pub use catalogue::Catalogue;
 pub use entry::{Entry, What};
 pub use lake_model::{Counts, Which, Who};
-pub use refusal::{DropRefused, LoadRefused};
+pub use refusal::{DropRefused, LoadRefused, SwapRefused};
 
 /// The limits of a lake: what its counts may be at most. `Limits::standard()` are those of a lake as it is shipped.
 pub type Limits = Counts;

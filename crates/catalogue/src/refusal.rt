@@ -1,4 +1,4 @@
-//! Why a load or a drop is refused.
+//! Why a load, a drop or a swap is refused.
 use lake_model::Which;
 
 /// Why a load is refused. In each of the first two, `at` is how many entries the journal has.
@@ -33,6 +33,18 @@ pub enum DropRefused {
         which: Which,
         count: u64,
         more: u64,
+        at: u64,
+    },
+    /// Memory was wanting.
+    NoMemory,
+}
+
+/// Why a swap is refused.
+#[derive(Clone, Copy, Debug, PartialEq, Eq)]
+pub enum SwapRefused {
+    /// The layout of the journal, which has `at` entries, lacks a planned part; the first such part has the number `gone`.
+    Stale {
+        gone: u64,
         at: u64,
     },
     /// Memory was wanting.

@@ -214,7 +214,7 @@ fn a_pin_keeps_what_is_dropped_and_loaded_later(rt: HostRuntime) -> Result<(), F
 fn a_shared_drop_is_the_drop(rt: HostRuntime) -> Result<(), Fail> {
     let entry = Entry::dropped(SECOND, name("a")?).share()?;
     match &entry.what {
-        What::Loaded(_) => Err(Fail::from("a load")),
+        What::Loaded(_) | What::Swapped { .. } => Err(Fail::from("no drop")),
         What::Dropped(name) => {
             assert!(rt; name.text() == "a");
             Ok(())

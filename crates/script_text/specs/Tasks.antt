@@ -4,7 +4,7 @@ use Rattle.script_model.specs.Commands as model
 use Rattle.script_text.specs.declared.command.FileBody.{FileBody}
 use Rattle.script_text.specs.declared.command.FileBody.TheVariants.{Bytes, Failed, Missing, TooLong}
 use Rattle.script_text.specs.declared.command.Task.{Task}
-use Rattle.script_text.specs.declared.command.Task.TheVariants.{Load, LoadFile, Drop, Tables, Search, Like}
+use Rattle.script_text.specs.declared.command.Task.TheVariants.{Load, LoadFile, Drop, Tables, Search, Like, Merge}
 
 abbrev pub file_of : FileBody → model.File
 file_of (Bytes body) = model.Bytes body
@@ -19,6 +19,7 @@ task_of (Drop name) = model.DropTable name
 task_of Tables = model.Tables
 task_of (Search k body) = model.Search k body
 task_of (Like k name place) = model.Like k name place
+task_of (Merge all) = model.Merge all
 
 -- a search asks for 1 to 10,000 columns, and places count from 1
 abbrev pub IsTaskInRange : Task → Type 0
@@ -28,3 +29,4 @@ IsTaskInRange (Drop name) = ⊤
 IsTaskInRange Tables = ⊤
 IsTaskInRange (Search k body) = (1 ≤ k) × (k ≤ 10000)
 IsTaskInRange (Like k name place) = (1 ≤ k) × (k ≤ 10000) × (1 ≤ place)
+IsTaskInRange (Merge all) = ⊤

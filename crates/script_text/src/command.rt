@@ -50,6 +50,9 @@ pub enum Task {
     /// The `k` columns with the greatest overlap with the column at the place of the live table of the name are searched for, `k` from 1
     /// to 10,000, and places from 1. That table is excepted.
     Like { k: u32, name: Name, place: u32 },
+    /// Parts of the layout are merged: the first four adjacent ones of one tier, or else the first of which half or more of the tables are
+    /// dropped; or, where `all` says so, the whole layout.
+    Merge { all: bool },
 }
 
 /// A command of a script. A contract sees its number, its lane and its task. Commands are numbered from 1, in the order of the
@@ -104,7 +107,7 @@ impl Command {
     {
         match &self.task {
             Task::Load { .. } | Task::LoadFile { .. } | Task::Drop { .. } => true,
-            Task::Tables | Task::Search { .. } | Task::Like { .. } => false,
+            Task::Tables | Task::Search { .. } | Task::Like { .. } | Task::Merge { .. } => false,
         }
     }
 }
