@@ -140,10 +140,21 @@ class Script:
         block = [self.value() for _ in range(chance.randint(0, 7))]
         self.command(f"search {most}", plain_lake.search(self.lake, most, block), block)
 
+    def ask(self, searches):
+        """These searches, one after another."""
+        for most, block in searches:
+            self.command(f"search {most}", plain_lake.search(self.lake, most, block), block)
+
     def merge(self):
-        """Searches before and after a merge give the same rows: the model's answers do not depend on parts."""
-        whole = self.chance.random() < 0.3
+        """A merge, now and then with the same twenty searches before and behind it: their rows stay, as the model's do not depend on parts."""
+        chance = self.chance
+        whole = chance.random() < 0.3
+        searches = []
+        if chance.random() < 0.1:
+            searches = [(chance.choice([1, 2, 5, 10000]), [self.value() for _ in range(chance.randint(1, 7))]) for _ in range(20)]
+        self.ask(searches)
         self.update("merge all" if whole else "merge", plain_lake.merge(self.lake, self.lake, whole))
+        self.ask(searches)
 
     def skipped(self):
         self.lines.append(self.chance.choice(["", "   ", "# a remark", "#load a"]))
