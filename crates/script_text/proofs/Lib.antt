@@ -6,4 +6,10 @@ pub mod EndLemmas
 pub mod ProgressLemmas
 pub mod TurnLemmas
 pub mod BatchLemmas
+pub mod NumberLemmas
+pub mod RowLemmas
+pub mod RunLemmas
+pub mod PlainLemmas
+pub mod OptionLemmas
+pub mod MakeLemmas
 pub mod ModeLemmas
