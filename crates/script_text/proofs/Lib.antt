@@ -12,4 +12,7 @@ pub mod RunLemmas
 pub mod PlainLemmas
 pub mod OptionLemmas
 pub mod MakeLemmas
+pub mod CommandLemmas
+pub mod OrderLemmas
+pub mod ParsedLemmas
 pub mod ModeLemmas

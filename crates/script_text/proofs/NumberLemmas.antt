@@ -105,3 +105,25 @@ number_or_zero_is_read most text n high e = by (bytes_eq text (48 ∷ [])) refl 
         let value : 0 ≡ n = cc e in
         subst (IsRead 0 most text) value (subst (λ (t : Text). IsRead 0 most t 0) (sym ((bytes_eq-Decides text (48 ∷ [])).0 is)) (record { word = refl; accepted = le-leb 0 most (omega arith); read = refl }))
     by false is e = number_is_read 0 most text n (omega arith) high e
+
+-- ---- bounds
+
+pub number_bounds : (most : ℕ) (text : Text) (n : ℕ) → number most text ≡ Some n → (1 ≤ n) × (n ≤ most)
+number_bounds most text n e = by (is_number text) refl (nat_le (digits_value text) most) refl e
+  where
+    by : (is : Bool) → is_number text ≡ is → (fits : Bool) → nat_le (digits_value text) most ≡ fits → cond (is && fits) (Some (digits_value text)) None ≡ Some n → (1 ≤ n) × (n ≤ most)
+    by true is true fits e =
+        let value : digits_value text ≡ n = cc e in
+        let high : digits_value text ≤ most = leb-true _ _ fits in
+        (omega (arith, value, positive text is), omega (arith, value, high))
+    by true is false fits e = cc e
+    by false is fits _ e = cc e
+
+pub number_or_zero_bounds : (most : ℕ) (text : Text) (n : ℕ) → number_or_zero most text ≡ Some n → n ≤ most
+number_or_zero_bounds most text n e = by (bytes_eq text (48 ∷ [])) e
+  where
+    by : (zero : Bool) → cond zero (Some 0) (number most text) ≡ Some n → n ≤ most
+    by true e =
+        let value : 0 ≡ n = cc e in
+        omega (arith, value)
+    by false e = (number_bounds most text n e).1

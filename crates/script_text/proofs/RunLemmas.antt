@@ -190,4 +190,3 @@ module _ (rows : List Row) where
   unfolding clap_on_literals
   order_value_turn [] value = absurd value
   order_value_turn (byte ∷ bytes) value = rw (value, not_short byte bytes value) refl
-

@@ -4,7 +4,7 @@ ghost use Rattle.clap.specs.Walk.{rule_of};
 ghost use Rattle.clap.specs.Words.{app_of, found_of, rows_of};
 ghost use Rattle.script_model.specs.Plain.{Mode as ModeOf, plain_mode};
 ghost use Rattle.script_model.specs.Ranges.{AreInRange};
-ghost use Rattle.script_text.specs.Words.{IsModeInRange, bare, flag_of, flag_option, make_command as make_app, make_words, mode_of, mode_read, names_mode, number_held, number_word, options_held, order_stated, run_command as run_app, run_words};
+ghost use Rattle.script_text.specs.Words.{IsModeInRange, bare, flag_of, flag_option, lanes_option, order_option, make_command as make_app, make_held, make_words, mode_of, mode_read, names_mode, number_held, number_word, options_held, order_stated, run_command as run_app, run_words};
 
 use crate::options::{Options, Order};
 use clap::builder::ValueParser;
@@ -61,16 +61,39 @@ impl From<Error> for WordsRefused {
     }
 }
 
+// The number of lanes.
+fn lanes_option<'a>(alloc: Global) -> Arg<'a>
+    ensures rule { rule_of result ≡ lanes_option }
+    ensures local { result.global ≡ false }
+{
+    Arg::new(alloc, "lanes")
+        .long("lanes")
+        .action(ArgAction::Set)
+        .value_parser(value_parser!(u32).range(1..=16))
+}
+
+// The stated order.
+fn order_option<'a>(alloc: Global) -> Arg<'a>
+    ensures rule { rule_of result ≡ order_option }
+    ensures local { result.global ≡ false }
+{
+    Arg::new(alloc, "order")
+        .long("order")
+        .action(ArgAction::Set)
+}
+
 // A flag, off where it does not stand among the words.
 fn flag_option<'a>(alloc: Global, name: &'a str) -> Arg<'a>
-    ensures { rule_of result ≡ flag_option name.entry.now }
+    ensures rule { rule_of result ≡ flag_option name.entry.now }
+    ensures local { result.global ≡ false }
 {
     Arg::new(alloc, name).long(name).action(ArgAction::SetTrue)
 }
 
-// An argument without a name before it, which has to be there.
+// A number without a name before it, which has to be there.
 fn number_word<'a>(alloc: Global, name: &'a str, parser: ValueParser<'a>) -> Arg<'a>
-    ensures { rule_of result ≡ number_word name.entry.now parser.entry }
+    ensures rule { rule_of result ≡ number_word name.entry.now parser.entry }
+    ensures local { result.global ≡ false }
 {
     Arg::new(alloc, name)
         .required(true)
@@ -92,16 +115,9 @@ fn bare<'a>(alloc: Global, name: &'a str) -> Command<'a>
 fn run_command<'a>(alloc: Global) -> Result<Command<'a>, NoMemory>
     ensures { IfOk result (λ command. app_of command ≡ run_app) }
 {
-    let lanes = Arg::new(alloc, "lanes")
-        .long("lanes")
-        .action(ArgAction::Set)
-        .value_parser(value_parser!(u32).range(1..=16));
-    let order = Arg::new(alloc, "order")
-        .long("order")
-        .action(ArgAction::Set);
     let command = bare(alloc, "run")
-        .arg(lanes)?
-        .arg(order)?
+        .arg(lanes_option(alloc))?
+        .arg(order_option(alloc))?
         .arg(flag_option(alloc, "merge"))?
         .arg(flag_option(alloc, "trace"))?;
     Ok(command)
@@ -133,7 +149,12 @@ fn number(matches: &ArgMatches<'_>, id: &str) -> Option<u32>
 }
 
 // The order that a text states; none where it breaks the rule of orders.
-fn order_stated(alloc: Global, lanes: u32, merge: bool, text: Option<&str>) -> Result<Option<Order>, WordsRefused>
+fn order_stated(
+    alloc: Global,
+    lanes: u32,
+    merge: bool,
+    text: Option<&str>,
+) -> Result<Option<Order>, WordsRefused>
     ensures read { IfOk result (λ order. order_stated lanes merge (option_map (λ t. t.now) text.entry) ≡ Some order) }
     ensures refused { IfErr result (λ e. (e ≡ WordsRefused.NoMemory) ⊎ (order_stated lanes merge (option_map (λ t. t.now) text.entry) ≡ None)) }
 {
@@ -173,6 +194,16 @@ fn run_options(alloc: Global, words: &[String]) -> Result<Options, WordsRefused>
     options_held(alloc, &matches)
 }
 
+// The numbers that the matches of `make` hold, where all are there.
+fn make_held(matches: &ArgMatches<'_>) -> Option<Mode>
+    ensures { option_map mode_of result ≡ make_held (rows_of (found_of matches.now)) }
+{
+    let seed = number(matches, "seed")?;
+    let tables = number(matches, "tables")?;
+    let rows = number(matches, "rows")?;
+    Some(Mode::Make { seed, tables, rows })
+}
+
 // The mode that the words behind `make` say.
 fn make_mode(alloc: Global, words: &[String]) -> Result<Mode, WordsRefused>
     ensures read { IfOk result (λ mode. make_words (map string_bytes words.now) ≡ Some (mode_of mode)) }
@@ -180,16 +211,7 @@ fn make_mode(alloc: Global, words: &[String]) -> Result<Mode, WordsRefused>
     ensures refused { IfErr result (λ e. (e ≡ WordsRefused.NoMemory) ⊎ (make_words (map string_bytes words.now) ≡ None)) }
 {
     let matches = make_command(alloc)?.try_get_matches_from(words)?;
-    let Some(seed) = number(&matches, "seed") else {
-        return Err(WordsRefused::Usage);
-    };
-    let Some(tables) = number(&matches, "tables") else {
-        return Err(WordsRefused::Usage);
-    };
-    let Some(rows) = number(&matches, "rows") else {
-        return Err(WordsRefused::Usage);
-    };
-    Ok(Mode::Make { seed, tables, rows })
+    make_held(&matches).ok_or(WordsRefused::Usage)
 }
 
 /// The mode that the words behind the program's name say. The first word is the mode, byte for byte, and clap reads the words behind

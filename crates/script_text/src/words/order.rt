@@ -1,5 +1,5 @@
 //! A stated order, as it is written: pieces with `/` between, each of them empty, or numbers of lanes with `,` between.
-ghost use Rattle.std.specs.Prelude.{◌≡◌, ◌==◌, IfOk, map, option_map};
+ghost use Rattle.std.specs.Prelude.{◌≡◌, ◌==◌, IfOk, map};
 ghost use Rattle.std.specs.List.{slice_split};
 ghost use Rattle.script_model.specs.Plain.{all_there, lane_number, order_of, piece_of};
 
@@ -9,11 +9,16 @@ use no_memory::NoMemory;
 use std::alloc::Global;
 
 // The order that a text states; none where it breaks the rule.
-pub(super) fn read_order(alloc: Global, lanes: u32, merge: bool, text: &[u8]) -> Result<Option<Order>, NoMemory>
+pub(super) fn read_order(
+    alloc: Global,
+    lanes: u32,
+    merge: bool,
+    text: &[u8],
+) -> Result<Option<Order>, NoMemory>
     ensures { IfOk result (λ order. order ≡ order_of lanes merge text.now) }
 {
-    let pieces = read_pieces(alloc, lanes, merge, parts(alloc, text, b'/')?.as_slice())?;
-    Ok(pieces.map(Order::new))
+    let parts = parts(alloc, text, b'/')?;
+    read_pieces(alloc, lanes, merge, parts.as_slice())
 }
 
 // The parts of a text, with the byte between.
@@ -23,9 +28,14 @@ fn parts<'a>(alloc: Global, text: &'a [u8], byte: u8) -> Result<Vec<&'a [u8]>, N
     Ok(text.split(|b| *b == byte).collect(alloc)?)
 }
 
-// The pieces that the parts of an order are; none where one is no piece.
-fn read_pieces(alloc: Global, lanes: u32, merge: bool, parts: &[&[u8]]) -> Result<Option<Vec<Piece>>, NoMemory>
-    ensures { IfOk result (λ pieces. option_map (λ p. p.items) pieces ≡ all_there (map (λ part. piece_of lanes merge part.now) parts.now)) }
+// The order whose pieces stand in these parts.
+fn read_pieces(
+    alloc: Global,
+    lanes: u32,
+    merge: bool,
+    parts: &[&[u8]],
+) -> Result<Option<Order>, NoMemory>
+    ensures { IfOk result (λ order. order ≡ all_there (map (λ part. piece_of lanes merge part.now) parts.now)) }
 {
     let mut pieces = Vec::new(alloc);
     for part in parts {
@@ -34,23 +44,33 @@ fn read_pieces(alloc: Global, lanes: u32, merge: bool, parts: &[&[u8]]) -> Resul
         };
         pieces.push(piece)?;
     }
-    Ok(Some(pieces))
+    Ok(Some(Order::new(pieces)))
 }
 
 // A piece: nothing, or numbers of lanes.
-fn read_piece(alloc: Global, lanes: u32, merge: bool, text: &[u8]) -> Result<Option<Piece>, NoMemory>
+fn read_piece(
+    alloc: Global,
+    lanes: u32,
+    merge: bool,
+    text: &[u8],
+) -> Result<Option<Piece>, NoMemory>
     ensures { IfOk result (λ piece. piece ≡ piece_of lanes merge text.now) }
 {
     if text.is_empty() {
         return Ok(Some(Piece::new(Vec::new(alloc))));
     }
-    let numbers = read_lanes(alloc, lanes, merge, parts(alloc, text, b',')?.as_slice())?;
-    Ok(numbers.map(Piece::new))
+    let parts = parts(alloc, text, b',')?;
+    read_lanes(alloc, lanes, merge, parts.as_slice())
 }
 
-// The lanes that the parts of a piece are; none where one is no lane.
-fn read_lanes(alloc: Global, lanes: u32, merge: bool, parts: &[&[u8]]) -> Result<Option<Vec<u32>>, NoMemory>
-    ensures { IfOk result (λ numbers. option_map (λ n. n.items) numbers ≡ all_there (map (λ part. lane_number lanes merge part.now) parts.now)) }
+// The piece whose lanes stand in these parts.
+fn read_lanes(
+    alloc: Global,
+    lanes: u32,
+    merge: bool,
+    parts: &[&[u8]],
+) -> Result<Option<Piece>, NoMemory>
+    ensures { IfOk result (λ piece. piece ≡ all_there (map (λ part. lane_number lanes merge part.now) parts.now)) }
 {
     let mut numbers = Vec::new(alloc);
     for part in parts {
@@ -59,10 +79,10 @@ fn read_lanes(alloc: Global, lanes: u32, merge: bool, parts: &[&[u8]]) -> Result
         };
         numbers.push(number)?;
     }
-    Ok(Some(numbers))
+    Ok(Some(Piece::new(numbers)))
 }
 
-// The number of a lane, or of the merger where there is one.
+// The number of a lane, or 0 for the merger where there is one.
 fn read_lane(lanes: u32, merge: bool, text: &[u8]) -> Option<u32>
     ensures { result ≡ lane_number lanes merge text.now }
 {

@@ -3,18 +3,23 @@ use super::{Mode, WordsRefused, read_words};
 use std::alloc::Global;
 use std::test::Fail;
 
-/// Whether the words, which single spaces part, ask for a run with a trace; none where they are refused.
-fn trace_of(alloc: Global, line: &str) -> Result<Option<bool>, Fail> {
+/// What the words, which single spaces part, say in small: of a run its lanes, whether an order is stated, and its flags; of a lake to
+/// make its three numbers. None where they are refused.
+fn said(alloc: Global, line: &str) -> Result<Option<[u32; 4]>, Fail> {
     let mut words = Vec::new(alloc);
     for word in line.split(' ') {
         words.push(String::from_str(alloc, word)?)?;
     }
-    trace_read(alloc, words.as_slice())
+    said_by(alloc, words.as_slice())
 }
 
-fn trace_read(alloc: Global, words: &[String]) -> Result<Option<bool>, Fail> {
+fn said_by(alloc: Global, words: &[String]) -> Result<Option<[u32; 4]>, Fail> {
     match read_words(alloc, words) {
-        Ok(Mode::Run(options)) => Ok(Some(options.trace)),
+        Ok(Mode::Run(options)) => {
+            let flags = u32::from(options.merge) * 2 + u32::from(options.trace);
+            Ok(Some([1, options.lanes, u32::from(options.order.is_some()), flags]))
+        }
+        Ok(Mode::Make { seed, tables, rows }) => Ok(Some([seed, tables, rows, 9])),
         Err(WordsRefused::Usage) => Ok(None),
         Err(WordsRefused::NoMemory) => Err(Fail::from("memory")),
     }
@@ -23,72 +28,105 @@ fn trace_read(alloc: Global, words: &[String]) -> Result<Option<bool>, Fail> {
 #[test]
 fn reads_plain_words(rt: HostRuntime) -> Result<(), Fail> {
     let alloc = rt.alloc();
-    assert!(rt; trace_of(alloc, "run")? == Some(false));
-    assert!(rt; trace_of(alloc, "run --trace")? == Some(true));
+    for (line, wanted) in [
+        ("run", [1, 1, 0, 0]),
+        ("run --trace", [1, 1, 0, 1]),
+        ("run --merge --lanes 16", [1, 16, 0, 2]),
+        ("run --trace --order 1,2//2 --lanes 2", [1, 2, 1, 1]),
+        ("run --lanes 3 --order / --merge --trace", [1, 3, 1, 3]),
+        ("run --order 0,1,0/ --merge", [1, 1, 1, 2]),
+        ("make 0 1 1", [0, 1, 1, 9]),
+        ("make 4294967295 1000 5000", [4294967295, 1000, 5000, 9]),
+    ] {
+        assert!(rt; said(alloc, line)? == Some(wanted));
+    }
     Ok(())
 }
 
 #[test]
-fn takes_the_end_of_options(rt: HostRuntime) -> Result<(), Fail> {
+fn reads_other_words_as_clap_does(rt: HostRuntime) -> Result<(), Fail> {
     let alloc = rt.alloc();
-    assert!(rt; trace_of(alloc, "run --")? == Some(false));
-    assert!(rt; trace_of(alloc, "run --trace --")? == Some(true));
-    assert!(rt; trace_of(alloc, "run -- --trace")?.is_none());
+    for (line, wanted) in [
+        ("run --", [1, 1, 0, 0]),
+        ("run --trace --", [1, 1, 0, 1]),
+        ("run --lanes=2", [1, 2, 0, 0]),
+        ("run --lanes 02", [1, 2, 0, 0]),
+        ("run --lanes +2", [1, 2, 0, 0]),
+        ("run --order ", [1, 1, 1, 0]),
+        ("make -- 007 +2 3", [7, 2, 3, 9]),
+    ] {
+        assert!(rt; said(alloc, line)? == Some(wanted));
+    }
     Ok(())
 }
 
 #[test]
 fn refuses_other_modes(rt: HostRuntime) -> Result<(), Fail> {
     let alloc = rt.alloc();
-    assert!(rt; trace_read(alloc, &[])?.is_none());
+    assert!(rt; said_by(alloc, &[])?.is_none());
     for line in [
         "",
         " run",
         "Run",
         "runs",
         "ru",
-        "--trace",
         "--trace run",
-        "make",
-        "make 0 1 2",
+        "makes 0 1 1",
         "--help",
-        "läuft",
         "run\u{a0}",
     ] {
-        assert!(rt; trace_of(alloc, line)?.is_none());
+        assert!(rt; said(alloc, line)?.is_none());
     }
     Ok(())
 }
 
 #[test]
-fn refuses_other_words(rt: HostRuntime) -> Result<(), Fail> {
+fn refuses_other_words_of_run(rt: HostRuntime) -> Result<(), Fail> {
     let alloc = rt.alloc();
     for line in [
         "run ",
         "run run",
+        "run -- --trace",
         "run --trace --trace",
-        "run --trace=x",
         "run --trace=true",
-        "run --trace true",
-        "run --trce",
         "run --trac",
-        "run --Trace",
-        "run -trace",
         "run -t",
-        "run -",
-        "run --lanes 2",
-        "run --order 1",
-        "run --merge",
         "run --help",
-        "run -h",
-        "run help",
-        "run --version",
         "run -V",
-        "run spår",
-        "run --tracé",
-        "run -é",
+        "run --lanes",
+        "run --lanes 0",
+        "run --lanes 17",
+        "run --lanes -1",
+        "run --lanes 2 --lanes 2",
+        "run --order",
+        "run --order 2",
+        "run --order 0",
+        "run --order 1,,1",
+        "run --order 01",
+        "run --order 1/ --order 1",
     ] {
-        assert!(rt; trace_of(alloc, line)?.is_none());
+        assert!(rt; said(alloc, line)?.is_none());
+    }
+    Ok(())
+}
+
+#[test]
+fn refuses_other_words_of_make(rt: HostRuntime) -> Result<(), Fail> {
+    let alloc = rt.alloc();
+    for line in [
+        "make",
+        "make 0 1",
+        "make 0 1 1 1",
+        "make 4294967296 1 1",
+        "make 0 0 1",
+        "make 0 1001 1",
+        "make 0 1 0",
+        "make 0 1 5001",
+        "make 0 1 x",
+        "make -1 1 1",
+        "make --trace 0 1 1",
+    ] {
+        assert!(rt; said(alloc, line)?.is_none());
     }
     Ok(())
 }
