@@ -1,6 +1,6 @@
 -- Clap reads in plain words what they say.
 use Rattle.std.proofs.Common.{◌≡◌, refl, inl, inr, ◌⊎◌, ap, ap₂, sym, ◌∙◌, ◌&&◌, ◌^◌, ◌<◌, ℕ, length, Result, Ok, Err, List, [], ◌∷◌, Bool, true, false, cond, codes, Option, Some, None, option_map, true≢false}
-use Rattle.std.specs.Prelude.{⊤, IfErr, IfOk, MatchResult, bytes_eq, nat_lt, option_and_then, unwrap_or}
+use Rattle.std.specs.Prelude.{⊤, IfErr, IfOk, IsErr, MatchResult, bytes_eq, nat_lt, option_and_then, unwrap_or}
 use Rattle.std.specs.List.{list_all}
 use Rattle.std.specs.Option.{option_map_or}
 use Rattle.std.specs.Str.Parse.{AllDigits, IsNumeral, ParsesBool, ParsesUnsigned, digits_value, without_leading_plus}
@@ -97,3 +97,13 @@ plain_by words (Err e) read (inl memory) mode plain = memory
 plain_by words (Err e) read (inr none) mode plain =
     let bad : None ≡ Some mode = sym none ∙ plain_is_read words mode plain in
     cc bad
+
+-- an error that was passed up leaves no value to speak of
+pub no_ok : (r : Result Given WordsRefused) (P : Given → Type 0) → IsErr r → IfOk r P
+no_ok (Ok given) P is = absurd (true≢false (sym is))
+no_ok (Err e) P is = tt
+
+pub run_refused : (e : WordsRefused) (options : Option Options) (mode : Option Mode) → mode ≡ option_map Run options → (e ≡ refused.NoMemory) ⊎ (options ≡ None)
+    → (e ≡ refused.NoMemory) ⊎ (mode ≡ None)
+run_refused e options mode same (inl memory) = inl memory
+run_refused e options mode same (inr none) = inr (same ∙ ap (option_map Run) none)
