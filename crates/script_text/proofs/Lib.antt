@@ -8,7 +8,7 @@ pub mod TurnLemmas
 pub mod BatchLemmas
 pub mod NumberLemmas
 pub mod RowLemmas
-pub mod RunLemmas
+pub mod RunWordLemmas
 pub mod PlainLemmas
 pub mod OptionLemmas
 pub mod MakeLemmas

@@ -17,7 +17,7 @@ use Rattle.script_model.specs.Plain.{Mode, make_mode, make_with}
 use Rattle.script_text.specs.Words.{between as range, held_without, make_command, make_held, make_words, number_read}
 use Rattle.script_text.proofs.NumberLemmas.{IsRead, IsValue, not_short, number_is_read, number_or_zero_is_read}
 use Rattle.script_text.proofs.RowLemmas.{row_with}
-use Rattle.script_text.proofs.RunLemmas.{Pending, held}
+use Rattle.script_text.proofs.RunWordLemmas.{Pending, held}
 
 -- the command as it is built
 abbrev top : Shape

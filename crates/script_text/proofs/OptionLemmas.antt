@@ -15,7 +15,7 @@ use Rattle.script_model.specs.Plain.{Awaited, Given, LanesNext, NoValue, OrderNe
 use Rattle.script_text.specs.Words.{flag_of, flag_option, held_without, lanes_option, number_held, number_read, options_held, order_option, order_stated, run_command, run_words}
 use Rattle.script_text.proofs.NumberLemmas.{number_is_read}
 use Rattle.script_text.proofs.RowLemmas.{default_kept, default_row, no_default, row_at, row_with}
-use Rattle.script_text.proofs.RunLemmas.{Agrees, between, flag_if, held, lanes_row, order_row, rules, top}
+use Rattle.script_text.proofs.RunWordLemmas.{Agrees, between, flag_if, held, lanes_row, order_row, rules, top}
 use Rattle.script_text.proofs.PlainLemmas.{Walks, no_value, plain_walks}
 
 -- ---- the default values
