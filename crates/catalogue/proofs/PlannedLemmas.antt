@@ -1,6 +1,7 @@
 -- What is merged of a plan of adjacent parts can be swapped in.
-use Rattle.std.proofs.Common.{◌≡◌, refl, ap, sym, ◌∙◌, subst, ℕ, ◌<◌, List, [], ◌∷◌, ◌++◌, true, map, not, length}
-use Rattle.std.specs.Prelude.{◌⊎◌}
+use Rattle.std.proofs.Common.{◌≡◌, refl, ap, sym, ◌∙◌, subst, ℕ, ◌+◌, ◌-◌, ◌<◌, ◌≤◌, List, [], ◌∷◌, ◌++◌, true, map, not, length, take, drop, arith}
+use Rattle.std.specs.Prelude.{◌⊎◌, slice_range}
+use Rattle.std.proofs.lemmas.List.{take-append-drop, length-take, length-drop}
 use Rattle.lake_model.specs.Tables.{Table}
 use Rattle.lake_model.specs.Journal.{Entry}
 use Rattle.lake_model.specs.Layout.{Place, Part, is_among, is_legal, layout, may_swap, positions_of, run_of, unmarked_of}
@@ -27,6 +28,14 @@ positions_kept (p ∷ ps) = ap (λ ns. p.position ∷ ns) (positions_kept ps)
 tables_kept : (places : List Place) → map (λ (load : ℕ × Table). load.1) (map (λ (place : Place). (place.position, place.table)) places) ≡ map (λ place. place.table) places
 tables_kept [] = refl
 tables_kept (p ∷ ps) = ap (λ ts. p.table ∷ ts) (tables_kept ps)
+
+-- the parts from one index to another
+pub sliced : (parts : List Part) (i j : ℕ) → Run parts (slice_range parts i j)
+sliced parts i j =
+    record { front = take i parts; back = drop (j - i) (drop i parts); whole = sym (take-append-drop i parts) ∙ ap (λ (ps : List Part). take i parts ++ ps) (sym (take-append-drop (j - i) (drop i parts))) }
+
+pub length_sliced : (parts : List Part) (i n : ℕ) → i + n ≤ length parts → length (slice_range parts i (i + n)) ≡ n
+length_sliced parts i n h = omega (arith, length-take (i + n - i) (drop i parts), length-drop i parts)
 
 module _ (journal : List Entry) (legal : is_legal journal ≡ true) (run : List Part) (stands : Run (layout journal) run) (some : 0 < length run) (merging : (1 < length run) ⊎ (0 < marked_in (places_of run))) where
   abbrev kept : List ℕ
