@@ -7,7 +7,7 @@ use Rattle.lake_model.specs.Journal.{What, Entry, entry_with}
 use Rattle.script_model.specs.Commands.{Command, Task, Load, LoadFile, DropTable, Tables, Search, Like, Merge}
 use Rattle.script_model.specs.Replies.{Reply}
 use Rattle.script_model.specs.Answered.{answer_to, adds, change_of, has_pin, is_accepted, standing}
-use Rattle.script_model.specs.Merges.{is_merge}
+use Rattle.script_model.specs.Lanes.{is_merge}
 use Rattle.script_model.specs.Play.{done_with, lane_with, play_with, reply_or_denied, entries_of, who_of, lane_step, step_of, step}
 use Rattle.script_text.specs.declared.command.Task.{Task as CodeTask}
 use Rattle.script_text.specs.declared.command.Task.TheVariants as code

@@ -1,7 +1,7 @@
 -- What a call of a gatherer answers.
-use Rattle.std.proofs.Common.{◌≡◌, refl, ap, sym, ◌∙◌, subst, ℕ, ◌+◌, ◌-◌, ◌<◌, ◌≤◌, List, [], ◌∷◌, ◌++◌, true, false, length, take, drop, arith, append_assoc, append-nil, inl, inr}
+use Rattle.std.proofs.Common.{◌≡◌, refl, ap, sym, ◌∙◌, subst, ℕ, ◌+◌, ◌≤◌, List, [], ◌∷◌, ◌++◌, true, false, length, take, drop, arith, append_assoc, append-nil, inl, inr}
 use Rattle.std.specs.Prelude.{Option, Some, None, Ok, Err, Result}
-use Rattle.std.specs.Io.KnownBytes.{Consumes, IsAtEnd, Keeps}
+use Rattle.std.specs.Io.KnownBytes.{IsAtEnd, Keeps}
 use Rattle.std.proofs.KnownBytes.{Consumes-kept}
 use Rattle.lake_io.specs.Files as shelf
 use Rattle.lake_model.specs.Texts.{Text}
@@ -9,13 +9,13 @@ use Rattle.script_model.specs.declared.Reason.{Reason}
 use Rattle.script_model.specs.declared.ScriptLimits.{ScriptLimits}
 use Rattle.script_model.specs.Commands.{Batch, File}
 use Rattle.script_model.specs.Reading.{Grammar, Reading, Stands, Turn, read, read_with, turn_of, turned}
-use Rattle.script_model.specs.Script.{Commands, FaultAt, Whole, commands_from, commands_with, ended, grammar_of}
+use Rattle.script_model.specs.Script.{Commands, FaultAt, commands_from, commands_with, ended, grammar_of}
 use Rattle.script_model.specs.Statuses.{left_of}
 use Rattle.script_model.specs.Words.{NoFeed}
 use Rattle.script_text.specs.declared.refused.ScriptEnd.{ScriptEnd}
 use Rattle.script_text.specs.declared.refused.ScriptEnd.TheVariants.{NoMemory, ReadFault, Script}
 use Rattle.script_text.specs.Endings.{Ends}
-use Rattle.script_text.specs.Gathering.{Gathering, IsFaulty, grammar, lines_text, reading_at}
+use Rattle.script_text.specs.Gathering.{Gathering, grammar, lines_text, reading_at}
 use Rattle.script_text.specs.Gathers.{Gathers, Taken}
 use Rattle.script_text.specs.Inputs.{Came, EndsLine}
 use Rattle.script_text.specs.Outcomes.{AreFetched}

@@ -1,29 +1,23 @@
 -- How far a call of a gatherer has come: by the bytes given, the paths asked for, and the lines read.
-use Rattle.std.proofs.Common.{◌≡◌, refl, ap, sym, ◌∙◌, subst, ℕ, ◌+◌, ◌-◌, ◌^◌, ◌<◌, ◌≤◌, List, [], ◌∷◌, ◌++◌, Bool, cond, length, take, drop, arith, append_assoc, append-nil, min}
-use Rattle.std.specs.Prelude.{flat_map, count_by, Option, Some, None, Ok, Err}
-use Rattle.std.specs.Io.KnownBytes.{Consumes, IsAtEnd, Keeps}
+use Rattle.std.proofs.Common.{◌≡◌, refl, ap, sym, ◌∙◌, subst, ℕ, ◌+◌, ◌≤◌, List, [], ◌∷◌, ◌++◌, cond, length, take, drop, arith, append_assoc, append-nil}
+use Rattle.std.specs.Prelude.{count_by, Option, None, Ok}
+use Rattle.std.specs.Io.KnownBytes.{Consumes}
 use Rattle.std.specs.List.{AllByRecursion}
-use Rattle.std.proofs.KnownBytes.{Consumes-kept, Consumes-nil, Consumes-trans}
+use Rattle.std.proofs.KnownBytes.{Consumes-nil, Consumes-trans}
 use Rattle.std.proofs.lemmas.List.{length-take-le}
 use Rattle.std.proofs.lemmas.List.Sums.{sum_by-append}
 use Rattle.lake_io.specs.Files as shelf
 use Rattle.lake_model.specs.Texts.{Text}
-use Rattle.script_model.specs.declared.Reason.{Reason}
 use Rattle.script_model.specs.Commands.{Batch, File}
 use Rattle.script_model.specs.Reading.{Fails, Gives, Goes, Grammar, LinesRead, Reading, Stands, Turn, read, read_with, turn_of, turned}
-use Rattle.script_model.specs.Script.{Commands, FaultAt, commands_from, commands_with, ended}
-use Rattle.script_model.specs.Statuses.{left_of}
+use Rattle.script_model.specs.Script.{Commands, FaultAt, commands_from, commands_with}
 use Rattle.script_model.specs.Texts.{line_text}
 use Rattle.script_model.specs.Words.{NoFeed}
 use Rattle.script_model.proofs.ScriptLemmas.{commands_line, read_on}
-use Rattle.script_text.specs.declared.refused.ScriptEnd.TheVariants.{Script}
-use Rattle.script_text.specs.Endings.{Ends}
-use Rattle.script_text.specs.Gathering.{Gathering, IsFaulty, IsSynced, IsUnfinished, IsWhole, ReadsOn, grammar, lines_text, reading_at}
-use Rattle.script_text.specs.Gathers.{Gathers, Taken}
+use Rattle.script_text.specs.Gathering.{grammar, lines_text, reading_at}
 use Rattle.script_text.specs.Inputs.{Came, EndsLine}
 use Rattle.script_text.specs.Outcomes.{AreFetched, AreOutcomes, RoseBy, is_failed}
 use Rattle.script_text.specs.Readings.{Turns}
-use Rattle.script_text.proofs.EndLemmas.{commands_end}
 
 -- what an input gives behind a turn
 abbrev pub with_batches : List Batch → Commands → Commands

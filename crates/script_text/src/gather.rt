@@ -2,7 +2,7 @@
 ghost use Rattle.std.specs.Prelude.{◌≡◌, ◌≢◌, ◌<◌, ◌≤◌, ◌+◌, ◌-◌, [], Err, false, true, drop, length, take, IfErr, IfNone, IfOk, IfSome, IsErrOf, OnErr, OnOk};
 ghost use Rattle.std.specs.Io.KnownBytes.{Keeps};
 ghost use Rattle.lake_io.specs.Causes.{Rose};
-ghost use Rattle.script_model.specs.Merges.{HasNoMerge, IsOfLanes};
+ghost use Rattle.script_model.specs.Lanes.{IsOfLanes};
 ghost use Rattle.script_model.specs.Reading.{Stands, turn_of};
 ghost use Rattle.script_model.specs.Script.{ended, start};
 ghost use Rattle.script_model.specs.Words.{NoFeed};
@@ -94,7 +94,6 @@ impl Gather {
         ensures same_lanes { self.new.lanes ≡ self.old.lanes }
         // the commands of a batch, and the bytes that it used
         ensures lanes { IfOk result (λ found. IfSome found (IsOfLanes self.old.lanes)) }
-        ensures merges { IfOk result (λ found. IfSome found HasNoMerge) }
         ensures used { IfOk result (λ found. IfSome found (λ batch. (self.old.reading.used < self.new.reading.used) × (self.old.reading.used + length batch ≤ self.new.reading.used))) }
         ensures within { self.new.reading.used ≤ self.new.limits.input }
         // the source and the shelf
@@ -147,7 +146,6 @@ impl Gather {
         ensures used { self.new.reading.used ≡ self.old.reading.used + (at + 1) }
         ensures grows { GrowsByOne result self.old.reading.commands self.new.reading.commands }
         ensures lanes { IfOk result (λ found. IfSome found (IsOfLanes self.old.lanes)) }
-        ensures merges { IfOk result (λ found. IfSome found HasNoMerge) }
         ensures same { HasSameRules self.old self.new }
         ensures later { F.faults shelf.old ≤ F.faults shelf.new }
         ensures files { F.files shelf.new ≡ F.files shelf.old }
@@ -207,7 +205,6 @@ impl Gather {
         ensures within { self.new.reading.used ≤ self.old.reading.used + length self.old.held }
         ensures grows { IfOk result (λ found. IfSome found (λ batch. (0 < length self.old.reading.commands + length self.old.held) × (length batch ≤ length self.old.reading.commands + length self.old.held))) }
         ensures lanes { IfOk result (λ found. IfSome found (IsOfLanes self.old.lanes)) }
-        ensures merges { IfOk result (λ found. IfSome found HasNoMerge) }
         ensures same { HasSameRules self.old self.new }
         ensures later { F.faults shelf.old ≤ F.faults shelf.new }
         ensures files { F.files shelf.new ≡ F.files shelf.old }

@@ -3,7 +3,7 @@ ghost use Rattle.std.specs.Prelude.{◌<◌, ◌≡◌, ◌≢◌, ◌+◌, ◌-
 ghost use Rattle.lake_io.specs.Refusals.{Refuses};
 ghost use Rattle.lake_model.specs.Texts.{Text};
 ghost use Rattle.script_model.specs.Commands.{File};
-ghost use Rattle.script_model.specs.Merges.{HasNoMerge, IsOfLanes, is_merge};
+ghost use Rattle.script_model.specs.Lanes.{IsOfLanes};
 ghost use Rattle.script_model.specs.Reading.{Reading, Stands, batch_ended, block_ended, body_fault, does, line_fault, line_in, turn_of, with_command};
 ghost use Rattle.script_model.specs.Saying as model;
 ghost use Rattle.script_model.specs.Saying.{closed, said};
@@ -242,7 +242,6 @@ impl Reader {
         ensures used { self.new.reading.used ≡ self.old.reading.used + (length line.now + 1) }
         ensures grows { GrowsByOne result self.old.reading.commands self.new.reading.commands }
         ensures lanes { IfOk result (λ found. IfSome found (IsOfLanes self.old.rules.lanes)) }
-        ensures merges { IfOk result (λ found. IfSome found HasNoMerge) }
         ensures rules { self.new.rules ≡ self.old.rules }
         ensures later { F.faults shelf.old ≤ F.faults shelf.new }
         ensures files { F.files shelf.new ≡ F.files shelf.old }
@@ -268,7 +267,6 @@ impl Reader {
         ensures within { self.new.reading.used ≤ self.old.reading.used + length rest.now }
         ensures grows { IfOk result (λ found. IfSome found (λ batch. (0 < length self.old.reading.commands + length rest.now) × (length batch ≤ length self.old.reading.commands + length rest.now))) }
         ensures lanes { IfOk result (λ found. IfSome found (IsOfLanes self.old.rules.lanes)) }
-        ensures merges { IfOk result (λ found. IfSome found HasNoMerge) }
         ensures rules { self.new.rules ≡ self.old.rules }
         ensures later { F.faults shelf.old ≤ F.faults shelf.new }
         ensures files { F.files shelf.new ≡ F.files shelf.old }
@@ -297,7 +295,6 @@ impl Reader {
         ensures last { IfOk result (λ found. IfSome found (λ _. self.new.reading.block ≡ None)) }
         ensures grows { GrowsByOne result self.old.reading.commands self.new.reading.commands }
         ensures lanes { IfOk result (λ found. IfSome found (IsOfLanes self.old.rules.lanes)) }
-        ensures merges { IfOk result (λ found. IfSome found HasNoMerge) }
         ensures rules { self.new.rules ≡ self.old.rules }
         ensures later { F.faults shelf.old ≤ F.faults shelf.new }
         ensures files { F.files shelf.new ≡ F.files shelf.old }
@@ -322,7 +319,6 @@ impl Reader {
         ensures last { IfOk result (λ found. IfSome found (λ _. self.new.reading.block ≡ None)) }
         ensures grows { GrowsByOne result self.old.reading.commands self.new.reading.commands }
         ensures lanes { IfOk result (λ found. IfSome found (IsOfLanes self.old.rules.lanes)) }
-        ensures merges { IfOk result (λ found. IfSome found HasNoMerge) }
         ensures rules { self.new.rules ≡ self.old.rules }
         ensures later { F.faults shelf.old ≤ F.faults shelf.new }
         ensures files { F.files shelf.new ≡ F.files shelf.old }
@@ -470,7 +466,6 @@ impl Reader {
         ensures last { IfOk result (λ found. IsLast found self.new.reading.commands self.new.reading.block) }
         ensures grows { IfOk result (λ found. GrowsAtEnd found (length line.now) self.old.reading.commands self.new.reading.commands) }
         ensures lanes { IfOk result (λ found. IfSome found (IsOfLanes self.old.rules.lanes)) }
-        ensures merges { IfOk result (λ found. IfSome found HasNoMerge) }
         ensures rules { self.new.rules ≡ self.old.rules }
         ensures later { F.faults shelf.old ≤ F.faults shelf.new }
         ensures files { F.files shelf.new ≡ F.files shelf.old }
@@ -494,13 +489,11 @@ impl Reader {
     fn end(&mut self, last: Option<Batch>) -> Result<Option<Batch>, ScriptEnd>
         requires last { IsLast last self.old.reading.commands self.old.reading.block }
         requires lanes { IfSome last (IsOfLanes self.old.rules.lanes) }
-        requires merges { IfSome last HasNoMerge }
         ensures ends { (paths : List Text) (later : List File) → EndsAs result paths (at_end (batches_of last) self.old.reading.block (reading_at self.old.reading paths later)) }
         ensures used { self.new.reading.used ≡ self.old.reading.used }
         ensures counts { (self.new.reading.lines ≡ self.old.reading.lines) × (self.new.reading.numbered ≡ self.old.reading.numbered) }
         ensures given { IfOk result (λ found. IfSome found (IsGiven last self.old.reading.commands)) }
         ensures lanes { IfOk result (λ found. IfSome found (IsOfLanes self.old.rules.lanes)) }
-        ensures merges { IfOk result (λ found. IfSome found HasNoMerge) }
         ensures rules { self.new.rules ≡ self.old.rules }
     {
         if let Some(block) = &self.block {
@@ -523,7 +516,6 @@ impl Reader {
         ensures batch { result ≡ self.old.reading.commands }
         ensures ended { self.new ≡ record self.old { reading = batch_ended self.old.reading } }
         ensures lanes { IsOfLanes self.old.rules.lanes result }
-        ensures merges { HasNoMerge result }
     {
         self.bytes = 0;
         let commands = mem::replace(&mut self.commands, Vec::new(self.alloc));
