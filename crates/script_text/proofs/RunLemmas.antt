@@ -10,10 +10,10 @@ use Rattle.lake_model.specs.Texts.{Text, Lines, lines_of, onto_lines}
 use Rattle.script_model.specs.declared.Reason.{Reason}
 use Rattle.script_model.specs.declared.ScriptLimits.{ScriptLimits}
 use Rattle.script_model.specs.Commands.{File}
-use Rattle.script_model.specs.Reading.{Grammar, Open, Reading, Stands, Turn, Goes, body_after, body_fault, counted, is_end, line_in, read, read_with, turn_of, turned, undotted, unless_fault, with_body}
+use Rattle.script_model.specs.Reading.{Grammar, Open, Reading, Stands, Turn, Goes, body_after, body_fault, counted, is_end, line_in, read, read_with, turn_of, turned, unless_fault, with_body}
 use Rattle.script_model.specs.Script.{grammar_of}
 use Rattle.script_model.specs.Texts.{line_text}
-use Rattle.script_model.specs.Words.{NoFeed, without_return}
+use Rattle.script_model.specs.Words.{NoFeed}
 use Rattle.script_model.proofs.LinesLemmas.{lines_whole}
 use Rattle.script_text.specs.Gathering.{lines_text, reading_at}
 use Rattle.script_text.specs.Runs.{EndsInFeed, IsPlain, IsRun, Leads, LeadsOn, NoDotBehind}
@@ -33,6 +33,13 @@ lines_counted [] = refl
 lines_counted (byte ∷ text) =
     sum_by-cons (λ b. cond (b == 0x0A) 1 0) byte text ∙ ap (λ (n : ℕ). cond (byte == 0x0A) 1 0 + n) (lines_counted text)
     ∙ counted_on byte (byte == 0x0A) (lines_of text).ended (lines_of text).rest refl
+
+-- A count that has nothing left to count.
+pub all_counted : (text rest : Text) (count : ℕ) → count + count_by (λ byte. byte == 0x0A) rest ≡ count_by (λ byte. byte == 0x0A) text → (length rest == 0) ≡ true → count ≡ length (lines_of text).ended
+all_counted text [] count e none =
+    let all : count ≡ count + 0 = omega arith in
+    all ∙ e ∙ lines_counted text
+all_counted text (byte ∷ rest) count e none = let empty : length (byte ∷ rest) ≡ 0 = eqb-true (length (byte ∷ rest)) 0 none in absurd (omega (arith, empty))
 
 -- ---- where a text has a run
 

@@ -1,4 +1,4 @@
-use Rattle.std.proofs.Common.{ℕ, ◌+◌, arith, length, take}
+use Rattle.std.proofs.Common.{◌+◌, arith}
 use Rattle.script_text.proofs.RunLemmas.{dot_found, no_dot_before}
 use Rattle.script_text.proofs.runs.before_dot.Goals as goal
 

@@ -1,4 +1,4 @@
-use Rattle.std.proofs.Common.{◌≡◌, ◌∙◌, ℕ, false, get_or, length, subst, sym, take}
+use Rattle.std.proofs.Common.{◌≡◌, ◌∙◌, false, get_or, length, subst, sym}
 use Rattle.std.specs.Prelude.{◌==◌}
 use Rattle.lake_model.specs.Texts.{Text}
 use Rattle.script_text.specs.Runs.{NoDotBehind}

@@ -1,4 +1,4 @@
-use Rattle.std.proofs.Common.{◌≡◌, ◌+◌, ◌++◌, ◌≤◌, ◌∙◌, ap, length, subst, sym, ℕ}
+use Rattle.std.proofs.Common.{◌+◌, ◌≤◌, ◌∙◌, ap, length, subst, sym, ℕ}
 use Rattle.std.specs.Prelude.{IfSome, OnOk, Option, Some}
 use Rattle.lake_model.specs.Texts.{lines_of}
 use Rattle.script_model.specs.Reading.{Open, Reading}

@@ -1,5 +1,3 @@
-use Rattle.std.proofs.Common.{◌≡◌, length}
-use Rattle.std.specs.Prelude.{min}
 use Rattle.script_text.specs.Readings.{grammar_by}
 use Rattle.script_text.proofs.RunLemmas.{none_lead, run_leads_on}
 use Rattle.script_text.proofs.reader.Reader.read_run.Goals as goal
