@@ -12,7 +12,7 @@ use Rattle.script_model.specs.Commands.{Command, command_with, Merge, Batch}
 use Rattle.script_model.specs.Record.{Options, Answered, RunRecord, empty, with_end}
 use Rattle.script_model.specs.Play.{batch_after, merger_commands, played_from, pieces_of, updates, head_or_empty, who_of}
 use Rattle.script_model.specs.Right.{AreBatchesRight}
-use Rattle.script_model.specs.Merges.{HasNoMerge, IsOfLanes}
+use Rattle.script_model.specs.Lanes.{HasNoMerge, IsOfLanes}
 use Rattle.script_model.specs.Statuses.{IsRecordOf, answer_count}
 use Rattle.script_model.proofs.RightLemmas.{all_append}
 use Rattle.script_model.proofs.PlayedLemmas.{batches_go_on}

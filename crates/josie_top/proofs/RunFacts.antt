@@ -17,7 +17,7 @@ use Rattle.script_model.specs.Plain.{Mode, Run}
 use Rattle.script_model.specs.Script.{Commands, Whole, FaultAt, commands, commands_with, standard, start}
 use Rattle.script_model.specs.Record.{Options, Answered, RunRecord, plain, empty, with_end}
 use Rattle.script_model.specs.Play.{Lane, answers_of, batch_after, gathered, merges_of, play_batch, updates}
-use Rattle.script_model.specs.Merges.{HasNoMerge, IsOfLanes}
+use Rattle.script_model.specs.Lanes.{HasNoMerge, IsOfLanes}
 use Rattle.script_model.specs.Statuses.{left_of, script_of, IsPrefix, IsCutOff}
 use Rattle.script_model.specs.Texts.{answers_text, text_behind}
 use Rattle.script_text.specs.declared.refused.ScriptEnd.{ScriptEnd}

@@ -9,7 +9,7 @@ use Rattle.script_model.specs.Commands.{File, Batch}
 use Rattle.script_model.specs.Script.{grammar_of, standard, start}
 use Rattle.script_model.specs.Record.{Options, RunRecord, empty}
 use Rattle.script_model.specs.Play.{played_from, pieces_of}
-use Rattle.script_model.specs.Merges.{HasNoMerge, IsOfLanes}
+use Rattle.script_model.specs.Lanes.{HasNoMerge, IsOfLanes}
 use Rattle.script_model.specs.Texts.{answers_text}
 use Rattle.script_text.specs.Outcomes.{AreFetched}
 use Rattle.script_text.specs.Gathering.{Gathering, ReadsOn}

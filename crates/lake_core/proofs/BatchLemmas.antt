@@ -9,7 +9,7 @@ use Rattle.lake_model.specs.Journal.{Entry, standard_limits}
 use Rattle.catalogue.specs.Kept.{CatalogueOf, IsWithin}
 use Rattle.reply_text.specs.Rooms.{RecordOf}
 use Rattle.script_model.specs.Commands.{Command, Batch}
-use Rattle.script_model.specs.Merges.{IsOfLanes}
+use Rattle.script_model.specs.Lanes.{IsOfLanes}
 use Rattle.script_model.specs.Record.{RunRecord}
 use Rattle.script_model.specs.Play.{Lane, play_with, play, whole_order, lane_of, lanes_of, merges_of, gathered, answers_of, record_after, batch_after}
 use Rattle.lake_core.specs.Lanes.{LaneOf, played, play_of, AreHeld, AreNew, AreShared, IsHeld, left}

@@ -8,7 +8,7 @@ use Rattle.std.proofs.lemmas.List.Elements.{filter-append}
 use Rattle.std.proofs.lemmas.List.FromFn.{map-range_with_len_more}
 use Rattle.layout_laws.proofs.ListLemmas.{all_append, all_weaker}
 use Rattle.script_model.specs.Commands.{Command, command_with, Batch, Merge}
-use Rattle.script_model.specs.Merges.{IsOfLanes}
+use Rattle.script_model.specs.Lanes.{IsOfLanes}
 use Rattle.script_model.specs.Play.{lane_with, lane_of, lanes_of, merges_of, updates}
 use Rattle.lake_core.specs.declared.work.Work.{Work}
 use Rattle.lake_core.specs.declared.work.Work.TheVariants as work

@@ -1,7 +1,7 @@
 //! The commands of a batch on one thread, with the steps of its lanes in a stated order.
 ghost use Rattle.std.specs.Prelude.{◌≡◌, ◌<◌, ◌≤◌, ◌+◌, ◌*◌, ◌++◌, ◌^◌, [], ◌∷◌, ⊤, Bool, List, length, map, replicate, flat_map, drop, get_or, slice_set, take, true, None, OnOk, OnErr, IfOk, MatchOption, option_to_list};
 ghost use Rattle.std.specs.List.{range_with_len};
-ghost use Rattle.script_model.specs.Merges.{IsOfLanes};
+ghost use Rattle.script_model.specs.Lanes.{IsOfLanes};
 ghost use Rattle.script_model.specs.Play.{answers_of, batch_after, gathered, merges_of, play, record_after, updates, whole_order};
 ghost use Rattle.lake_core.specs.Lanes.{AreShared, done_in, lane_from, play_of};
 ghost use Rattle.lake_core.specs.Plays.{Goes, IsReady, state_with};

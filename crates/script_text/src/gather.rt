@@ -2,7 +2,7 @@
 ghost use Rattle.std.specs.Prelude.{◌≡◌, ◌≢◌, ◌<◌, ◌≤◌, ◌+◌, ◌-◌, [], Err, false, true, drop, length, take, IfErr, IfNone, IfOk, IfSome, IsErrOf, OnErr, OnOk};
 ghost use Rattle.std.specs.Io.KnownBytes.{Keeps};
 ghost use Rattle.lake_io.specs.Causes.{Rose};
-ghost use Rattle.script_model.specs.Merges.{IsOfLanes};
+ghost use Rattle.script_model.specs.Lanes.{IsOfLanes};
 ghost use Rattle.script_model.specs.Reading.{Stands, turn_of};
 ghost use Rattle.script_model.specs.Script.{ended, start};
 ghost use Rattle.script_model.specs.Words.{NoFeed};

@@ -3,7 +3,7 @@ ghost use Rattle.std.specs.Prelude.{◌<◌, ◌≡◌, ◌≢◌, ◌+◌, ◌-
 ghost use Rattle.lake_io.specs.Refusals.{Refuses};
 ghost use Rattle.lake_model.specs.Texts.{Text};
 ghost use Rattle.script_model.specs.Commands.{File};
-ghost use Rattle.script_model.specs.Merges.{IsOfLanes};
+ghost use Rattle.script_model.specs.Lanes.{IsOfLanes};
 ghost use Rattle.script_model.specs.Reading.{Reading, Stands, batch_ended, block_ended, body_fault, does, line_fault, line_in, turn_of, with_command};
 ghost use Rattle.script_model.specs.Saying as model;
 ghost use Rattle.script_model.specs.Saying.{closed, said};

@@ -10,7 +10,7 @@ use Rattle.lake_model.specs.Journal.{standard_limits}
 use Rattle.script_model.specs.declared.Status.{Status}
 use Rattle.script_model.specs.declared.Status.TheVariants as status
 use Rattle.script_model.specs.Commands.{Batch}
-use Rattle.script_model.specs.Merges.{HasNoMerge, IsOfLanes}
+use Rattle.script_model.specs.Lanes.{HasNoMerge, IsOfLanes}
 use Rattle.script_model.specs.Play.{batch_after, merges_of}
 use Rattle.script_model.specs.Record.{Answered, RunRecord, with_end}
 use Rattle.script_model.specs.Statuses.{IsPrefix}
