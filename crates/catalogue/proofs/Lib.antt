@@ -7,3 +7,4 @@ pub mod KeySegment
 pub mod ThereLemmas
 pub mod MarksLemmas
 pub mod SwapLemmas
+pub mod PlannedLemmas

@@ -1,15 +1,16 @@
 -- The marks that a merged part carries over.
-use Rattle.std.proofs.Common.{◌≡◌, refl, ap, sym, ◌∙◌, subst, ℕ, suc, ◌+◌, ◌<◌, List, [], ◌∷◌, ◌++◌, append_assoc, Bool, true, false, ◌||◌, cond, map, length, get_or, drop, arith, length-append}
+use Rattle.std.proofs.Common.{◌≡◌, refl, ap, sym, ◌∙◌, subst, ℕ, suc, ◌+◌, ◌<◌, ◌≤◌, List, [], ◌∷◌, ◌++◌, append_assoc, Bool, true, false, ◌||◌, cond, map, length, get_or, drop, arith, length-append, append-nil}
 use Rattle.std.specs.Prelude.{nat_eq}
 use Rattle.std.specs.List.{AllByRecursion, filter}
 use Rattle.std.proofs.Math.Seq.{drop-cons}
 use Rattle.std.proofs.lemmas.Bool.{eqb-true, eq-eqb, ne_eqb}
-use Rattle.std.proofs.lemmas.List.{map-append, drop-drop}
+use Rattle.std.proofs.lemmas.List.{map-append, drop-drop, drop_all}
 use Rattle.lake_model.specs.Layout.{Part, Place, is_among, positions_of}
 use Rattle.segment_core.specs.Distinct.{AreDistinct}
 use Rattle.segment_core.specs.Positions.{loads_of}
 use Rattle.segment_core.specs.Versions.{marks_of}
-use Rattle.catalogue.specs.Swaps.{is_first, marks_along, run_marks}
+use Rattle.catalogue.specs.Carried.{is_first, marks_along, run_marks}
+use Rattle.catalogue.specs.Swaps.{kept_marks}
 use Rattle.catalogue.proofs.ListLemmas.{all_weaker}
 use Rattle.catalogue.proofs.PlaceLemmas.{places_of, positions_in}
 
@@ -89,7 +90,7 @@ run_more kept run i part positions marks all new whole h at loads marked many be
 
 -- ---- what the walk gives
 
-filter_agree : {X : Type 0} (p q : X → Bool) (xs : List X) → AllByRecursion (λ x. p x ≡ q x) xs → filter p xs ≡ filter q xs
+pub filter_agree : {X : Type 0} (p q : X → Bool) (xs : List X) → AllByRecursion (λ x. p x ≡ q x) xs → filter p xs ≡ filter q xs
 filter_agree p q [] h = refl
 filter_agree p q (x ∷ xs) h = λ i. cond (h.0 i) (x ∷ filter_agree p q xs h.1 i) (filter_agree p q xs h.1 i)
 
@@ -123,3 +124,10 @@ along_is (k ∷ ks) (p ∷ ps) h e = by (nat_eq p.position k) (is_among ks p.pos
         ap (λ ms. p.marked ∷ ms) (fewer rest ∙ ap marks_in (sym (filter_agree (λ (q : Place). is_among (k ∷ ks) q.position) (λ q. is_among ks q.position) ps (others_same k ks ps lacks))))
     by false true g fewer all e = let same : p.position ≡ k = cc in let no : true ≡ false = sym (eq-eqb p.position k same) ∙ g in cc
     by false false g fewer all e = all e
+
+-- behind the last part
+pub run_ended : (kept : List ℕ) (run : List Part) (i : ℕ) (marks : List Bool) → length run ≤ i → AreDistinct (positions_of run) → filter (is_among kept) (positions_of run) ≡ kept
+    → marks ++ run_marks (drop (length marks) kept) (drop i run) ≡ run_marks kept run → marks ≡ kept_marks kept run
+run_ended kept run i marks h distinct taken done =
+    let none : drop i run ≡ [] = drop_all i run h in
+    sym (ap (λ (ps : List Part). marks ++ run_marks (drop (length marks) kept) ps) none ∙ append-nil marks) ∙ done ∙ along_is kept (places_of run) distinct taken

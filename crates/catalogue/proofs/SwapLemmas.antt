@@ -28,11 +28,11 @@ use Rattle.segment_core.specs.Versions.{VersionOf, part_with, places_with, versi
 use Rattle.catalogue.specs.declared.refusal.SwapRefused.TheVariants.{Stale}
 use Rattle.catalogue.specs.Kept.{IsKept}
 use Rattle.catalogue.specs.Parts.{Rises, is_of}
-use Rattle.catalogue.specs.Swaps.{kept_tables, numbers_in, run_marks, swap_refusal, IsMergeOf}
+use Rattle.catalogue.specs.Swaps.{kept_marks, kept_tables, numbers_in, swap_refusal, IsMergeOf}
 use Rattle.catalogue.proofs.ListLemmas.{distinct_left, distinct_right, map_none}
 use Rattle.catalogue.proofs.PlaceLemmas.{places_of, positions_in}
 use Rattle.catalogue.proofs.KeptLemmas.{is_legal_behind-push, merging-push, names_differ, positions_differ}
-use Rattle.catalogue.proofs.MarksLemmas.{along_is, kept_in, marks_in}
+use Rattle.catalogue.proofs.MarksLemmas.{kept_in, marks_in}
 use Rattle.catalogue.proofs.ThereLemmas.{numbers_there}
 
 distinct_same : (ns : List ℕ) → laws.AreDistinct ns → AreDistinct ns
@@ -96,24 +96,24 @@ no_part at kept run h = by (kept_places kept run) h
     by [] e = refl
     by (p ∷ ps) e = cc
 
-pub one_part_is : (at : ℕ) (kept : List ℕ) (run : List Part) (tables : List Table) (marks : List Bool) → AreDistinct (positions_of run) → filter (is_among kept) (positions_of run) ≡ kept → tables ≡ kept_tables kept run → marks ≡ run_marks kept run → 0 < length tables
+pub one_part_is : (at : ℕ) (kept : List ℕ) (run : List Part) (tables : List Table) (marks : List Bool) → filter (is_among kept) (positions_of run) ≡ kept → tables ≡ kept_tables kept run → marks ≡ kept_marks kept run → 0 < length tables
     → part_with at (places_with kept tables marks) ∷ [] ≡ merged at kept run
-one_part_is at kept run tables marks distinct taken are marked some =
+one_part_is at kept run tables marks taken are marked some =
     let places = kept_places kept run in
-    let is : places_with kept tables marks ≡ places = (λ i. places_with (sym (kept_positions kept run taken) i) (are i) ((marked ∙ along_is kept (places_of run) distinct taken) i)) ∙ places_back places in
+    let is : places_with kept tables marks ≡ places = (λ i. places_with (sym (kept_positions kept run taken) i) (are i) (marked i)) ∙ places_back places in
     ap (λ (ps : List Place). part_with at ps ∷ []) is ∙ by places (omega (arith, some, ap (λ (ts : List Table). length ts) are, length-map places (λ (p : Place). p.table)))
   where
     by : (places : List Place) → 0 < length places → part_with at places ∷ [] ≡ one_part at places
     by [] h = absurd (omega arith)
     by (p ∷ ps) h = refl
 
-pub lengths : (kept : List ℕ) (run : List Part) (tables : List Table) (marks : List Bool) → AreDistinct (positions_of run) → filter (is_among kept) (positions_of run) ≡ kept → tables ≡ kept_tables kept run → marks ≡ run_marks kept run
+pub lengths : (kept : List ℕ) (run : List Part) (tables : List Table) (marks : List Bool) → filter (is_among kept) (positions_of run) ≡ kept → tables ≡ kept_tables kept run → marks ≡ kept_marks kept run
     → (length kept ≡ length tables) × (length marks ≡ length tables)
-lengths kept run tables marks distinct taken are marked =
+lengths kept run tables marks taken are marked =
     let places = kept_places kept run in
     let a = ap (λ (ns : List ℕ). length ns) (kept_positions kept run taken) in
     let b = ap (λ (ts : List Table). length ts) are in
-    let c = ap (λ (ms : List Bool). length ms) (marked ∙ along_is kept (places_of run) distinct taken) in
+    let c = ap (λ (ms : List Bool). length ms) marked in
     let d = length-map places (λ (p : Place). p.position) in
     let e = length-map places (λ (p : Place). p.table) in
     let f = length-map places (λ (p : Place). p.marked) in

@@ -1,9 +1,9 @@
 -- Merges that a catalogue can swap in, and what refuses one.
-use Rattle.std.specs.Prelude.{◌≡◌, ℕ, ◌&&◌, Bool, true, false, List, [], ◌∷◌, length, map, filter, find, flat_map, drop, not, nat_eq, bytes_eq, if◌then◌else◌, Option, option_map}
+use Rattle.std.specs.Prelude.{◌≡◌, ℕ, ◌&&◌, Bool, true, List, length, map, filter, find, flat_map, not, nat_eq, bytes_eq, Option, option_map}
 use Rattle.std.specs.List.{list_any}
 use Rattle.lake_model.specs.Tables.{Table}
 use Rattle.lake_model.specs.Journal.{Entry}
-use Rattle.lake_model.specs.Layout.{Part, layout, is_among, may_swap, positions_of, run_of}
+use Rattle.lake_model.specs.Layout.{Place, Part, layout, is_among, may_swap, run_of}
 use Rattle.layout_laws.specs.Weight.{does_merge}
 use Rattle.segment_core.specs.Plans.{MergedOf, named}
 use Rattle.segment_core.specs.Positions.{loads_of}
@@ -18,9 +18,15 @@ numbers_in from = map (λ planned. planned.0) from
 abbrev pub is_there : List Part → ℕ × List ℕ → Bool
 is_there parts planned = list_any (λ part. nat_eq part.number planned.0 && bytes_eq (loads_of part) planned.1) parts
 
--- the tables of the kept positions of parts, in layout order
+-- the places of the kept positions of parts, in layout order, with their tables and their marks
+abbrev pub kept_places : List ℕ → List Part → List Place
+kept_places kept parts = filter (λ place. is_among kept place.position) (flat_map (λ part. part.places) parts)
+
 abbrev pub kept_tables : List ℕ → List Part → List Table
-kept_tables kept parts = map (λ place. place.table) (filter (λ place. is_among kept place.position) (flat_map (λ part. part.places) parts))
+kept_tables kept parts = map (λ place. place.table) (kept_places kept parts)
+
+abbrev pub kept_marks : List ℕ → List Part → List Bool
+kept_marks kept parts = map (λ place. place.marked) (kept_places kept parts)
 
 -- What was merged is of this layout: the planned parts stand next to each other there, in this order and with these positions; the
 -- kept positions are taken from theirs in layout order, and every other one is marked; two parts or more are merged, or not every
@@ -34,18 +40,3 @@ pub record IsMergeOf (parts : List Part) (merged : MergedOf) : Type 0 where
 -- the first planned part that is not there refuses a swap
 abbrev pub swap_refusal : List (ℕ × List ℕ) → List Entry → Option SwapRefused
 swap_refusal from journal = option_map (λ planned. Stale planned.0 (length journal)) (find (λ planned. not (is_there (layout journal) planned)) from)
-
--- whether this is the first of the positions
-abbrev pub is_first : ℕ → List ℕ → Bool
-is_first position [] = false
-is_first position (next ∷ kept) = nat_eq position next
-
--- the marks of the kept positions among positions with their marks, of which the kept ones are taken in this order
-abbrev pub marks_along : List ℕ → List ℕ → List Bool → List Bool
-marks_along kept [] marks = []
-marks_along kept (n ∷ ns) [] = []
-marks_along kept (n ∷ ns) (m ∷ ms) = if is_first n kept then m ∷ marks_along (drop 1 kept) ns ms else marks_along kept ns ms
-
--- the same in parts
-abbrev pub run_marks : List ℕ → List Part → List Bool
-run_marks kept parts = marks_along kept (positions_of parts) (map (λ place. place.marked) (flat_map (λ part. part.places) parts))

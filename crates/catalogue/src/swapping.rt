@@ -8,7 +8,8 @@ ghost use Rattle.segment_core.specs.Plans.{replaced};
 ghost use Rattle.segment_core.specs.Positions.{loads_of};
 ghost use Rattle.segment_core.specs.Versions.{part_at};
 ghost use Rattle.catalogue.specs.Kept.{catalogue_with};
-ghost use Rattle.catalogue.specs.Swaps.{is_there, kept_tables, marks_along, numbers_in, is_first, run_marks, swap_refusal, IsMergeOf};
+ghost use Rattle.catalogue.specs.Carried.{marks_along, is_first, run_marks};
+ghost use Rattle.catalogue.specs.Swaps.{is_there, kept_marks, kept_tables, numbers_in, swap_refusal, IsMergeOf};
 
 use crate::catalogue::{Catalogue, push_reserved};
 use crate::entry::Entry;
@@ -171,7 +172,7 @@ fn merged_part(
     let Some(segment) = segment else {
         return Ok(None);
     };
-    let marked = kept_marks(alloc, run, kept.list())?;
+    let marked = carried_marks(alloc, run, kept.list())?;
     Ok(Some(Part {
         number: at,
         segment,
@@ -180,9 +181,11 @@ fn merged_part(
     }))
 }
 
-// The marks of the kept positions, which stand in these parts in this order.
-fn kept_marks(alloc: Global, run: &[Part], kept: &[u64]) -> Result<Vec<bool>, NoMemory>
-    ensures { IfOk result (λ marks. marks.items ≡ run_marks kept.now run.now) }
+// The marks of the kept positions, which stand in these parts in this order: one walk over the loads of the parts.
+fn carried_marks(alloc: Global, run: &[Part], kept: &[u64]) -> Result<Vec<bool>, NoMemory>
+    requires distinct { AreDistinct (positions_of run.now) }
+    requires taken { filter (is_among kept.now) (positions_of run.now) ≡ kept.now }
+    ensures { IfOk result (λ marks. marks.items ≡ kept_marks kept.now run.now) }
 {
     let mut marks = Vec::with_capacity(alloc, kept.len())?;
     for part in run {

@@ -1,5 +1,5 @@
 use Rattle.std.proofs.Common.{◌≡◌, ◌∙◌, ◌++◌, sym, ap, ◌<◌, length, drop, get_or, arith}
-use Rattle.catalogue.specs.Swaps.{is_first, marks_along}
+use Rattle.catalogue.specs.Carried.{is_first, marks_along}
 use Rattle.catalogue.proofs.MarksLemmas.{along_kept, along_left}
 use Rattle.catalogue.proofs.swapping.add_marks.Goals as goal
 use Rattle.catalogue.proofs.swapping.add_marks.Goals.{then-is_next+in_ok-push, else-is_next}

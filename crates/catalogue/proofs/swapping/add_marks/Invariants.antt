@@ -1,5 +1,5 @@
 use Rattle.std.proofs.Common.{◌≡◌, ◌++◌, length, drop}
-use Rattle.catalogue.specs.Swaps.{marks_along}
+use Rattle.catalogue.specs.Carried.{marks_along}
 use Rattle.catalogue.proofs.swapping.add_marks.Given as goal
 
 abbrev pub invariant-loop-i : goal.invariant-loop-i
