@@ -1,23 +1,22 @@
 -- The rows of the table of statuses, from how far a run is.
-use Rattle.std.proofs.Common.{◌≡◌, refl, ap, sym, ◌∙◌, subst, ℕ, ◌+◌, ◌-◌, ◌≤◌, inl, inr, List, [], ◌∷◌, ◌++◌, append_assoc, Bool, true, false, length, take, arith, length-append, flat_map}
+use Rattle.std.proofs.Common.{◌≡◌, refl, ap, sym, ◌∙◌, subst, ℕ, ◌-◌, ◌≤◌, inr, List, [], ◌∷◌, ◌++◌, append_assoc, true, false, length, take, arith, length-append, flat_map}
 use Rattle.std.specs.Prelude.{Option, Some, None}
-use Rattle.std.specs.Io.KnownBytes.{Consumes, Appends, IsAtEnd}
-use Rattle.std.proofs.KnownBytes.{Consumes-trans, Appends-trans}
+use Rattle.std.specs.Io.KnownBytes.{Consumes, IsAtEnd}
+use Rattle.std.proofs.KnownBytes.{Consumes-trans}
 use Rattle.std.proofs.lemmas.List.{append-nil}
-use Rattle.std.proofs.Math.Seq.{take-append_seam, take-length}
+use Rattle.std.proofs.Math.Seq.{take-append_seam}
 use Rattle.lake_io.specs.Files as shelf
 use Rattle.lake_model.specs.declared.Counts.{Counts}
 use Rattle.lake_model.specs.Texts.{Text, Lines, lines_of}
 use Rattle.script_model.specs.declared.Reason.{Reason}
 use Rattle.script_model.specs.declared.ScriptLimits.{ScriptLimits}
-use Rattle.script_model.specs.declared.Status.{Status}
 use Rattle.script_model.specs.declared.Status.TheVariants as status
 use Rattle.script_model.specs.Commands.{File, Batch}
 use Rattle.script_model.specs.Words.{NoFeed}
-use Rattle.script_model.specs.Reading.{Grammar, Reading, Stands, Reached, LinesRead, read, read_with}
-use Rattle.script_model.specs.Script.{Commands, Whole, FaultAt, commands, commands_with, commands_from, grammar_of, standard, start}
-use Rattle.script_model.specs.Record.{Options, Answered, RunRecord, plain, empty, with_end}
-use Rattle.script_model.specs.Statuses.{left_of, script_of, begun, HasNoFault, asked_by, answer_count, IsPrefix, IsRecordOf, IsDone, IsRefused, IsBrokenOff, IsCutOff, Row}
+use Rattle.script_model.specs.Reading.{Grammar, Reading, Stands, LinesRead, read, read_with}
+use Rattle.script_model.specs.Script.{Commands, Whole, FaultAt, commands_with, commands_from, grammar_of, standard, start}
+use Rattle.script_model.specs.Record.{Options, Answered, RunRecord, with_end}
+use Rattle.script_model.specs.Statuses.{left_of, script_of, begun, answer_count, IsPrefix, IsRecordOf, IsDone, IsRefused, IsBrokenOff, IsCutOff}
 use Rattle.script_model.specs.Texts.{answers_text, line_text, text, text_behind}
 use Rattle.script_model.proofs.ScriptLemmas.{lines_none}
 use Rattle.script_model.proofs.LinesLemmas.{lines_whole}

@@ -1,6 +1,6 @@
 -- The ends of a run, and one batch more.
 use Rattle.std.proofs.Common.{◌≡◌, refl, ap, sym, ◌∙◌, subst, ℕ, ◌+◌, ◌^◌, ◌<◌, ◌≤◌, ◌⊎◌, inl, inr, List, [], ◌∷◌, ◌++◌, Bool, true, false, length, arith, sum_by, map, get_or, length-append}
-use Rattle.std.specs.Prelude.{Option, Some, None, Result, Ok, Err, min, if◌then◌else◌, ⊤, MatchOption}
+use Rattle.std.specs.Prelude.{Option, Some, None, Err, min, if◌then◌else◌, ⊤, MatchOption}
 use Rattle.std.specs.Io.KnownBytes.{Consumes, Appends, IsAtEnd}
 use Rattle.std.proofs.KnownBytes.{Consumes-nil, Consumes-trans, Appends-nil, Appends-trans}
 use Rattle.std.proofs.lemmas.List.{append-nil}
@@ -23,19 +23,19 @@ use Rattle.script_model.specs.Answered.{is_update_task}
 use Rattle.script_model.specs.Play.{Lane, answers_of, batch_after, gathered, merger_commands, merges_of, pieces_of, play_batch, updates}
 use Rattle.script_model.specs.Lanes.{IsOfLanes}
 use Rattle.script_model.specs.Statuses.{left_of, script_of, IsPrefix, IsCutOff}
-use Rattle.script_model.specs.Texts.{answers_text, text_behind}
+use Rattle.script_model.specs.Texts.{text_behind}
 use Rattle.script_text.specs.declared.refused.ScriptEnd.{ScriptEnd}
 use Rattle.script_text.specs.declared.refused.ScriptEnd.TheVariants as end
 use Rattle.script_text.specs.declared.words.WordsRefused.{WordsRefused}
 use Rattle.script_text.specs.declared.words.WordsRefused.TheVariants as words
 use Rattle.script_text.specs.Outcomes.{AreFetched}
-use Rattle.script_text.specs.Gathering.{Gathering, gathering_with, ReadsOn, IsSynced, IsWhole, reading_at}
+use Rattle.script_text.specs.Gathering.{Gathering, gathering_with, IsSynced, IsWhole}
 use Rattle.script_text.specs.Gathers.{Gathers, Taken}
 use Rattle.josie_top.specs.declared.writing.WriteStop.{WriteStop}
 use Rattle.josie_top.specs.declared.writing.WriteStop.TheVariants as stop
 use Rattle.josie_top.specs.Ends.{IsWritten, status_of_end, status_of_refused, status_of_stop}
 use Rattle.josie_top.specs.Meets.{IsSaid, Meets, MeetsMode}
-use Rattle.josie_top.specs.Progress.{AreCounted, AreRead, AreWritten, IsGoingOn, IsMade, IsUnderWay}
+use Rattle.josie_top.specs.Progress.{AreCounted, AreWritten, IsGoingOn, IsMade, IsUnderWay}
 use Rattle.josie_top.proofs.ReadFacts.{given_before, outcomes_size, fetched_more}
 use Rattle.josie_top.proofs.MadeFacts.{made_start, made_more, made_unended}
 use Rattle.josie_top.proofs.TextFacts.{text_more}

@@ -1,5 +1,5 @@
 -- What a run comes to: what moved, and the row of its status.
-use Rattle.std.specs.Prelude.{ℕ, ◌≡◌, ◌≤◌, ⊤, List, Option, Some, None}
+use Rattle.std.specs.Prelude.{ℕ, ◌≡◌, ⊤, List, Option, Some, None}
 use Rattle.std.specs.Io.KnownBytes.{Consumes, Appends}
 use Rattle.lake_io.specs.Files as shelf
 use Rattle.lake_model.specs.declared.Counts.{Counts}

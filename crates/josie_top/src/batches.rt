@@ -33,7 +33,7 @@ fn status_of_end(end: ScriptEnd) -> Status
 }
 
 /// The status of a run whose text is not written whole.
-fn status_of_stop(stop: WriteStop) -> Status
+pub(crate) fn status_of_stop(stop: WriteStop) -> Status
     ensures { result ≡ status_of_stop stop }
 {
     match stop {

@@ -12,10 +12,10 @@ ghost use Rattle.josie_top.specs.Ends.{status_of_refused};
 ghost use Rattle.josie_top.specs.Meets.{HasNoFault, IsMaking, IsSaid, MeetsMode};
 
 use lake_io::{Gate, Shelf, Sink, Source};
-pub use reply_text::RunRecord;
-pub use script_model::{Reason, Status};
 use making::make_lake;
+pub use reply_text::RunRecord;
 use script::run_script;
+pub use script_model::{Reason, Status};
 use script_text::{Mode, WordsRefused, read_words};
 use std::alloc::Global;
 use std::sync::Wait;

@@ -3,7 +3,6 @@ use Rattle.std.specs.Prelude.{◌^◌, Option, Some, None, is_err, if◌then◌e
 use Rattle.std.specs.Io.KnownBytes.{Appends}
 use Rattle.std.specs.Option.{IfSome}
 use Rattle.std.proofs.KnownBytes.{Consumes-nil}
-use Rattle.lake_io.specs.Causes.{Rose}
 use Rattle.lake_io.specs.Files as shelf
 use Rattle.lake_model.specs.declared.Counts.{Counts}
 use Rattle.lake_model.specs.Journal.{standard_limits}
@@ -12,7 +11,7 @@ use Rattle.script_model.specs.declared.Status.TheVariants as status
 use Rattle.script_model.specs.Commands.{Batch}
 use Rattle.script_model.specs.Lanes.{IsOfLanes}
 use Rattle.script_model.specs.Play.{batch_after, merges_of, pieces_of, updates}
-use Rattle.script_model.specs.Record.{Answered, Options, RunRecord, with_end}
+use Rattle.script_model.specs.Record.{Answered, Options, with_end}
 use Rattle.script_model.specs.Statuses.{IsPrefix}
 use Rattle.script_model.specs.Texts.{text_behind}
 use Rattle.script_text.specs.Gathering.{IsSynced, IsWhole}
@@ -264,7 +263,7 @@ loop-number-preserved g c =
     let now = one_more standard_limits c.args.out.now.made.options _ _ _ _ _ _ _ _ _ _ c.loop-number.gather c.batch.new.self c.loop-number.out.made c.drive.new.out.made c.in-Ok-Some.batch adds.new way taken goes gathered
     c.in-Ok-Some.ensures.limits c.in-Ok-Some.ensures.same_lanes c.in-Ok-Some.ensures.within is adds.are (subst (Appends (g.K.Sink.written c.loop-number.sink) (g.K.Sink.written c.write_record.new.sink)) first wrote) grows in (
       subst (λ (n : ℕ). IsUnderWay standard_limits c.args.out.now.made.options (g.S.Source.left c.args.source.now) (g.S.Source.left c.batch.new.source) (g.K.Sink.written c.args.sink.now) (g.K.Sink.written c.write_record.new.sink) (g.F.Shelf.files c.batch.new.shelf) (g.F.Shelf.faults c.args.shelf.now) (g.F.Shelf.faults c.batch.new.shelf) c.batch.new.self c.drive.new.out.made (c.loop-number.number + 1) (c.loop-number.next + n)) (sym c.updates-next.ensures)
-      (subst (λ (fs : Option (List shelf.File)). IsUnderWay standard_limits c.args.out.now.made.options (g.S.Source.left c.args.source.now) (g.S.Source.left c.batch.new.source) (g.K.Sink.written c.args.sink.now) (g.K.Sink.written c.write_record.new.sink) fs (g.F.Shelf.faults c.args.shelf.now) (g.F.Shelf.faults c.batch.new.shelf) c.batch.new.self c.drive.new.out.made (c.loop-number.number + 1) (c.loop-number.next + updates c.in-Ok-Some.batch)) (sym c.in-Ok-Some.ensures.files) now),
+          (subst (λ (fs : Option (List shelf.File)). IsUnderWay standard_limits c.args.out.now.made.options (g.S.Source.left c.args.source.now) (g.S.Source.left c.batch.new.source) (g.K.Sink.written c.args.sink.now) (g.K.Sink.written c.write_record.new.sink) fs (g.F.Shelf.faults c.args.shelf.now) (g.F.Shelf.faults c.batch.new.shelf) c.batch.new.self c.drive.new.out.made (c.loop-number.number + 1) (c.loop-number.next + updates c.in-Ok-Some.batch)) (sym c.in-Ok-Some.ensures.files) now),
       goes,
       kept,
       c.drive.ensures.limits ∙ limits,
