@@ -3,13 +3,11 @@
 
     checks/random_lakes.py [JOSIE]
 
-The seeds are fixed, so the scripts are always the same. They load from blocks and from files, drop, list, and search by values and by
+The seeds are fixed, so the scripts are always the same. They load from blocks and from files, drop, list, merge, and search by values and by
 columns over a few names and values, in batches: names that are taken or unknown, files and places that are not there, columns with one name twice, fields without a value, values that differ only by case and
 by the blanks around them, quoted fields, lines with a carriage return or a further dot, tables without a header or with a
-record of another length, and fields and lines that are not UTF-8; lanes' words, and further spaces between words. The model is a list of
-live tables, each a name and its columns, each a name and an ordered list of distinct values, and for each load its position with a mark where it
-was dropped; what josie writes, every second script with a trace, is compared with it byte for byte. All text is ASCII, where `str.casefold`
-and `str.strip` make a value what it is.
+record of another length, and fields and lines that are not UTF-8; lanes' words, and further spaces between words. The model is
+`plain_lake.py`; what josie writes, every second script with a trace, is compared with it byte for byte.
 
 It prints one line, and ends with 0 where josie says what the model says, and else with 1.
 """
@@ -19,6 +17,9 @@ import subprocess
 import sys
 import tempfile
 
+import plain_lake
+from plain_lake import NOT_UTF8
+
 SCRIPTS = 6
 COMMANDS = 450
 NAMES = ["a", "b", "B", "ab", "t-1", "t1", "t10", "t2", "~", "!x", "\"q\"", "\\"]
@@ -26,108 +27,6 @@ COLUMNS = ["c", "C", "c", "d", "", " c", "two words", "a,b", "\"", "\\", "x\ny",
 WORDS = ["amber", "cedar", "delta", "fjord", "heron", "iris", "maple", "onyx", "ss", "1", "01", "a b", "a  b", "#", "."]
 BLANKS = ["", "", "", " ", "  ", "\t", " \t "]
 MOST_TABLES = 9
-NOT_UTF8 = "\udcff"  # stands for the byte ff
-
-
-def set_of(values):
-    """The distinct values of some fields, in order of first sight; a blank field has none."""
-    keys = (value.strip().casefold() for value in values)
-    return list(dict.fromkeys(key for key in keys if key))
-
-
-def csv_fault(records):
-    """What is wrong with some records, and None where nothing is."""
-    if not records:
-        return "no-header"
-    for number, record in enumerate(records, 1):
-        if len(record) != len(records[0]):
-            return f"record {number} want {len(records[0])} got {len(record)}"
-        for place, field in enumerate(record, 1):
-            if NOT_UTF8 in field:
-                return f"record {number} field {place} not UTF-8"
-    return None
-
-
-class Lake:
-    """The live tables in the order of their loads, the loads with what was dropped, and how many loads and drops there were."""
-
-    def __init__(self):
-        self.tables = []
-        self.loads = []
-        self.position = 0
-
-    def find(self, name):
-        return next((table for table in self.tables if table[0] == name), None)
-
-    def load(self, name, records):
-        fault = csv_fault(records)
-        if fault:
-            return [f"refused csv {fault}"]
-        if self.find(name):
-            return [f"refused repeated {name} at {self.position}"]
-        header, *rows = records
-        columns = [(title, set_of(row[place] for row in rows)) for place, title in enumerate(header)]
-        self.tables.append((name, columns))
-        self.position += 1
-        self.loads.append([self.position, name, False])
-        return [f"loaded {self.line(name, columns)} at {self.position}"]
-
-    def drop(self, name):
-        table = self.find(name)
-        if not table:
-            return [f"refused unknown {name} at {self.position}"]
-        self.tables.remove(table)
-        self.position += 1
-        for load in self.loads:
-            load[2] = load[2] or load[1] == name
-        return [f"dropped {name} at {self.position}"]
-
-    @staticmethod
-    def line(name, columns):
-        return f"{name} columns {len(columns)} members {sum(len(keys) for _, keys in columns)}"
-
-    def list_tables(self):
-        head = f"tables {len(self.tables)} at {self.position}"
-        return [head] + ["  " + self.line(name, columns) for name, columns in self.tables]
-
-    def search(self, most, lines):
-        for number, line in enumerate(lines, 1):
-            if NOT_UTF8 in line:
-                return [f"refused query line {number} not UTF-8"]
-        return self.answer(most, set(set_of(lines)), None)
-
-    def like(self, most, name, place):
-        table = self.find(name)
-        if not table:
-            return [f"refused unknown {name} at {self.position}"]
-        if not 1 <= place <= len(table[1]):
-            return [f"refused column {name} {place} at {self.position}"]
-        return self.answer(most, set(table[1][place - 1][1]), name)
-
-    def answer(self, most, query, excepted):
-        found = []
-        for name, columns in self.tables:
-            if name == excepted:
-                continue
-            for place, (title, keys) in enumerate(columns, 1):
-                shared = len(query.intersection(keys))
-                if shared:
-                    found.append((-shared, name.encode(), title.encode(), place))
-        found = sorted(found)[:most]
-        head = f"answer {len(found)} of {len(query)} at {self.position}"
-        rows = [f"  {-less} {name.decode()} {place} \"{quoted(title.decode())}\"" for less, name, title, place in found]
-        return [head] + rows + [self.layout()]
-
-    def layout(self):
-        """The trace line of an answer: each load is a part with its own number and position, with a mark where it was dropped."""
-        parts = [f"{at}:{at}{'-' if is_dropped else ''}" for at, _, is_dropped in self.loads]
-        return f"  layout at {self.position} parts {' '.join(parts) or 'none'}"
-
-
-def quoted(title):
-    """A column's name as a row shows it."""
-    signs = {"\"": "\\\"", "\\": "\\\\", "\n": "\\n", "\r": "\\r", "\t": "\\t"}
-    return "".join(signs.get(sign, sign) for sign in title)
 
 
 class Script:
@@ -135,7 +34,7 @@ class Script:
 
     def __init__(self, seed):
         self.chance = random.Random(seed)
-        self.lake = Lake()
+        self.lake = plain_lake.EMPTY
         self.lines = []
         self.replies = []
         self.journal = []
@@ -148,10 +47,13 @@ class Script:
         if block is not None:
             self.lines += ["." + text if text.startswith(".") else text for text in block] + ["."]
         self.replies += [f"{self.commands} {replies[0]}"] + replies[1:]
-        what, name = replies[0].split(" ")[:2]
-        if what in ("loaded", "dropped"):
-            change = "load" if what == "loaded" else "drop"
-            self.journal.append(f"  {len(self.journal) + 1} {change} lane 1 command {self.commands} {name}")
+
+    def update(self, line, result, block=None):
+        """A command that may change the lake."""
+        replies, self.lake, change = result
+        self.command(line, replies, block)
+        if change:
+            self.journal.append(plain_lake.journal_line(self.lake.position, change, 1, self.commands))
 
     def spaced(self, line):
         """The words of a command line, now and then with further spaces, behind the word of its lane, or with a carriage return."""
@@ -164,9 +66,7 @@ class Script:
 
     def wanted(self, trace):
         """What josie has to write, with a trace or without."""
-        if trace:
-            return self.replies + [f"journal {len(self.journal)}"] + self.journal
-        return [line for line in self.replies if not line.startswith("  layout at ")]
+        return plain_lake.written(self.replies, self.journal, trace)
 
     def value(self):
         """A value in some case, with some blanks around it, or blanks alone, and seldom what is no text."""
@@ -212,7 +112,7 @@ class Script:
     def load(self):
         name = self.chance.choice(NAMES)
         records = self.records()
-        self.command(f"load {name}", self.lake.load(name, records), self.block_of(records))
+        self.update(f"load {name}", plain_lake.load(self.lake, name, records), self.block_of(records))
 
     def load_file(self):
         name = self.chance.choice(NAMES)
@@ -222,23 +122,39 @@ class Script:
         records = self.records()
         path = f"table-{len(self.files)}.csv"
         self.files[path] = "".join(line + "\n" for line in self.block_of(records))
-        self.command(f"loadfile {name} {path}", self.lake.load(name, records))
+        self.update(f"loadfile {name} {path}", plain_lake.load(self.lake, name, records))
 
     def like(self):
         name = self.chance.choice([table[0] for table in self.lake.tables] or NAMES) if self.chance.random() < 0.8 else self.chance.choice(NAMES)
         most, place = self.chance.choice([1, 2, 5, 10000]), self.chance.randint(1, 5)
-        self.command(f"like {most} {name} {place}", self.lake.like(most, name, place))
+        self.command(f"like {most} {name} {place}", plain_lake.like(self.lake, most, name, place))
 
     def drop(self):
         live = [name for name, _ in self.lake.tables]
         name = self.chance.choice(live if live and self.chance.random() < 0.8 else NAMES)
-        self.command(f"drop {name}", self.lake.drop(name))
+        self.update(f"drop {name}", plain_lake.drop(self.lake, name))
 
     def search(self):
         chance = self.chance
         most = chance.choice([1, 2, 3, 5, 10, 10000])
         block = [self.value() for _ in range(chance.randint(0, 7))]
-        self.command(f"search {most}", self.lake.search(most, block), block)
+        self.command(f"search {most}", plain_lake.search(self.lake, most, block), block)
+
+    def ask(self, searches):
+        """These searches, one after another."""
+        for most, block in searches:
+            self.command(f"search {most}", plain_lake.search(self.lake, most, block), block)
+
+    def merge(self):
+        """A merge, now and then with the same twenty searches before and behind it: their rows stay, as the model's do not depend on parts."""
+        chance = self.chance
+        whole = chance.random() < 0.3
+        searches = []
+        if chance.random() < 0.1:
+            searches = [(chance.choice([1, 2, 5, 10000]), [self.value() for _ in range(chance.randint(1, 7))]) for _ in range(20)]
+        self.ask(searches)
+        self.update("merge all" if whole else "merge", plain_lake.merge(self.lake, self.lake, whole))
+        self.ask(searches)
 
     def skipped(self):
         self.lines.append(self.chance.choice(["", "   ", "# a remark", "#load a"]))
@@ -249,8 +165,10 @@ class Script:
             self.lines.append("sync")
         elif pick < 0.04:
             self.skipped()
-        elif pick < 0.12:
-            self.command("tables", self.lake.list_tables())
+        elif pick < 0.09:
+            self.merge()
+        elif pick < 0.13:
+            self.command("tables", plain_lake.list_tables(self.lake))
         elif pick < 0.30:
             self.search()
         elif pick < 0.42:

@@ -64,10 +64,8 @@ fn segment(alloc: Global, table: SharedTable) -> Result<Arc<Segment>, Fail>
     ensures { IfOk result (λ segment. segment.value ≡ table ∷ []) }
 {
     let token = TokenAt {
-        table: 0,
-        place: 1,
+        column: 0,
         index: 0,
-        frequency: 1,
     };
     let posting = Posting {
         column: 0,

@@ -13,7 +13,7 @@ const USAGE: &str =
     "josie run [--lanes N] [--order LIST] [--merge] [--trace] or josie make SEED TABLES ROWS";
 
 /// What `--help` alone prints.
-const HELP: &str = "josie run [--trace]
+const HELP: &str = "josie run [--lanes N] [--order LIST] [--merge] [--trace]
     Reads a script from standard input and writes its replies to standard output, batch by batch.
     load NAME           loads the CSV table of the block that follows, which ends with a line `.`
     loadfile NAME PATH  loads the CSV table of a file
@@ -21,12 +21,19 @@ const HELP: &str = "josie run [--trace]
     tables              lists the tables that are live
     search K            finds the K columns (1 to 10000) that share most values with the lines of the block that follows
     like K NAME PLACE   finds the K columns that share most values with the column at this place of a live table, itself excepted
+    merge               merges four adjacent parts of one size, or else a part half of whose tables are dropped
+    merge all           merges the whole lake into one part
     sync                ends a batch: its replies are written before more is read
+    @L ...              is a command of lane L, where there are more lanes than one
     # ...               is a comment, and an empty line is skipped
-    --trace             writes the layout of the lake behind each answer, and the journal at the end
+    --lanes N           there are N lanes, 1 to 16; the lanes of a batch run one after another where no order is stated
+    --order LIST        the lanes take their steps in this order: lane numbers with commas between, one such piece a batch, pieces with / between
+    --merge             a merger, which is lane 0, merges beside the lanes: once for each load and drop of a batch
+    --trace             writes the layout of the lake behind each answer and merge, and the journal at the end
+josie make SEED TABLES ROWS
+    makes a lake of chance numbers, asks fifty searches of it, and writes a summary
 josie --help     prints this text
 josie --version  prints the version
-Not built yet: merges, lanes and stated orders (--lanes, --order, --merge), and josie make.
 Read on in README.md, docs/FORMATS.md and the manual page docs/josie.1.";
 
 /// What `--version` alone prints.

@@ -1,6 +1,6 @@
 //! Two lanes whose steps are taken in several orders.
 ghost use Rattle.std.specs.Prelude.{IfOk};
-ghost use Rattle.script_model.specs.Merges.{HasNoMerge, IsOfLanes};
+ghost use Rattle.script_model.specs.Lanes.{IsOfLanes};
 
 use super::drive;
 use catalogue::{Catalogue, Limits};

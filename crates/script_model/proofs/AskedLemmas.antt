@@ -1,5 +1,5 @@
 -- What lines give does not depend on the paths that were asked for before.
-use Rattle.std.proofs.Common.{◌≡◌, refl, ap, sym, ◌∙◌, ℕ, ◌+◌, ◌-◌, List, [], ◌∷◌, ◌++◌, append_assoc, Bool, true, false, length, cond}
+use Rattle.std.proofs.Common.{◌≡◌, refl, ap, ◌∙◌, ℕ, ◌+◌, ◌-◌, List, [], ◌∷◌, ◌++◌, append_assoc, Bool, true, false, length, cond}
 use Rattle.std.specs.Prelude.{nat_lt, Option, Some, None}
 use Rattle.script_model.specs.declared.Reason.{Reason}
 use Rattle.script_model.specs.declared.Reason.TheVariants as reason
@@ -8,7 +8,7 @@ use Rattle.script_model.specs.Commands.{Batch}
 use Rattle.script_model.specs.Words.{without_return}
 use Rattle.script_model.specs.Saying.{Said, Nothing, Wrong, Sync, Does, Fetches, Opens}
 use Rattle.script_model.specs.Reading.{Grammar, Open, Reading, Reached, Stands, AtFault, LinesRead, read_with, Turn, Goes, Gives, Fails, turned, turn_of, read_more, read, counted, does, with_command, opened, fetched, file_size, next_file, unless_fault, line_fault, body_fault, line_in, is_end, body_after, with_body, block_ended}
-use Rattle.script_model.specs.Script.{Commands, commands_with, commands_from, within, ended, FaultAt, Whole, begun_fault, unless_begun_fault, last_turn, end_turned, at_end, last_batch}
+use Rattle.script_model.specs.Script.{Commands, commands_with, commands_from, within, ended, FaultAt, begun_fault, unless_begun_fault, last_turn, end_turned, at_end}
 
 -- these paths, asked for before all others
 abbrev pub asking : List Text → Reading → Reading

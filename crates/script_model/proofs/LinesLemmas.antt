@@ -1,13 +1,12 @@
 -- Whole lines in front of an input: what they give, and what comes behind them.
-use Rattle.std.proofs.Common.{◌≡◌, refl, ap, sym, ◌∙◌, subst, ℕ, ◌+◌, ◌-◌, ◌≤◌, ◌⊎◌, inl, inr, List, [], ◌∷◌, ◌++◌, append_assoc, Bool, length, arith, length-append, flat_map}
-use Rattle.std.specs.Prelude.{nat_lt, Option, Some, None}
+use Rattle.std.proofs.Common.{◌≡◌, refl, ap, sym, ◌∙◌, subst, ℕ, ◌+◌, ◌≤◌, ◌⊎◌, inl, inr, List, [], ◌∷◌, ◌++◌, append_assoc, length, arith, length-append, flat_map}
 use Rattle.std.specs.List.{AllByRecursion}
 use Rattle.lake_model.specs.Texts.{Text, Lines, lines_with, lines_of}
 use Rattle.script_model.specs.declared.Reason.{Reason}
 use Rattle.script_model.specs.Commands.{Batch}
 use Rattle.script_model.specs.Words.{NoFeed}
 use Rattle.script_model.specs.Reading.{Grammar, Reading, Reached, Stands, AtFault, LinesRead, read_with, Turn, Goes, Gives, Fails, turned, turn_of, read}
-use Rattle.script_model.specs.Script.{Commands, commands_from}
+use Rattle.script_model.specs.Script.{commands_from}
 use Rattle.script_model.specs.Texts.{line_text}
 use Rattle.script_model.proofs.ScriptLemmas.{lines_first, behind_batches, read_behind, read_fault, turn_uses, UsesUpTo, after_turn, commands_line, with_batches}
 

@@ -21,8 +21,9 @@ use Rattle.lake_model.specs.Journal.{What, Entry, is_live, live_table, counts, e
 use Rattle.lake_model.specs.Limits.{Bounded, is_passed, load_bounds, drop_bounds}
 use Rattle.lake_model.specs.Layout.{Part, layout, unmarked_of}
 use Rattle.lake_model.specs.Plan.{planned_parts, plan_of}
+use Rattle.layout_laws.specs.Steps.{has_part}
 use Rattle.script_model.specs.Commands.{Task, Load, LoadFile, DropTable, Tables, Search, Like, Merge, Command}
-use Rattle.script_model.specs.Replies.{Reply, NoMemory, Repeated, Unknown, Loaded, Dropped, fault_reply, Fault, FileFault, OfCsv, OfSets, OfQuery, OfFile, FailedFault, MissingFault, TooLongFault, csv_reply, sets_reply, query_reply, file_reply, unless_lake_full, drop_reply, like_table, like_column, merge_planned, merge_gone, is_present}
+use Rattle.script_model.specs.Replies.{Reply, NoMemory, Repeated, Unknown, Loaded, Dropped, fault_reply, Fault, FileFault, OfCsv, OfSets, OfQuery, OfFile, FailedFault, MissingFault, TooLongFault, csv_reply, sets_reply, query_reply, file_reply, unless_lake_full, drop_reply, like_table, like_column, merge_planned, merge_gone}
 use Rattle.script_model.specs.Answered.{TableRead, IsTable, NoTable, QueryRead, IsQuery, NoQuery, file_read, load_answer, search_answer, policy_of, loads, swaps, table_read, query_read, answer_to, change_of, has_pin, Standing, Nowhere, Saw, Added, PlannedAndSaw, PlannedAndAdded, standing, is_accepted}
 use Rattle.script_model.specs.Play.{Done, done_with, who_of, entries_of, reply_or_denied}
 use Rattle.script_model.specs.Right.{Moment, moments, moments_by, Rises, IsPlaced, IsUnplaced, own_entries, entries_by, at_position, accepted, IsRight}
@@ -108,7 +109,7 @@ merge_shape limits all pinned now = by (planned_parts (policy_of all) (layout pi
 
     by : (parts : List Part) → planned_parts (policy_of all) (layout pinned) ≡ parts → Shape limits (Merge all) pinned now (merge_planned pinned now parts)
     by [] e = Sees refl (ap (merge_planned pinned pinned) (sym e))
-    by (part ∷ parts) e = gone part parts (find (λ planned. not (is_present (layout now) planned)) (part ∷ parts)) e (ap (merge_planned pinned now) (sym e))
+    by (part ∷ parts) e = gone part parts (find (λ planned. not (has_part (layout now) planned)) (part ∷ parts)) e (ap (merge_planned pinned now) (sym e))
 
 pub shape : (limits : Counts) (task : Task) (pinned now : List Entry) → (has_pin task ≡ false → pinned ≡ now) → Shape limits task pinned now (answer_to limits task pinned now)
 shape limits (Load name body) pinned now same = subst (λ q. Shape limits (Load name body) q now (load_answer limits (table_read name body) now)) (sym (same refl)) (load_shape limits (Load name body) (table_read name body) now (λ q h. refl) (λ q. refl))

@@ -35,7 +35,7 @@ batch_is limits n commands answers before behind later each whos = record {
       (subst (λ j. IsRight limits l before j (done_of l commands answers)) (sym (cut_behind before behind later)) (each l le));
 }
 
-merges_are : (merge : Bool) (next : ℕ) (batch : Batch) → AllByRecursion (λ c. c.lane ≡ 0) (merger_commands merge next batch)
+pub merges_are : (merge : Bool) (next : ℕ) (batch : Batch) → AllByRecursion (λ c. c.lane ≡ 0) (merger_commands merge next batch)
 merges_are false next batch = tt
 merges_are true next batch = by next (updates batch)
   where

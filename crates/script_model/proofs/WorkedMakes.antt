@@ -1,6 +1,6 @@
 -- A small lake that is made: its draws and its records.
 use Rattle.std.proofs.Common.{◌≡◌, refl, ℕ, [], ◌∷◌, ◌++◌}
-use Rattle.std.specs.Prelude.{codes, decimal}
+use Rattle.std.specs.Prelude.{decimal}
 use Rattle.lake_model.specs.Texts.{Text}
 use Rattle.script_model.specs.Generator.{draw, record_text, state_at}
 

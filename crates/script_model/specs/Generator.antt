@@ -1,8 +1,7 @@
 -- The lake that is made of a seed: its tables, the commands that load them and ask of them, and the summary of what came of these.
-use Rattle.std.specs.Prelude.{ℕ, zero, suc, ◌+◌, ◌-◌, ◌*◌, ◌^◌, ◌/◌, ◌%◌, ◌==◌, Bool, if◌then◌else◌, List, [], ◌∷◌, ◌++◌, length, map, flat_map, sum_by, codes, decimal, Some, false}
+use Rattle.std.specs.Prelude.{ℕ, zero, suc, ◌+◌, ◌-◌, ◌*◌, ◌^◌, ◌/◌, ◌%◌, ◌==◌, if◌then◌else◌, List, [], ◌∷◌, ◌++◌, length, map, flat_map, sum_by, codes, decimal, Some, false}
 use Rattle.std.specs.List.{range_with_len, enumerate_from}
 use Rattle.lake_model.specs.Texts.{Text}
-use Rattle.lake_model.specs.Answer.{Row}
 use Rattle.script_model.specs.Commands.{Task, Load, Like, Merge, Batch, command_with}
 use Rattle.script_model.specs.Replies.{Reply, Loaded, Found, Merged}
 use Rattle.script_model.specs.Record.{Options, options_with, Answered, RunRecord}

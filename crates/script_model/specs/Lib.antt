@@ -10,7 +10,7 @@ pub mod Ranges
 pub mod Play
 pub mod Right
 pub mod InTurn
-pub mod Merges
+pub mod Lanes
 pub mod PlayLaws
 pub mod Texts
 pub mod Statuses

@@ -1,5 +1,5 @@
--- The laws of play, for batches without a merge and with no merger beside them.
-use Rattle.std.specs.Prelude.{ℕ, ◌+◌, ◌≡◌, Bool, false, List, [], ◌∷◌, ◌++◌, get_or, length, sum_by}
+-- The laws of play.
+use Rattle.std.specs.Prelude.{ℕ, ◌+◌, ◌≡◌, Bool, List, [], ◌∷◌, ◌++◌, get_or, length, sum_by}
 use Rattle.std.specs.List.{AllByRecursion}
 use Rattle.lake_model.specs.declared.Counts.{Counts}
 use Rattle.script_model.specs.Commands.{Command, Batch}
@@ -7,17 +7,11 @@ use Rattle.script_model.specs.Record.{Options, RunRecord}
 use Rattle.script_model.specs.Play.{IsPlayed, batch_after, merger_commands, played_from, updates}
 use Rattle.script_model.specs.Right.{IsRecordRight}
 use Rattle.script_model.specs.InTurn.{after_command, in_turn, with_sync, IsOneLane}
-use Rattle.script_model.specs.Merges.{HasNoMerge, IsOfLanes}
+use Rattle.script_model.specs.Lanes.{IsOfLanes}
 
--- the merger is off, every command is of a lane of the options, and none is a merge
-pub record IsWithoutMerges (options : Options) (batches : List Batch) : Type 0 where
-  pub merger : options.merge ≡ false
-  pub lanes : AllByRecursion (IsOfLanes options.lanes) batches
-  pub commands : AllByRecursion HasNoMerge batches
-
--- What was played is right, in whatever order it was played, and wherever memory was wanting.
+-- What was played is right, in whatever order it was played, wherever memory was wanting, with merges and a merger.
 abbrev pub PlayedIsRight : Type 0
-PlayedIsRight = (limits : Counts) (options : Options) (batches : List Batch) (made : RunRecord) → IsWithoutMerges options batches
+PlayedIsRight = (limits : Counts) (options : Options) (batches : List Batch) (made : RunRecord) → AllByRecursion (IsOfLanes options.lanes) batches
     → IsPlayed limits options batches made → IsRecordRight limits options.lanes options.merge batches made
 
 -- One more command in turn comes behind all others.

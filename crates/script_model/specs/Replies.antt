@@ -1,6 +1,5 @@
 -- What each command is answered at a journal, where its bytes and its query are as they should be.
-use Rattle.std.specs.Prelude.{ℕ, ◌+◌, ◌-◌, Bool, not, nat_eq, ◌&&◌, List, [], ◌∷◌, length, map, find, bytes_eq, slice_get, if◌then◌else◌, Option, Some, None}
-use Rattle.std.specs.List.{list_any}
+use Rattle.std.specs.Prelude.{ℕ, ◌+◌, ◌-◌, not, List, [], ◌∷◌, length, map, find, slice_get, if◌then◌else◌, Option, Some, None}
 use Rattle.lake_model.specs.declared.Which.{Which}
 use Rattle.lake_model.specs.declared.Policy.{Policy}
 use Rattle.lake_model.specs.declared.Counts.{Counts}
@@ -17,6 +16,7 @@ use Rattle.lake_model.specs.Journal.{Entry, counts, live, is_live, live_table}
 use Rattle.lake_model.specs.Limits.{Bounded, is_passed, load_bounds, drop_bounds}
 use Rattle.lake_model.specs.Layout.{Part, Shown, layout, shown_layout, unmarked_of}
 use Rattle.lake_model.specs.Plan.{planned_parts}
+use Rattle.layout_laws.specs.Steps.{has_part}
 
 pub data Reply : Type 0 where
   Loaded : (name : Text) (columns members at : ℕ) → Reply
@@ -114,10 +114,6 @@ like_table k name place journal (Some table) = like_column k name place journal 
 abbrev pub like_reply : ℕ → Text → ℕ → List Entry → Reply
 like_reply k name place journal = like_table k name place journal (live_table journal name)
 
--- a planned part is there where the layout has a part of its number and its positions
-abbrev pub is_present : List Part → Part → Bool
-is_present parts planned = list_any (λ part. nat_eq part.number planned.number && bytes_eq (map (λ p. p.position) part.places) (map (λ p. p.position) planned.places)) parts
-
 -- a merge that was planned at one journal and ends at another, where this planned part, if any, is not there
 abbrev pub merge_gone : List Entry → List Entry → List Part → Option Part → Reply
 merge_gone before journal planned None = Merged (shown_layout before) (length planned) (length (unmarked_of planned)) (length journal + 1)
@@ -125,7 +121,7 @@ merge_gone before journal planned (Some part) = Stale (shown_layout before) part
 
 abbrev pub merge_planned : List Entry → List Entry → List Part → Reply
 merge_planned before journal [] = NothingToMerge (shown_layout before)
-merge_planned before journal (part ∷ parts) = merge_gone before journal (part ∷ parts) (find (λ planned. not (is_present (layout journal) planned)) (part ∷ parts))
+merge_planned before journal (part ∷ parts) = merge_gone before journal (part ∷ parts) (find (λ planned. not (has_part (layout journal) planned)) (part ∷ parts))
 
 abbrev pub merge_reply : Policy → List Entry → List Entry → Reply
 merge_reply policy before journal = merge_planned before journal (planned_parts policy (layout before))

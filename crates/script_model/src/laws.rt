@@ -2,12 +2,17 @@
 
 ghost use Rattle.script_model.specs.PlayLaws.{BatchIsPlayed, BatchesGoOn, GoesOnInTurn, PlayedIsRight};
 
+use layout_laws::plans_law;
+
 /// A record that was played of batches is right: its journal is legal, no entry's caller is past the number of lanes, and between the
 /// lengths of the journal that its syncs name each lane's answers are right. It may be played in any stated order, on any number of
-/// lanes, and memory may be wanting at any turn. Said of batches without a merge, with no merger beside them.
+/// lanes, with merges in its batches and a merger beside them, and memory may be wanting at any turn.
 pub fn played_is_right_law()
     ensures { PlayedIsRight }
-{}
+{
+    // A merge may end at a later journal than it was planned at.
+    plans_law();
+}
 
 /// On one lane without a stated order, play is one command after another: each is answered at the journal as it stands, or memory is
 /// wanting for it. So whoever answers the commands of a batch in turn has played it.

@@ -1,6 +1,6 @@
 -- What the words of a line say.
 use Rattle.std.proofs.Common.{◌≡◌, refl, ap, sym, subst, ◌∙◌, ℕ, ◌+◌, ◌-◌, ◌*◌, ◌<◌, ◌≤◌, List, [], ◌∷◌, Bool, true, false, cond, length, min, arith, inl, inr}
-use Rattle.std.specs.Prelude.{◌==◌, ◌&&◌, fold, nat_le, nat_lt, not, bytes_eq, codes, find, Option, Some, None, option_map}
+use Rattle.std.specs.Prelude.{◌==◌, ◌&&◌, fold, nat_le, nat_lt, not, bytes_eq, codes, Option, Some, None, option_map}
 use Rattle.std.specs.List.{list_all}
 use Rattle.std.proofs.lemmas.Bool.{and_parts, cases_Bool, cases_lt, eqb-false, le-ltb, leb-true, lt-ltb, ltb-false, not-true, true_from_ne_false}
 use Rattle.std.specs.Str.{is_utf8}

@@ -1,5 +1,5 @@
 -- What a line does, and what is fetched in it.
-use Rattle.std.proofs.Common.{◌≡◌, refl, ap, sym, ◌∙◌, subst, ℕ, ◌+◌, ◌<◌, ◌≤◌, List, [], ◌∷◌, ◌++◌, Bool, true, false, length, append-nil, arith}
+use Rattle.std.proofs.Common.{◌≡◌, refl, ap, sym, ◌∙◌, subst, ℕ, ◌+◌, ◌<◌, ◌≤◌, List, [], ◌∷◌, ◌++◌, true, false, length, append-nil, arith}
 use Rattle.std.specs.Prelude.{◌==◌, count_by, Option, Some, None, IfSome, IsSome, is_some, Result, Ok, Err}
 use Rattle.std.proofs.lemmas.Bool.{both_ways, eqb-true, cond-false, cond-true, le-leb, le-ltb, lt-leb, lt-ltb}
 use Rattle.lake_io.specs.Files as shelf
@@ -17,7 +17,7 @@ use Rattle.script_text.specs.declared.refused.ScriptEnd.TheVariants.{NoMemory, R
 use Rattle.script_text.specs.Endings.{Ends, EndsAs}
 use Rattle.script_text.specs.Gathering.{reading_at}
 use Rattle.script_text.specs.Outcomes.{MayCome, RoseBy, is_failed}
-use Rattle.script_text.specs.Readings.{GoesOn, Turned, Turns, added, batches_of, none_given}
+use Rattle.script_text.specs.Readings.{GoesOn, Turned, Turns, added, batches_of}
 use Rattle.script_text.proofs.ProgressLemmas.{none_fetched}
 
 -- A turn in which nothing is fetched.

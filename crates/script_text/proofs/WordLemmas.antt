@@ -1,6 +1,6 @@
 -- The words of a text, one after another.
 use Rattle.std.proofs.Common.{◌≡◌, refl, ap, sym, ◌∙◌, ℕ, suc, ◌+◌, List, [], ◌∷◌, drop, length, take, Bool, true, false, cond, arith, inl, inr}
-use Rattle.std.specs.Prelude.{◌==◌, nat_lt, not, filter, position, take_while, Option, Some, None}
+use Rattle.std.specs.Prelude.{◌==◌, nat_lt, not, filter, position, take_while, Some, None}
 use Rattle.std.specs.List.{onto_first, position_or_len, prefix_len, slice_split}
 use Rattle.std.proofs.lemmas.Bool.{both_ways, cases_Bool, eqb-true, ltb-false}
 use Rattle.std.proofs.lemmas.List.Folds.{length-prefix_len}

@@ -1,5 +1,5 @@
 -- What the end of a script gives.
-use Rattle.std.specs.Prelude.{ℕ, ◌+◌, ◌≡◌, ◌<◌, ◌≤◌, ⊤, List, [], ◌∷◌, ◌++◌, length, Option, Some, None, Result, Ok, Err}
+use Rattle.std.specs.Prelude.{ℕ, ◌≡◌, ◌<◌, ⊤, List, [], ◌∷◌, ◌++◌, length, Option, Some, None, Result, Ok, Err}
 use Rattle.lake_io.specs.Files as shelf
 use Rattle.lake_model.specs.Texts.{Text}
 use Rattle.script_model.specs.Commands.{Batch, File}

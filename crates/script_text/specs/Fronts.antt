@@ -1,9 +1,8 @@
 -- What a line outside a block says, as the code holds it.
-use Rattle.std.specs.Prelude.{ℕ, ◌≡◌, ◌<◌, ◌≤◌, ⊤, Bool, true, false, List, [], ◌∷◌, Option, Some, None, Result, Ok, Err}
+use Rattle.std.specs.Prelude.{ℕ, ◌≡◌, ◌<◌, ◌≤◌, ⊤, Bool, true, false, List, [], ◌∷◌, Result, Ok, Err}
 use Rattle.lake_model.specs.Texts.{Text}
 use Rattle.script_model.specs.declared.Reason.{Reason}
 use Rattle.script_model.specs.Saying as model
-use Rattle.script_model.specs.Merges.{is_merge}
 use Rattle.script_text.specs.Tasks.{IsTaskInRange, task_of}
 use Rattle.script_text.specs.Readings.{body_size}
 use Rattle.script_text.specs.declared.front.Form.{Form}
@@ -30,6 +29,7 @@ form_of form.Drop = model.DropForm
 form_of form.Tables = model.TablesForm
 form_of form.Search = model.SearchForm
 form_of form.Like = model.LikeForm
+form_of form.Merge = model.MergeForm
 form_of form.Sync = model.SyncForm
 
 abbrev pub front_of : Front → model.Front
@@ -52,7 +52,7 @@ said_of (Fetches lane name path) = model.Fetches lane name path.now
 abbrev pub IsLane : ℕ → ℕ → Type 0
 IsLane lanes lane = (0 < lane) × (lane ≤ lanes)
 
--- its lane and its numbers are in range, and where it is a whole command, that has no body and is no merge
+-- its lane and its numbers are in range, and where it is a whole command, that has no body
 abbrev pub IsSaidInRange : ℕ → Said → Type 0
 IsSaidInRange lanes Nothing = ⊤
 IsSaidInRange lanes Sync = ⊤

@@ -3,7 +3,7 @@ use Rattle.std.specs.Prelude.{ℕ, ◌+◌, ◌≡◌, ◌<◌, ◌≤◌, ⊤, 
 use Rattle.lake_io.specs.Files as shelf
 use Rattle.lake_model.specs.Texts.{Text}
 use Rattle.script_model.specs.Commands.{Batch, File, Task, Load, LoadFile, DropTable, Tables, Search, Like, Merge}
-use Rattle.script_model.specs.Merges.{HasNoMerge, IsOfLanes}
+use Rattle.script_model.specs.Lanes.{IsOfLanes}
 use Rattle.script_model.specs.Reading.{Grammar, Open, Reading, Turn, unless_fault, body_fault, with_body}
 use Rattle.script_model.specs.Reading as turn
 use Rattle.script_model.specs.Saying.{Front}
@@ -68,7 +68,6 @@ pub record IsBounded (rules : Rules) (lines used numbered : ℕ) (commands : Bat
   pub bytes_within : bytes ≤ rules.limits.bytes
   pub body_within : IsWithin rules used numbered bytes block
   pub lanes : IsOfLanes rules.lanes commands
-  pub merges : HasNoMerge commands
 
 -- ---- what lines give
 

@@ -28,6 +28,7 @@ pub(crate) enum Form {
     Tables,
     Search,
     Like,
+    Merge,
     Sync,
 }
 
@@ -129,6 +130,9 @@ fn read_form(word: &[u8]) -> Option<Form>
     if b"like".as_slice() == word {
         return Some(Form::Like);
     }
+    if b"merge".as_slice() == word {
+        return Some(Form::Merge);
+    }
     if b"sync".as_slice() == word {
         return Some(Form::Sync);
     }
@@ -148,6 +152,7 @@ fn says(form: Form, lane: u32, text: &[u8]) -> Result<Said<'_>, Reason>
         Form::Tables => tables_said(lane, text),
         Form::Search => search_said(lane, text),
         Form::Like => like_said(lane, text),
+        Form::Merge => merge_said(lane, text),
         Form::Sync => sync_said(text),
     }
 }
@@ -271,6 +276,30 @@ fn read_like(lane: u32, k: &[u8], name: &[u8], place: &[u8]) -> Result<Said<'sta
     Ok(Said::Does {
         lane,
         task: Task::Like { k, name, place },
+    })
+}
+
+// `merge`, or `merge all`.
+fn merge_said(lane: u32, text: &[u8]) -> Result<Said<'_>, Reason>
+    requires { 0 < lane }
+    ensures said { Says (says model.MergeForm lane (words text.now) text.now) result }
+    ensures in_range { IfOk result (λ said. (lanes : ℕ) → lane ≤ lanes → IsSaidInRange lanes said) }
+{
+    if has_no_word(text) {
+        return Ok(Said::Does {
+            lane,
+            task: Task::Merge { all: false },
+        });
+    }
+    let Some(word) = only_word(text) else {
+        return Err(Reason::Words);
+    };
+    if word != b"all".as_slice() {
+        return Err(Reason::Words);
+    }
+    Ok(Said::Does {
+        lane,
+        task: Task::Merge { all: true },
     })
 }
 

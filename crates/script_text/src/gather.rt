@@ -2,7 +2,7 @@
 ghost use Rattle.std.specs.Prelude.{◌≡◌, ◌≢◌, ◌<◌, ◌≤◌, ◌+◌, ◌-◌, [], Err, false, true, drop, length, take, IfErr, IfNone, IfOk, IfSome, IsErrOf, OnErr, OnOk};
 ghost use Rattle.std.specs.Io.KnownBytes.{Keeps};
 ghost use Rattle.lake_io.specs.Causes.{Rose};
-ghost use Rattle.script_model.specs.Merges.{HasNoMerge, IsOfLanes};
+ghost use Rattle.script_model.specs.Lanes.{IsOfLanes};
 ghost use Rattle.script_model.specs.Reading.{Stands, turn_of};
 ghost use Rattle.script_model.specs.Script.{ended, start};
 ghost use Rattle.script_model.specs.Words.{NoFeed};
@@ -12,6 +12,7 @@ ghost use Rattle.script_text.specs.Gathers.{Gathers, Taken};
 ghost use Rattle.script_text.specs.Inputs.{Came, EndsLine};
 ghost use Rattle.script_text.specs.Parts.{HasSameRules, IsHeldFault};
 ghost use Rattle.script_text.specs.Readings.{GrowsByOne, Turns};
+ghost use Rattle.script_text.specs.Runs.{LeadsOn};
 
 use crate::command::Batch;
 use crate::input::Input;
@@ -94,7 +95,6 @@ impl Gather {
         ensures same_lanes { self.new.lanes ≡ self.old.lanes }
         // the commands of a batch, and the bytes that it used
         ensures lanes { IfOk result (λ found. IfSome found (IsOfLanes self.old.lanes)) }
-        ensures merges { IfOk result (λ found. IfSome found HasNoMerge) }
         ensures used { IfOk result (λ found. IfSome found (λ batch. (self.old.reading.used < self.new.reading.used) × (self.old.reading.used + length batch ≤ self.new.reading.used))) }
         ensures within { self.new.reading.used ≤ self.new.limits.input }
         // the source and the shelf
@@ -115,6 +115,7 @@ impl Gather {
                 self.set_ended(false);
                 return Ok(Some(batch));
             }
+            self.read_run()?;
         }
     }
 
@@ -147,7 +148,6 @@ impl Gather {
         ensures used { self.new.reading.used ≡ self.old.reading.used + (at + 1) }
         ensures grows { GrowsByOne result self.old.reading.commands self.new.reading.commands }
         ensures lanes { IfOk result (λ found. IfSome found (IsOfLanes self.old.lanes)) }
-        ensures merges { IfOk result (λ found. IfSome found HasNoMerge) }
         ensures same { HasSameRules self.old self.new }
         ensures later { F.faults shelf.old ≤ F.faults shelf.new }
         ensures files { F.files shelf.new ≡ F.files shelf.old }
@@ -156,6 +156,21 @@ impl Gather {
         let answer = self.reader.read_line(shelf, line);
         self.input.use_up(at + 1);
         answer
+    }
+
+    // Reads the whole lines that are held by which an open block goes on, as far as they can be read at once.
+    fn read_run(&mut self) -> Result<(), NoMemory>
+        requires { self.old.ended ≡ true }
+        ensures leads { OnOk result (LeadsOn (grammar self.old) self.old.reading self.new.reading self.old.held self.new.held) }
+        ensures used { OnOk result (self.new.reading.used + length self.new.held ≡ self.old.reading.used + length self.old.held) }
+        ensures less { OnOk result (length self.new.held ≤ length self.old.held) }
+        ensures commands { OnOk result (self.new.reading.commands ≡ self.old.reading.commands) }
+        ensures within { self.new.reading.used ≤ self.new.limits.input }
+        ensures same { HasSameRules self.old self.new }
+    {
+        let count = self.reader.read_run(self.input.held())?;
+        self.input.use_up(count);
+        Ok(())
     }
 
     // Reads once from the source, where what is held is not too long. The answer is how many bytes came, and 0 only at the end.
@@ -207,7 +222,6 @@ impl Gather {
         ensures within { self.new.reading.used ≤ self.old.reading.used + length self.old.held }
         ensures grows { IfOk result (λ found. IfSome found (λ batch. (0 < length self.old.reading.commands + length self.old.held) × (length batch ≤ length self.old.reading.commands + length self.old.held))) }
         ensures lanes { IfOk result (λ found. IfSome found (IsOfLanes self.old.lanes)) }
-        ensures merges { IfOk result (λ found. IfSome found HasNoMerge) }
         ensures same { HasSameRules self.old self.new }
         ensures later { F.faults shelf.old ≤ F.faults shelf.new }
         ensures files { F.files shelf.new ≡ F.files shelf.old }

@@ -43,6 +43,8 @@ fn push_task(text: &mut String, task: &Task) -> Result<(), AllocError> {
             let name = name.text();
             write!(text, "like {k} {name} {place};")
         }
+        Task::Merge { all: false } => text.push_str("merge;"),
+        Task::Merge { all: true } => text.push_str("merge all;"),
     }
 }
 
@@ -157,7 +159,7 @@ fn repeated(alloc: Global, line: &str, count: usize, last: &str) -> Result<Strin
     Ok(script)
 }
 
-const WORKED: [(&str, &str); 60] = [
+const WORKED: [(&str, &str); 65] = [
     ("", "end"),
     ("\n  \n# x\n#\n\r\n", "end"),
     ("tables", "[1@1 tables;]"),
@@ -178,7 +180,7 @@ const WORKED: [(&str, &str); 60] = [
     ("\ttables\n", "line 1 Unknown"),
     ("Load a\n", "line 1 Unknown"),
     ("loads a\n", "line 1 Unknown"),
-    ("merge\n", "line 1 Unknown"),
+    ("merges\n", "line 1 Unknown"),
     (".\n", "line 1 Unknown"),
     ("load\n", "line 1 Words"),
     ("load a b\n", "line 1 Words"),
@@ -199,7 +201,12 @@ const WORKED: [(&str, &str); 60] = [
     ("like 10001 a 1\n", "line 1 Words"),
     ("like 1 a 4294967296\n", "line 1 Words"),
     ("like 1 a 4294967295\n", "[1@1 like 1 a 4294967295;]"),
+    ("merge\nmerge all\n", "[1@1 merge;2@1 merge all;]"),
+    (" merge  all \r", "[1@1 merge all;]"),
+    ("merge al\n", "line 1 Words"),
+    ("merge all all\n", "line 1 Words"),
     // lanes
+    ("@1 merge\n@2 merge all\n", "[1@1 merge;2@2 merge all;]"),
     ("@1 tables\n@2 drop a\n", "[1@1 tables;2@2 drop a;]"),
     ("@3 tables\n", "line 1 Lane"),
     ("@3 tabl\n", "line 1 Lane"),

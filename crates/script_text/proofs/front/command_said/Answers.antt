@@ -2,7 +2,7 @@ use Rattle.std.proofs.Common.{ap, sym, subst, ◌∙◌}
 use Rattle.std.specs.Prelude.{bytes_eq, find}
 use Rattle.lake_model.specs.Texts.{Text}
 use Rattle.script_model.specs.Saying.{Said, forms, of_form, says}
-use Rattle.script_model.specs.Words.{behind_word, words}
+use Rattle.script_model.specs.Words.{words}
 use Rattle.script_text.specs.Fronts.{Says, form_of}
 use Rattle.script_text.proofs.FormLemmas.{form_said}
 use Rattle.script_text.proofs.front.command_said.Goals as goal

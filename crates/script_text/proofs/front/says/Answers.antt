@@ -1,4 +1,4 @@
-use Rattle.std.proofs.Common.{ap, sym, subst}
+use Rattle.std.proofs.Common.{sym, subst}
 use Rattle.script_model.specs.Saying as model
 use Rattle.script_model.specs.Words.{words}
 use Rattle.script_text.specs.Fronts.{Says, form_of}

@@ -1,5 +1,4 @@
-use Rattle.std.proofs.Common.{◌≡◌, ◌+◌, ◌*◌, ◌-◌, ◌≤◌, length, true}
-use Rattle.script_text.specs.Gathering.{grammar}
+use Rattle.std.proofs.Common.{◌+◌, ◌*◌, ◌-◌, length}
 use Rattle.script_text.proofs.BatchLemmas.{IsUnder}
 use Rattle.script_text.proofs.gather.Gather.batch.Given as goal
 

@@ -1,4 +1,4 @@
-use Rattle.std.proofs.Common.{◌≡◌, ◌+◌, ◌-◌, ◌∙◌, ◌<◌, ◌≤◌, ap, arith, length, ℕ, subst, sym, take}
+use Rattle.std.proofs.Common.{◌≡◌, ◌+◌, ◌-◌, ◌<◌, ◌≤◌, ap, arith, length, subst, sym, take}
 use Rattle.std.proofs.lemmas.List.{take_all}
 use Rattle.script_model.specs.Script.{begun_fault, grammar_of}
 use Rattle.script_model.specs.Words.{NoFeed}

@@ -1,4 +1,4 @@
-use Rattle.std.proofs.Common.{◌≡◌, ◌≤◌, ◌-◌, ◌∙◌, arith, ap, drop, List, ℕ, sym, subst, take}
+use Rattle.std.proofs.Common.{◌∙◌, arith, List, ℕ, sym, subst, take}
 use Rattle.script_model.specs.Words.{NoFeed}
 use Rattle.script_text.proofs.FeedLemmas.{found_in, no_feed_less}
 use Rattle.script_text.proofs.input.Input.find_line.Goals as goal

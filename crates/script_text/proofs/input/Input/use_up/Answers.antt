@@ -1,5 +1,5 @@
-use Rattle.std.proofs.Common.{◌-◌, ◌∙◌, ap, arith, drop, length, sym}
-use Rattle.std.proofs.lemmas.List.{length-drop, length-take}
+use Rattle.std.proofs.Common.{◌-◌, ◌∙◌, ap, arith, drop, length}
+use Rattle.std.proofs.lemmas.List.{length-take}
 use Rattle.script_text.proofs.HeldLemmas.{held_less}
 use Rattle.script_text.proofs.input.Input.use_up.Goals as goal
 

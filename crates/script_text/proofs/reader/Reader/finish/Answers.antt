@@ -1,10 +1,7 @@
-use Rattle.std.proofs.Common.{◌≡◌, ◌+◌, ◌∙◌, ℕ, arith, ap, refl, sym, subst}
-use Rattle.std.specs.Prelude.{Err}
+use Rattle.std.proofs.Common.{◌∙◌, arith, ap, sym}
 use Rattle.std.proofs.lemmas.Result.{err_from_is_err_and}
-use Rattle.script_text.specs.declared.refused.ScriptEnd.TheVariants.{Script}
-use Rattle.script_text.specs.Endings.{Ends}
 use Rattle.script_text.specs.Readings.{ReaderState, grammar_by}
-use Rattle.script_text.proofs.TurnLemmas.{ends_begun, ends_by, ends_fail}
+use Rattle.script_text.proofs.TurnLemmas.{ends_begun, ends_by}
 use Rattle.script_text.proofs.reader.Reader.finish.Goals as goal
 
 pub returns-in-Some-clause-ends : goal.returns-in-Some-clause-ends

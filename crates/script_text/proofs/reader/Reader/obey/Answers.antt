@@ -1,4 +1,4 @@
-use Rattle.std.proofs.Common.{◌≡◌, arith, refl, sym, subst}
+use Rattle.std.proofs.Common.{arith, refl}
 use Rattle.std.proofs.lemmas.Result.{err_from_is_err_and}
 use Rattle.script_text.proofs.TurnLemmas.{unfetched}
 use Rattle.script_text.proofs.reader.Reader.obey.Goals as goal

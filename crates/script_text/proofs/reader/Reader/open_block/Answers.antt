@@ -1,4 +1,4 @@
-use Rattle.std.proofs.Common.{◌<◌, ◌+◌, ◌≤◌, arith, length, subst, sym}
+use Rattle.std.proofs.Common.{◌<◌, ◌+◌, ◌≤◌, arith, subst, sym}
 use Rattle.std.specs.Prelude.{Some}
 use Rattle.script_model.specs.Reading.{Open}
 use Rattle.script_text.specs.Fronts.{IsLane}
@@ -22,5 +22,4 @@ invariant_of-self c =
       bytes_within = known.bytes_within;
       body_within = subst (λ (b : Open). IsWithin inside.rules inside.used inside.numbered inside.bytes (Some b)) (sym c.new.ensures) (counted, low, lane.1, none, empty);
       lanes = known.lanes;
-      merges = known.merges;
     }

@@ -1,6 +1,4 @@
-use Rattle.std.proofs.Common.{◌≡◌, ◌∙◌, arith, ap, List, ℕ, refl, sym, subst}
-use Rattle.std.specs.Prelude.{None}
-use Rattle.lake_model.specs.Texts.{Text}
+use Rattle.std.proofs.Common.{◌∙◌, arith, ap, refl, sym}
 use Rattle.script_model.specs.Saying.{said}
 use Rattle.script_model.specs.Words.{without_return}
 use Rattle.script_text.specs.Readings.{ReaderState, grammar_by}

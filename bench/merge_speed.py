@@ -1,0 +1,78 @@
+#!/usr/bin/env python3
+"""How long `merge all` takes for a member of the lake, and what memory it needs, as the lake grows tenfold.
+
+    bench/merge_speed.py [JOSIE] [--times N] [--beside COMMAND]
+
+Lakes of a hundred tables with four columns each, of 10,000, 100,000 and 1,000,000 members in all, are loaded by one script; a value stands in about
+ten columns. Then the same script is run with `merge all` behind it. The time of the merge is the difference of the two, each the least of N whole
+runs, over the number of members; the memory is the greatest that the whole run held, for the loads alone and with the merge. COMMAND is another
+program that reads such scripts and writes such replies, which is measured beside josie.
+"""
+import os
+import random
+import shlex
+import subprocess
+import sys
+import tempfile
+import time
+
+from program import given_words
+
+TABLES = 100
+COLUMNS = 4
+SIZES = (10_000, 100_000, 1_000_000)
+
+
+def loads(members):
+    """The script of the loads."""
+    chance = random.Random(members)
+    rows = members // (TABLES * COLUMNS)
+    lines = []
+    for table in range(TABLES):
+        cells = [chance.sample(range(rows * TABLES * COLUMNS // 10), rows) for _ in range(COLUMNS)]
+        lines += [f"load t{table}", "a,b,c,d"]
+        lines += [",".join(f"value {column[row]}" for column in cells) for row in range(rows)]
+        lines += ["."]
+        lines += ["sync"] if table % 10 == 9 else []
+    return "".join(line + "\n" for line in lines)
+
+
+def measured(times, command, script):
+    """The least CPU time of some runs in seconds, and the greatest memory of one in bytes."""
+    best, peak = None, 0
+    for _ in range(times):
+        with tempfile.TemporaryFile() as text:
+            text.write(script.encode())
+            text.seek(0)
+            child = subprocess.Popen(command, stdin=text, stdout=subprocess.PIPE)
+            written = child.stdout.read()
+            _, status, usage = os.wait4(child.pid, 0)
+            child.returncode = status
+        if status != 0 or b" refused " in written or b" no memory" in written:
+            sys.exit("merge_speed: a command was refused")
+        taken = usage.ru_utime + usage.ru_stime
+        best = taken if best is None else min(best, taken)
+        peak = max(peak, usage.ru_maxrss * 1024)
+    return best, peak
+
+
+def main():
+    words = sys.argv[1:]
+    beside = []
+    if "--beside" in words:
+        place = words.index("--beside")
+        beside = [shlex.split(words[place + 1])]
+        del sys.argv[place + 1:place + 3]
+    given = given_words(__doc__, 3)
+    for members in SIZES:
+        script = loads(members)
+        for command in [[given.josie, "run"], *beside]:
+            loaded, loaded_peak = measured(given.times, command, script)
+            merged, merged_peak = measured(given.times, command, script + "merge all\n")
+            nanoseconds = (merged - loaded) / members * 1e9
+            print(f"{members:8} members: {nanoseconds:7.1f} ns a member   peak {loaded_peak / 2**20:6.1f} MiB loaded, {merged_peak / 2**20:6.1f} MiB merged   "
+                  f"{os.path.basename(command[0])}", flush=True)
+
+
+if __name__ == "__main__":
+    main()

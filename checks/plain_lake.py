@@ -1,0 +1,174 @@
+"""A plain model of a lake: what each command is answered at a version, and the version that comes of it.
+
+A version is the position of the journal, the live tables in the order of their loads, and the parts of the layout. It never changes, so a pin is
+the version itself. A table is a name and its columns, a column a title and an ordered list of distinct values. A part is a number and its places; a
+place is the position of a load, its table, and whether that was dropped. All text is ASCII, where `str.casefold` and `str.strip` make a value what
+it is.
+"""
+from typing import NamedTuple
+
+NOT_UTF8 = "\udcff"  # stands for the byte ff
+
+
+class Place(NamedTuple):
+    position: int
+    table: tuple
+    is_dropped: bool
+
+
+class Part(NamedTuple):
+    number: int
+    places: tuple
+
+
+class Version(NamedTuple):
+    position: int
+    tables: tuple
+    parts: tuple
+
+
+EMPTY = Version(0, (), ())
+
+
+def set_of(values):
+    """The distinct values of some fields, in order of first sight; a blank field has none."""
+    keys = (value.strip().casefold() for value in values)
+    return list(dict.fromkeys(key for key in keys if key))
+
+
+def csv_fault(records):
+    """What is wrong with some records, and None where nothing is."""
+    if not records:
+        return "no-header"
+    for number, record in enumerate(records, 1):
+        if len(record) != len(records[0]):
+            return f"record {number} want {len(records[0])} got {len(record)}"
+        for place, field in enumerate(record, 1):
+            if NOT_UTF8 in field:
+                return f"record {number} field {place} not UTF-8"
+    return None
+
+
+def find(at, name):
+    return next((table for table in at.tables if table[0] == name), None)
+
+
+def line(name, columns):
+    return f"{name} columns {len(columns)} members {sum(len(keys) for _, keys in columns)}"
+
+
+def layout(at):
+    """The trace line of a version."""
+    parts = [f"{part.number}:" + ",".join(f"{place.position}{'-' if place.is_dropped else ''}" for place in part.places) for part in at.parts]
+    return f"  layout at {at.position} parts {' '.join(parts) or 'none'}"
+
+
+def load(at, name, records):
+    """The lines of the reply, the version behind it, and what the journal says of it; None where nothing was changed. So do all updates."""
+    fault = csv_fault(records)
+    if fault:
+        return [f"refused csv {fault}"], at, None
+    if find(at, name):
+        return [f"refused repeated {name} at {at.position}"], at, None
+    header, *rows = records
+    columns = tuple((title, set_of(row[place] for row in rows)) for place, title in enumerate(header))
+    position = at.position + 1
+    part = Part(position, (Place(position, (name, columns), False),))
+    return [f"loaded {line(name, columns)} at {position}"], Version(position, at.tables + ((name, columns),), at.parts + (part,)), ("load", name)
+
+
+def drop(at, name):
+    if not find(at, name):
+        return [f"refused unknown {name} at {at.position}"], at, None
+    parts = tuple(part._replace(places=tuple(place._replace(is_dropped=place.is_dropped or place.table[0] == name) for place in part.places))
+                  for part in at.parts)
+    tables = tuple(table for table in at.tables if table[0] != name)
+    return [f"dropped {name} at {at.position + 1}"], Version(at.position + 1, tables, parts), ("drop", name)
+
+
+def tier(part):
+    return sum(len(place.table[1]) for place in part.places).bit_length()
+
+
+def planned(at, whole):
+    """The parts that a merge takes."""
+    parts = at.parts
+    if whole:
+        return parts if len(parts) > 1 or any(place.is_dropped for part in parts for place in part.places) else ()
+    for first in range(len(parts) - 3):
+        if len({tier(part) for part in parts[first:first + 4]}) == 1:
+            return parts[first:first + 4]
+    return next(((part,) for part in parts if 2 * sum(place.is_dropped for place in part.places) >= len(part.places)), ())
+
+
+def merge(pinned, now, whole):
+    """The reply to a merge that was planned at one version and ends at another."""
+    plan = planned(pinned, whole)
+    if not plan:
+        return [f"refused nothing to merge at {pinned.position}", layout(pinned)], now, None
+    positions = {part.number: [place.position for place in part.places] for part in now.parts}
+    for part in plan:
+        if positions.get(part.number) != [place.position for place in part.places]:
+            return [f"refused stale part {part.number} at {now.position}", layout(pinned)], now, None
+    kept = [place.position for part in plan for place in part.places if not place.is_dropped]
+    numbers = [part.number for part in plan]
+    first = next(i for i, part in enumerate(now.parts) if part.number == numbers[0])
+    position = now.position + 1
+    places = tuple(place for part in now.parts[first:first + len(plan)] for place in part.places if place.position in kept)
+    made = (Part(position, places),) if places else ()
+    parts = now.parts[:first] + made + now.parts[first + len(plan):]
+    change = f"from {','.join(map(str, numbers))} kept {','.join(map(str, kept)) or 'none'}"
+    reply = [f"merged {len(plan)} parts into {len(kept)} tables at {position}", layout(pinned)]
+    return reply, Version(position, now.tables, parts), ("swap", change)
+
+
+def list_tables(at):
+    return [f"tables {len(at.tables)} at {at.position}"] + ["  " + line(name, columns) for name, columns in at.tables]
+
+
+def quoted(title):
+    """A column's name as a row shows it."""
+    signs = {"\"": "\\\"", "\\": "\\\\", "\n": "\\n", "\r": "\\r", "\t": "\\t"}
+    return "".join(signs.get(sign, sign) for sign in title)
+
+
+def answer(at, most, query, excepted):
+    found = []
+    for name, columns in at.tables:
+        if name == excepted:
+            continue
+        for place, (title, keys) in enumerate(columns, 1):
+            shared = len(query.intersection(keys))
+            if shared:
+                found.append((-shared, name.encode(), title.encode(), place))
+    found = sorted(found)[:most]
+    rows = [f"  {-less} {name.decode()} {place} \"{quoted(title.decode())}\"" for less, name, title, place in found]
+    return [f"answer {len(found)} of {len(query)} at {at.position}"] + rows + [layout(at)]
+
+
+def search(at, most, lines):
+    for number, text in enumerate(lines, 1):
+        if NOT_UTF8 in text:
+            return [f"refused query line {number} not UTF-8"]
+    return answer(at, most, set(set_of(lines)), None)
+
+
+def like(at, most, name, place):
+    table = find(at, name)
+    if not table:
+        return [f"refused unknown {name} at {at.position}"]
+    if not 1 <= place <= len(table[1]):
+        return [f"refused column {name} {place} at {at.position}"]
+    return answer(at, most, set(table[1][place - 1][1]), name)
+
+
+def journal_line(position, change, lane, number):
+    """The line of an entry; lane 0 is the merger, whose commands have numbers of their own."""
+    return f"  {position} {change[0]} lane {lane} command {'' if lane else 'm'}{number} {change[1]}"
+
+
+def written(replies, journal, trace):
+    """What a run writes of its replies and its journal, with a trace or without."""
+    if trace:
+        return replies + [f"journal {len(journal)}"] + journal
+    return [text for text in replies if not text.startswith("  layout at ")]
