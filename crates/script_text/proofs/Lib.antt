@@ -7,3 +7,4 @@ pub mod ProgressLemmas
 pub mod TurnLemmas
 pub mod BatchLemmas
 pub mod ModeLemmas
+pub mod RunLemmas
