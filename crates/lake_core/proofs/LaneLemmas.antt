@@ -7,19 +7,9 @@ use Rattle.lake_model.specs.declared.Policy.{Policy}
 use Rattle.lake_model.specs.declared.Who.{Who}
 use Rattle.lake_model.specs.Journal.{What, Entry}
 use Rattle.script_model.specs.Commands.{Command, Task, Load, LoadFile, DropTable, Tables, Search, Like, Merge}
-<<<<<<< HEAD
 use Rattle.script_model.specs.Replies.{Reply, NoMemory}
 use Rattle.script_model.specs.Answered.{answer_to, adds, change_of, has_pin, is_accepted, policy_of, standing}
 use Rattle.script_model.specs.Play.{done_with, lane_with, play_with, reply_or_denied, entries_of, lane_step, step_of, step}
-=======
-use Rattle.script_model.specs.Replies.{Reply}
-use Rattle.script_model.specs.Answered.{answer_to, adds, change_of, has_pin, is_accepted, standing}
-use Rattle.script_model.specs.Lanes.{is_merge}
-use Rattle.script_model.specs.Play.{done_with, lane_with, play_with, reply_or_denied, entries_of, who_of, lane_step, step_of, step}
-use Rattle.script_text.specs.declared.command.Task.{Task as CodeTask}
-use Rattle.script_text.specs.declared.command.Task.TheVariants as code
-use Rattle.script_text.specs.Tasks.{task_of}
->>>>>>> b2433b3058f069b0de8b01dd3a35da19df5d534d
 use Rattle.lake_core.specs.declared.lane.Held.{Held}
 use Rattle.lake_core.specs.declared.lane.Held.TheVariants.{At, Swap, Denied}
 use Rattle.lake_core.specs.Searches.{IsPinOf}

@@ -9,12 +9,8 @@ use Rattle.std.proofs.lemmas.List.FromFn.{length-map-range_with_len, map-range_w
 use Rattle.std.proofs.lemmas.List.Sums.{sum_by_push, sum_by-set}
 use Rattle.std.proofs.lemmas.Option.{slice_get-map, slice_get_read}
 use Rattle.script_model.specs.Commands.{Command}
-<<<<<<< HEAD
 use Rattle.script_model.specs.Play.{Done, Lane, lane_with, lane_of}
 use Rattle.lake_core.specs.Works.{IsWithinLanes}
-=======
-use Rattle.script_model.specs.Play.{Done, Lane, lane_with, lane_of, lanes_of}
->>>>>>> b2433b3058f069b0de8b01dd3a35da19df5d534d
 use Rattle.lake_core.specs.Lanes.{LaneOf, lane_from, pin_of, played, left_in, left, AreNew, AreShared}
 
 -- the lanes from a number on

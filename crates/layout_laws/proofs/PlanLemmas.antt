@@ -143,10 +143,6 @@ module _ (parts run : List Part) (stands : Run parts run) (numbers : AreDistinct
   pub run_is_planned : run_of (numbers_of run) parts ≡ run
   run_is_planned = ap (run_of (numbers_of run)) stands.whole ∙ run_is stands.front run stands.back (subst (λ (ps : List Part). AreDistinct (numbers_of ps)) stands.whole numbers)
 
-  -- the places of the kept positions are those that are not marked
-  pub run_keeps : filter (λ place. is_among kept place.position) (places_of run) ≡ unmarked_of run
-  run_keeps = filter_agree (λ (p : Place). is_among kept p.position) (λ p. not p.marked) (places_of run) (kept_as (places_of run) in_run)
-
   pub run_may_swap : 0 < length run → may_swap parts (numbers_of run) kept ≡ true
   run_may_swap h = closed parts (numbers_of run) kept (subst (λ (ps : List Part). MaySwap ps (numbers_of run) kept) (sym run_is_planned) (record {
     some = ne_eqb (length (numbers_of run)) 0 (λ e. omega (arith, length-map run (λ (p : Part). p.number)));

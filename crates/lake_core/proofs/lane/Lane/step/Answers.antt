@@ -1,13 +1,7 @@
 use Rattle.std.proofs.Common.{rules, arith, ap, sym, subst, ◌∙◌, ◌≡◌, ◌∷◌, ◌++◌, [], drop, false, true, Some, None, map, take, List}
 use Rattle.lake_model.specs.Journal.{Entry, entry_with}
-<<<<<<< HEAD
 use Rattle.script_model.specs.Answered.{adds, has_pin}
 use Rattle.script_model.specs.Play.{Done, done_with, entries_of, who_of}
-=======
-use Rattle.script_model.specs.Answered.{adds, answer_to, has_pin}
-use Rattle.script_model.specs.Lanes.{is_merge}
-use Rattle.script_model.specs.Play.{Done, done_with, entries_of, reply_or_denied, who_of}
->>>>>>> b2433b3058f069b0de8b01dd3a35da19df5d534d
 use Rattle.script_model.specs.Record.{RunRecord}
 use Rattle.reply_text.specs.Replies.{reply_of}
 use Rattle.lake_core.specs.Lanes.{LaneOf, lane_from, IsHeld, position_of}
