@@ -1,7 +1,7 @@
 -- Merges: what is planned may be swapped, is small enough to be merged, and its swap is answered as the definitions say.
 use Rattle.std.proofs.Common.{◌≡◌, refl, ap, sym, ◌∙◌, subst, ℕ, ◌+◌, ◌*◌, ◌<◌, ◌≤◌, List, [], ◌∷◌, ◌++◌, Bool, true, false, not, cond, length, take, map, get_or, Option, Some, None, option_map, arith, length-append}
 use Rattle.std.specs.Prelude.{find, sum_by}
-use Rattle.std.specs.List.{fold, filter}
+use Rattle.std.specs.List.{fold}
 use Rattle.std.proofs.lemmas.Simd.{map-map}
 use Rattle.std.proofs.lemmas.List.{length-map, map-append, take-append-le, take_all, take_more}
 use Rattle.std.proofs.lemmas.List.Sums.{sum_by-append, sum_by_push}
@@ -11,22 +11,20 @@ use Rattle.lake_model.specs.declared.Who.{Who}
 use Rattle.lake_model.specs.declared.Policy.{Policy}
 use Rattle.lake_model.specs.Tables.{Table, members}
 use Rattle.lake_model.specs.Journal.{Entry, What, Loaded, Dropped, Swapped, live, live_after, loads_of, counts, entry_with, has_name}
-use Rattle.lake_model.specs.Layout.{Place, Part, Shown, layout, is_legal, is_among, may_swap, run_of, shown, shown_with, shown_layout, positions_of, unmarked_of}
+use Rattle.lake_model.specs.Layout.{Place, Part, Shown, layout, is_legal, shown, shown_with, shown_layout, unmarked_of}
 use Rattle.lake_model.specs.Plan.{plan, plan_of, planned_parts}
 use Rattle.layout_laws.specs.Steps.{numbers_of, positions_in}
-use Rattle.layout_laws.specs.Weight.{does_merge}
-use Rattle.layout_laws.proofs.ListLemmas.{rises_distinct}
 use Rattle.layout_laws.proofs.SwapLemmas.{places_of}
 use Rattle.layout_laws.proofs.RunLemmas.{Run}
 use Rattle.layout_laws.proofs.LiveLemmas.{unmarked, places_split, unmarked_three}
 use Rattle.layout_laws.proofs.LaidLemmas.{laid_out}
-use Rattle.layout_laws.proofs.PlanLemmas.{is_planned_run, run_is_planned, run_keeps}
-use Rattle.layout_laws.proofs.LawLemmas.{plan_may_swap}
+use Rattle.layout_laws.proofs.PlanLemmas.{is_planned_run}
 use Rattle.segment_core.specs.Plans.{MergedOf, PlanOf, kept_loads, named, plan_run}
 use Rattle.segment_core.specs.Positions as positions
 use Rattle.segment_core.specs.Versions.{VersionOf, live_of, version_with}
 use Rattle.segment_merge.specs.Planned.{load_positions, load_tables, plan_at, plan_parts}
 use Rattle.catalogue.specs.Kept.{IsWithin}
+use Rattle.catalogue.proofs.PlannedLemmas.{run_merges}
 use Rattle.catalogue.specs.Swaps.{IsMergeOf, is_there, numbers_in}
 use Rattle.script_model.specs.Answered.{swaps}
 use Rattle.script_model.specs.Replies.{Merged, merge_gone, merge_planned, merge_reply}
@@ -52,24 +50,8 @@ tables_kept parts = map-map (λ (load : ℕ × Table). load.1) (λ (p : Place). 
 merge_is : (policy : Policy) (journal : List Entry) (part : Part) (rest : List Part) → is_legal journal ≡ true → planned_parts policy (layout journal) ≡ part ∷ rest
     → IsMergeOf (layout journal) (merge_of (plan_run (length journal) (part ∷ rest)))
 merge_is policy journal part rest legal h =
-    let run = part ∷ rest in
-    let parts = layout journal in
-    let laid = laid_out journal legal in
-    let stands = (is_planned_run policy parts part rest laid.filled h).stands in
-    let distinct = rises_distinct (positions_of parts) laid.rising in
-    let numbers = numbers_named run in
-    let kept = positions_kept run in
-    let found : run_of (numbers_in (named run)) parts ≡ run = ap (λ (ns : List ℕ). run_of ns parts) numbers ∙ run_is_planned parts run stands laid.numbers distinct in
-    let law = plan_may_swap policy journal part rest legal h in
-    record {
-      adjacent = ap named found;
-      may = (λ i. may_swap parts (numbers i) (kept i)) ∙ law.0;
-      merges = (λ i. does_merge parts (numbers i) (kept i)) ∙ law.1;
-      tables = tables_kept run
-          ∙ sym (ap (λ (ps : List Part). tables_in (filter (λ place. is_among (load_positions (kept_loads run)) place.position) (places_of ps))) found
-          ∙ ap (λ (ns : List ℕ). tables_in (filter (λ place. is_among ns place.position) (places_of run))) kept
-          ∙ ap tables_in (run_keeps parts run stands laid.numbers distinct));
-    }
+    let planned = is_planned_run policy (layout journal) part rest (laid_out journal legal).filled h in
+    run_merges journal legal (part ∷ rest) planned.stands (omega arith) planned.merging (merge_of (plan_run (length journal) (part ∷ rest))) refl refl refl
 
 -- what is merged at a journal may be swapped there
 pub can_swap : (policy : Policy) (journal : List Entry) (merged : Option MergedOf) → is_legal journal ≡ true → merged ≡ planned_at policy journal → CanSwap journal merged
