@@ -1,5 +1,5 @@
 -- Numbers of which there is one.
-use Rattle.std.proofs.Common.{◌≡◌, refl, ◌==◌, ◌∷◌, [], Bool, true, false, List, ℕ, length}
+use Rattle.std.proofs.Common.{◌≡◌, refl, ◌==◌, ◌∷◌, [], true, false, List, ℕ, length}
 use Rattle.std.specs.Prelude.{decimal}
 use Rattle.std.specs.List.{join_by}
 use Rattle.script_model.specs.Texts.{listed}

@@ -34,11 +34,11 @@ fn push_update<'a>(
 }
 
 // `  P swap lane C command N from NUMBERS kept POSITIONS`
-fn push_swap(
+fn push_swap<'a>(
     position: u64,
     who: Who,
-    from: &[u64],
-    kept: &[u64],
+    from: &'a [u64],
+    kept: &'a [u64],
     into: &mut Vec<u8>,
 ) -> Result<(), NoMemory>
     ensures ok { OnOk result (into.new.items ≡ into.old.items ++ line_text (codes "  " ++ spaced (decimal position ∷ codes "swap" ∷ codes "lane" ∷ decimal who.caller ∷ codes "command" ∷ command_text who ∷ codes "from" ∷ listed decimal from.now ∷ codes "kept" ∷ listed decimal kept.now ∷ []))) }
@@ -66,7 +66,13 @@ fn push_entry(position: u64, entry: &Entry, into: &mut Vec<u8>) -> Result<(), No
     match &entry.what {
         What::Loaded(table) => push_update(position, "load", entry.who, table.table().name(), into),
         What::Dropped(name) => push_update(position, "drop", entry.who, name, into),
-        What::Swapped { from, kept } => push_swap(position, entry.who, from.list(), kept.list(), into),
+        What::Swapped { from, kept } => push_swap(
+            position,
+            entry.who,
+            from.list(),
+            kept.list(),
+            into,
+        ),
     }
 }
 
