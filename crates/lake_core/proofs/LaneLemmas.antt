@@ -163,14 +163,6 @@ held_adds Tables journal made planned reply is same = absurd is
 held_adds (Search k body) journal made planned reply is same = absurd is
 held_adds (Like k name place) journal made planned reply is same = absurd is
 
--- what is held for the first command
-pub held_first : (journal : List Entry) (command : Command) (todo rest : List Command) (held : Held) (holds : Option Held) → todo ≡ command ∷ rest → holds ≡ Some held → IsHeld journal todo holds
-    → IsHeldAt journal (merge_policy command.task) held
-held_first journal command todo rest held holds first some is = subst (λ (h : Option Held). IsHeld journal (command ∷ rest) h) some (subst (λ (cs : List Command). IsHeld journal cs holds) first is)
-
-pub first_held : (journal : List Entry) (command : Command) (todo rest : List Command) (held : Held) → todo ≡ command ∷ rest → IsHeldAt journal (merge_policy command.task) held → IsHeld journal todo (Some held)
-first_held journal command todo rest held first is = subst (λ (cs : List Command). IsHeld journal cs (Some held)) (sym first) is
-
 -- ---- what a step leaves to do
 
 pub one_less : (lane new : LaneOf) (command : Command) (todo : List Command) → lane.todo ≡ command ∷ todo → new.todo ≡ todo → length new.todo + 1 ≡ length lane.todo
