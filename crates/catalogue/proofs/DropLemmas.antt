@@ -21,7 +21,7 @@ use Rattle.catalogue.specs.Parts.{load_of, is_of, Rises}
 use Rattle.catalogue.specs.Refusals.{drop_refusal}
 use Rattle.catalogue.proofs.ListLemmas.{le_from, all_weaker, distinct_filter, map_none, find_none}
 use Rattle.catalogue.proofs.PlaceLemmas.{places_of, unmarked, positions_in, HasPlaces, name_same, name_is, name_differs, names_of_tables}
-use Rattle.catalogue.proofs.KeptLemmas.{counts_with, is_legal_behind-push}
+use Rattle.catalogue.proofs.KeptLemmas.{counts_with, is_legal_behind-push, merging-push}
 
 places_mark : (name : Text) (parts : List Part) → places_of (map (mark name) parts) ≡ map (mark_place name) (places_of parts)
 places_mark name [] = refl
@@ -179,6 +179,7 @@ module _ (limits : Counts) (journal : List Entry) (version : VersionOf) (counted
       filled = subst (AllByRecursion HasPlaces) (sym laid) (filled_mark name (layout journal) kept.filled);
       room = omega (arith, ap (λ (ns : List ℕ). length ns) positions_stay, kept.room, count_updates, ap (λ (c : Counts). c.updates) kept.count);
       few = omega (arith, ap (λ (ps : List Part). length ps) laid, length-map (layout journal) (mark name), kept.few, count_updates, ap (λ (c : Counts). c.updates) kept.count);
+      merging = merging-push [] journal (entry_with who (Dropped name)) kept.merging refl;
     }
 
     -- the unmarked names of the layout behind the drop differ

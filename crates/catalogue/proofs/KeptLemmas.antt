@@ -6,6 +6,7 @@ use Rattle.lake_model.specs.Texts.{Text}
 use Rattle.lake_model.specs.Tables.{Table}
 use Rattle.lake_model.specs.Journal.{Entry, is_live, live, has_name}
 use Rattle.lake_model.specs.Layout.{layout, positions_of, unmarked_of, is_legal_behind, may_follow}
+use Rattle.layout_laws.specs.Weight.{merges, do_merge_behind}
 use Rattle.segment_core.specs.Distinct.{AreDistinct, unmarked_names}
 use Rattle.segment_core.specs.Versions.{VersionOf}
 use Rattle.catalogue.specs.Kept.{IsKept}
@@ -23,6 +24,14 @@ is_legal_behind-push before (first ∷ journal) e h k =
     let p = both (may_follow before first.what) (is_legal_behind (before ++ first ∷ []) journal) h in
     joined (may_follow before first.what) (is_legal_behind (before ++ first ∷ []) (journal ++ e ∷ [])) p.0
     (is_legal_behind-push (before ++ first ∷ []) journal e p.1 (subst (λ (b : List Entry). may_follow b e.what ≡ true) (sym (append_assoc before (first ∷ []) journal)) k))
+
+-- one more entry that merges, if it is a swap
+pub merging-push : (before journal : List Entry) (e : Entry) → do_merge_behind before journal ≡ true → merges (before ++ journal) e.what ≡ true → do_merge_behind before (journal ++ e ∷ []) ≡ true
+merging-push before [] e h k = joined (merges before e.what) true (subst (λ (b : List Entry). merges b e.what ≡ true) (append-nil before) k) refl
+merging-push before (first ∷ journal) e h k =
+    let p = both (merges before first.what) (do_merge_behind (before ++ first ∷ []) journal) h in
+    joined (merges before first.what) (do_merge_behind (before ++ first ∷ []) (journal ++ e ∷ [])) p.0
+    (merging-push (before ++ first ∷ []) journal e p.1 (subst (λ (b : List Entry). merges b e.what ≡ true) (sym (append_assoc before (first ∷ []) journal)) k))
 
 module _ (limits : Counts) (journal : List Entry) (version : VersionOf) (counted : Counts) (position : Text → Option ℕ) (kept : IsKept limits journal version counted position) where
   pub parts_kept : version.parts ≡ layout journal
@@ -64,5 +73,6 @@ kept_same limits journal journal' version version' counted position position' ke
       filled = kept.filled;
       room = kept.room;
       few = kept.few;
+      merging = kept.merging;
     } in
     kept_equal limits journal journal' version version' counted counted position' here j v refl

@@ -15,7 +15,7 @@ abbrev pub first_column : Owner
 first_column = record { table = 0; place = 1 }
 
 abbrev pub only_token : TokenAt
-only_token = record { table = 0; place = 1; index = 0; frequency = 1 }
+only_token = record { column = 0; index = 0 }
 
 abbrev pub only_posting : Posting
 only_posting = record { column = 0; position = 0; size = 1 }
@@ -24,7 +24,7 @@ abbrev keyed : Text → Text → Table
 keyed name column = table_with name (column_with column (codes "key" ∷ []) ∷ [])
 
 within : (name column : Text) (i : ℕ) (d : TokenAt) → i < 1 → IsAt (keyed name column ∷ []) (get_or (only_token ∷ []) i d)
-within name column zero d h = record { table = lit< tt; low = lit< tt; high = lit≤ tt; index = lit< tt }
+within name column zero d h = record { column = lit< tt; index = lit< tt }
 within name column (suc i) d h = absurd (omega arith)
 
 abbrev named : List Token

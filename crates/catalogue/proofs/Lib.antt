@@ -4,3 +4,7 @@ pub mod KeptLemmas
 pub mod LoadLemmas
 pub mod DropLemmas
 pub mod KeySegment
+pub mod ThereLemmas
+pub mod MarksLemmas
+pub mod SwapLemmas
+pub mod PlannedLemmas

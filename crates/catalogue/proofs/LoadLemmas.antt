@@ -21,7 +21,7 @@ use Rattle.catalogue.specs.Parts.{load_of, is_of, Rises}
 use Rattle.catalogue.specs.Refusals.{load_refusal}
 use Rattle.catalogue.proofs.ListLemmas.{le_from, all_append, all_weaker, filter-append, distinct_push, rises_push, open_by, map_none, find_none, find_push, none_from}
 use Rattle.catalogue.proofs.PlaceLemmas.{places_of, unmarked, HasPlaces, names_append, name_same, name_is, names_in}
-use Rattle.catalogue.proofs.KeptLemmas.{counts_with, is_legal_behind-push, parts_kept, named_kept, names_kept, names_differ, positions_differ}
+use Rattle.catalogue.proofs.KeptLemmas.{counts_with, is_legal_behind-push, merging-push, parts_kept, named_kept, names_kept, names_differ, positions_differ}
 
 -- the part of one load
 abbrev pub loaded_part : ℕ → Table → Part
@@ -161,6 +161,7 @@ module _ (limits : Counts) (journal : List Entry) (version : VersionOf) (counted
       filled = subst (AllByRecursion HasPlaces) (sym laid) (all_append HasPlaces (layout journal) (loaded_part (length journal + 1) table ∷ []) kept.filled (omega arith, tt));
       room = omega (arith, ap (λ (parts : List Part). length (positions_of parts)) laid, ap (λ (ns : List ℕ). length ns) (positions_push (layout journal) (length journal + 1) table), length-append (positions_of (layout journal)) ((length journal + 1) ∷ []), kept.room, count_updates, ap (λ (c : Counts). c.updates) kept.count);
       few = omega (arith, ap (λ (ps : List Part). length ps) laid, length-append (layout journal) (loaded_part (length journal + 1) table ∷ []), kept.few, count_updates, ap (λ (c : Counts). c.updates) kept.count);
+      merging = merging-push [] journal (entry_with who (Loaded table)) kept.merging refl;
     }
 
 pub part_is : (part : Part) (at n : ℕ) (tables : List Table) (table : Table) → part ≡ part_with at (places_with (at ∷ []) tables (false ∷ [])) → tables ≡ table ∷ [] → at ≡ n → part ≡ loaded_part n table

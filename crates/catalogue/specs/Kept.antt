@@ -5,6 +5,7 @@ use Rattle.lake_model.specs.declared.Counts.{Counts}
 use Rattle.lake_model.specs.Texts.{Text}
 use Rattle.lake_model.specs.Journal.{Entry, live, counts}
 use Rattle.lake_model.specs.Layout.{layout, is_legal, positions_of}
+use Rattle.layout_laws.specs.Weight.{do_merge}
 use Rattle.segment_core.specs.Distinct.{AreDistinct}
 use Rattle.segment_core.specs.Positions.{AreFull}
 use Rattle.segment_core.specs.Versions.{VersionOf, live_of, version_with}
@@ -27,7 +28,7 @@ pub record IsWithin (limits counted : Counts) : Type 0 where
 
 -- The version, the counts and the positions by name are those of the journal, which is legal and within the limits. The positions
 -- of the layout rise; its tables that are not marked are the live ones, no two of one name; no part is empty; and there are at most as
--- many tables, and parts, as loads and drops.
+-- many tables, and parts, as loads and drops. Each swap merges.
 pub record IsKept (limits : Counts) (journal : List Entry) (version : VersionOf) (counted : Counts) (position : Text → Option ℕ) : Type 0 where
   pub current : version ≡ version_with (length journal) (layout journal)
   pub count : counted ≡ counts journal
@@ -42,3 +43,4 @@ pub record IsKept (limits : Counts) (journal : List Entry) (version : VersionOf)
   pub filled : AreFull (layout journal)
   pub room : length (positions_of (layout journal)) ≤ (counts journal).updates
   pub few : length (layout journal) ≤ (counts journal).updates
+  pub merging : do_merge journal ≡ true

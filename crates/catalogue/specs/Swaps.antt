@@ -1,8 +1,9 @@
 -- Merges that a catalogue can swap in, and what refuses one.
 use Rattle.std.specs.Prelude.{◌≡◌, ℕ, ◌&&◌, Bool, true, List, length, map, filter, find, flat_map, not, nat_eq, bytes_eq, Option, option_map}
 use Rattle.std.specs.List.{list_any}
+use Rattle.lake_model.specs.Tables.{Table}
 use Rattle.lake_model.specs.Journal.{Entry}
-use Rattle.lake_model.specs.Layout.{Part, layout, is_among, may_swap, run_of}
+use Rattle.lake_model.specs.Layout.{Place, Part, layout, is_among, may_swap, run_of}
 use Rattle.layout_laws.specs.Weight.{does_merge}
 use Rattle.segment_core.specs.Plans.{MergedOf, named}
 use Rattle.segment_core.specs.Positions.{loads_of}
@@ -17,6 +18,16 @@ numbers_in from = map (λ planned. planned.0) from
 abbrev pub is_there : List Part → ℕ × List ℕ → Bool
 is_there parts planned = list_any (λ part. nat_eq part.number planned.0 && bytes_eq (loads_of part) planned.1) parts
 
+-- the places of the kept positions of parts, in layout order, with their tables and their marks
+abbrev pub kept_places : List ℕ → List Part → List Place
+kept_places kept parts = filter (λ place. is_among kept place.position) (flat_map (λ part. part.places) parts)
+
+abbrev pub kept_tables : List ℕ → List Part → List Table
+kept_tables kept parts = map (λ place. place.table) (kept_places kept parts)
+
+abbrev pub kept_marks : List ℕ → List Part → List Bool
+kept_marks kept parts = map (λ place. place.marked) (kept_places kept parts)
+
 -- What was merged is of this layout: the planned parts stand next to each other there, in this order and with these positions; the
 -- kept positions are taken from theirs in layout order, and every other one is marked; two parts or more are merged, or not every
 -- position is kept; and the tables are those that were loaded at the kept positions.
@@ -24,7 +35,7 @@ pub record IsMergeOf (parts : List Part) (merged : MergedOf) : Type 0 where
   pub adjacent : named (run_of (numbers_in merged.from) parts) ≡ merged.from
   pub may : may_swap parts (numbers_in merged.from) merged.kept ≡ true
   pub merges : does_merge parts (numbers_in merged.from) merged.kept ≡ true
-  pub tables : merged.tables ≡ map (λ place. place.table) (filter (λ place. is_among merged.kept place.position) (flat_map (λ part. part.places) (run_of (numbers_in merged.from) parts)))
+  pub tables : merged.tables ≡ kept_tables merged.kept (run_of (numbers_in merged.from) parts)
 
 -- the first planned part that is not there refuses a swap
 abbrev pub swap_refusal : List (ℕ × List ℕ) → List Entry → Option SwapRefused

@@ -1,21 +1,20 @@
 //! The catalogue of a lake.
-ghost use Rattle.std.specs.Prelude.{◌≡◌, ◌≤◌, ◌<◌, ◌+◌, ◌^◌, ◌++◌, ◌∷◌, ◌⊎◌, [], false, length, map, nat_lt, slice_set, take, true, vec_capacity, vec_len, IfErr, IfOk, None, OnErr, Some};
-ghost use Rattle.lake_model.specs.Journal.{counts, entry_with, is_live, live, Dropped, Loaded, Swapped};
+ghost use Rattle.std.specs.Prelude.{◌≡◌, ◌≤◌, ◌<◌, ◌+◌, ◌^◌, ◌++◌, ◌∷◌, ◌⊎◌, [], false, length, map, nat_lt, slice_set, true, vec_capacity, vec_len, IfErr, IfOk, None, OnErr, Some};
+ghost use Rattle.lake_model.specs.Journal.{counts, entry_with, is_live, live, Dropped, Loaded};
 ghost use Rattle.lake_model.specs.Layout.{is_legal, layout, mark};
 ghost use Rattle.lake_model.specs.Tables.{key_bytes, members};
 ghost use Rattle.layout_laws.specs.Weight.{swaps};
 ghost use Rattle.segment_core.specs.Versions.{live_of, marked_at, part_at, part_with, places_with, version_with};
 ghost use Rattle.catalogue.specs.Kept.{catalogue_with, IsWithin};
 ghost use Rattle.catalogue.specs.Refusals.{drop_refusal, load_refusal};
-ghost use Rattle.catalogue.specs.Swaps.{numbers_in, swap_refusal, IsMergeOf};
 
 use crate::entry::Entry;
 use crate::names::{add_name, remove_name};
-use crate::refusal::{DropRefused, LoadRefused, SwapRefused};
+use crate::refusal::{DropRefused, LoadRefused};
 use column_set::{Name, SharedTable, TableSets};
 use lake_model::{Counts, Which, Who};
 use no_memory::NoMemory;
-use segment_core::{Marks, Merged, Numbers, Part, Pin, Segment, Version};
+use segment_core::{Marks, Numbers, Part, Pin, Segment, Version};
 use std::alloc::Global;
 use std::collections::BTreeMap;
 use std::marker::Model;
@@ -28,10 +27,10 @@ use std::sync::Arc;
 /// version: then the list of its parts is copied once. No table and no segment ever is.
 #[derive(Drop)]
 pub struct Catalogue {
-    alloc: Global,
+    pub(crate) alloc: Global,
     limits: Counts,
-    journal: Vec<Entry>,
-    version: Arc<Version>,
+    pub(crate) journal: Vec<Entry>,
+    pub(crate) version: Arc<Version>,
     positions: BTreeMap<String, u64>,
     counts: Counts,
 }
@@ -262,22 +261,6 @@ impl Catalogue {
         push_reserved(&mut self.journal, Entry::dropped(who, name.copy()));
         Ok(at)
     }
-
-    /// Puts what was merged in the place of the planned parts: puts an entry of this caller and command behind the journal, and answers
-    /// its position, counted from 1. Marks that came after the plan are carried over. Pins that were made before keep the parts.
-    ///
-    /// It is refused where a planned part is no longer there, and where memory is wanting. Then nothing has changed. A swap does not
-    /// count as a load or a drop.
-    pub fn swap(&mut self, who: Who, merged: Merged) -> Result<u64, SwapRefused>
-        requires planned { merged.at ≤ length self.old.journal }
-        requires merges { IsMergeOf (layout (take merged.at self.old.journal)) merged }
-        ensures accepted { IfOk result (λ at. (swap_refusal merged.from self.old.journal ≡ None) × (self.new ≡ catalogue_with self.old.limits (self.old.journal ++ entry_with who (Swapped (numbers_in merged.from) merged.kept) ∷ [])) × (at ≡ length self.new.journal)) }
-        ensures err { OnErr result (self.new ≡ self.old) }
-        ensures refused { IfErr result (λ e. (e ≡ SwapRefused.NoMemory) ⊎ (swap_refusal merged.from self.old.journal ≡ Some e)) }
-    {
-        let _ = (who, merged);
-        Err(SwapRefused::NoMemory)
-    }
 }
 
 // The part of one load: its number is the position of the load.
@@ -294,7 +277,7 @@ fn loaded_part(alloc: Global, at: u64, segment: Arc<Segment>) -> Result<Part, No
 }
 
 // Pushes where there is room.
-fn push_reserved<T: Drop>(items: &mut Vec<T>, item: T)
+pub(crate) fn push_reserved<T: Drop>(items: &mut Vec<T>, item: T)
     requires { vec_len items.old < vec_capacity items.old }
     ensures items { items.new.items ≡ items.old.items ++ item ∷ [] }
 {

@@ -71,7 +71,11 @@ impl Entry {
         match &self.what {
             What::Loaded(table) => Ok(Entry::loaded(self.who, table.share()?)),
             What::Dropped(name) => Ok(Entry::dropped(self.who, name.copy())),
-            What::Swapped { from, kept } => Ok(Entry::swapped(self.who, from.copy()?, kept.copy()?)),
+            What::Swapped { from, kept } => Ok(Entry::swapped(
+                self.who,
+                from.copy()?,
+                kept.copy()?,
+            )),
         }
     }
 }

@@ -7,6 +7,7 @@ mod catalogue;
 mod entry;
 mod names;
 mod refusal;
+mod swapping;
 
 pub use catalogue::Catalogue;
 pub use entry::{Entry, What};

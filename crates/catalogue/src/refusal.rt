@@ -43,10 +43,7 @@ pub enum DropRefused {
 #[derive(Clone, Copy, Debug, PartialEq, Eq)]
 pub enum SwapRefused {
     /// The layout of the journal, which has `at` entries, lacks a planned part; the first such part has the number `gone`.
-    Stale {
-        gone: u64,
-        at: u64,
-    },
+    Stale { gone: u64, at: u64 },
     /// Memory was wanting.
     NoMemory,
 }

@@ -1,11 +1,16 @@
 //! What the clauses mean on small lakes whose answers were worked out by hand, and that the calls succeed.
-ghost use Rattle.std.specs.Prelude.{◌≡◌, ◌∷◌, [], codes, length, IfOk, OnOk};
-ghost use Rattle.lake_model.specs.Tables.{keys_at};
+ghost use Rattle.std.specs.Prelude.{◌≡◌, ◌<◌, ◌∷◌, [], ℕ, codes, length, map, option_map, unwrap_or, IfOk, IfSome, OnOk};
+ghost use Rattle.lake_model.specs.Layout.{layout};
+ghost use Rattle.lake_model.specs.Tables.{keys_at, Table};
+ghost use Rattle.catalogue.specs.Swaps.{IsMergeOf};
 
-use crate::{Catalogue, Counts, DropRefused, Entry, Limits, LoadRefused, What, Which, Who};
+use crate::{
+    Catalogue, Counts, DropRefused, Entry, Limits, LoadRefused, SwapRefused, What, Which, Who,
+};
 use column_set::{Name, SharedTable, TableSets};
 use csv_table::read_table;
-use segment_core::{Owner, Pin, Posting, Segment, TokenAt};
+use no_memory::NoMemory;
+use segment_core::{Merged, Numbers, Owner, Pin, Plan, Posting, Segment, TokenAt};
 use std::alloc::Global;
 use std::sync::Arc;
 use std::test::Fail;
@@ -59,10 +64,8 @@ fn segment(alloc: Global, table: SharedTable) -> Result<Arc<Segment>, Fail>
     ensures { IfOk result (λ segment. segment.value ≡ table ∷ []) }
 {
     let token = TokenAt {
-        table: 0,
-        place: 1,
+        column: 0,
         index: 0,
-        frequency: 1,
     };
     let posting = Posting {
         column: 0,
@@ -117,6 +120,114 @@ pub fn drops(
     Ok(())
 }
 
+// The positions of kept loads.
+fn kept_positions(alloc: Global, kept: &[(u64, SharedTable)]) -> Result<Vec<u64>, NoMemory>
+    ensures { IfOk result (λ all. all.items ≡ map (λ (load : ℕ × Table). load.0) kept.now) }
+{
+    let mut all = Vec::new(alloc);
+    for (position, _) in kept {
+        all.push(*position)?;
+    }
+    Ok(all)
+}
+
+// The segment of the one table that is kept, and none where none is.
+fn kept_segment(alloc: Global, kept: &[(u64, SharedTable)]) -> Result<Option<Arc<Segment>>, Fail>
+    ensures tables { IfOk result (λ segment. unwrap_or (option_map (λ s. s.value) segment) [] ≡ map (λ (load : ℕ × Table). load.1) kept.now) }
+    ensures some { IfOk result (λ segment. IfSome segment (λ s. 0 < length s.value)) }
+{
+    match kept {
+        [] => Ok(None),
+        [(_, table)] => Ok(Some(same_segment(alloc, table)?)),
+        _ => Err(Fail::from("more than one table is kept")),
+    }
+}
+
+// The segment of a table that was made by `table`.
+fn same_segment(alloc: Global, table: &SharedTable) -> Result<Arc<Segment>, Fail>
+    ensures { IfOk result (λ segment. segment.value ≡ table.now ∷ []) }
+{
+    let table = table.share()?;
+    if table.table().columns() != 1 {
+        return Err(Fail::from("another table"));
+    }
+    expect_key(table.table())?;
+    segment(alloc, table)
+}
+
+// What two adjacent parts are merged into, from an index on, of which at most one table is kept.
+pub fn merged(lake: &Catalogue, alloc: Global, first: u32) -> Result<Merged, Fail>
+    ensures at { IfOk result (λ merged. merged.at ≡ length lake.now.journal) }
+    ensures merges { IfOk result (λ merged. IsMergeOf (layout lake.now.journal) merged) }
+{
+    let _journal = lake.journal();
+    let pin = lake.pin()?;
+    if pin.parts() < 2 || first > pin.parts() - 2 {
+        return Err(Fail::from("no two parts"));
+    }
+    let Plan { from, kept, at } = pin.plan_run(alloc, first, 2)?;
+    let segment = kept_segment(alloc, &kept)?;
+    let kept = Numbers::new(kept_positions(alloc, &kept)?);
+    Ok(Merged {
+        from,
+        kept,
+        segment,
+        at,
+    })
+}
+
+// Swaps in what was merged of the newest version, and expects this position.
+pub fn swaps(lake: &mut Catalogue, merged: Merged, at: u64) -> Result<(), Fail>
+    requires at { merged.at ≡ length lake.old.journal }
+    requires merges { IsMergeOf (layout lake.old.journal) merged }
+{
+    if lake.swap(FIRST, merged) != Ok(at) {
+        return Err(Fail::from("another answer to a swap"));
+    }
+    Ok(())
+}
+
+// Drops a table, and then swaps in what was merged before, and expects this position.
+pub fn drops_then_swaps(
+    lake: &mut Catalogue,
+    text: &str,
+    merged: Merged,
+    at: u64,
+) -> Result<(), Fail>
+    requires at { merged.at ≡ length lake.old.journal }
+    requires merges { IsMergeOf (layout lake.old.journal) merged }
+{
+    let name = name(text)?;
+    let Ok(_) = lake.drop_table(SECOND, &name) else {
+        return Err(Fail::from("a refused drop"));
+    };
+    if lake.swap(FIRST, merged) != Ok(at) {
+        return Err(Fail::from("another answer to a swap"));
+    }
+    Ok(())
+}
+
+// Swaps in the first of two merges of the newest version, and expects this refusal of the other.
+fn second_is_refused(
+    lake: &mut Catalogue,
+    first: Merged,
+    second: Merged,
+    refused: SwapRefused,
+) -> Result<(), Fail>
+    requires at { first.at ≡ length lake.old.journal }
+    requires at_too { second.at ≡ length lake.old.journal }
+    requires merges { IsMergeOf (layout lake.old.journal) first }
+    requires merges_too { IsMergeOf (layout lake.old.journal) second }
+{
+    let Ok(_) = lake.swap(FIRST, first) else {
+        return Err(Fail::from("a refused swap"));
+    };
+    if lake.swap(SECOND, second) != Err(refused) {
+        return Err(Fail::from("another refusal"));
+    }
+    Ok(())
+}
+
 // Expects that a pin stands at a position, with so many live tables.
 fn holds(alloc: Global, pin: &Pin, at: u64, tables: usize) -> Result<(), Fail> {
     if pin.at() != at || pin.tables(alloc)?.list().len() != tables {
@@ -125,7 +236,7 @@ fn holds(alloc: Global, pin: &Pin, at: u64, tables: usize) -> Result<(), Fail> {
     Ok(())
 }
 
-// Expects so many live tables, so many loads and drops, which are all the entries, and so many loads of a table of one key.
+// Expects so many live tables, so many loads and drops, and so many loads of a table of one key.
 pub fn counts(lake: &Catalogue, live: usize, updates: usize, loads: u64) -> Result<(), Fail> {
     let counts = lake.counts();
     if counts.live as usize != live || counts.updates as usize != updates {
@@ -134,7 +245,12 @@ pub fn counts(lake: &Catalogue, live: usize, updates: usize, loads: u64) -> Resu
     if counts.members != loads || counts.key_bytes / 3 != loads || counts.key_bytes % 3 != 0 {
         return Err(Fail::from("other members"));
     }
-    if lake.at() as usize != updates || lake.journal().len() != updates {
+    Ok(())
+}
+
+// Expects so many entries.
+pub fn entries(lake: &Catalogue, at: u64) -> Result<(), Fail> {
+    if lake.at() != at || lake.journal().len() as u64 != at {
         return Err(Fail::from("another journal"));
     }
     Ok(())
@@ -171,6 +287,7 @@ fn loads_and_drops_up_to_their_limit(rt: HostRuntime) -> Result<(), Fail> {
         at: 2,
     };
     drops(&mut lake, "a", Err(no_drop))?;
+    entries(&lake, 2)?;
     counts(&lake, 2, 2, 2)
 }
 
@@ -207,6 +324,25 @@ fn a_pin_keeps_what_is_dropped_and_loaded_later(rt: HostRuntime) -> Result<(), F
     holds(alloc, &dropped, 2, 0)?;
     holds(alloc, &lake.pin()?, 3, 1)?;
     assert!(rt; lake.live(&name("a")?));
+    counts(&lake, 1, 3, 2)
+}
+
+#[test]
+fn the_second_of_two_swaps_is_stale(rt: HostRuntime) -> Result<(), Fail> {
+    let alloc = rt.alloc();
+    let mut lake = Catalogue::new(alloc, Limits::standard())?;
+    loads(&mut lake, alloc, "a", Ok(1))?;
+    loads(&mut lake, alloc, "b", Ok(2))?;
+    drops(&mut lake, "a", Ok(3))?;
+    let first = merged(&lake, alloc, 0)?;
+    let second = merged(&lake, alloc, 0)?;
+    second_is_refused(
+        &mut lake,
+        first,
+        second,
+        SwapRefused::Stale { gone: 1, at: 4 },
+    )?;
+    entries(&lake, 4)?;
     counts(&lake, 1, 3, 2)
 }
 

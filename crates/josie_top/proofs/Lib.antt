@@ -4,3 +4,4 @@ mod MadeFacts
 mod TextFacts
 mod RowFacts
 mod RunFacts
+pub mod MakingFacts

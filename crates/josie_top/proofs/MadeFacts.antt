@@ -1,7 +1,6 @@
 -- The record of batches that were played one behind another.
-use Rattle.std.proofs.Common.{◌≡◌, refl, ap, sym, ◌∙◌, subst, ℕ, ◌+◌, ◌≤◌, List, [], ◌∷◌, ◌++◌, Bool, true, false, length, map, take, drop, get_or, sum_by, arith, length-append}
-use Rattle.std.specs.Prelude.{if◌then◌else◌, Option, None}
-use Rattle.std.specs.List.{AllByRecursion}
+use Rattle.std.proofs.Common.{◌≡◌, refl, ap, sym, ◌∙◌, subst, ℕ, ◌+◌, List, [], ◌∷◌, ◌++◌, Bool, true, false, length, map, take, drop, get_or, sum_by, arith, length-append}
+use Rattle.std.specs.Prelude.{if◌then◌else◌}
 use Rattle.std.proofs.lemmas.List.{length-map, take-append-drop}
 use Rattle.std.proofs.lemmas.List.FromFn.{length-map-range_with_len}
 use Rattle.std.proofs.lemmas.List.Sums.{sum_by-cons}
@@ -12,8 +11,9 @@ use Rattle.script_model.specs.Commands.{Command, command_with, Merge, Batch}
 use Rattle.script_model.specs.Record.{Options, Answered, RunRecord, empty, with_end}
 use Rattle.script_model.specs.Play.{batch_after, merger_commands, played_from, pieces_of, updates, head_or_empty, who_of}
 use Rattle.script_model.specs.Right.{AreBatchesRight}
-use Rattle.script_model.specs.Lanes.{HasNoMerge, IsOfLanes}
+use Rattle.script_model.specs.Lanes.{IsOfLanes}
 use Rattle.script_model.specs.Statuses.{IsRecordOf, answer_count}
+use Rattle.layout_laws.proofs.LawLemmas.{plans_stay}
 use Rattle.script_model.proofs.RightLemmas.{all_append}
 use Rattle.script_model.proofs.PlayedLemmas.{batches_go_on}
 use Rattle.script_model.proofs.LegalLemmas.{record_right}
@@ -49,13 +49,13 @@ made_unended limits options batches made is =
 
 pub made_start : (limits : Counts) (options : Options) → IsMade limits options [] (empty options)
 unfolding played_from
-made_start limits options = record { denials = []; size = refl; played = refl; lanes = tt; merges = tt }
+made_start limits options = record { denials = []; size = refl; played = refl; lanes = tt }
 
 pub made_more : (limits : Counts) (options : Options) (batches : List Batch) (before now : RunRecord) (batch : Batch) (merges : List Command) (piece : List ℕ) (turns : List Bool)
     → IsMade limits options batches before → now ≡ batch_after limits options.lanes batch merges piece turns before
     → merges ≡ merger_commands options.merge (1 + sum_by updates batches) batch → piece ≡ get_or (pieces_of options.order) (length batches) []
-    → IsOfLanes options.lanes batch → HasNoMerge batch → IsMade limits options (batches ++ batch ∷ []) now
-made_more limits options batches before now batch merges piece turns is after merges_are piece_is lanes none = record {
+    → IsOfLanes options.lanes batch → IsMade limits options (batches ++ batch ∷ []) now
+made_more limits options batches before now batch merges piece turns is after merges_are piece_is lanes = record {
   denials = is.denials ++ turns ∷ [];
   size = omega (arith, is.size, length-append is.denials (turns ∷ []), length-append batches (batch ∷ []));
   played = after
@@ -64,31 +64,24 @@ made_more limits options batches before now batch merges piece turns is after me
       ∙ ap (batch_after limits options.lanes batch (merger_commands options.merge (1 + sum_by updates batches) batch) (get_or (pieces_of options.order) (length batches) []) turns) is.played
       ∙ sym (batches_go_on limits options.lanes options.merge 1 batches batch (pieces_of options.order) is.denials turns (empty options) is.size);
   lanes = all_append (IsOfLanes options.lanes) batches (batch ∷ []) is.lanes (lanes, tt);
-  merges = all_append HasNoMerge batches (batch ∷ []) is.merges (none, tt);
 }
-
-pub no_merges : (merge : Bool) (next : ℕ) (batch : Batch) → merge ≡ false → [] ≡ merger_commands merge next batch
-no_merges merge next batch off = ap (λ (b : Bool). merger_commands b next batch) (sym off)
-
-pub no_piece : (order : Option (List (List ℕ))) (n : ℕ) → order ≡ None → [] ≡ get_or (pieces_of order) n []
-no_piece order n none = ap (λ (o : Option (List (List ℕ))). get_or (pieces_of o) n []) (sym none)
 
 -- ---- the record is right
 
-pub made_record : (limits : Counts) (options : Options) (batches : List Batch) (made : RunRecord) (ended : Bool) → options.merge ≡ false → IsMade limits options batches made
+pub made_record : (limits : Counts) (options : Options) (batches : List Batch) (made : RunRecord) (ended : Bool) → IsMade limits options batches made
     → IsRecordOf limits options batches (with_end ended made)
-made_record limits options batches made ended off is = record {
+made_record limits options batches made ended is = record {
   options_are = made_options limits options batches made is;
-  right = record_right limits options batches (with_end ended made) (record { merger = off; lanes = is.lanes; commands = is.merges }) (is.denials, ap (with_end ended) is.played);
+  right = record_right plans_stay limits options batches (with_end ended made) is.lanes (is.denials, ap (with_end ended) is.played);
   played = (is.denials, ap (with_end ended) is.played);
 }
 
 same_record : (made : RunRecord) → made.ended ≡ false → with_end false made ≡ made
 same_record made not_ended = ap (λ (b : Bool). with_end b made) (sym not_ended)
 
-pub made_record_now : (limits : Counts) (options : Options) (batches : List Batch) (made : RunRecord) → options.merge ≡ false → IsMade limits options batches made → IsRecordOf limits options batches made
-made_record_now limits options batches made off is =
-    subst (IsRecordOf limits options batches) (same_record made (made_unended limits options batches made is)) (made_record limits options batches made false off is)
+pub made_record_now : (limits : Counts) (options : Options) (batches : List Batch) (made : RunRecord) → IsMade limits options batches made → IsRecordOf limits options batches made
+made_record_now limits options batches made is =
+    subst (IsRecordOf limits options batches) (same_record made (made_unended limits options batches made is)) (made_record limits options batches made false is)
 
 -- ---- how many answers there are
 

@@ -1,30 +1,23 @@
 -- What was read call by call was read in one.
-use Rattle.std.proofs.Common.{◌≡◌, refl, ap, sym, ◌∙◌, subst, ℕ, suc, Bool, ◌+◌, ◌-◌, ◌^◌, ◌≤◌, List, [], ◌∷◌, ◌++◌, append_assoc, length, take, drop, flat_map, arith, length-append}
-use Rattle.std.specs.Prelude.{Option, Some, None, count_by, filter, min}
-use Rattle.std.specs.Io.KnownBytes.{Consumes, IsAtEnd}
-use Rattle.std.proofs.KnownBytes.{Consumes-nil, Consumes-trans}
+use Rattle.std.proofs.Common.{◌≡◌, refl, ap, sym, ◌∙◌, ℕ, suc, Bool, ◌+◌, ◌-◌, ◌^◌, ◌≤◌, List, [], ◌∷◌, ◌++◌, append_assoc, length, flat_map, arith, length-append}
+use Rattle.std.specs.Prelude.{Option, count_by, filter, min}
 use Rattle.std.proofs.lemmas.List.{append-nil}
 use Rattle.std.proofs.lemmas.Grind.{flat_map-append}
 use Rattle.std.proofs.lemmas.List.Elements.{filter-append}
 use Rattle.std.proofs.lemmas.List.Sums.{length-filter}
-use Rattle.std.proofs.Math.Seq.{take-append_seam}
 use Rattle.lake_io.specs.Files as shelf
-use Rattle.lake_model.specs.Texts.{Text, Lines, lines_of}
-use Rattle.script_model.specs.declared.Reason.{Reason}
+use Rattle.lake_model.specs.Texts.{Text}
 use Rattle.script_model.specs.Commands.{File, Batch}
 use Rattle.script_model.specs.Words.{NoFeed}
-use Rattle.script_model.specs.Reading.{Grammar, Reading, Stands, AtFault, LinesRead, read_with, read}
-use Rattle.script_model.specs.Script.{Commands, Whole, FaultAt, commands_with, commands_from, grammar_of, standard, start}
-use Rattle.script_model.specs.Record.{Options}
-use Rattle.script_model.specs.Statuses.{left_of, script_of, begun, HasNoFault, asked_by}
+use Rattle.script_model.specs.Reading.{Grammar, Reading, Stands, LinesRead, read_with, read}
+use Rattle.script_model.specs.Script.{Commands, commands_with, commands_from}
 use Rattle.script_model.specs.Texts.{line_text}
-use Rattle.script_model.proofs.ScriptLemmas.{read_on, behind_batches, read_behind, lines_none, with_batches}
-use Rattle.script_model.proofs.AskedLemmas.{asking, lines_asking, reached_asking, read_asking, commands_asking, commands_from_asking}
-use Rattle.script_model.proofs.LinesLemmas.{lines_whole, commands_lines}
+use Rattle.script_model.proofs.ScriptLemmas.{read_on, behind_batches, read_behind, with_batches}
+use Rattle.script_model.proofs.AskedLemmas.{asking, lines_asking, reached_asking, read_asking, commands_from_asking}
+use Rattle.script_model.proofs.LinesLemmas.{commands_lines}
 use Rattle.script_model.proofs.RightLemmas.{all_append}
-use Rattle.script_text.specs.Outcomes.{MayCome, AreOutcomes, AreFetched, RoseBy, is_failed}
-use Rattle.script_text.specs.Gathering.{Gathering, ReadsOn, IsUnfinished, reading_at, grammar}
-use Rattle.josie_top.specs.Progress.{AreRead, IsGoingOn}
+use Rattle.script_text.specs.Outcomes.{AreOutcomes, AreFetched, is_failed}
+use Rattle.script_text.specs.Gathering.{ReadsOn, reading_at}
 
 -- ---- lines behind lines
 

@@ -1,23 +1,22 @@
 -- The rows of the table of statuses, from how far a run is.
-use Rattle.std.proofs.Common.{◌≡◌, refl, ap, sym, ◌∙◌, subst, ℕ, ◌+◌, ◌-◌, ◌≤◌, inl, inr, List, [], ◌∷◌, ◌++◌, append_assoc, Bool, true, false, length, take, arith, length-append, flat_map}
+use Rattle.std.proofs.Common.{◌≡◌, refl, ap, sym, ◌∙◌, subst, ℕ, ◌-◌, ◌≤◌, inr, List, [], ◌∷◌, ◌++◌, append_assoc, true, false, length, take, arith, length-append, flat_map}
 use Rattle.std.specs.Prelude.{Option, Some, None}
-use Rattle.std.specs.Io.KnownBytes.{Consumes, Appends, IsAtEnd}
-use Rattle.std.proofs.KnownBytes.{Consumes-trans, Appends-trans}
+use Rattle.std.specs.Io.KnownBytes.{Consumes, IsAtEnd}
+use Rattle.std.proofs.KnownBytes.{Consumes-trans}
 use Rattle.std.proofs.lemmas.List.{append-nil}
-use Rattle.std.proofs.Math.Seq.{take-append_seam, take-length}
+use Rattle.std.proofs.Math.Seq.{take-append_seam}
 use Rattle.lake_io.specs.Files as shelf
 use Rattle.lake_model.specs.declared.Counts.{Counts}
 use Rattle.lake_model.specs.Texts.{Text, Lines, lines_of}
 use Rattle.script_model.specs.declared.Reason.{Reason}
 use Rattle.script_model.specs.declared.ScriptLimits.{ScriptLimits}
-use Rattle.script_model.specs.declared.Status.{Status}
 use Rattle.script_model.specs.declared.Status.TheVariants as status
 use Rattle.script_model.specs.Commands.{File, Batch}
 use Rattle.script_model.specs.Words.{NoFeed}
-use Rattle.script_model.specs.Reading.{Grammar, Reading, Stands, Reached, LinesRead, read, read_with}
-use Rattle.script_model.specs.Script.{Commands, Whole, FaultAt, commands, commands_with, commands_from, grammar_of, standard, start}
-use Rattle.script_model.specs.Record.{Options, Answered, RunRecord, plain, empty, with_end}
-use Rattle.script_model.specs.Statuses.{left_of, script_of, begun, HasNoFault, asked_by, answer_count, IsPrefix, IsRecordOf, IsDone, IsRefused, IsBrokenOff, IsCutOff, Row}
+use Rattle.script_model.specs.Reading.{Grammar, Reading, Stands, LinesRead, read, read_with}
+use Rattle.script_model.specs.Script.{Commands, Whole, FaultAt, commands_with, commands_from, grammar_of, standard, start}
+use Rattle.script_model.specs.Record.{Options, Answered, RunRecord, with_end}
+use Rattle.script_model.specs.Statuses.{left_of, script_of, begun, answer_count, IsPrefix, IsRecordOf, IsDone, IsRefused, IsBrokenOff, IsCutOff}
 use Rattle.script_model.specs.Texts.{answers_text, line_text, text, text_behind}
 use Rattle.script_model.proofs.ScriptLemmas.{lines_none}
 use Rattle.script_model.proofs.LinesLemmas.{lines_whole}
@@ -46,7 +45,7 @@ script_front options left_before left_now left files first second gathering batc
     ∙ reads_commands (grammar_of standard options.lanes) (start []) gathering.reading been.given gathering.held been.outcomes batches been.asked later (more ++ left_of left) been.lines_read (used_within options gathering goes)
     ∙ ap (λ (bytes : List ℕ). given_before batches been.asked (commands_from (grammar_of standard options.lanes) (reading_at gathering.reading [] later) bytes)) (sym (append_assoc gathering.held more (left_of left)))
 
--- ---- cut off
+-- ---- cut
 
 front_batches : (script rest : Commands) (batches : List Batch) (asked : List Text) → script ≡ given_before batches asked rest → take (length batches) script.batches ≡ batches
 front_batches script rest batches asked is = ap (λ (s : Commands). take (length batches) s.batches) is ∙ take-append_seam batches rest.batches
@@ -71,9 +70,9 @@ cut limits options outcomes came script rest left taken made batches asked is si
 
 -- a run that ends between two batches, all whose text is written
 pub meets_between : (limits : Counts) (options : Options) (left0 left1 left2 written0 written1 : Option (List ℕ)) (files : Option (List shelf.File)) (f0 f1 f2 : ℕ) (gathering : Gathering) (batches : List Batch) (made : RunRecord) (more : List ℕ)
-    → options.merge ≡ false → (been : AreRead options left0 left1 files f0 f1 gathering batches) → IsGoingOn options gathering → IsMade limits options batches made → (writ : AreWritten options written0 written1 made)
+    → (been : AreRead options left0 left1 files f0 f1 gathering batches) → IsGoingOn options gathering → IsMade limits options batches made → (writ : AreWritten options written0 written1 made)
     → Consumes left1 left2 more → f1 ≤ f2 → Meets limits options status.NoMemory left0 left2 written0 written1 files f0 f2 made
-meets_between limits options left0 left1 left2 written0 written1 files f0 f1 f2 gathering batches made more off been goes is writ gave later =
+meets_between limits options left0 left1 left2 written0 written1 files f0 f1 f2 gathering batches made more been goes is writ gave later =
     let not_ended = made_unended limits options batches made is in
     let front = script_front options left0 left1 left2 files f0 f1 gathering batches been goes more [] in
     let same : been.outcomes ++ [] ≡ been.outcomes = append-nil been.outcomes in
@@ -81,7 +80,7 @@ meets_between limits options left0 left1 left2 written0 written1 files f0 f1 f2 
     let all : writ.taken ≡ text made = writ.text_is ∙ sym (text_unended options made (made_options limits options batches made is) not_ended) in
     let row : IsCutOff limits options been.outcomes (λ asked. AreFetched files f0 f2 asked been.outcomes) (script_of options been.outcomes (been.given ++ more) left2) left2 writ.taken made =
     cut limits options been.outcomes (λ asked. AreFetched files f0 f2 asked been.outcomes) _ _ left2 writ.taken made batches been.asked script (outcomes_size files been.asked been.outcomes been.fetched.each)
-    (fetched_on files f0 f1 f2 been.asked been.outcomes been.fetched later) (made_record_now limits options batches made off is) not_ended
+    (fetched_on files f0 f1 f2 been.asked been.outcomes been.fetched later) (made_record_now limits options batches made is) not_ended
     (whole_prefix writ.taken (text made) all) (subst (IsPrefix _) (sym writ.text_is) (answers_prefix options.trace _ made.answers)) in
     record {
       given = been.given ++ more;
@@ -113,18 +112,18 @@ first_answers options script rest batches batch asked before now new is count ar
 
 -- The run ended while a batch's text was written.
 pub cut_within : (limits : Counts) (options : Options) (outcomes : List File) (came : List Text → Type 0) (script rest : Commands) (left : Option (List ℕ)) (before now : RunRecord) (new : List Answered) (batches : List Batch) (batch : Batch) (asked : List Text) (taken part : List ℕ)
-    → script ≡ given_before (batches ++ batch ∷ []) asked rest → length outcomes ≡ length asked → came asked → options.merge ≡ false
+    → script ≡ given_before (batches ++ batch ∷ []) asked rest → length outcomes ≡ length asked → came asked
     → IsMade limits options batches before → IsMade limits options (batches ++ batch ∷ []) now → now.answers ≡ before.answers ++ new
     → taken ≡ answers_text options.trace before.answers → IsPrefix part (text_behind options.trace (length before.answers) now)
     → IsCutOff limits options outcomes came script left (taken ++ part) now
-cut_within limits options outcomes came script rest left before now new batches batch asked taken part is size fetched off made_before made_now are taken_is beginning =
+cut_within limits options outcomes came script rest left before now new batches batch asked taken part is size fetched made_before made_now are taken_is beginning =
     let not_ended = made_unended limits options (batches ++ batch ∷ []) now made_now in
     let whole : text now ≡ taken ++ text_behind options.trace (length before.answers) now =
     batch_text options before now new (made_options limits options (batches ++ batch ∷ []) now made_now) are not_ended ∙ ap (λ (t : List ℕ). t ++ text_behind options.trace (length before.answers) now) (sym taken_is) in
-    let count : length before.answers ≡ answer_count options.merge batches = record_count limits options batches before (made_record_now limits options batches before off made_before) in
+    let count : length before.answers ≡ answer_count options.merge batches = record_count limits options batches before (made_record_now limits options batches before made_before) in
     let first : answers_text options.trace (take (answer_count options.merge (take (length (batches ++ batch ∷ []) - 1) script.batches)) now.answers) ≡ taken =
     ap (answers_text options.trace) (first_answers options script rest batches batch asked before now new is count are) ∙ sym taken_is in
-    cut limits options outcomes came script rest left (taken ++ part) now (batches ++ batch ∷ []) asked is size fetched (made_record_now limits options (batches ++ batch ∷ []) now off made_now) not_ended
+    cut limits options outcomes came script rest left (taken ++ part) now (batches ++ batch ∷ []) asked is size fetched (made_record_now limits options (batches ++ batch ∷ []) now made_now) not_ended
     (subst (IsPrefix (taken ++ part)) (sym whole) (prefix_behind taken part _ beginning))
     (prefix_more _ taken part (whole_prefix _ taken first))
 
@@ -152,23 +151,23 @@ whole_front script batches asked is =
 
 -- All batches were answered, and all their text was written.
 pub done : (limits : Counts) (options : Options) (came : List Text → Type 0) (script : Commands) (left : Option (List ℕ)) (batches : List Batch) (asked : List Text) (made : RunRecord) (taken : List ℕ)
-    → script ≡ commands_with batches Whole asked → came asked → options.merge ≡ false → IsAtEnd left → IsMade limits options batches made
+    → script ≡ commands_with batches Whole asked → came asked → IsAtEnd left → IsMade limits options batches made
     → taken ≡ answers_text options.trace made.answers → IsDone limits options came script left (taken ++ text_behind options.trace (length made.answers) (with_end true made)) (with_end true made)
-done limits options came script left batches asked made taken is fetched off at_end is_made taken_is = record {
+done limits options came script left batches asked made taken is fetched at_end is_made taken_is = record {
   read = at_end;
   whole = ap (λ (s : Commands). s.end) is;
   fetched = subst came (sym (ap (λ (s : Commands). s.asked) is)) fetched;
   ended = refl;
-  record_of = subst (λ (b : List Batch). IsRecordOf limits options b (with_end true made)) (sym (ap (λ (s : Commands). s.batches) is)) (made_record limits options batches made true off is_made);
+  record_of = subst (λ (b : List Batch). IsRecordOf limits options b (with_end true made)) (sym (ap (λ (s : Commands). s.batches) is)) (made_record limits options batches made true is_made);
   written = ap (λ (t : List ℕ). t ++ text_behind options.trace (length made.answers) (with_end true made)) taken_is ∙ sym (text_ended options made (made_options limits options batches made is_made));
 }
 
 -- All batches were answered, and their text was written, but of the journal's only a part.
 pub cut_at_end : (limits : Counts) (options : Options) (outcomes : List File) (came : List Text → Type 0) (script : Commands) (left : Option (List ℕ)) (batches : List Batch) (asked : List Text) (made : RunRecord) (taken part : List ℕ)
-    → script ≡ commands_with batches Whole asked → length outcomes ≡ length asked → came asked → options.merge ≡ false → IsAtEnd left → IsMade limits options batches made
+    → script ≡ commands_with batches Whole asked → length outcomes ≡ length asked → came asked → IsAtEnd left → IsMade limits options batches made
     → taken ≡ answers_text options.trace made.answers → IsPrefix part (text_behind options.trace (length made.answers) (with_end true made))
     → IsCutOff limits options outcomes came script left (taken ++ part) (with_end true made)
-cut_at_end limits options outcomes came script left batches asked made taken part is size fetched off at_end is_made taken_is beginning =
+cut_at_end limits options outcomes came script left batches asked made taken part is size fetched at_end is_made taken_is beginning =
     let front = whole_front script batches asked is in
     let all : take (length batches) script.batches ≡ script.batches = front_batches script (commands_with [] Whole []) batches asked front ∙ sym (ap (λ (s : Commands). s.batches) is) in
     let whole : text (with_end true made) ≡ taken ++ text_behind options.trace (length made.answers) (with_end true made) =
@@ -176,7 +175,7 @@ cut_at_end limits options outcomes came script left batches asked made taken par
     record {
       count = length batches;
       fetched = subst came (sym (front_asked script (commands_with [] Whole []) batches asked outcomes front size)) fetched;
-      record_of = subst (λ (b : List Batch). IsRecordOf limits options b (with_end true made)) (sym (front_batches script (commands_with [] Whole []) batches asked front)) (made_record limits options batches made true off is_made);
+      record_of = subst (λ (b : List Batch). IsRecordOf limits options b (with_end true made)) (sym (front_batches script (commands_with [] Whole []) batches asked front)) (made_record limits options batches made true is_made);
       ended = λ e. (at_end, ap (λ (s : Commands). s.end) is, all);
       beginning = subst (IsPrefix (taken ++ part)) (sym whole) (prefix_behind taken part _ beginning);
       holds = prefix_more _ taken part (subst (IsPrefix _) (sym taken_is) (answers_prefix options.trace _ made.answers));
@@ -186,10 +185,10 @@ cut_at_end limits options outcomes came script left batches asked made taken par
 
 -- The line is the first at fault.
 pub refused : (limits : Counts) (options : Options) (left0 left1 left2 : Option (List ℕ)) (files : Option (List shelf.File)) (f0 f1 f2 : ℕ) (gathering : Gathering) (batches : List Batch) (made : RunRecord) (taken more : List ℕ) (paths : List Text) (others : List File) (line : ℕ) (why : Reason)
-    → options.merge ≡ false → (been : AreRead options left0 left1 files f0 f1 gathering batches) → IsGoingOn options gathering → IsMade limits options batches made → taken ≡ answers_text options.trace made.answers
+    → (been : AreRead options left0 left1 files f0 f1 gathering batches) → IsGoingOn options gathering → IsMade limits options batches made → taken ≡ answers_text options.trace made.answers
     → AreFetched files f1 f2 paths others → IsFaulty gathering left2 more paths others line why
     → IsRefused limits options (λ asked. AreFetched files f0 f2 asked (been.outcomes ++ others)) (script_of options (been.outcomes ++ others) (been.given ++ more) left2) line why taken made
-refused limits options left0 left1 left2 files f0 f1 f2 gathering batches made taken more paths others line why off been goes is taken_is fetched faulty =
+refused limits options left0 left1 left2 files f0 f1 f2 gathering batches made taken more paths others line why been goes is taken_is fetched faulty =
     let here : commands_from (grammar_of standard options.lanes) (reading_at gathering.reading [] others) ((gathering.held ++ more) ++ left_of left2) ≡ commands_with [] (FaultAt line why) paths =
     subst (λ (g : Grammar). commands_from g (reading_at gathering.reading [] others) ((gathering.held ++ more) ++ left_of left2) ≡ commands_with [] (FaultAt line why) paths) (grammar_is options gathering goes) faulty.commands in
     let script : script_of options (been.outcomes ++ others) (been.given ++ more) left2 ≡ commands_with (batches ++ []) (FaultAt line why) (been.asked ++ paths) =
@@ -200,7 +199,7 @@ refused limits options left0 left1 left2 files f0 f1 f2 gathering batches made t
       fault = ap (λ (s : Commands). s.end) script;
       fetched = subst (λ (asked : List Text). AreFetched files f0 f2 asked (been.outcomes ++ others)) (sym (ap (λ (s : Commands). s.asked) script)) (fetched_more files f0 f1 f2 been.asked paths been.outcomes others been.fetched fetched);
       ended = not_ended;
-      record_of = subst (λ (b : List Batch). IsRecordOf limits options b made) (sym same) (made_record_now limits options batches made off is);
+      record_of = subst (λ (b : List Batch). IsRecordOf limits options b made) (sym same) (made_record_now limits options batches made is);
       written = taken_is ∙ sym (text_unended options made (made_options limits options batches made is) not_ended);
     }
 
@@ -217,10 +216,10 @@ begun_is options outcomes given held batches after asked lines_read no_feed =
 
 -- The source failed behind these batches.
 pub broken_off : (limits : Counts) (options : Options) (left0 left1 : Option (List ℕ)) (files : Option (List shelf.File)) (f0 f1 f2 : ℕ) (gathering : Gathering) (batches : List Batch) (made : RunRecord) (taken more : List ℕ) (paths : List Text) (others : List File)
-    → options.merge ≡ false → (been : AreRead options left0 left1 files f0 f1 gathering batches) → IsGoingOn options gathering → IsMade limits options batches made → taken ≡ answers_text options.trace made.answers
+    → (been : AreRead options left0 left1 files f0 f1 gathering batches) → IsGoingOn options gathering → IsMade limits options batches made → taken ≡ answers_text options.trace made.answers
     → AreFetched files f1 f2 paths others → IsUnfinished gathering more paths others
     → IsBrokenOff limits options (λ asked. AreFetched files f0 f2 asked (been.outcomes ++ others)) (begun options (been.outcomes ++ others) (been.given ++ more)) taken made
-broken_off limits options left0 left1 files f0 f1 f2 gathering batches made taken more paths others off been goes is taken_is fetched unfinished =
+broken_off limits options left0 left1 files f0 f1 f2 gathering batches made taken more paths others been goes is taken_is fetched unfinished =
     let here : ReadsOn (grammar_of standard options.lanes) gathering.reading (gathering.held ++ more) others [] unfinished.reading unfinished.held paths =
     subst (λ (g : Grammar). ReadsOn g gathering.reading (gathering.held ++ more) others [] unfinished.reading unfinished.held paths) (grammar_is options gathering goes) unfinished.lines_read in
     let all = reads_more (grammar_of standard options.lanes) (start []) gathering.reading unfinished.reading been.given more gathering.held unfinished.held been.outcomes others batches [] been.asked paths been.lines_read here in
@@ -232,7 +231,7 @@ broken_off limits options left0 left1 files f0 f1 f2 gathering batches made take
       no_fault = tt;
       fetched = fetched_more files f0 f1 f2 been.asked paths been.outcomes others been.fetched fetched;
       ended = not_ended;
-      record_of = subst (λ (b : List Batch). IsRecordOf limits options b made) (sym (append-nil batches)) (made_record_now limits options batches made off is);
+      record_of = subst (λ (b : List Batch). IsRecordOf limits options b made) (sym (append-nil batches)) (made_record_now limits options batches made is);
       written = taken_is ∙ sym (text_unended options made (made_options limits options batches made is) not_ended);
     } in
     subst (λ (b : LinesRead). IsBrokenOff limits options (λ asked. AreFetched files f0 f2 asked (been.outcomes ++ others)) b taken made) (sym begun_here) row

@@ -1,39 +1,43 @@
 -- The ends of a run, and one batch more.
-use Rattle.std.proofs.Common.{◌≡◌, refl, ap, sym, ◌∙◌, subst, ℕ, ◌+◌, ◌≤◌, ◌⊎◌, inl, inr, List, [], ◌∷◌, ◌++◌, Bool, true, false, length, arith, sum_by, map}
-use Rattle.std.specs.Prelude.{Option, Some, None, Result, Ok, Err, min}
+use Rattle.std.proofs.Common.{◌≡◌, refl, ap, sym, ◌∙◌, subst, ℕ, ◌+◌, ◌^◌, ◌<◌, ◌≤◌, ◌⊎◌, inl, inr, List, [], ◌∷◌, ◌++◌, Bool, true, false, length, arith, sum_by, map, get_or, length-append}
+use Rattle.std.specs.Prelude.{Option, Some, None, Err, min, if◌then◌else◌, ⊤, MatchOption}
 use Rattle.std.specs.Io.KnownBytes.{Consumes, Appends, IsAtEnd}
 use Rattle.std.proofs.KnownBytes.{Consumes-nil, Consumes-trans, Appends-nil, Appends-trans}
 use Rattle.std.proofs.lemmas.List.{append-nil}
+use Rattle.std.proofs.lemmas.List.Sums.{count_by-le-length, sum_by_push}
 use Rattle.lake_io.specs.Files as shelf
 use Rattle.lake_model.specs.declared.Counts.{Counts}
 use Rattle.lake_model.specs.Texts.{Text}
+use Rattle.lake_model.specs.Journal.{standard_limits}
+use Rattle.catalogue.specs.Kept.{IsWithin}
 use Rattle.script_model.specs.declared.Reason.{Reason}
 use Rattle.script_model.specs.declared.ScriptLimits.{ScriptLimits}
 use Rattle.script_model.specs.declared.Status.{Status}
 use Rattle.script_model.specs.declared.Status.TheVariants as status
 use Rattle.script_model.specs.Commands.{Command, File, Batch}
 use Rattle.script_model.specs.Reading.{read}
-use Rattle.script_model.specs.Plain.{Mode, Run}
+use Rattle.script_model.specs.Plain.{Mode, Run, Make}
 use Rattle.script_model.specs.Script.{Commands, Whole, FaultAt, commands, commands_with, standard, start}
 use Rattle.script_model.specs.Record.{Options, Answered, RunRecord, plain, empty, with_end}
-use Rattle.script_model.specs.Play.{Lane, answers_of, batch_after, gathered, merges_of, play_batch, updates}
-use Rattle.script_model.specs.Lanes.{HasNoMerge, IsOfLanes}
+use Rattle.script_model.specs.Answered.{is_update_task}
+use Rattle.script_model.specs.Play.{Lane, answers_of, batch_after, gathered, merger_commands, merges_of, pieces_of, play_batch, updates}
+use Rattle.script_model.specs.Lanes.{IsOfLanes}
 use Rattle.script_model.specs.Statuses.{left_of, script_of, IsPrefix, IsCutOff}
-use Rattle.script_model.specs.Texts.{answers_text, text_behind}
+use Rattle.script_model.specs.Texts.{text_behind}
 use Rattle.script_text.specs.declared.refused.ScriptEnd.{ScriptEnd}
 use Rattle.script_text.specs.declared.refused.ScriptEnd.TheVariants as end
 use Rattle.script_text.specs.declared.words.WordsRefused.{WordsRefused}
 use Rattle.script_text.specs.declared.words.WordsRefused.TheVariants as words
 use Rattle.script_text.specs.Outcomes.{AreFetched}
-use Rattle.script_text.specs.Gathering.{Gathering, gathering_with, ReadsOn, IsSynced, IsWhole, reading_at}
+use Rattle.script_text.specs.Gathering.{Gathering, gathering_with, IsSynced, IsWhole}
 use Rattle.script_text.specs.Gathers.{Gathers, Taken}
 use Rattle.josie_top.specs.declared.writing.WriteStop.{WriteStop}
 use Rattle.josie_top.specs.declared.writing.WriteStop.TheVariants as stop
 use Rattle.josie_top.specs.Ends.{IsWritten, status_of_end, status_of_refused, status_of_stop}
-use Rattle.josie_top.specs.Meets.{IsSaid, Meets}
-use Rattle.josie_top.specs.Progress.{AreRead, AreWritten, IsGoingOn, IsMade, IsUnderWay}
+use Rattle.josie_top.specs.Meets.{IsSaid, Meets, MeetsMode}
+use Rattle.josie_top.specs.Progress.{AreCounted, AreWritten, IsGoingOn, IsMade, IsUnderWay}
 use Rattle.josie_top.proofs.ReadFacts.{given_before, outcomes_size, fetched_more}
-use Rattle.josie_top.proofs.MadeFacts.{made_start, made_more, made_unended, no_merges, no_piece}
+use Rattle.josie_top.proofs.MadeFacts.{made_start, made_more, made_unended}
 use Rattle.josie_top.proofs.TextFacts.{text_more}
 use Rattle.josie_top.proofs.RowFacts.{script_front, script_whole, whole_front, meets_between, cut_within, done, cut_at_end, refused, broken_off, read_synced}
 
@@ -41,16 +45,17 @@ use Rattle.josie_top.proofs.RowFacts.{script_front, script_whole, whole_front, m
 
 -- Nothing was read, answered or written.
 pub starts : (limits : Counts) (options : Options) (left written : Option (List ℕ)) (files : Option (List shelf.File)) (faults : ℕ) (gathering : Gathering) (made : RunRecord) (lanes : ℕ)
-    → gathering ≡ gathering_with (start []) [] false standard lanes → lanes ≡ options.lanes → made ≡ empty options → IsUnderWay limits options left left written written files faults faults gathering made
+    → gathering ≡ gathering_with (start []) [] false standard lanes → lanes ≡ options.lanes → made ≡ empty options → IsUnderWay limits options left left written written files faults faults gathering made 0 1
 unfolding read
 starts limits options left written files faults gathering made lanes gathers are is =
-    subst (λ (g : Gathering). IsUnderWay limits options left left written written files faults faults g made) (sym gathers)
-    (subst (IsUnderWay limits options left left written written files faults faults (gathering_with (start []) [] false standard lanes)) (sym is) (record {
+    subst (λ (g : Gathering). IsUnderWay limits options left left written written files faults faults g made 0 1) (sym gathers)
+    (subst (λ (m : RunRecord). IsUnderWay limits options left left written written files faults faults (gathering_with (start []) [] false standard lanes) m 0 1) (sym is) (record {
       batches = [];
       been = record { given = []; asked = []; outcomes = []; gave = Consumes-nil left; fetched = record { each = tt; failed = none_failed faults _ }; lines_read = record { lines = []; whole = tt; cut = refl; reads = λ later. refl } };
       goes = record { limits_are = refl; lanes_are = are; within = omega arith };
       is_made = made_start limits options;
       writ = record { taken = []; took = Appends-nil written; text_is = refl };
+      counted = record { number_is = refl; next_is = refl; few = omega arith };
     }))
   where
     none_failed : (n top : ℕ) → min (n + 0) top ≤ n
@@ -60,52 +65,52 @@ starts limits options left written files faults gathering made lanes gathers are
 
 -- All batches were answered and written, and the rest of the text as this status has it.
 finished : (limits : Counts) (options : Options) (ends : Status) (left0 left2 written0 written1 written2 : Option (List ℕ)) (files : Option (List shelf.File)) (f0 f2 : ℕ) (given : List ℕ) (outcomes : List File) (asked : List Text) (batches : List Batch) (made now : RunRecord)
-    → Consumes left0 left2 given → IsAtEnd left2 → AreFetched files f0 f2 asked outcomes → script_of options outcomes given left2 ≡ commands_with batches Whole asked → options.merge ≡ false
+    → Consumes left0 left2 given → IsAtEnd left2 → AreFetched files f0 f2 asked outcomes → script_of options outcomes given left2 ≡ commands_with batches Whole asked
     → IsMade limits options batches made → (writ : AreWritten options written0 written1 made) → now ≡ with_end true made → IsWritten ends written1 written2 (text_behind options.trace (length made.answers) (with_end true made))
     → Meets limits options ends left0 left2 written0 written2 files f0 f2 now
-finished limits options status.Done left0 left2 written0 written1 written2 files f0 f2 given outcomes asked batches made now gave at_end fetched script off is writ closed all =
+finished limits options status.Done left0 left2 written0 written1 written2 files f0 f2 given outcomes asked batches made now gave at_end fetched script is writ closed all =
     subst (Meets limits options status.Done left0 left2 written0 written2 files f0 f2) (sym closed) (record {
       given = given;
       taken = writ.taken ++ text_behind options.trace (length made.answers) (with_end true made);
       outcomes = outcomes;
       gave = gave;
       took = Appends-trans written0 written1 written2 writ.taken _ writ.took all;
-      row = done limits options (λ paths. AreFetched files f0 f2 paths outcomes) _ left2 batches asked made writ.taken script fetched off at_end is writ.text_is;
+      row = done limits options (λ paths. AreFetched files f0 f2 paths outcomes) _ left2 batches asked made writ.taken script fetched at_end is writ.text_is;
     })
-finished limits options status.WriteFault left0 left2 written0 written1 written2 files f0 f2 given outcomes asked batches made now gave at_end fetched script off is writ closed (part, beginning, took) =
+finished limits options status.WriteFault left0 left2 written0 written1 written2 files f0 f2 given outcomes asked batches made now gave at_end fetched script is writ closed (part, beginning, took) =
     subst (Meets limits options status.WriteFault left0 left2 written0 written2 files f0 f2) (sym closed) (record {
       given = given;
       taken = writ.taken ++ part;
       outcomes = outcomes;
       gave = gave;
       took = Appends-trans written0 written1 written2 writ.taken part writ.took took;
-      row = cut_at_end limits options outcomes (λ paths. AreFetched files f0 f2 paths outcomes) _ left2 batches asked made writ.taken part script (outcomes_size files asked outcomes fetched.each) fetched off at_end is writ.text_is beginning;
+      row = cut_at_end limits options outcomes (λ paths. AreFetched files f0 f2 paths outcomes) _ left2 batches asked made writ.taken part script (outcomes_size files asked outcomes fetched.each) fetched at_end is writ.text_is beginning;
     })
-finished limits options status.NoMemory left0 left2 written0 written1 written2 files f0 f2 given outcomes asked batches made now gave at_end fetched script off is writ closed (part, beginning, took) =
+finished limits options status.NoMemory left0 left2 written0 written1 written2 files f0 f2 given outcomes asked batches made now gave at_end fetched script is writ closed (part, beginning, took) =
     subst (Meets limits options status.NoMemory left0 left2 written0 written2 files f0 f2) (sym closed) (record {
       given = given;
       taken = writ.taken ++ part;
       outcomes = outcomes;
       gave = gave;
       took = Appends-trans written0 written1 written2 writ.taken part writ.took took;
-      row = inr (cut_at_end limits options outcomes (λ paths. AreFetched files f0 f2 paths outcomes) _ left2 batches asked made writ.taken part script (outcomes_size files asked outcomes fetched.each) fetched off at_end is writ.text_is beginning);
+      row = inr (cut_at_end limits options outcomes (λ paths. AreFetched files f0 f2 paths outcomes) _ left2 batches asked made writ.taken part script (outcomes_size files asked outcomes fetched.each) fetched at_end is writ.text_is beginning);
     })
-finished limits options status.Usage left0 left2 written0 written1 written2 files f0 f2 given outcomes asked batches made now gave at_end fetched script off is writ closed none = absurd none
-finished limits options status.ReadFault left0 left2 written0 written1 written2 files f0 f2 given outcomes asked batches made now gave at_end fetched script off is writ closed none = absurd none
-finished limits options (status.Script line why) left0 left2 written0 written1 written2 files f0 f2 given outcomes asked batches made now gave at_end fetched script off is writ closed none = absurd none
+finished limits options status.Usage left0 left2 written0 written1 written2 files f0 f2 given outcomes asked batches made now gave at_end fetched script is writ closed none = absurd none
+finished limits options status.ReadFault left0 left2 written0 written1 written2 files f0 f2 given outcomes asked batches made now gave at_end fetched script is writ closed none = absurd none
+finished limits options (status.Script line why) left0 left2 written0 written1 written2 files f0 f2 given outcomes asked batches made now gave at_end fetched script is writ closed none = absurd none
 
 -- The input ended behind a `sync`, or behind no command.
-pub ends_without : (limits : Counts) (options : Options) (ends : Status) (left0 left1 left2 written0 written1 written2 : Option (List ℕ)) (files : Option (List shelf.File)) (f0 f1 f2 : ℕ) (before after : Gathering) (made now : RunRecord)
-    → options.merge ≡ false → IsUnderWay limits options left0 left1 written0 written1 files f0 f1 before made → (took : Taken left1 left2 files f1 f2) → IsWhole before after left2 took.given took.asked took.outcomes []
+pub ends_without : {number next : ℕ} (limits : Counts) (options : Options) (ends : Status) (left0 left1 left2 written0 written1 written2 : Option (List ℕ)) (files : Option (List shelf.File)) (f0 f1 f2 : ℕ) (before after : Gathering) (made now : RunRecord)
+    → IsUnderWay limits options left0 left1 written0 written1 files f0 f1 before made number next → (took : Taken left1 left2 files f1 f2) → IsWhole before after left2 took.given took.asked took.outcomes []
     → now ≡ with_end true made → IsWritten ends written1 written2 (text_behind options.trace (length made.answers) (with_end true made))
     → Meets limits options ends left0 left2 written0 written2 files f0 f2 now
-ends_without limits options ends left0 left1 left2 written0 written1 written2 files f0 f1 f2 before after made now off way took whole closed rest =
+ends_without limits options ends left0 left1 left2 written0 written1 written2 files f0 f1 f2 before after made now way took whole closed rest =
     let script : script_of options (way.been.outcomes ++ took.outcomes) (way.been.given ++ took.given) left2 ≡ commands_with (way.batches ++ []) Whole (way.been.asked ++ took.asked) =
     script_whole options left0 left1 left2 files f0 f1 before after way.batches [] took.given took.asked took.outcomes way.been way.goes whole in
     finished limits options ends left0 left2 written0 written1 written2 files f0 f2 (way.been.given ++ took.given) (way.been.outcomes ++ took.outcomes) (way.been.asked ++ took.asked) way.batches made now
     (Consumes-trans left0 left1 left2 way.been.given took.given way.been.gave took.gave) whole.at_end
     (fetched_more files f0 f1 f2 way.been.asked took.asked way.been.outcomes took.outcomes way.been.fetched took.fetched)
-    (script ∙ ap (λ (b : List Batch). commands_with b Whole (way.been.asked ++ took.asked)) (append-nil way.batches)) off way.is_made way.writ closed rest
+    (script ∙ ap (λ (b : List Batch). commands_with b Whole (way.been.asked ++ took.asked)) (append-nil way.batches)) way.is_made way.writ closed rest
 
 -- ---- one batch more
 
@@ -120,12 +125,19 @@ batch_adds limits lanes batch merges piece turns before now is = record {
   are = ap (λ (m : RunRecord). m.answers) is;
 }
 
--- the record and the text of one batch more
-pub batch_made : (limits : Counts) (options : Options) (batches : List Batch) (before now : RunRecord) (batch : Batch) (lanes : ℕ) (turns : List Bool) → options.merge ≡ false → options.order ≡ None → lanes ≡ options.lanes
-    → IsMade limits options batches before → IsOfLanes lanes batch → HasNoMerge batch → now ≡ batch_after limits lanes batch (merges_of None batch) [] turns before → IsMade limits options (batches ++ batch ∷ []) now
-batch_made limits options batches before now batch lanes turns off unordered are is of_lanes none after =
-    made_more limits options batches before now batch [] [] turns is (after ∙ ap (λ (l : ℕ). batch_after limits l batch [] [] turns before) are)
-    (no_merges options.merge (1 + sum_by updates batches) batch off) (no_piece options.order (length batches) unordered) (subst (λ (l : ℕ). IsOfLanes l batch) are of_lanes) none
+-- the merger's commands in a batch, where these are its numbers
+pub merger_made : (merge : Bool) (merger : Option ℕ) (next : ℕ) (batch : Batch) → merger ≡ (if merge then Some next else None) → merges_of merger batch ≡ merger_commands merge next batch
+merger_made true merger next batch is = ap (λ (m : Option ℕ). merges_of m batch) is
+merger_made false merger next batch is = ap (λ (m : Option ℕ). merges_of m batch) is
+
+-- the record of one batch more
+pub batch_made : (limits : Counts) (options : Options) (batches : List Batch) (used number next : ℕ) (before now : RunRecord) (batch : Batch) (lanes : ℕ) (merger : Option ℕ) (piece : List ℕ) (turns : List Bool) → lanes ≡ options.lanes
+    → AreCounted batches used number next → merger ≡ (if options.merge then Some next else None) → piece ≡ get_or (pieces_of options.order) number []
+    → IsMade limits options batches before → IsOfLanes lanes batch → now ≡ batch_after limits lanes batch (merges_of merger batch) piece turns before → IsMade limits options (batches ++ batch ∷ []) now
+batch_made limits options batches used number next before now batch lanes merger piece turns are counted merger_is piece_is is of_lanes after =
+    made_more limits options batches before now batch (merges_of merger batch) piece turns is (after ∙ ap (λ (l : ℕ). batch_after limits l batch (merges_of merger batch) piece turns before) are)
+    (merger_made options.merge merger next batch merger_is ∙ ap (λ (n : ℕ). merger_commands options.merge n batch) counted.next_is)
+    (piece_is ∙ ap (λ (n : ℕ). get_or (pieces_of options.order) n []) (sym counted.number_is)) (subst (λ (l : ℕ). IsOfLanes l batch) are of_lanes)
 
 pub batch_written : (limits : Counts) (options : Options) (written0 written1 written2 : Option (List ℕ)) (batches : List Batch) (before now : RunRecord) (new : List Answered) → AreWritten options written0 written1 before → IsMade limits options batches now
     → now.answers ≡ before.answers ++ new → Appends written1 written2 (text_behind options.trace (length before.answers) now) → AreWritten options written0 written2 now
@@ -147,38 +159,67 @@ not_whole before now left given asked outcomes batch on (inr whole) = absurd (le
 
 not_synced : (before now : Gathering) (left : Option (List ℕ)) (given : List ℕ) (asked : List Text) (outcomes : List File) (batch : Batch) → now.ended ≡ true
     → IsSynced before now given asked outcomes batch ⊎ IsWhole before now left given asked outcomes (batch ∷ []) → IsWhole before now left given asked outcomes (batch ∷ [])
-not_synced before now left given asked outcomes batch off (inr whole) = whole
-not_synced before now left given asked outcomes batch off (inl synced) = absurd (let no : true ≡ false = sym off ∙ synced.goes_on in cc)
+not_synced before now left given asked outcomes batch over (inr whole) = whole
+not_synced before now left given asked outcomes batch over (inl synced) = absurd (let no : true ≡ false = sym over ∙ synced.goes_on in cc)
+
+few_updates : (batch : Batch) → updates batch ≤ length batch
+few_updates batch = count_by-le-length (λ command. is_update_task command.task) batch
+
+counted_more : (batches : List Batch) (batch : Batch) (used0 used number next : ℕ) → AreCounted batches used0 number next → used0 + length batch ≤ used
+    → AreCounted (batches ++ batch ∷ []) used (number + 1) (next + updates batch)
+counted_more batches batch used0 used number next counted grows =
+    let more : sum_by updates (batches ++ batch ∷ []) ≡ sum_by updates batches + updates batch = sum_by_push updates batches batch in
+    record {
+      number_is = omega (arith, counted.number_is, length-append batches (batch ∷ []));
+      next_is = omega (arith, counted.next_is, more);
+      few = omega (arith, counted.few, grows, more, few_updates batch);
+    }
+
+-- the merger's numbers in a batch: each stands for a byte that was read
+pub next_fits : (batches : List Batch) (batch : Batch) (used0 used number next : ℕ) (limits : ScriptLimits) → AreCounted batches used0 number next → used0 + length batch ≤ used → used ≤ limits.input → limits ≡ standard
+    → next + updates batch < 2 ^ 64
+next_fits batches batch used0 used number next limits counted grows within is =
+    let low : used ≤ standard.input = subst (λ (l : ScriptLimits). used ≤ l.input) is within in
+    omega (arith, counted.next_is, counted.few, grows, low, few_updates batch)
+
+pub merger_fits : (merge : Bool) (merger : Option ℕ) (next : ℕ) (batch : Batch) → merger ≡ (if merge then Some next else None) → next + updates batch < 2 ^ 64
+    → MatchOption merger ⊤ (λ first. first + updates batch < 2 ^ 64)
+merger_fits true merger next batch is fits = subst (λ (m : Option ℕ). MatchOption m ⊤ (λ first. first + updates batch < 2 ^ 64)) (sym is) fits
+merger_fits false merger next batch is fits = subst (λ (m : Option ℕ). MatchOption m ⊤ (λ first. first + updates batch < 2 ^ 64)) (sym is) tt
+
+pub standard_within : (limits : Counts) → limits ≡ standard_limits → IsWithin standard_limits limits
+standard_within limits is = subst (IsWithin standard_limits) (sym is) (record { live = omega arith; updates = omega arith; members = omega arith; key_bytes = omega arith })
 
 -- The batch was answered and written, and the gatherer goes on.
-pub one_more : (limits : Counts) (options : Options) (left0 left1 left2 written0 written1 written2 : Option (List ℕ)) (files : Option (List shelf.File)) (f0 f1 f2 : ℕ) (before after : Gathering) (made now : RunRecord) (batch : Batch) (new : List Answered)
-    → (way : IsUnderWay limits options left0 left1 written0 written1 files f0 f1 before made) → (took : Taken left1 left2 files f1 f2) → after.ended ≡ false
+pub one_more : {number next : ℕ} (limits : Counts) (options : Options) (left0 left1 left2 written0 written1 written2 : Option (List ℕ)) (files : Option (List shelf.File)) (f0 f1 f2 : ℕ) (before after : Gathering) (made now : RunRecord) (batch : Batch) (new : List Answered)
+    → (way : IsUnderWay limits options left0 left1 written0 written1 files f0 f1 before made number next) → (took : Taken left1 left2 files f1 f2) → after.ended ≡ false
     → IsSynced before after took.given took.asked took.outcomes batch ⊎ IsWhole before after left2 took.given took.asked took.outcomes (batch ∷ [])
     → after.limits ≡ before.limits → after.lanes ≡ before.lanes → after.reading.used ≤ after.limits.input
     → IsMade limits options (way.batches ++ batch ∷ []) now → now.answers ≡ made.answers ++ new → Appends written1 written2 (text_behind options.trace (length made.answers) now)
-    → IsUnderWay limits options left0 left2 written0 written2 files f0 f2 after now
-one_more limits options left0 left1 left2 written0 written1 written2 files f0 f1 f2 before after made now batch new way took on gathered limits_are lanes_are within is are written = record {
+    → before.reading.used + length batch ≤ after.reading.used → IsUnderWay limits options left0 left2 written0 written2 files f0 f2 after now (number + 1) (next + updates batch)
+one_more {number = number} {next = next} limits options left0 left1 left2 written0 written1 written2 files f0 f1 f2 before after made now batch new way took on gathered limits_are lanes_are within is are written grows = record {
   batches = way.batches ++ batch ∷ [];
   been = read_synced options left0 left1 left2 files f0 f1 f2 before after way.batches batch took.given took.asked took.outcomes way.been way.goes took.gave took.fetched
       (not_whole before after left2 took.given took.asked took.outcomes batch on gathered);
   goes = goes_on options before after way.goes limits_are lanes_are within;
   is_made = is;
   writ = batch_written limits options written0 written1 written2 (way.batches ++ batch ∷ []) made now new way.writ is are written;
+  counted = counted_more way.batches batch before.reading.used after.reading.used number next way.counted grows;
 }
 
 -- The last batch was answered and written.
-pub ends_with : (limits : Counts) (options : Options) (ends : Status) (left0 left1 left2 written0 written1 written2 written3 : Option (List ℕ)) (files : Option (List shelf.File)) (f0 f1 f2 : ℕ) (before after : Gathering) (made mid now : RunRecord) (batch : Batch) (new : List Answered)
-    → options.merge ≡ false → (way : IsUnderWay limits options left0 left1 written0 written1 files f0 f1 before made) → (took : Taken left1 left2 files f1 f2) → after.ended ≡ true
+pub ends_with : {number next : ℕ} (limits : Counts) (options : Options) (ends : Status) (left0 left1 left2 written0 written1 written2 written3 : Option (List ℕ)) (files : Option (List shelf.File)) (f0 f1 f2 : ℕ) (before after : Gathering) (made mid now : RunRecord) (batch : Batch) (new : List Answered)
+    → (way : IsUnderWay limits options left0 left1 written0 written1 files f0 f1 before made number next) → (took : Taken left1 left2 files f1 f2) → after.ended ≡ true
     → IsSynced before after took.given took.asked took.outcomes batch ⊎ IsWhole before after left2 took.given took.asked took.outcomes (batch ∷ [])
     → IsMade limits options (way.batches ++ batch ∷ []) mid → mid.answers ≡ made.answers ++ new → Appends written1 written2 (text_behind options.trace (length made.answers) mid)
     → now ≡ with_end true mid → IsWritten ends written2 written3 (text_behind options.trace (length mid.answers) (with_end true mid))
     → Meets limits options ends left0 left2 written0 written3 files f0 f2 now
-ends_with limits options ends left0 left1 left2 written0 written1 written2 written3 files f0 f1 f2 before after made mid now batch new off way took last gathered is are written closed rest =
+ends_with limits options ends left0 left1 left2 written0 written1 written2 written3 files f0 f1 f2 before after made mid now batch new way took last gathered is are written closed rest =
     let whole = not_synced before after left2 took.given took.asked took.outcomes batch last gathered in
     finished limits options ends left0 left2 written0 written2 written3 files f0 f2 (way.been.given ++ took.given) (way.been.outcomes ++ took.outcomes) (way.been.asked ++ took.asked) (way.batches ++ batch ∷ []) mid now
     (Consumes-trans left0 left1 left2 way.been.given took.given way.been.gave took.gave) whole.at_end
     (fetched_more files f0 f1 f2 way.been.asked took.asked way.been.outcomes took.outcomes way.been.fetched took.fetched)
-    (script_whole options left0 left1 left2 files f0 f1 before after way.batches (batch ∷ []) took.given took.asked took.outcomes way.been way.goes whole) off is
+    (script_whole options left0 left1 left2 files f0 f1 before after way.batches (batch ∷ []) took.given took.asked took.outcomes way.been way.goes whole) is
     (batch_written limits options written0 written1 written2 (way.batches ++ batch ∷ []) made mid new way.writ is are written) closed rest
 
 -- ---- ends within a batch
@@ -188,8 +229,8 @@ record Begins (options : Options) (outcomes : List File) (given : List ℕ) (lef
   pub rest : Commands
   pub is : script_of options outcomes given left ≡ given_before batches asked rest
 
-begins : (limits : Counts) (options : Options) (left0 left1 left2 written0 written1 : Option (List ℕ)) (files : Option (List shelf.File)) (f0 f1 f2 : ℕ) (before after : Gathering) (made : RunRecord) (batch : Batch)
-    → (way : IsUnderWay limits options left0 left1 written0 written1 files f0 f1 before made) → (took : Taken left1 left2 files f1 f2) → after.limits ≡ before.limits → after.lanes ≡ before.lanes → after.reading.used ≤ after.limits.input
+begins : {number next : ℕ} (limits : Counts) (options : Options) (left0 left1 left2 written0 written1 : Option (List ℕ)) (files : Option (List shelf.File)) (f0 f1 f2 : ℕ) (before after : Gathering) (made : RunRecord) (batch : Batch)
+    → (way : IsUnderWay limits options left0 left1 written0 written1 files f0 f1 before made number next) → (took : Taken left1 left2 files f1 f2) → after.limits ≡ before.limits → after.lanes ≡ before.lanes → after.reading.used ≤ after.limits.input
     → IsSynced before after took.given took.asked took.outcomes batch ⊎ IsWhole before after left2 took.given took.asked took.outcomes (batch ∷ [])
     → Begins options (way.been.outcomes ++ took.outcomes) (way.been.given ++ took.given) left2 (way.batches ++ batch ∷ []) (way.been.asked ++ took.asked)
 unfolding read_synced
@@ -207,7 +248,7 @@ begins limits options left0 left1 left2 written0 written1 files f0 f1 f2 before 
       (script_whole options left0 left1 left2 files f0 f1 before after way.batches (batch ∷ []) took.given took.asked took.outcomes way.been way.goes whole);
 }
 
--- a run that is cut off, by why its text is not written whole
+-- a run that is cut, by why its text is not written whole
 cut_meets : (limits : Counts) (options : Options) (why : WriteStop) (left0 left2 written0 written2 : Option (List ℕ)) (files : Option (List shelf.File)) (f0 f2 : ℕ) (now : RunRecord) (given taken : List ℕ) (outcomes : List File)
     → Consumes left0 left2 given → Appends written0 written2 taken → IsCutOff limits options outcomes (λ paths. AreFetched files f0 f2 paths outcomes) (script_of options outcomes given left2) left2 taken now
     → Meets limits options (status_of_stop why) left0 left2 written0 written2 files f0 f2 now
@@ -215,48 +256,48 @@ cut_meets limits options stop.Failed left0 left2 written0 written2 files f0 f2 n
 cut_meets limits options stop.NoMemory left0 left2 written0 written2 files f0 f2 now given taken outcomes gave wrote row = record { given = given; taken = taken; outcomes = outcomes; gave = gave; took = wrote; row = inr row }
 
 -- The batch was answered, but its text not written whole.
-pub ends_writing : (limits : Counts) (options : Options) (why : WriteStop) (left0 left1 left2 written0 written1 written2 : Option (List ℕ)) (files : Option (List shelf.File)) (f0 f1 f2 : ℕ) (before after : Gathering) (made now : RunRecord) (batch : Batch) (new : List Answered) (part : List ℕ)
-    → options.merge ≡ false → (way : IsUnderWay limits options left0 left1 written0 written1 files f0 f1 before made) → (took : Taken left1 left2 files f1 f2) → after.limits ≡ before.limits → after.lanes ≡ before.lanes → after.reading.used ≤ after.limits.input
+pub ends_writing : {number next : ℕ} (limits : Counts) (options : Options) (why : WriteStop) (left0 left1 left2 written0 written1 written2 : Option (List ℕ)) (files : Option (List shelf.File)) (f0 f1 f2 : ℕ) (before after : Gathering) (made now : RunRecord) (batch : Batch) (new : List Answered) (part : List ℕ)
+    → (way : IsUnderWay limits options left0 left1 written0 written1 files f0 f1 before made number next) → (took : Taken left1 left2 files f1 f2) → after.limits ≡ before.limits → after.lanes ≡ before.lanes → after.reading.used ≤ after.limits.input
     → IsSynced before after took.given took.asked took.outcomes batch ⊎ IsWhole before after left2 took.given took.asked took.outcomes (batch ∷ [])
     → IsMade limits options (way.batches ++ batch ∷ []) now → now.answers ≡ made.answers ++ new → IsPrefix part (text_behind options.trace (length made.answers) now) → Appends written1 written2 part
     → Meets limits options (status_of_stop why) left0 left2 written0 written2 files f0 f2 now
-ends_writing limits options why left0 left1 left2 written0 written1 written2 files f0 f1 f2 before after made now batch new part off way took limits_are lanes_are within gathered is are beginning written =
+ends_writing limits options why left0 left1 left2 written0 written1 written2 files f0 f1 f2 before after made now batch new part way took limits_are lanes_are within gathered is are beginning written =
     let script = begins limits options left0 left1 left2 written0 written1 files f0 f1 f2 before after made batch way took limits_are lanes_are within gathered in
     let fetched = fetched_more files f0 f1 f2 way.been.asked took.asked way.been.outcomes took.outcomes way.been.fetched took.fetched in
     cut_meets limits options why left0 left2 written0 written2 files f0 f2 now (way.been.given ++ took.given) (way.writ.taken ++ part) (way.been.outcomes ++ took.outcomes)
     (Consumes-trans left0 left1 left2 way.been.given took.given way.been.gave took.gave) (Appends-trans written0 written1 written2 way.writ.taken part way.writ.took written)
     (cut_within limits options (way.been.outcomes ++ took.outcomes) (λ paths. AreFetched files f0 f2 paths (way.been.outcomes ++ took.outcomes)) _ script.rest left2 made now new way.batches batch (way.been.asked ++ took.asked) way.writ.taken part
-    script.is (outcomes_size files (way.been.asked ++ took.asked) (way.been.outcomes ++ took.outcomes) fetched.each) fetched off way.is_made is are way.writ.text_is beginning)
+    script.is (outcomes_size files (way.been.asked ++ took.asked) (way.been.outcomes ++ took.outcomes) fetched.each) fetched way.is_made is are way.writ.text_is beginning)
 
 -- Memory was wanting between two batches.
-pub ends_between : (limits : Counts) (options : Options) (left0 left1 left2 written0 written1 : Option (List ℕ)) (files : Option (List shelf.File)) (f0 f1 f2 : ℕ) (before : Gathering) (made : RunRecord) (given : List ℕ)
-    → options.merge ≡ false → IsUnderWay limits options left0 left1 written0 written1 files f0 f1 before made → Consumes left1 left2 given → f1 ≤ f2
+pub ends_between : {number next : ℕ} (limits : Counts) (options : Options) (left0 left1 left2 written0 written1 : Option (List ℕ)) (files : Option (List shelf.File)) (f0 f1 f2 : ℕ) (before : Gathering) (made : RunRecord) (given : List ℕ)
+    → IsUnderWay limits options left0 left1 written0 written1 files f0 f1 before made number next → Consumes left1 left2 given → f1 ≤ f2
     → Meets limits options status.NoMemory left0 left2 written0 written1 files f0 f2 made
-ends_between limits options left0 left1 left2 written0 written1 files f0 f1 f2 before made given off way gave later =
-    meets_between limits options left0 left1 left2 written0 written1 files f0 f1 f2 before way.batches made given off way.been way.goes way.is_made way.writ gave later
+ends_between limits options left0 left1 left2 written0 written1 files f0 f1 f2 before made given way gave later =
+    meets_between limits options left0 left1 left2 written0 written1 files f0 f1 f2 before way.batches made given way.been way.goes way.is_made way.writ gave later
 
 -- The gatherer gave no batch.
-pub ends_gathering : (limits : Counts) (options : Options) (why : ScriptEnd) (left0 left1 left2 written0 written1 : Option (List ℕ)) (files : Option (List shelf.File)) (f0 f1 f2 : ℕ) (before after : Gathering) (made : RunRecord)
-    → options.merge ≡ false → IsUnderWay limits options left0 left1 written0 written1 files f0 f1 before made → (took : Taken left1 left2 files f1 f2) → Gathers (Err why) before after left2 took.given took.asked took.outcomes → f1 ≤ f2
+pub ends_gathering : {number next : ℕ} (limits : Counts) (options : Options) (why : ScriptEnd) (left0 left1 left2 written0 written1 : Option (List ℕ)) (files : Option (List shelf.File)) (f0 f1 f2 : ℕ) (before after : Gathering) (made : RunRecord)
+    → IsUnderWay limits options left0 left1 written0 written1 files f0 f1 before made number next → (took : Taken left1 left2 files f1 f2) → Gathers (Err why) before after left2 took.given took.asked took.outcomes → f1 ≤ f2
     → Meets limits options (status_of_end why) left0 left2 written0 written1 files f0 f2 made
-ends_gathering limits options (end.Script line why) left0 left1 left2 written0 written1 files f0 f1 f2 before after made off way took faulty later = record {
+ends_gathering limits options (end.Script line why) left0 left1 left2 written0 written1 files f0 f1 f2 before after made way took faulty later = record {
   given = way.been.given ++ took.given;
   taken = way.writ.taken;
   outcomes = way.been.outcomes ++ took.outcomes;
   gave = Consumes-trans left0 left1 left2 way.been.given took.given way.been.gave took.gave;
   took = way.writ.took;
-  row = refused limits options left0 left1 left2 files f0 f1 f2 before way.batches made way.writ.taken took.given took.asked took.outcomes line why off way.been way.goes way.is_made way.writ.text_is took.fetched faulty;
+  row = refused limits options left0 left1 left2 files f0 f1 f2 before way.batches made way.writ.taken took.given took.asked took.outcomes line why way.been way.goes way.is_made way.writ.text_is took.fetched faulty;
 }
-ends_gathering limits options end.ReadFault left0 left1 left2 written0 written1 files f0 f1 f2 before after made off way took unfinished later = record {
+ends_gathering limits options end.ReadFault left0 left1 left2 written0 written1 files f0 f1 f2 before after made way took unfinished later = record {
   given = way.been.given ++ took.given;
   taken = way.writ.taken;
   outcomes = way.been.outcomes ++ took.outcomes;
   gave = Consumes-trans left0 left1 left2 way.been.given took.given way.been.gave took.gave;
   took = way.writ.took;
-  row = broken_off limits options left0 left1 files f0 f1 f2 before way.batches made way.writ.taken took.given took.asked took.outcomes off way.been way.goes way.is_made way.writ.text_is took.fetched unfinished;
+  row = broken_off limits options left0 left1 files f0 f1 f2 before way.batches made way.writ.taken took.given took.asked took.outcomes way.been way.goes way.is_made way.writ.text_is took.fetched unfinished;
 }
-ends_gathering limits options end.NoMemory left0 left1 left2 written0 written1 files f0 f1 f2 before after made off way took nothing later =
-    ends_between limits options left0 left1 left2 written0 written1 files f0 f1 f2 before made took.given off way took.gave later
+ends_gathering limits options end.NoMemory left0 left1 left2 written0 written1 files f0 f1 f2 before after made way took nothing later =
+    ends_between limits options left0 left1 left2 written0 written1 files f0 f1 f2 before made took.given way took.gave later
 
 -- ---- completeness
 
@@ -300,26 +341,32 @@ nothing_asked limits options left written files faults made is = record { given 
 
 -- ---- the words
 
--- The options that the words say; any, where they say none.
+-- Memory was wanting before anything was read, whatever the mode.
+pub nothing_made : (limits : Counts) (mode : Mode) (left written : Option (List ℕ)) (files : Option (List shelf.File)) (faults : ℕ) (made : RunRecord) → made ≡ empty plain
+    → MeetsMode limits mode status.NoMemory left left written written files faults faults made
+nothing_made limits (Run options) left written files faults made is = nothing_done limits options left written files faults made is
+nothing_made limits (Make seed tables rows) left written files faults made is = record { taken = []; took = Appends-nil written; row = inl (refl, is) }
+
+-- The mode that the words say; any, where they say none.
 record Said (limits : Counts) (said : Option Mode) (result : Status) (left written : Option (List ℕ)) (files : Option (List shelf.File)) (faults : ℕ) (made : RunRecord) : Type 0 where
-  pub options : Options
-  pub is : IsSaid said options
-  pub met : Meets limits options result left left written written files faults faults made
+  pub mode : Mode
+  pub is : IsSaid said mode
+  pub met : MeetsMode limits mode result left left written written files faults faults made
 
 said_by : (limits : Counts) (said : Option Mode) (left written : Option (List ℕ)) (files : Option (List shelf.File)) (faults : ℕ) (made : RunRecord) → made ≡ empty plain → Said limits said status.NoMemory left written files faults made
-said_by limits None left written files faults made is = record { options = plain; is = tt; met = nothing_done limits plain left written files faults made is }
-said_by limits (Some (Run options)) left written files faults made is = record { options = options; is = refl; met = nothing_done limits options left written files faults made is }
+said_by limits None left written files faults made is = record { mode = Run plain; is = tt; met = nothing_done limits plain left written files faults made is }
+said_by limits (Some mode) left written files faults made is = record { mode = mode; is = refl; met = nothing_made limits mode left written files faults made is }
 
 -- The words are refused, or memory is wanting for them.
 pub words_refused : (limits : Counts) (said : Option Mode) (why : WordsRefused) (left written : Option (List ℕ)) (files : Option (List shelf.File)) (faults : ℕ) (made : RunRecord) → made ≡ empty plain
     → (why ≡ words.NoMemory) ⊎ (said ≡ None) → (result : Status) → result ≡ status_of_refused why
-    → (options : Options) × IsSaid said options × Meets limits options result left left written written files faults faults made
+    → (mode : Mode) × IsSaid said mode × MeetsMode limits mode result left left written written files faults faults made
 words_refused limits said words.NoMemory left written files faults made is why result same =
     let by = said_by limits said left written files faults made is in
-    (by.options, by.is, subst (λ (s : Status). Meets limits by.options s left left written written files faults faults made) (sym same) by.met)
+    (by.mode, by.is, subst (λ (s : Status). MeetsMode limits by.mode s left left written written files faults faults made) (sym same) by.met)
 words_refused limits said words.Usage left written files faults made is (inl same_word) result same = absurd (let e : words.Usage ≡ words.NoMemory = same_word in cc)
 words_refused limits said words.Usage left written files faults made is (inr none) result same =
-    (plain, subst (λ (s : Option Mode). IsSaid s plain) (sym none) tt, subst (λ (s : Status). Meets limits plain s left left written written files faults faults made) (sym same) (nothing_asked limits plain left written files faults made is))
+    (Run plain, subst (λ (s : Option Mode). IsSaid s (Run plain)) (sym none) tt, subst (λ (s : Status). Meets limits plain s left left written written files faults faults made) (sym same) (nothing_asked limits plain left written files faults made is))
 
 -- ---- completeness
 

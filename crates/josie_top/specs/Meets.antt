@@ -1,13 +1,14 @@
 -- What a run comes to: what moved, and the row of its status.
-use Rattle.std.specs.Prelude.{ℕ, ◌≡◌, ◌≤◌, ⊤, false, List, Option, Some, None}
+use Rattle.std.specs.Prelude.{ℕ, ◌≡◌, ⊤, List, Option, Some, None}
 use Rattle.std.specs.Io.KnownBytes.{Consumes, Appends}
 use Rattle.lake_io.specs.Files as shelf
 use Rattle.lake_model.specs.declared.Counts.{Counts}
 use Rattle.script_model.specs.declared.Status.{Status}
 use Rattle.script_model.specs.Commands.{File}
-use Rattle.script_model.specs.Plain.{Mode, Run}
+use Rattle.script_model.specs.Plain.{Mode, Run, Make}
+use Rattle.script_model.specs.Script.{Whole, commands, standard}
 use Rattle.script_model.specs.Record.{Options, RunRecord}
-use Rattle.script_model.specs.Statuses.{Row}
+use Rattle.script_model.specs.Statuses.{MakeRow, Row}
 use Rattle.script_text.specs.Outcomes.{AreFetched}
 
 -- The bytes that the source gave and those that the sink took, where they tell their content, and what came of the fetches; and of these the row of the
@@ -20,15 +21,30 @@ pub record Meets (limits : Counts) (options : Options) (status : Status) (left_b
   pub took : Appends written_before written_now taken
   pub row : Row limits options outcomes (λ asked. AreFetched files faults_before faults_now asked outcomes) status given left_now taken made
 
--- the options of a mode
-abbrev pub options_in : Mode → Options
-options_in (Run options) = options
+-- The bytes that the sink took of the summary of a lake that is made, where it tells its content, and of these the row of the status.
+pub record Makes (limits : Counts) (seed tables rows : ℕ) (status : Status) (written_before written_now : Option (List ℕ)) (made : RunRecord) : Type 0 where
+  pub taken : List ℕ
+  pub took : Appends written_before written_now taken
+  pub row : MakeRow limits seed tables rows status taken made
 
--- these options are those that the words say, where they say any
-abbrev pub IsSaid : Option Mode → Options → Type 0
-IsSaid None options = ⊤
-IsSaid (Some mode) options = options ≡ options_in mode
+-- what a run of this mode comes to
+abbrev pub MeetsMode : Counts → Mode → Status → Option (List ℕ) → Option (List ℕ) → Option (List ℕ) → Option (List ℕ) → Option (List shelf.File) → ℕ → ℕ → RunRecord → Type 0
+MeetsMode limits (Run options) status left_before left_now written_before written_now files faults_before faults_now made =
+    Meets limits options status left_before left_now written_before written_now files faults_before faults_now made
+MeetsMode limits (Make seed tables rows) status left_before left_now written_before written_now files faults_before faults_now made =
+    Makes limits seed tables rows status written_before written_now made
 
--- a script is read, on lanes that there may be, in no stated order and without a merger
-abbrev pub IsRunMode : Mode → Type 0
-IsRunMode (Run options) = (1 ≤ options.lanes) × (options.order ≡ None) × (options.merge ≡ false)
+-- this mode is the one that the words say, where they say any
+abbrev pub IsSaid : Option Mode → Mode → Type 0
+IsSaid None mode = ⊤
+IsSaid (Some said) mode = mode ≡ said
+
+-- a script has no line at fault, whatever comes of its fetches; a lake that is made has none
+abbrev pub HasNoFault : Mode → List ℕ → Type 0
+HasNoFault (Run options) script = (outcomes : List File) → (commands standard options.lanes script outcomes).end ≡ Whole
+HasNoFault (Make seed tables rows) script = ⊤
+
+-- nothing was read and no file fetched, where a lake is made
+abbrev pub IsMaking : Mode → Type 0
+IsMaking (Run options) = ⊥
+IsMaking (Make seed tables rows) = ⊤

@@ -1,5 +1,5 @@
 -- How far a run is: what it has read, answered and written between two batches.
-use Rattle.std.specs.Prelude.{ℕ, ◌+◌, ◌≡◌, ◌≤◌, Bool, false, List, [], ◌∷◌, ◌++◌, length, sum_by, Option}
+use Rattle.std.specs.Prelude.{ℕ, ◌+◌, ◌≡◌, ◌≤◌, Bool, List, [], length, sum_by, Option}
 use Rattle.std.specs.List.{AllByRecursion}
 use Rattle.std.specs.Io.KnownBytes.{Consumes, Appends}
 use Rattle.lake_io.specs.Files as shelf
@@ -8,8 +8,8 @@ use Rattle.lake_model.specs.Texts.{Text}
 use Rattle.script_model.specs.Commands.{File, Batch}
 use Rattle.script_model.specs.Script.{grammar_of, standard, start}
 use Rattle.script_model.specs.Record.{Options, RunRecord, empty}
-use Rattle.script_model.specs.Play.{played_from, pieces_of}
-use Rattle.script_model.specs.Lanes.{HasNoMerge, IsOfLanes}
+use Rattle.script_model.specs.Play.{played_from, pieces_of, updates}
+use Rattle.script_model.specs.Lanes.{IsOfLanes}
 use Rattle.script_model.specs.Texts.{answers_text}
 use Rattle.script_text.specs.Outcomes.{AreFetched}
 use Rattle.script_text.specs.Gathering.{Gathering, ReadsOn}
@@ -20,7 +20,6 @@ pub record IsMade (limits : Counts) (options : Options) (batches : List Batch) (
   pub size : length denials ≡ length batches
   pub played : made ≡ played_from limits options.lanes options.merge 1 batches (pieces_of options.order) denials (empty options)
   pub lanes : AllByRecursion (IsOfLanes options.lanes) batches
-  pub merges : AllByRecursion HasNoMerge batches
 
 -- The gatherer is of these options, and goes on.
 pub record IsGoingOn (options : Options) (gathering : Gathering) : Type 0 where
@@ -43,10 +42,18 @@ pub record AreWritten (options : Options) (written_before written_now : Option (
   pub took : Appends written_before written_now taken
   pub text_is : taken ≡ answers_text options.trace made.answers
 
+-- So many batches were read, and the merger's next number is this: it has had a number for each load and drop of theirs, of which there are at most
+-- as many as bytes that they used.
+pub record AreCounted (batches : List Batch) (used number next : ℕ) : Type 0 where
+  pub number_is : length batches ≡ number
+  pub next_is : next ≡ 1 + sum_by updates batches
+  pub few : sum_by updates batches ≤ used
+
 -- A run between two batches.
-pub record IsUnderWay (limits : Counts) (options : Options) (left_before left_now written_before written_now : Option (List ℕ)) (files : Option (List shelf.File)) (faults_before faults_now : ℕ) (gathering : Gathering) (made : RunRecord) : Type 0 where
+pub record IsUnderWay (limits : Counts) (options : Options) (left_before left_now written_before written_now : Option (List ℕ)) (files : Option (List shelf.File)) (faults_before faults_now : ℕ) (gathering : Gathering) (made : RunRecord) (number next : ℕ) : Type 0 where
   pub batches : List Batch
   pub been : AreRead options left_before left_now files faults_before faults_now gathering batches
   pub goes : IsGoingOn options gathering
   pub is_made : IsMade limits options batches made
   pub writ : AreWritten options written_before written_now made
+  pub counted : AreCounted batches gathering.reading.used number next

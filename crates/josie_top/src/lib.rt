@@ -4,31 +4,32 @@
 ghost use Rattle.std.specs.Prelude.{[], ◌≡◌, ◌≤◌, ◌⊎◌, false, ℕ, List, None, Some, map, string_bytes};
 ghost use Rattle.lake_io.specs.Causes.{Rose};
 ghost use Rattle.lake_model.specs.Journal.{standard_limits};
-ghost use Rattle.script_model.specs.Commands.{File};
 ghost use Rattle.script_model.specs.Plain.{plain_mode};
 ghost use Rattle.script_model.specs.Plain as said;
-ghost use Rattle.script_model.specs.Record.{Options as OptionsOf, empty, plain};
-ghost use Rattle.script_model.specs.Script.{Whole, commands, standard};
-ghost use Rattle.script_text.specs.Words.{mode_of, mode_read};
+ghost use Rattle.script_model.specs.Record.{empty, plain};
+ghost use Rattle.script_text.specs.Words.{mode_of, mode_read, IsModeInRange};
 ghost use Rattle.josie_top.specs.Ends.{status_of_refused};
-ghost use Rattle.josie_top.specs.Meets.{IsRunMode, IsSaid, Meets, options_in};
+ghost use Rattle.josie_top.specs.Meets.{HasNoFault, IsMaking, IsSaid, MeetsMode};
 
-use batches::run_batches;
-use catalogue::{Catalogue, Limits};
 use lake_io::{Gate, Shelf, Sink, Source};
+use making::make_lake;
 pub use reply_text::RunRecord;
+use script::run_script;
 pub use script_model::{Reason, Status};
-use script_text::{Gather, Mode, ScriptLimits, WordsRefused, read_words};
+use script_text::{Mode, WordsRefused, read_words};
 use std::alloc::Global;
 use std::sync::Wait;
 use std::thread::Threads;
 
 mod batches;
+mod making;
+mod script;
 mod writing;
 
-/// Reads a script from the source batch by batch, answers the commands of each in the record, and writes the replies to the sink before
-/// the next batch is read. The statuses and what holds behind each are the table of statuses, for the bytes that the source gave, what
-/// came of the fetches, and the bytes that the sink took.
+/// Runs a script, or makes a lake, as the mode says. Of a script it reads batch by batch from the source, answers the commands of each in
+/// the record, and writes the replies to the sink before the next batch is read; of a lake that is made it writes the summary. The
+/// statuses and what holds behind each are the table of statuses, for the bytes that the source gave, what came of the fetches, and
+/// the bytes that the sink took.
 pub fn run_ordered<S: Source, K: Sink, F: Shelf>(
     alloc: Global,
     mode: Mode,
@@ -38,42 +39,26 @@ pub fn run_ordered<S: Source, K: Sink, F: Shelf>(
     out: &mut RunRecord,
 ) -> Status
     requires empty { out.old.made ≡ empty plain }
-    // the options state a lane or more, no order and no merger
-    requires mode { IsRunMode (mode_of mode) }
+    requires mode { IsModeInRange (mode_of mode) }
     // what was read, recorded and written
-    ensures table { Meets standard_limits (options_in (mode_of mode)) result (S.left source.old) (S.left source.new) (K.written sink.old) (K.written sink.new) (F.files shelf.old) (F.faults shelf.old) (F.faults shelf.new) out.new.made }
+    ensures table { MeetsMode standard_limits (mode_of mode) result (S.left source.old) (S.left source.new) (K.written sink.old) (K.written sink.new) (F.files shelf.old) (F.faults shelf.old) (F.faults shelf.new) out.new.made }
     // when each status comes
     ensures usage { ¬ (result ≡ Status.Usage) }
     ensures read_fault { result ≡ Status.ReadFault → Rose (S.faults source.old) (S.faults source.new) }
     ensures write_fault { result ≡ Status.WriteFault → Rose (K.faults sink.old) (K.faults sink.new) }
     ensures later { (S.faults source.old ≤ S.faults source.new) × (K.faults sink.old ≤ K.faults sink.new) × (F.faults shelf.old ≤ F.faults shelf.new) }
     ensures files { F.files shelf.new ≡ F.files shelf.old }
+    // where a lake is made, nothing is read and no file is fetched
+    ensures making { IsMaking (mode_of mode) → (source.new ≡ source.old) × (shelf.new ≡ shelf.old) }
     // nothing else comes but want of memory
-    ensures complete { (script : List ℕ) → S.left source.old ≡ Some script → ((outcomes : List File) → (commands standard (options_in (mode_of mode)).lanes script outcomes).end ≡ Whole)
+    ensures complete { (script : List ℕ) → S.left source.old ≡ Some script → HasNoFault (mode_of mode) script
         → ¬ Rose (S.faults source.old) (S.faults source.new) → ¬ Rose (K.faults sink.old) (K.faults sink.new)
         → (result ≡ Status.Done) ⊎ (result ≡ Status.NoMemory) }
 {
-    let Mode::Run(options) = mode;
-    let lanes = options.lanes;
-    let trace = options.trace;
-    let Ok(mut gather) = Gather::new(alloc, lanes, ScriptLimits::standard()) else {
-        return Status::NoMemory;
-    };
-    let Ok(mut catalogue) = Catalogue::new(alloc, Limits::standard()) else {
-        return Status::NoMemory;
-    };
-    out.set_options(options);
-    run_batches(
-        alloc,
-        lanes,
-        trace,
-        &mut gather,
-        &mut catalogue,
-        source,
-        sink,
-        shelf,
-        out,
-    )
+    match mode {
+        Mode::Run(options) => run_script(alloc, options, source, sink, shelf, out),
+        Mode::Make { seed, tables, rows } => make_lake(alloc, seed, tables, rows, sink, out),
+    }
 }
 
 /// The status of words that are refused.
@@ -99,9 +84,9 @@ pub fn run<R: Threads + Wait + Sync, S: Source, K: Sink, F: Shelf, G: Gate + Syn
     out: &mut RunRecord,
 ) -> Status
     requires empty { out.old.made ≡ empty plain }
-    // what was read, recorded and written, with the options that the words say
-    ensures table { (options : OptionsOf) × IsSaid (mode_read (map string_bytes words.now)) options
-        × Meets standard_limits options result (S.left source.old) (S.left source.new) (K.written sink.old) (K.written sink.new) (F.files shelf.old) (F.faults shelf.old) (F.faults shelf.new) out.new.made }
+    // what was read, recorded and written, in the mode that the words say
+    ensures table { (mode : said.Mode) × IsSaid (mode_read (map string_bytes words.now)) mode
+        × MeetsMode standard_limits mode result (S.left source.old) (S.left source.new) (K.written sink.old) (K.written sink.new) (F.files shelf.old) (F.faults shelf.old) (F.faults shelf.new) out.new.made }
     // plain words are read as they say
     ensures plain { (mode : said.Mode) → plain_mode (map string_bytes words.now) ≡ Some mode → mode_read (map string_bytes words.now) ≡ Some mode }
     // when each status comes
@@ -112,9 +97,10 @@ pub fn run<R: Threads + Wait + Sync, S: Source, K: Sink, F: Shelf, G: Gate + Syn
     ensures write_fault { result ≡ Status.WriteFault → Rose (K.faults sink.old) (K.faults sink.new) }
     ensures later { (S.faults source.old ≤ S.faults source.new) × (K.faults sink.old ≤ K.faults sink.new) × (F.faults shelf.old ≤ F.faults shelf.new) }
     ensures files { F.files shelf.new ≡ F.files shelf.old }
+    // where a lake is made, nothing is read and no file is fetched
+    ensures making { (mode : said.Mode) → mode_read (map string_bytes words.now) ≡ Some mode → IsMaking mode → (source.new ≡ source.old) × (shelf.new ≡ shelf.old) }
     // nothing else comes but want of memory
-    ensures complete { (script : List ℕ) (mode : said.Mode) → plain_mode (map string_bytes words.now) ≡ Some mode → S.left source.old ≡ Some script
-        → ((outcomes : List File) → (commands standard (options_in mode).lanes script outcomes).end ≡ Whole)
+    ensures complete { (script : List ℕ) (mode : said.Mode) → plain_mode (map string_bytes words.now) ≡ Some mode → S.left source.old ≡ Some script → HasNoFault mode script
         → ¬ Rose (S.faults source.old) (S.faults source.new) → ¬ Rose (K.faults sink.old) (K.faults sink.new)
         → (result ≡ Status.Done) ⊎ (result ≡ Status.NoMemory) }
 {

@@ -207,6 +207,47 @@ fn traces_a_run(rt: HostRuntime) -> Result<(), Fail> {
 }
 
 #[test]
+fn runs_lanes_in_a_stated_order(rt: HostRuntime) -> Result<(), Fail> {
+    let script = "load a\nc\nx\n.\nload b\nc\nx\n.\nmerge all\n@2 merge all\n";
+    let written =
+        "1 loaded a columns 1 members 1 at 1\n2 loaded b columns 1 members 1 at 2\n3 merged 2 parts into 2 tables at 3\n4 refused stale part 1 at 3\n";
+    let (status, same) = ends_with(
+        &rt,
+        rt.alloc(),
+        &["run", "--lanes", "2", "--order", "1,1,1,2,1,2"],
+        script,
+        64,
+        0,
+        64,
+        0,
+        0,
+        written.as_bytes(),
+    )?;
+    assert!(rt; status == Status::Done && same);
+    Ok(())
+}
+
+// The first read would fail.
+#[test]
+fn makes_a_lake_without_reading(rt: HostRuntime) -> Result<(), Fail> {
+    let written = "tables 1\nmembers 6\nmerges 0\nanswers 50 rows 0 overlap 0\n";
+    let (status, same) = ends_with(
+        &rt,
+        rt.alloc(),
+        &["make", "0", "1", "2"],
+        "",
+        1,
+        1,
+        64,
+        0,
+        0,
+        written.as_bytes(),
+    )?;
+    assert!(rt; status == Status::Done && same);
+    Ok(())
+}
+
+#[test]
 fn names_the_first_line_at_fault(rt: HostRuntime) -> Result<(), Fail> {
     for (script, line, reason) in [
         ("find\nfind\n", 1, Reason::Unknown),
@@ -225,7 +266,7 @@ fn refuses_words(rt: HostRuntime) -> Result<(), Fail> {
     for texts in [
         ["Run", "--trace"],
         ["run", "run"],
-        ["run", "--lanes=2"],
+        ["run", "--lanes=17"],
         ["make", "7"],
     ] {
         let (status, same) = ends_with(

@@ -1,19 +1,22 @@
 -- The turns of a batch, and the record that they make.
-use Rattle.std.proofs.Common.{◌≡◌, refl, ap, sym, ◌∙◌, subst, ℕ, zero, suc, ◌+◌, ◌-◌, ◌*◌, ◌≤◌, List, [], ◌∷◌, ◌++◌, append_assoc, append-nil, Bool, length, map, arith, replicate, Option, Some, None}
-use Rattle.std.specs.List.{AllByRecursion, flat_map, range_with_len}
+use Rattle.std.proofs.Common.{◌≡◌, ap, sym, ◌∙◌, subst, ℕ, zero, suc, ◌+◌, ◌-◌, ◌*◌, ◌≤◌, List, [], ◌∷◌, ◌++◌, append-nil, Bool, length, length-append, map, arith, replicate, Option}
+use Rattle.std.specs.List.{flat_map, range_with_len}
 use Rattle.std.proofs.lemmas.Simd.{map-map}
 use Rattle.std.proofs.lemmas.List.{replicate-append-replicate}
 use Rattle.std.proofs.lemmas.Grind.{flat_map-append, replicate_next}
 use Rattle.lake_model.specs.declared.Counts.{Counts}
-use Rattle.lake_model.specs.Journal.{Entry}
-use Rattle.catalogue.specs.Kept.{CatalogueOf}
+use Rattle.lake_model.specs.Journal.{Entry, standard_limits}
+use Rattle.catalogue.specs.Kept.{CatalogueOf, IsWithin}
 use Rattle.reply_text.specs.Rooms.{RecordOf}
 use Rattle.script_model.specs.Commands.{Command, Batch}
-use Rattle.script_model.specs.Record.{Answered, RunRecord}
-use Rattle.script_model.specs.Play.{Done, Lane, Play, play_with, play, whole_order, lanes_of, merges_of, gathered, answers_of, record_after, batch_after}
-use Rattle.lake_core.specs.Lanes.{LaneOf, played, play_of, AreHeld, AreNew, done_in, IsHeld, left}
-use Rattle.lake_core.specs.Plays.{StateOf, state_with, play_at, IsReady, Goes}
+use Rattle.script_model.specs.Lanes.{IsOfLanes}
+use Rattle.script_model.specs.Record.{RunRecord}
+use Rattle.script_model.specs.Play.{Lane, play_with, play, whole_order, lane_of, lanes_of, merges_of, gathered, answers_of, record_after, batch_after}
+use Rattle.lake_core.specs.Lanes.{LaneOf, played, play_of, AreHeld, AreNew, AreShared, IsHeld, left}
+use Rattle.lake_core.specs.Plays.{state_with, IsReady, Goes}
 use Rattle.lake_core.proofs.GatherLemmas.{with_answers, lists_of}
+use Rattle.lake_core.proofs.WorkLemmas.{lanes_shared}
+use Rattle.lake_core.specs.declared.lane.Held.{Held}
 use Rattle.lake_core.proofs.TurnLemmas.{goes_on}
 
 -- ---- orders
@@ -61,16 +64,24 @@ merger_last steps n = flat_map-append (λ l. replicate steps l) (range_with_len 
 
 new_held : (journal : List Entry) (lanes : List LaneOf) → AreNew lanes → AreHeld journal lanes
 new_held journal [] are = are
-new_held journal (lane ∷ lanes) are = (subst (IsHeld journal) (sym are.0.0) tt, new_held journal lanes are.1)
+new_held journal (lane ∷ lanes) are = (subst (λ (held : Option Held). IsHeld journal lane.todo held) (sym are.0.0) tt, new_held journal lanes are.1)
 
 -- lanes that have not begun
-pub ready_new : (catalogue : CatalogueOf) (lanes : List LaneOf) (out : RecordOf) (before : RunRecord) (commands : ℕ) → before.journal ≡ catalogue.journal → out.made ≡ before → AreNew lanes
-    → left lanes ≡ commands → commands ≤ out.entries_room → IsReady (state_with catalogue lanes out)
-ready_new catalogue lanes out before commands same made are all room = record {
+ready_new : (catalogue : CatalogueOf) (lanes : List LaneOf) (out : RecordOf) (before : RunRecord) (commands : ℕ) → before.journal ≡ catalogue.journal → out.made ≡ before → AreNew lanes
+    → left lanes ≡ commands → commands ≤ out.entries_room → IsWithin standard_limits catalogue.limits → IsReady (state_with catalogue lanes out)
+ready_new catalogue lanes out before commands same made are all room within = record {
   journal = ap (λ (m : RunRecord). m.journal) made ∙ same;
   held = new_held catalogue.journal lanes are;
   entries = omega (arith, all, room);
+  limits = within;
 }
+
+-- lanes to which the work was shared out
+pub ready_shared : (catalogue : CatalogueOf) (lanes all : List LaneOf) (out : RecordOf) (before : RunRecord) (count many : ℕ) (works : Batch) → before.journal ≡ catalogue.journal → out.made ≡ before → lanes ≡ all
+    → AreShared count works all → many ≡ length works → many ≤ out.entries_room → IsWithin standard_limits catalogue.limits → IsReady (state_with catalogue lanes out)
+ready_shared catalogue lanes all out before count many works same made lent shared full room within =
+    let here : AreShared count works lanes = subst (AreShared count works) (sym lent) shared in
+    ready_new catalogue lanes out before many same made here.fresh (here.all ∙ sym full) room within
 
 -- ---- the end
 
@@ -78,13 +89,13 @@ abbrev pub synced : RunRecord → RunRecord
 synced made = record made { syncs = made.syncs ++ length made.journal ∷ [] }
 
 -- The record of lanes that were played, gathered and synced.
-pub batch_made : (count : ℕ) (commands : List Command) (piece : List ℕ) (made final : RunRecord) (catalogue mid after : CatalogueOf) (lanes some rest : List LaneOf) (out out' out'' : RecordOf)
+pub batch_made : (count many : ℕ) (commands : List Command) (piece : List ℕ) (made final : RunRecord) (catalogue mid after : CatalogueOf) (lanes some rest : List LaneOf) (out out' out'' : RecordOf)
     → Goes piece (state_with catalogue lanes out) (state_with mid some out')
-    → Goes (turns_each (2 * length commands) (range_with_len 1 count ++ 0 ∷ [])) (state_with mid some out') (state_with after rest out'')
+    → Goes (turns_each (2 * many) (range_with_len 1 count ++ 0 ∷ [])) (state_with mid some out') (state_with after rest out'')
     → made ≡ with_answers (answers_of (gathered commands (lists_of rest))) out''.made → final ≡ synced made
-    → (denials : List Bool) × (final ≡ record_after out.made commands (play catalogue.limits (whole_order piece count (2 * length commands)) denials (play_of catalogue.journal lanes)))
-batch_made count commands piece made final catalogue mid after lanes some rest out out' out'' first second gathers syncs =
-    let goes = goes_on piece (turns_each (2 * length commands) (range_with_len 1 count ++ 0 ∷ [])) (state_with catalogue lanes out) (state_with mid some out') (state_with after rest out'') first second in
+    → (denials : List Bool) × (final ≡ record_after out.made commands (play catalogue.limits (whole_order piece count (2 * many)) denials (play_of catalogue.journal lanes)))
+batch_made count many commands piece made final catalogue mid after lanes some rest out out' out'' first second gathers syncs =
+    let goes = goes_on piece (turns_each (2 * many) (range_with_len 1 count ++ 0 ∷ [])) (state_with catalogue lanes out) (state_with mid some out') (state_with after rest out'') first second in
     let lists : map (λ (lane : Lane). lane.done) (map played rest) ≡ lists_of rest = map-map (λ (lane : Lane). lane.done) played rest in (
       goes.leads.0,
       syncs
@@ -97,14 +108,13 @@ batch_made count commands piece made final catalogue mid after lanes some rest o
           ∙ ap (record_after out.made commands) goes.leads.2,
     )
 
--- The record of a batch whose commands were shared out to its lanes.
-pub batch_played : (limits : Counts) (count : ℕ) (batch commands : Batch) (piece : List ℕ) (merger : Option ℕ) (denials : List Bool) (before made final : RunRecord) (journal : List Entry) (lanes all : List LaneOf)
-    → merger ≡ None → before.journal ≡ journal → made ≡ before → commands ≡ batch → lanes ≡ all → map played all ≡ lanes_of count commands []
-    → final ≡ record_after made commands (play limits (whole_order piece count (2 * length commands)) denials (play_of journal lanes))
+-- The record of a batch whose work was shared out to its lanes.
+pub batch_played : (limits : Counts) (count many : ℕ) (batch works : Batch) (piece : List ℕ) (merger : Option ℕ) (denials : List Bool) (before made final : RunRecord) (journal : List Entry) (lanes all : List LaneOf)
+    → IsOfLanes count batch → many ≡ length works → before.journal ≡ journal → made ≡ before → works ≡ batch ++ merges_of merger batch → lanes ≡ all → map played all ≡ map (lane_of works) (range_with_len 0 (count + 1))
+    → final ≡ record_after made works (play limits (whole_order piece count (2 * many)) denials (play_of journal lanes))
     → final ≡ batch_after limits count batch (merges_of merger batch) piece denials before
-batch_played limits count batch commands piece merger denials before made final journal lanes all none same room is lent shared played_is =
-    let steps : 2 * length commands ≡ 2 * (length commands + 0) = omega arith in
-    let start : play_of journal lanes ≡ play_with before.journal (lanes_of count commands []) = λ i. play_with (sym same i) ((ap (map played) lent ∙ shared) i) in
-    played_is
-    ∙ (λ i. record_after (room i) (sym (append-nil commands) i) (play limits (whole_order piece count (steps i)) denials (start i)))
-    ∙ (λ i. batch_after limits count (is i) (merges_of (sym none i) (is i)) piece denials before)
+batch_played limits count many batch works piece merger denials before made final journal lanes all are full same room is lent shared played_is =
+    let merges = merges_of merger batch in
+    let long : many ≡ length batch + length merges = full ∙ ap (λ (cs : Batch). length cs) is ∙ length-append batch merges in
+    let start : play_of journal lanes ≡ play_with before.journal (lanes_of count batch merges) = λ i. play_with (sym same i) ((ap (map played) lent ∙ shared ∙ lanes_shared count merger batch works are is) i) in
+    played_is ∙ (λ i. record_after (room i) (is i) (play limits (whole_order piece count (2 * long i)) denials (start i)))

@@ -7,7 +7,10 @@ use Rattle.reply_text.specs.Rooms.{RecordOf}
 use Rattle.script_model.specs.Commands.{Command}
 use Rattle.script_model.specs.Record.{Answered, RunRecord}
 use Rattle.script_model.specs.Play.{Done, answers_of, gathered}
+use Rattle.lake_core.specs.declared.work.Work.{Work}
+use Rattle.lake_core.specs.Works.{work_of, works_of}
 use Rattle.lake_core.specs.Lanes.{LaneOf, done_in}
+use Rattle.lake_core.proofs.WorkLemmas.{work_at, works_long}
 
 -- a record with these answers behind its own
 abbrev pub with_answers : List Answered → RunRecord → RunRecord
@@ -23,7 +26,7 @@ pub record Gathers (commands : List Command) (n : ℕ) (lanes now : List LaneOf)
   pub syncs : out.syncs_room ≡ before.syncs_room
 
 -- the answer to the next command, if there is one
-pub gathers_more : (commands : List Command) (n : ℕ) (lanes now later : List LaneOf) (before out after : RecordOf) (command : Command) (answer : Option Answered)
+gathers_more : (commands : List Command) (n : ℕ) (lanes now later : List LaneOf) (before out after : RecordOf) (command : Command) (answer : Option Answered)
     → Gathers commands n lanes now before out → n < length commands → command ≡ get_or commands n command
     → option_to_list answer ≡ answers_of (take 1 (get_or (lists_of now) command.lane []))
     → lists_of later ≡ slice_set (lists_of now) command.lane (drop 1 (get_or (lists_of now) command.lane []))
@@ -48,6 +51,23 @@ gathers_more commands n lanes now later before out after command answer so_far w
       room = omega (arith, room, so_far.room);
       syncs = syncs ∙ so_far.syncs;
     }
+
+pub with_none : (made : RunRecord) → made ≡ with_answers [] made
+with_none made = λ i. record made { answers = sym (append-nil made.answers) i }
+
+-- the answer to the next work, if there is one
+pub gathers_work : (works : List Work) (n l : ℕ) (lanes now later : List LaneOf) (before out after : RecordOf) (item : Work) (answer : Option Answered)
+    → Gathers (works_of works) n lanes now before out → n < length works → item ≡ get_or works n item → l ≡ (work_of item).lane
+    → option_to_list answer ≡ answers_of (take 1 (get_or (lists_of now) l []))
+    → lists_of later ≡ slice_set (lists_of now) l (drop 1 (get_or (lists_of now) l []))
+    → after.made ≡ with_answers (option_to_list answer) out.made → out.answers_room ≤ after.answers_room + 1 → after.syncs_room ≡ out.syncs_room
+    → Gathers (works_of works) (n + 1) lanes later before after
+gathers_work works n l lanes now later before out after item answer so_far within is at answers rest makes room syncs =
+    let lists = lists_of now in
+    gathers_more (works_of works) n lanes now later before out after (work_of item) answer so_far (omega (arith, within, works_long works)) (work_at works n item is within)
+    (answers ∙ ap (λ (k : ℕ). answers_of (take 1 (get_or lists k []))) at)
+    (rest ∙ ap (λ (k : ℕ). slice_set lists k (drop 1 (get_or lists k []))) at)
+    makes room syncs
 
 pub gathers_none : (commands : List Command) (lanes : List LaneOf) (out : RecordOf) → length commands ≤ out.answers_room → Gathers commands 0 lanes lanes out out
 gathers_none commands lanes out room = record { rest = refl; room = omega (arith, room); syncs = refl }

@@ -1,21 +1,25 @@
 -- A step of a lane alone.
-use Rattle.std.proofs.Common.{◌≡◌, refl, ap, sym, ◌∙◌, subst, ℕ, ◌+◌, ◌≤◌, List, [], ◌∷◌, ◌++◌, append-nil, Bool, true, false, length, take, map, cond, Option, Some, None, arith, length-append}
+use Rattle.std.proofs.Common.{◌≡◌, refl, ap, sym, ◌∙◌, subst, ℕ, ◌+◌, ◌≤◌, List, [], ◌∷◌, ◌++◌, Bool, true, false, length, take, cond, Option, Some, None, arith, length-append}
 use Rattle.std.proofs.lemmas.List.{take-append-le, take_all}
 use Rattle.segment_core.specs.Versions.{VersionOf}
 use Rattle.lake_model.specs.declared.Counts.{Counts}
-use Rattle.lake_model.specs.Journal.{What, Entry, entry_with}
+use Rattle.lake_model.specs.declared.Policy.{Policy}
+use Rattle.lake_model.specs.declared.Who.{Who}
+use Rattle.lake_model.specs.Journal.{What, Entry}
 use Rattle.script_model.specs.Commands.{Command, Task, Load, LoadFile, DropTable, Tables, Search, Like, Merge}
-use Rattle.script_model.specs.Replies.{Reply}
-use Rattle.script_model.specs.Answered.{answer_to, adds, change_of, has_pin, is_accepted, standing}
-use Rattle.script_model.specs.Lanes.{is_merge}
-use Rattle.script_model.specs.Play.{done_with, lane_with, play_with, reply_or_denied, entries_of, who_of, lane_step, step_of, step}
-use Rattle.script_text.specs.declared.command.Task.{Task as CodeTask}
-use Rattle.script_text.specs.declared.command.Task.TheVariants as code
-use Rattle.script_text.specs.Tasks.{task_of}
+use Rattle.script_model.specs.Replies.{Reply, NoMemory}
+use Rattle.script_model.specs.Answered.{answer_to, adds, change_of, has_pin, is_accepted, policy_of, standing}
+use Rattle.script_model.specs.Play.{done_with, lane_with, play_with, reply_or_denied, entries_of, lane_step, step_of, step}
 use Rattle.lake_core.specs.declared.lane.Held.{Held}
-use Rattle.lake_core.specs.declared.lane.Held.TheVariants.{At, Denied}
+use Rattle.lake_core.specs.declared.lane.Held.TheVariants.{At, Swap, Denied}
 use Rattle.lake_core.specs.Searches.{IsPinOf}
-use Rattle.lake_core.proofs.LoadLemmas.{Answers, either_none}
+use Rattle.lake_core.proofs.LoadLemmas.{Answers, added_none, either_none}
+use Rattle.lake_core.proofs.MergeLemmas.{planned_change, planned_later, planned_reply}
+use Rattle.lake_core.specs.declared.merging.Planned.{Planned}
+use Rattle.lake_core.specs.Loads.{with_added}
+use Rattle.lake_core.specs.Merging.{CanSwap, swap_reply, swapped_by}
+use Rattle.lake_core.specs.Works.{merge_policy}
+use Rattle.script_model.specs.Record.{RunRecord}
 use Rattle.lake_core.specs.Lanes.{LaneOf, lane_from, position_of, pin_of, played, alone, IsHeldAt, IsHeld}
 
 -- a lane that has nothing to do
@@ -45,82 +49,119 @@ begun limits journal command todo held lane new first kind none here is =
     ∙ sym (ap (λ (cs : List Command). lane_step limits false journal (played lane ∷ []) 0 cs (played lane)) first)
 
 -- a search and a like add nothing
-no_change : (task : Task) (pinned : List Entry) → has_pin task ≡ true → is_merge task ≡ false → change_of task pinned ≡ []
+no_change : (task : Task) (pinned : List Entry) → has_pin task ≡ true → merge_policy task ≡ None → change_of task pinned ≡ []
 no_change (Load name body) pinned kind plain = absurd (let f : false ≡ true = kind in cc)
 no_change (LoadFile name file) pinned kind plain = absurd (let f : false ≡ true = kind in cc)
 no_change (DropTable name) pinned kind plain = absurd (let f : false ≡ true = kind in cc)
 no_change Tables pinned kind plain = absurd (let f : false ≡ true = kind in cc)
 no_change (Search k body) pinned kind plain = refl
 no_change (Like k name place) pinned kind plain = refl
-no_change (Merge all) pinned kind plain = absurd (let f : true ≡ false = plain in cc)
+no_change (Merge all) pinned kind plain = absurd (let f : Some (policy_of all) ≡ None = plain in cc)
 
-none_added : (task : Task) (pinned : List Entry) (reply : Reply) → has_pin task ≡ true → is_merge task ≡ false → adds task pinned reply ≡ []
+none_added : (task : Task) (pinned : List Entry) (reply : Reply) → has_pin task ≡ true → merge_policy task ≡ None → adds task pinned reply ≡ []
 none_added task pinned reply kind plain =
     ap (λ (whats : List What). cond (is_accepted (standing reply)) whats []) (no_change task pinned kind plain) ∙ either_none (is_accepted (standing reply))
 
 -- the first command, where its pin was taken
-pub answered_then : (limits : Counts) (denied : Bool) (journal : List Entry) (command : Command) (todo : List Command) (held : Held) (reply : Reply) (lane new : LaneOf)
-    → lane.todo ≡ command ∷ todo → has_pin command.task ≡ true → is_merge command.task ≡ false → lane.held ≡ Some held
+pub answered_then : (limits : Counts) (denied : Bool) (journal after : List Entry) (command : Command) (todo : List Command) (held : Held) (reply : Reply) (lane new : LaneOf)
+    → lane.todo ≡ command ∷ todo → has_pin command.task ≡ true → lane.held ≡ Some held
     → reply ≡ reply_or_denied denied (answer_to limits command.task (take (position_of held) journal) journal)
-    → new ≡ lane_from todo None (lane.done ++ done_with command reply ∷ []) → alone journal new ≡ step limits (alone journal lane) (0, denied)
-answered_then limits denied journal command todo held reply lane new first kind plain holds said is =
+    → after ≡ journal ++ entries_of (take (position_of held) journal) command reply
+    → new ≡ lane_from todo None (lane.done ++ done_with command reply ∷ []) → alone after new ≡ step limits (alone journal lane) (0, denied)
+answered_then limits denied journal after command todo held reply lane new first kind holds said goes is =
     let pinned : List Entry = take (position_of held) journal in
-    ap (alone journal) is
-    ∙ ap (λ (j : List Entry). alone j (lane_from todo None (lane.done ++ done_with command reply ∷ []))) (sym (append-nil journal))
-    ∙ ap (λ (whats : List What). alone (journal ++ map (entry_with (who_of command)) whats) (lane_from todo None (lane.done ++ done_with command reply ∷ []))) (sym (none_added command.task pinned reply kind plain))
+    (λ i. alone (goes i) (is i))
     ∙ ap (λ (r : Reply). alone (journal ++ entries_of pinned command r) (lane_from todo None (lane.done ++ done_with command r ∷ []))) said
     ∙ sym (ap (λ (h : Option Held). step_of limits denied journal (played lane ∷ []) 0 lane.done command todo true (pin_of h)) holds)
     ∙ sym (ap (λ b. step_of limits denied journal (played lane ∷ []) 0 lane.done command todo b (pin_of lane.held)) kind)
     ∙ sym (ap (λ (cs : List Command). lane_step limits denied journal (played lane ∷ []) 0 cs (played lane)) first)
 
+-- what a search and a like add to a record
+pub pinned_adds : (who : Who) (task : Task) (pinned : List Entry) (reply : Reply) (made : RunRecord) → has_pin task ≡ true → merge_policy task ≡ None → made ≡ with_added who (adds task pinned reply) made
+pinned_adds who task pinned reply made kind plain = added_none who made ∙ ap (λ (whats : List What). with_added who whats made) (sym (none_added task pinned reply kind plain))
+
+-- want of memory adds nothing
+pub denied_adds : (who : Who) (task : Task) (pinned : List Entry) (made : RunRecord) → made ≡ with_added who (adds task pinned NoMemory) made
+denied_adds who task pinned made = added_none who made
+
 -- ---- what is held
 
--- no task of the code is a merge
-pub no_merge : (task : CodeTask) → is_merge (task_of task) ≡ false
-no_merge (code.Load name body) = refl
-no_merge (code.LoadFile name file) = refl
-no_merge (code.Drop name) = refl
-no_merge code.Tables = refl
-no_merge (code.Search k body) = refl
-no_merge (code.Like k name place) = refl
-
 -- what is answered at a pin alone
-pub pinned_alone : (limits : Counts) (task : Task) (pinned now : List Entry) → has_pin task ≡ true → is_merge task ≡ false → answer_to limits task pinned now ≡ answer_to limits task pinned pinned
+pub pinned_alone : (limits : Counts) (task : Task) (pinned now : List Entry) → has_pin task ≡ true → merge_policy task ≡ None → answer_to limits task pinned now ≡ answer_to limits task pinned pinned
 pinned_alone limits (Load name body) pinned now kind plain = absurd (let f : false ≡ true = kind in cc)
 pinned_alone limits (LoadFile name file) pinned now kind plain = absurd (let f : false ≡ true = kind in cc)
 pinned_alone limits (DropTable name) pinned now kind plain = absurd (let f : false ≡ true = kind in cc)
 pinned_alone limits Tables pinned now kind plain = absurd (let f : false ≡ true = kind in cc)
 pinned_alone limits (Search k body) pinned now kind plain = refl
 pinned_alone limits (Like k name place) pinned now kind plain = refl
-pinned_alone limits (Merge all) pinned now kind plain = absurd (let f : true ≡ false = plain in cc)
+pinned_alone limits (Merge all) pinned now kind plain = absurd (let f : Some (policy_of all) ≡ None = plain in cc)
 
-held_at_grows : (journal more : List Entry) (held : Held) → IsHeldAt journal held → IsHeldAt (journal ++ more) held
-held_at_grows journal more (Denied at) is = is
-held_at_grows journal more (At version) is =
+held_at_grows : (journal more : List Entry) (policy : Option Policy) (held : Held) → IsHeldAt journal policy held → IsHeldAt (journal ++ more) policy held
+held_at_grows journal more None (At version) is =
     let long : version.at ≤ length (journal ++ more) = omega (arith, is.0, length-append journal more) in
     let same : take version.at journal ≡ take version.at (journal ++ more) = sym (take-append-le version.at journal more is.0) in
     (long, subst (λ (j : List Entry). IsPinOf j version) same is.1)
+held_at_grows journal more None (Swap planned) is = is
+held_at_grows journal more None (Denied at) is = is
+held_at_grows journal more (Some policy) (At version) is = is
+held_at_grows journal more (Some policy) (Swap planned) is = planned_later policy journal more planned is
+held_at_grows journal more (Some policy) (Denied at) is = is
 
 -- what is held stays so when entries follow
-pub held_grows : (journal more : List Entry) (held : Option Held) → IsHeld journal held → IsHeld (journal ++ more) held
-held_grows journal more None is = is
-held_grows journal more (Some held) is = held_at_grows journal more held is
+pub held_grows : (journal more : List Entry) (todo : List Command) (held : Option Held) → IsHeld journal todo held → IsHeld (journal ++ more) todo held
+held_grows journal more todo None is = is
+held_grows journal more [] (Some held) is = is
+held_grows journal more (command ∷ todo) (Some held) is = held_at_grows journal more (merge_policy command.task) held is
 
 -- the newest version
-pub held_newest : (journal : List Entry) (version : VersionOf) → IsPinOf journal version → IsHeldAt journal (At version)
+pub held_newest : (journal : List Entry) (version : VersionOf) → IsPinOf journal version → IsHeldAt journal None (At version)
 held_newest journal version is =
     let here : version.at ≡ length journal = ap (λ (v : VersionOf). v.at) is.current in
     let whole : take version.at journal ≡ journal = ap (λ (n : ℕ). take n journal) here ∙ take_all (length journal) journal (omega arith) in
     (omega (arith, here), subst (λ (j : List Entry). IsPinOf j version) (sym whole) is)
 
+-- A version is held for no merge, and a plan for one alone.
+pub at_no_merge : (journal : List Entry) (policy : Option Policy) (version : VersionOf) → IsHeldAt journal policy (At version) → policy ≡ None
+at_no_merge journal None version is = refl
+at_no_merge journal (Some policy) version is = absurd is
+
 -- what is answered at a pin that is held
-pub held_answer : (limits : Counts) (task : Task) (journal : List Entry) (held : Held) (version : VersionOf) (reply : Reply) → held ≡ At version → has_pin task ≡ true → is_merge task ≡ false
-    → IsHeldAt journal held → ((pinned : List Entry) → IsPinOf pinned version → Answers reply (answer_to limits task pinned pinned)) → Answers reply (answer_to limits task (take (position_of held) journal) journal)
-held_answer limits task journal held version reply is kind plain holds answers =
-    let here : IsHeldAt journal (At version) = subst (IsHeldAt journal) is holds in
+pub held_answer : (limits : Counts) (task : Task) (journal : List Entry) (version : VersionOf) (reply : Reply) → has_pin task ≡ true → IsHeldAt journal (merge_policy task) (At version)
+    → ((pinned : List Entry) → IsPinOf pinned version → Answers reply (answer_to limits task pinned pinned)) → Answers reply (answer_to limits task (take version.at journal) journal)
+held_answer limits task journal version reply kind holds answers =
+    let plain = at_no_merge journal (merge_policy task) version holds in
+    let here : IsHeldAt journal None (At version) = subst (λ (policy : Option Policy). IsHeldAt journal policy (At version)) plain holds in
     let there : Answers reply (answer_to limits task (take version.at journal) (take version.at journal)) = answers (take version.at journal) here.1 in
-    subst (λ (h : Held). Answers reply (answer_to limits task (take (position_of h) journal) journal)) (sym is)
     (there.0, there.1 ∙ ap (reply_or_denied there.0) (sym (pinned_alone limits task (take version.at journal) journal kind plain)))
+
+-- what is held for a merge can be swapped
+pub held_can : (journal : List Entry) (policy : Option Policy) (planned : Planned) → IsHeldAt journal policy (Swap planned) → CanSwap journal planned.merged
+held_can journal None planned is = absurd is
+held_can journal (Some policy) planned is = is.swaps
+
+-- what the swap is answered
+pub held_swap : (limits : Counts) (task : Task) (journal : List Entry) (planned : Planned) (reply : Reply) → IsHeldAt journal (merge_policy task) (Swap planned)
+    → Answers reply (swap_reply planned.layout planned.merged journal) → Answers reply (answer_to limits task (take planned.layout.at journal) journal)
+held_swap limits (Merge all) journal planned reply is answers = (answers.0, answers.1 ∙ ap (reply_or_denied answers.0) (planned_reply (policy_of all) journal planned is))
+held_swap limits (Load name body) journal planned reply is answers = absurd is
+held_swap limits (LoadFile name file) journal planned reply is answers = absurd is
+held_swap limits (DropTable name) journal planned reply is answers = absurd is
+held_swap limits Tables journal planned reply is answers = absurd is
+held_swap limits (Search k body) journal planned reply is answers = absurd is
+held_swap limits (Like k name place) journal planned reply is answers = absurd is
+
+-- and what it adds
+pub held_adds : (task : Task) (journal made : List Entry) (planned : Planned) (reply : Reply) → IsHeldAt journal (merge_policy task) (Swap planned) → made ≡ journal
+    → swapped_by planned.merged reply ≡ adds task (take planned.layout.at made) reply
+held_adds (Merge all) journal made planned reply is same =
+    ap (λ (whats : List What). cond (is_accepted (standing reply)) whats []) (planned_change (policy_of all) journal planned is)
+    ∙ ap (λ (j : List Entry). adds (Merge all) (take planned.layout.at j) reply) (sym same)
+held_adds (Load name body) journal made planned reply is same = absurd is
+held_adds (LoadFile name file) journal made planned reply is same = absurd is
+held_adds (DropTable name) journal made planned reply is same = absurd is
+held_adds Tables journal made planned reply is same = absurd is
+held_adds (Search k body) journal made planned reply is same = absurd is
+held_adds (Like k name place) journal made planned reply is same = absurd is
 
 -- ---- what a step leaves to do
 

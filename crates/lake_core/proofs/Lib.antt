@@ -1,5 +1,7 @@
 mod LoadLemmas
 mod SearchLemmas
+mod MergeLemmas
+mod WorkLemmas
 mod LaneLemmas
 mod TurnLemmas
 mod ShareLemmas

@@ -98,7 +98,7 @@ pub refused_answer : (limits : Counts) (journal : List Entry) (read : TableRead)
 refused_answer limits journal read reply (inl none) = (true, none)
 refused_answer limits journal read reply (inr (fault, is, said)) = (false, said ∙ ap (λ r. load_answer limits r journal) (sym is))
 
-added_none : (who : Who) (made : RunRecord) → made ≡ with_added who [] made
+pub added_none : (who : Who) (made : RunRecord) → made ≡ with_added who [] made
 added_none who made = λ i. record made { journal = sym (append-nil made.journal) i }
 
 pub refused_adds : (who : Who) (name : Text) (bytes : List ℕ) (reply : Reply) (made : RunRecord) → IsRefusal (table_read name bytes) reply

@@ -1,19 +1,19 @@
 -- What is answered at a pin is what the definitions answer at the journal of its version.
-use Rattle.std.proofs.Common.{◌≡◌, refl, ap, sym, ◌∙◌, subst, ℕ, ◌-◌, ◌≤◌, List, length, map, Option, Some, None, Bool, true, false, cond, ◌⊎◌, inl, inr, arith}
+use Rattle.std.proofs.Common.{◌≡◌, refl, ap, sym, ◌∙◌, ℕ, ◌-◌, ◌≤◌, List, length, map, Option, Some, None, Bool, true, false, cond, ◌⊎◌, inl, inr, arith}
 use Rattle.std.specs.Prelude.{find, nat_eq, slice_get}
 use Rattle.std.proofs.lemmas.Bool.Decides.{nat_tests}
 use Rattle.std.proofs.lemmas.Simd.{map-map}
 use Rattle.lake_model.specs.Answer.{Query, answer}
 use Rattle.lake_model.specs.Journal.{Entry, live, has_name, live_table}
-use Rattle.lake_model.specs.Layout.{Place, layout, shown, shown_with, unmarked_of}
+use Rattle.lake_model.specs.Layout.{Place, shown, shown_with, unmarked_of}
 use Rattle.lake_model.specs.Tables.{Column, Table, Line, line_of}
 use Rattle.lake_model.specs.Texts.{Text}
 use Rattle.segment_core.specs.declared.column.ColumnRefused.{ColumnRefused}
 use Rattle.segment_core.specs.declared.column.ColumnRefused.TheVariants as refused
 use Rattle.segment_core.specs.Lines.{live_lines}
 use Rattle.segment_core.specs.LiveColumn.{column_fault, column_keys, column_of, fault_in, fault_of, keys_in, keys_of}
-use Rattle.segment_core.specs.Versions.{VersionOf, version_with, live_of}
-use Rattle.script_model.specs.Replies.{Reply, Found, Listed, NoMemory, search_reply, tables_reply, excepting, like_column, like_table, like_reply}
+use Rattle.segment_core.specs.Versions.{VersionOf, live_of}
+use Rattle.script_model.specs.Replies.{Found, Listed, search_reply, tables_reply, excepting, like_column, like_table, like_reply}
 use Rattle.lake_core.specs.Searches.{IsPinOf, found_at, column_reply}
 use Rattle.lake_core.proofs.LoadLemmas.{Answers}
 

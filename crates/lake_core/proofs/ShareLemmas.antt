@@ -1,7 +1,7 @@
 -- The commands of a batch shared out to its lanes.
-use Rattle.std.proofs.Common.{◌≡◌, refl, ap, sym, ◌∙◌, subst, ℕ, zero, suc, ◌+◌, ◌<◌, ◌≤◌, List, [], ◌∷◌, ◌++◌, append-nil, Bool, true, false, cond, length, take, map, get_or, Option, Some, None, arith, length-append}
+use Rattle.std.proofs.Common.{◌≡◌, refl, ap, sym, ◌∙◌, subst, ℕ, zero, suc, ◌+◌, ◌<◌, ◌≤◌, List, [], ◌∷◌, ◌++◌, append-nil, Bool, true, false, cond, length, take, map, get_or, Some, None, arith, length-append}
 use Rattle.std.specs.Prelude.{◌==◌, slice_get, slice_set, filter, option_map}
-use Rattle.std.specs.List.{AllByRecursion, range_with_len}
+use Rattle.std.specs.List.{range_with_len}
 use Rattle.std.proofs.lemmas.Bool.Decides.{nat_tests}
 use Rattle.std.proofs.lemmas.List.{map-append, map-set, length-map, take_more}
 use Rattle.std.proofs.lemmas.List.Elements.{filter-append}
@@ -9,8 +9,8 @@ use Rattle.std.proofs.lemmas.List.FromFn.{length-map-range_with_len, map-range_w
 use Rattle.std.proofs.lemmas.List.Sums.{sum_by_push, sum_by-set}
 use Rattle.std.proofs.lemmas.Option.{slice_get-map, slice_get_read}
 use Rattle.script_model.specs.Commands.{Command}
-use Rattle.script_model.specs.Lanes.{IsOfLanes}
-use Rattle.script_model.specs.Play.{Done, Lane, lane_with, lane_of, lanes_of}
+use Rattle.script_model.specs.Play.{Done, Lane, lane_with, lane_of}
+use Rattle.lake_core.specs.Works.{IsWithinLanes}
 use Rattle.lake_core.specs.Lanes.{LaneOf, lane_from, pin_of, played, left_in, left, AreNew, AreShared}
 
 -- the lanes from a number on
@@ -51,10 +51,9 @@ among commands command lane a (suc count) (suc k) at here =
     (λ i. other commands command a apart i ∷ among commands command lane (a + 1) count k (omega (arith, at)) here i)
 
 -- One more command comes behind those of its lane.
-pub one_more : (count : ℕ) (commands : List Command) (command : Command) (lane : Lane) (l : ℕ) → l ≡ command.lane → 0 < l → slice_get (lanes_of count commands []) l ≡ Some lane
-    → slice_set (lanes_of count commands []) l (with_one command lane) ≡ lanes_of count (commands ++ command ∷ []) []
-one_more count commands command lane zero is low here = absurd (omega (arith, low))
-one_more count commands command lane (suc k) is low here = ap (λ (ls : List Lane). lane_with [] None [] ∷ ls) (among commands command lane 1 count k (omega (arith, is)) here)
+pub one_more : (count : ℕ) (commands : List Command) (command : Command) (lane : Lane) (l : ℕ) → l ≡ command.lane → slice_get (lanes_from 0 count commands) l ≡ Some lane
+    → slice_set (lanes_from 0 count commands) l (with_one command lane) ≡ lanes_from 0 count (commands ++ command ∷ [])
+one_more count commands command lane l is here = among commands command lane 0 count l (let e : command.lane ≡ 0 + l = omega (arith, is) in e) here
 
 -- ---- lanes as the code holds them
 
@@ -84,7 +83,7 @@ shared_idle count lanes later new so_far is pushed =
     subst (AreShared (count + 1) []) (sym e) (record {
       lanes_are = map-append played lanes (lane_from [] None [] ∷ [])
           ∙ ap (λ (ls : List Lane). ls ++ lane_with [] None [] ∷ []) so_far.lanes_are
-          ∙ sym (ap (λ (ls : List Lane). lane_with [] None [] ∷ ls) (map-range_with_len_more (lane_of []) 1 count (1 + count) refl));
+          ∙ sym (map-range_with_len_more (lane_of []) 0 (count + 1) (0 + (count + 1)) refl);
       all = omega (arith, sum_by_push left_in lanes (lane_from [] None []), so_far.all);
       fresh = all_new lanes (lane_from [] None [] ∷ []) so_far.fresh ((refl, refl), tt);
     })
@@ -92,31 +91,29 @@ shared_idle count lanes later new so_far is pushed =
 many : (count : ℕ) (commands : List Command) (lanes : List LaneOf) → AreShared count commands lanes → length lanes ≡ count + 1
 many count commands lanes are =
     sym (length-map lanes played) ∙ ap (λ (ls : List Lane). length ls) are.lanes_are
-    ∙ (let e : length (lanes_of count commands []) ≡ count + 1 = omega (arith, length-map-range_with_len (lane_of commands) 1 count) in e)
+    ∙ length-map-range_with_len (lane_of commands) 0 (count + 1)
 
-of_lanes : (count : ℕ) (commands : List Command) (n : ℕ) (d : Command) → IsOfLanes count commands → n < length commands → (0 < (get_or commands n d).lane) × ((get_or commands n d).lane ≤ count)
+of_lanes : (count : ℕ) (commands : List Command) (n : ℕ) (d : Command) → IsWithinLanes count commands → n < length commands → (get_or commands n d).lane ≤ count
 of_lanes count [] n d are within = absurd (omega (arith, within))
 of_lanes count (command ∷ commands) zero d are within = are.0
 of_lanes count (command ∷ commands) (suc n) d are within = of_lanes count commands n d are.1 (omega (arith, within))
 
 -- a command's lane is there
-pub lane_within : (count : ℕ) (commands : List Command) (n : ℕ) (some : List Command) (lanes : List LaneOf) (command : Command) → IsOfLanes count commands → n < length commands → command ≡ get_or commands n command
+pub lane_within : (count : ℕ) (commands : List Command) (n : ℕ) (some : List Command) (lanes : List LaneOf) (command : Command) → IsWithinLanes count commands → n < length commands → command ≡ get_or commands n command
     → AreShared count some lanes → command.lane < length lanes
 lane_within count commands n some lanes command are within is shared =
-    let (low, high) = of_lanes count commands n command are within in
+    let high = of_lanes count commands n command are within in
     let same : command.lane ≡ (get_or commands n command).lane = ap (λ (c : Command). c.lane) is in
     omega (arith, high, same, many count some lanes shared)
 
 -- one command more
-pub shared_more : (count : ℕ) (commands : List Command) (n : ℕ) (lanes later : List LaneOf) (command : Command) (lane new : LaneOf) (l : ℕ) → IsOfLanes count commands → n < length commands → command ≡ get_or commands n command
+pub shared_more : (count : ℕ) (commands : List Command) (n : ℕ) (lanes later : List LaneOf) (command : Command) (lane new : LaneOf) (l : ℕ) → n < length commands → command ≡ get_or commands n command
     → AreShared count (take n commands) lanes → l ≡ command.lane → l < length lanes → lane ≡ get_or lanes l lane → new ≡ lane_from (lane.todo ++ command ∷ []) lane.held [] → later ≡ slice_set lanes l new
     → AreShared count (take (n + 1) commands) later
-shared_more count commands n lanes later command lane new l are within is shared at inside here added set =
-    let (low, high) = of_lanes count commands n command are within in
-    let same : command.lane ≡ (get_or commands n command).lane = ap (λ (c : Command). c.lane) is in
+shared_more count commands n lanes later command lane new l within is shared at inside here added set =
     let begun = new_here lanes l lane shared.fresh inside here in
     let first : take (n + 1) commands ≡ take n commands ++ command ∷ [] = take_more commands n command within ∙ ap (λ (c : Command). take n commands ++ c ∷ []) (sym is) in
-    let got : slice_get (lanes_of count (take n commands) []) l ≡ Some (played lane) =
+    let got : slice_get (lanes_from 0 (count + 1) (take n commands)) l ≡ Some (played lane) =
     sym (ap (λ (ls : List Lane). slice_get ls l) shared.lanes_are) ∙ slice_get-map played lanes l ∙ ap (option_map played) (slice_get_read lanes (length lanes) l lane refl inside here) in
     let one : played new ≡ with_one command (played lane) = ap played added ∙ ap (λ (done : List Done). lane_with (lane.todo ++ command ∷ []) (pin_of lane.held) done) (sym begun.1) in
     let kept : left_in (get_or lanes l lane) ≡ left_in lane = ap left_in (sym here) in
@@ -127,8 +124,8 @@ shared_more count commands n lanes later command lane new l are within is shared
     record {
       lanes_are = ap (map played) set ∙ map-set played lanes l new
           ∙ (λ i. slice_set (shared.lanes_are i) l (one i))
-          ∙ one_more count (take n commands) command (played lane) l at (omega (arith, low, same, at)) got
-          ∙ sym (ap (λ (cs : List Command). lanes_of count cs []) first);
+          ∙ one_more (count + 1) (take n commands) command (played lane) l at got
+          ∙ sym (ap (λ (cs : List Command). lanes_from 0 (count + 1) cs) first);
       all = omega (arith, size, sum, kept, more, long, shared.all);
       fresh = subst AreNew (sym set) (new_set lanes l new shared.fresh (ap (λ (x : LaneOf). x.held) added ∙ begun.0, ap (λ (x : LaneOf). x.done) added));
     }

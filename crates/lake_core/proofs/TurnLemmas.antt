@@ -1,20 +1,19 @@
 -- A step of a lane among others, and turns one after another.
-use Rattle.std.proofs.Common.{◌≡◌, refl, ap, sym, ◌∙◌, subst, ℕ, zero, suc, ◌+◌, ◌*◌, ◌<◌, ◌≤◌, List, [], ◌∷◌, ◌++◌, append_assoc, append-nil, Bool, true, false, length, take, drop, map, get_or, Option, Some, None, arith, length-append, replicate}
+use Rattle.std.proofs.Common.{◌≡◌, refl, ap, sym, ◌∙◌, subst, ℕ, zero, suc, ◌+◌, ◌<◌, ◌≤◌, List, [], ◌∷◌, ◌++◌, Bool, true, false, length, map, get_or, Option, Some, None, arith, length-append, replicate}
 use Rattle.std.specs.Prelude.{slice_get, slice_set, option_map}
-use Rattle.std.specs.List.{AllByRecursion, fold}
+use Rattle.std.specs.List.{fold}
 use Rattle.std.proofs.lemmas.List.{map-set, get_or_past}
 use Rattle.std.proofs.lemmas.List.Sums.{fold-append, sum_by-set}
 use Rattle.std.proofs.lemmas.Option.{slice_get-map, slice_get_read}
 use Rattle.lake_model.specs.declared.Counts.{Counts}
-use Rattle.lake_model.specs.Journal.{Entry}
+use Rattle.lake_model.specs.Journal.{Entry, standard_limits}
 use Rattle.script_model.specs.Commands.{Command}
 use Rattle.script_model.specs.Record.{RunRecord}
 use Rattle.script_model.specs.Answered.{has_pin}
 use Rattle.script_model.specs.Play.{Lane, Play, play_with, lane_step, step_of, step_at, step, with_denials, play}
-use Rattle.catalogue.specs.Kept.{CatalogueOf}
+use Rattle.catalogue.specs.Kept.{CatalogueOf, IsWithin}
 use Rattle.reply_text.specs.Rooms.{RecordOf}
-use Rattle.lake_core.specs.declared.lane.Held.{Held}
-use Rattle.lake_core.specs.Lanes.{LaneOf, lane_from, pin_of, played, play_of, alone, IsHeld, AreHeld, left_in, left}
+use Rattle.lake_core.specs.Lanes.{LaneOf, lane_from, played, play_of, alone, IsHeld, AreHeld, left_in, left}
 use Rattle.lake_core.specs.Plays.{StateOf, state_with, play_at, IsReady, Leads, Goes}
 use Rattle.lake_core.proofs.LaneLemmas.{held_grows}
 
@@ -114,6 +113,7 @@ goes_none state ready = record {
   entries = ready.entries;
   made = λ i. record state.out.made { journal = ready.journal i };
   limits = refl;
+  within = ready.limits;
   answers_room = refl;
   syncs_room = refl;
 }
@@ -126,12 +126,13 @@ goes_on order later before mid after first second = record {
   entries = second.entries;
   made = second.made ∙ ap (λ (m : RunRecord). record m { journal = after.catalogue.journal }) first.made;
   limits = second.limits ∙ first.limits;
+  within = second.within;
   answers_room = second.answers_room ∙ first.answers_room;
   syncs_room = second.syncs_room ∙ first.syncs_room;
 }
 
 pub ready_after : (order : List ℕ) (before after : StateOf) → Goes order before after → IsReady after
-ready_after order before after goes = record { journal = ap (λ (m : RunRecord). m.journal) goes.made; held = goes.held; entries = goes.entries }
+ready_after order before after goes = record { journal = ap (λ (m : RunRecord). m.journal) goes.made; held = goes.held; entries = goes.entries; limits = goes.within }
 
 -- a lane that has nothing left stays, however often it has its turn
 pub goes_idle : (state : StateOf) (l k : ℕ) → IsReady state → length (get_or state.lanes l (lane_from [] None [])).todo ≡ 0 → Goes (replicate k l) state state
@@ -141,6 +142,7 @@ goes_idle state l k ready none = record {
   entries = ready.entries;
   made = λ i. record state.out.made { journal = ready.journal i };
   limits = refl;
+  within = ready.limits;
   answers_room = refl;
   syncs_room = refl;
 }
@@ -149,23 +151,23 @@ goes_idle state l k ready none = record {
 
 all_held : (journal more : List Entry) (lanes : List LaneOf) → AreHeld journal lanes → AreHeld (journal ++ more) lanes
 all_held journal more [] are = are
-all_held journal more (lane ∷ lanes) are = (held_grows journal more lane.held are.0, all_held journal more lanes are.1)
+all_held journal more (lane ∷ lanes) are = (held_grows journal more lane.todo lane.held are.0, all_held journal more lanes are.1)
 
-held_set : (journal : List Entry) (lanes : List LaneOf) (l : ℕ) (new : LaneOf) → AreHeld journal lanes → IsHeld journal new.held → AreHeld journal (slice_set lanes l new)
+held_set : (journal : List Entry) (lanes : List LaneOf) (l : ℕ) (new : LaneOf) → AreHeld journal lanes → IsHeld journal new.todo new.held → AreHeld journal (slice_set lanes l new)
 held_set journal [] l new are is = are
 held_set journal (lane ∷ lanes) zero new are is = (is, are.1)
 held_set journal (lane ∷ lanes) (suc l) new are is = (are.0, held_set journal lanes l new are.1 is)
 
-pub held_here : (journal : List Entry) (lanes : List LaneOf) (l : ℕ) (lane : LaneOf) → AreHeld journal lanes → l < length lanes → lane ≡ get_or lanes l lane → IsHeld journal lane.held
+pub held_here : (journal : List Entry) (lanes : List LaneOf) (l : ℕ) (lane : LaneOf) → AreHeld journal lanes → l < length lanes → lane ≡ get_or lanes l lane → IsHeld journal lane.todo lane.held
 held_here journal [] l lane are within is = absurd (omega (arith, within))
-held_here journal (x ∷ lanes) zero lane are within is = subst (λ (y : LaneOf). IsHeld journal y.held) (sym is) are.0
+held_here journal (x ∷ lanes) zero lane are within is = subst (λ (y : LaneOf). IsHeld journal y.todo y.held) (sym is) are.0
 held_here journal (x ∷ lanes) (suc l) lane are within is = held_here journal lanes l lane are.1 (omega (arith, within)) is
 
 -- what a step of one lane leaves of all
 pub goes_one : (catalogue catalogue' : CatalogueOf) (lanes : List LaneOf) (out out' : RecordOf) (l : ℕ) (lane new : LaneOf) (more : List Entry) (denied : Bool)
     → IsReady (state_with catalogue lanes out) → l < length lanes → lane ≡ get_or lanes l lane
     → alone catalogue'.journal new ≡ step catalogue.limits (alone catalogue.journal lane) (0, denied)
-    → IsHeld catalogue'.journal new.held → catalogue'.journal ≡ catalogue.journal ++ more
+    → IsHeld catalogue'.journal new.todo new.held → catalogue'.journal ≡ catalogue.journal ++ more
     → out'.made ≡ record out.made { journal = catalogue'.journal } → catalogue'.limits ≡ catalogue.limits
     → out.entries_room + length new.todo ≤ out'.entries_room + length lane.todo → out'.answers_room ≡ out.answers_room → out'.syncs_room ≡ out.syncs_room
     → Goes (l ∷ []) (state_with catalogue lanes out) (state_with catalogue' (slice_set lanes l new) out')
@@ -179,6 +181,7 @@ goes_one catalogue catalogue' lanes out out' l lane new more denied ready within
       entries = omega (arith, sum, here, entries, ready.entries);
       made = made;
       limits = limits;
+      within = subst (λ (l : Counts). IsWithin standard_limits l) (sym limits) ready.limits;
       answers_room = answers;
       syncs_room = syncs;
     }

@@ -1,12 +1,15 @@
 -- The lanes of a batch as the code holds them, and the play that they are at.
-use Rattle.std.specs.Prelude.{◌≡◌, ◌≤◌, ℕ, ⊤, List, [], ◌∷◌, length, map, take, sum_by, Option, Some, None}
-use Rattle.std.specs.List.{AllByRecursion}
+use Rattle.std.specs.Prelude.{◌≡◌, ◌≤◌, ℕ, ◌+◌, ⊤, List, [], ◌∷◌, length, map, take, sum_by, Option, Some, None}
+use Rattle.std.specs.List.{AllByRecursion, range_with_len}
+use Rattle.lake_model.specs.declared.Policy.{Policy}
 use Rattle.lake_model.specs.Journal.{Entry}
 use Rattle.script_model.specs.Commands.{Command}
-use Rattle.script_model.specs.Play.{Done, Lane, lane_with, lanes_of, Play, play_with}
+use Rattle.script_model.specs.Play.{Done, Lane, lane_with, lane_of, Play, play_with}
 use Rattle.lake_core.specs.declared.lane.Held.{Held}
-use Rattle.lake_core.specs.declared.lane.Held.TheVariants.{At, Denied}
+use Rattle.lake_core.specs.declared.lane.Held.TheVariants.{At, Swap, Denied}
+use Rattle.lake_core.specs.Merging.{IsPlanned}
 use Rattle.lake_core.specs.Searches.{IsPinOf}
+use Rattle.lake_core.specs.Works.{merge_policy}
 
 -- a lane: the commands still to do, what is held for the first of them, and what is done
 pub record LaneOf : Type 0 where
@@ -20,6 +23,7 @@ lane_from todo held done = record { todo = todo; held = held; done = done }
 -- the position that is held
 abbrev pub position_of : Held → ℕ
 position_of (At version) = version.at
+position_of (Swap planned) = planned.layout.at
 position_of (Denied at) = at
 
 abbrev pub pin_of : Option Held → Option ℕ
@@ -33,17 +37,23 @@ played lane = lane_with lane.todo (pin_of lane.held) lane.done
 abbrev pub play_of : List Entry → List LaneOf → Play
 play_of journal lanes = play_with journal (map played lanes)
 
--- a pin that is held is that of the beginning of the journal
-abbrev pub IsHeldAt : List Entry → Held → Type 0
-IsHeldAt journal (At version) = (version.at ≤ length journal) × IsPinOf (take version.at journal) version
-IsHeldAt journal (Denied at) = ⊤
+-- What is held is of the beginning of the journal: a version, or for a merge of a policy what was planned.
+abbrev pub IsHeldAt : List Entry → Option Policy → Held → Type 0
+IsHeldAt journal None (At version) = (version.at ≤ length journal) × IsPinOf (take version.at journal) version
+IsHeldAt journal None (Swap planned) = ⊥
+IsHeldAt journal None (Denied at) = ⊤
+IsHeldAt journal (Some policy) (At version) = ⊥
+IsHeldAt journal (Some policy) (Swap planned) = IsPlanned policy journal planned
+IsHeldAt journal (Some policy) (Denied at) = ⊤
 
-abbrev pub IsHeld : List Entry → Option Held → Type 0
-IsHeld journal None = ⊤
-IsHeld journal (Some held) = IsHeldAt journal held
+-- what is held, if anything, is for the first of these commands
+abbrev pub IsHeld : List Entry → List Command → Option Held → Type 0
+IsHeld journal todo None = ⊤
+IsHeld journal [] (Some held) = ⊤
+IsHeld journal (command ∷ todo) (Some held) = IsHeldAt journal (merge_policy command.task) held
 
 abbrev pub AreHeld : List Entry → List LaneOf → Type 0
-AreHeld journal lanes = AllByRecursion (λ lane. IsHeld journal lane.held) lanes
+AreHeld journal lanes = AllByRecursion (λ lane. IsHeld journal lane.todo lane.held) lanes
 
 -- how many commands are still to do
 abbrev pub left_in : LaneOf → ℕ
@@ -63,8 +73,8 @@ AreNew lanes = AllByRecursion (λ lane. (lane.held ≡ None) × (lane.done ≡ [
 abbrev pub done_in : LaneOf → List Done
 done_in lane = lane.done
 
--- so many lanes besides the merger's, with the commands that each has to do, none of which is begun
+-- the merger's lane and so many others, with the commands that each has to do, none of which is begun
 pub record AreShared (count : ℕ) (commands : List Command) (lanes : List LaneOf) : Type 0 where
-  pub lanes_are : map played lanes ≡ lanes_of count commands []
+  pub lanes_are : map played lanes ≡ map (lane_of commands) (range_with_len 0 (count + 1))
   pub all : left lanes ≡ length commands
   pub fresh : AreNew lanes

@@ -1,3 +1,5 @@
+pub mod Works
+pub mod Merging
 pub mod Loads
 pub mod Drops
 pub mod Searches

@@ -1,7 +1,8 @@
 -- A play as the code holds it, and where a stated order of turns leads it.
 use Rattle.std.specs.Prelude.{◌≡◌, ◌≤◌, ℕ, Bool, List, length}
 use Rattle.lake_model.specs.declared.Counts.{Counts}
-use Rattle.catalogue.specs.Kept.{CatalogueOf}
+use Rattle.lake_model.specs.Journal.{standard_limits}
+use Rattle.catalogue.specs.Kept.{CatalogueOf, IsWithin}
 use Rattle.reply_text.specs.Rooms.{RecordOf}
 use Rattle.script_model.specs.Play.{Play, play}
 use Rattle.lake_core.specs.Lanes.{LaneOf, AreHeld, left, play_of}
@@ -18,11 +19,13 @@ state_with catalogue lanes out = record { catalogue = catalogue; lanes = lanes; 
 abbrev pub play_at : StateOf → Play
 play_at state = play_of state.catalogue.journal state.lanes
 
--- the record has the journal of the lake, what is held is of that journal, and there is room for an entry of each command left
+-- The record has the journal of the lake, what is held is of that journal, there is room for an entry of each command left, and the
+-- limits are at most those of a lake as it is shipped.
 pub record IsReady (state : StateOf) : Type 0 where
   pub journal : state.out.made.journal ≡ state.catalogue.journal
   pub held : AreHeld state.catalogue.journal state.lanes
   pub entries : left state.lanes ≤ state.out.entries_room
+  pub limits : IsWithin standard_limits state.catalogue.limits
 
 -- the turns of this order lead from one play to another, with memory wanting at some of them or at none
 abbrev pub Leads : Counts → List ℕ → Play → Play → Type 0
@@ -35,5 +38,6 @@ pub record Goes (order : List ℕ) (before after : StateOf) : Type 0 where
   pub entries : left after.lanes ≤ after.out.entries_room
   pub made : after.out.made ≡ record before.out.made { journal = after.catalogue.journal }
   pub limits : after.catalogue.limits ≡ before.catalogue.limits
+  pub within : IsWithin standard_limits after.catalogue.limits
   pub answers_room : after.out.answers_room ≡ before.out.answers_room
   pub syncs_room : after.out.syncs_room ≡ before.out.syncs_room

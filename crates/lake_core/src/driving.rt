@@ -1,16 +1,20 @@
 //! The commands of a batch on one thread, with the steps of its lanes in a stated order.
-ghost use Rattle.std.specs.Prelude.{◌≡◌, ◌<◌, ◌≤◌, ◌*◌, ◌++◌, [], ◌∷◌, Bool, List, length, map, replicate, flat_map, drop, get_or, slice_set, take, true, None, OnOk, OnErr, IfOk, option_to_list};
+ghost use Rattle.std.specs.Prelude.{◌≡◌, ◌<◌, ◌≤◌, ◌+◌, ◌*◌, ◌++◌, ◌^◌, [], ◌∷◌, ⊤, Bool, List, length, map, replicate, flat_map, drop, get_or, slice_set, take, true, None, OnOk, OnErr, IfOk, MatchOption, option_to_list};
 ghost use Rattle.std.specs.List.{range_with_len};
-ghost use Rattle.script_model.specs.Lanes.{HasNoMerge, IsOfLanes};
-ghost use Rattle.script_model.specs.Play.{answers_of, batch_after, gathered, merges_of, play, record_after, whole_order};
+ghost use Rattle.script_model.specs.Lanes.{IsOfLanes};
+ghost use Rattle.script_model.specs.Play.{answers_of, batch_after, gathered, merges_of, play, record_after, updates, whole_order};
 ghost use Rattle.lake_core.specs.Lanes.{AreShared, done_in, lane_from, play_of};
 ghost use Rattle.lake_core.specs.Plays.{Goes, IsReady, state_with};
+ghost use Rattle.lake_core.specs.Works.{works_of, IsWithinLanes};
+ghost use Rattle.lake_model.specs.Journal.{standard_limits};
+ghost use Rattle.catalogue.specs.Kept.{IsWithin};
 
 use crate::lane::Lane;
+use crate::work::{Work, works_of};
 use catalogue::Catalogue;
 use no_memory::NoMemory;
 use reply_text::{Answered, RunRecord};
-use script_text::{Batch, Command};
+use script_text::Batch;
 use std::alloc::Global;
 
 // So many lanes besides the merger's, all of them idle. The merger's is the first.
@@ -25,18 +29,14 @@ fn idle_lanes<'a>(alloc: Global, lanes: u32) -> Result<Vec<Lane<'a>>, NoMemory>
     Ok(all)
 }
 
-// The lanes with the commands that each has to do, in the order of the batch.
-fn share_out<'a>(
-    alloc: Global,
-    commands: &'a [Command],
-    lanes: u32,
-) -> Result<Vec<Lane<'a>>, NoMemory>
-    requires { IsOfLanes lanes commands.now }
-    ensures { IfOk result (λ all. AreShared lanes commands.now all.items) }
+// The lanes with the work that each has to do, in its order.
+fn share_out<'a>(alloc: Global, works: &[Work<'a>], lanes: u32) -> Result<Vec<Lane<'a>>, NoMemory>
+    requires { IsWithinLanes lanes (works_of works.now) }
+    ensures { IfOk result (λ all. AreShared lanes (works_of works.now) all.items) }
 {
     let mut all = idle_lanes(alloc, lanes)?;
-    for command in commands {
-        all[command.lane() as usize].add(command)?;
+    for work in works {
+        all[work.lane() as usize].add(*work)?;
     }
     Ok(all)
 }
@@ -80,19 +80,19 @@ fn is_idle(lanes: &[Lane<'_>], lane: usize) -> bool
     lane >= lanes.len() || lanes[lane].is_idle()
 }
 
-// What is left of a lane that has at most so many commands. None of them has more than two steps.
+// What is left of a lane that has at most so much work, each of at most two steps.
 fn play_lane(
     alloc: Global,
     catalogue: &mut Catalogue,
     lanes: &mut [Lane<'_>],
     lane: usize,
-    commands: usize,
+    works: usize,
     out: &mut RunRecord,
 )
     requires { IsReady (state_with catalogue.old lanes.old out.old) }
-    ensures { Goes (replicate (2 * commands) lane) (state_with catalogue.old lanes.old out.old) (state_with catalogue.new lanes.new out.new) }
+    ensures { Goes (replicate (2 * works) lane) (state_with catalogue.old lanes.old out.old) (state_with catalogue.new lanes.new out.new) }
 {
-    for _taken in 0..commands {
+    for _taken in 0..works {
         if is_idle(lanes, lane) {
             return;
         }
@@ -107,16 +107,16 @@ fn play_rest(
     catalogue: &mut Catalogue,
     lanes: &mut [Lane<'_>],
     count: u32,
-    commands: usize,
+    works: usize,
     out: &mut RunRecord,
 )
     requires { IsReady (state_with catalogue.old lanes.old out.old) }
-    ensures { Goes (flat_map (λ l. replicate (2 * commands) l) (range_with_len 1 count ++ 0 ∷ [])) (state_with catalogue.old lanes.old out.old) (state_with catalogue.new lanes.new out.new) }
+    ensures { Goes (flat_map (λ l. replicate (2 * works) l) (range_with_len 1 count ++ 0 ∷ [])) (state_with catalogue.old lanes.old out.old) (state_with catalogue.new lanes.new out.new) }
 {
     for before in 0..count {
-        play_lane(alloc, catalogue, lanes, before as usize + 1, commands, out);
+        play_lane(alloc, catalogue, lanes, before as usize + 1, works, out);
     }
-    play_lane(alloc, catalogue, lanes, 0, commands, out);
+    play_lane(alloc, catalogue, lanes, 0, works, out);
 }
 
 // The first answer of those that a lane has done, taken out.
@@ -131,47 +131,47 @@ fn next_done(lanes: &mut [Lane<'_>], lane: usize) -> Option<Answered>
     }
 }
 
-// The answers to the commands, in their order, taken out of the lanes and put into the record.
-fn gather(commands: &[Command], lanes: &mut [Lane<'_>], out: &mut RunRecord)
-    requires { length commands.now ≤ out.old.answers_room }
-    ensures made { out.new.made ≡ record out.old.made { answers = out.old.made.answers ++ answers_of (gathered commands.now (map done_in lanes.old)) } }
+// The answers to the work, in its order, taken out of the lanes and put into the record.
+fn gather(works: &[Work<'_>], lanes: &mut [Lane<'_>], out: &mut RunRecord)
+    requires { length works.now ≤ out.old.answers_room }
+    ensures made { out.new.made ≡ record out.old.made { answers = out.old.made.answers ++ answers_of (gathered (works_of works.now) (map done_in lanes.old)) } }
     ensures syncs_room { out.new.syncs_room ≡ out.old.syncs_room }
 {
-    for command in commands {
-        if let Some(answered) = next_done(lanes, command.lane() as usize) {
+    for work in works {
+        if let Some(answered) = next_done(lanes, work.lane() as usize) {
             out.add_answer(answered);
         }
     }
 }
 
 // All steps of the lanes: first those of the piece, and then what is left. The answers come into the record in the order of the
-// commands, and it notes how long the journal is.
+// work, and it notes how long the journal is.
 fn play(
     alloc: Global,
     catalogue: &mut Catalogue,
-    commands: &[Command],
+    works: &[Work<'_>],
     lanes: &mut [Lane<'_>],
     piece: &[u32],
     count: u32,
     out: &mut RunRecord,
 )
     requires ready { IsReady (state_with catalogue.old lanes.old out.old) }
-    requires answers { length commands.now ≤ out.old.answers_room }
+    requires answers { length works.now ≤ out.old.answers_room }
     requires syncs { 0 < out.old.syncs_room }
-    ensures played { (denials : List Bool) × (out.new.made ≡ record_after out.old.made commands.now (play catalogue.old.limits (whole_order piece.now count (2 * length commands.now)) denials (play_of catalogue.old.journal lanes.old))) }
+    ensures played { (denials : List Bool) × (out.new.made ≡ record_after out.old.made (works_of works.now) (play catalogue.old.limits (whole_order piece.now count (2 * length works.now)) denials (play_of catalogue.old.journal lanes.old))) }
     ensures journal { out.new.made.journal ≡ catalogue.new.journal }
     ensures limits { catalogue.new.limits ≡ catalogue.old.limits }
 {
     play_piece(alloc, catalogue, lanes, piece, out);
-    play_rest(alloc, catalogue, lanes, count, commands.len(), out);
-    gather(commands, lanes, out);
+    play_rest(alloc, catalogue, lanes, count, works.len(), out);
+    gather(works, lanes, out);
     out.add_sync();
 }
 
 /// Answers the commands of a batch, of which each is of a lane from 1 to `lanes`: the steps of the lanes are taken in the order of the
-/// piece, and what is left behind it lane by lane, the merger last. A load, a drop and a list of the tables is one step; a search and a like
-/// are two, the pin and the answer. `merger` is the merger's first number in this batch, where there is one. The answers come in the order
-/// of the script, and then the merger's.
+/// piece, and what is left behind it lane by lane, the merger last. A load, a drop and a list of the tables is one step; a search, a like
+/// and a merge are two, the pin and the answer. `merger` is the merger's first number in this batch, where there is one; it has a merge
+/// for each load and drop. The answers come in the order of the script, and then the merger's.
 ///
 /// Want of memory is answered before any step; from then on it is the reply to the command that meets it, which adds no entry.
 pub fn drive(
@@ -185,16 +185,18 @@ pub fn drive(
 ) -> Result<(), NoMemory>
     requires journal { out.old.made.journal ≡ catalogue.old.journal }
     requires lanes { IsOfLanes lanes batch.now }
-    requires no_merges { HasNoMerge batch.now }
-    requires no_merger { merger ≡ None }
+    // the limits of the lake are at most those of one as it is shipped
+    requires limits { IsWithin standard_limits catalogue.old.limits }
+    // the merger's numbers stay below 2^64
+    requires numbers { MatchOption merger ⊤ (λ first. first + updates batch.now < 2 ^ 64) }
     ensures played { OnOk result ((denials : List Bool) × (out.new.made ≡ batch_after catalogue.old.limits lanes batch.now (merges_of merger batch.now) piece.now denials out.old.made)) }
     ensures journal { OnOk result (out.new.made.journal ≡ catalogue.new.journal) }
     ensures limits { catalogue.new.limits ≡ catalogue.old.limits }
     ensures err { OnErr result ((out.new.made ≡ out.old.made) × (catalogue.new ≡ catalogue.old)) }
 {
-    let commands = batch.commands();
-    let mut all = share_out(alloc, commands, lanes)?;
-    out.room(commands.len(), commands.len())?;
-    play(alloc, catalogue, commands, &mut all, piece, lanes, out);
+    let works = works_of(alloc, batch, merger)?;
+    let mut all = share_out(alloc, &works, lanes)?;
+    out.room(works.len(), works.len())?;
+    play(alloc, catalogue, &works, &mut all, piece, lanes, out);
     Ok(())
 }

@@ -1,57 +1,65 @@
-//! A lane of a batch: the commands that it still has to do, what it holds for the first of them, and what it has done.
-ghost use Rattle.std.specs.Prelude.{◌≡◌, ◌==◌, ◌≤◌, ◌<◌, ◌+◌, ◌++◌, ◌∷◌, [], false, true, Bool, List, ℕ, drop, length, take, IfOk, MatchOption, None, OnOk, option_to_list, map};
+//! A lane of a batch: the work that it still has to do, what it holds for the first of it, and what it has done.
+ghost use Rattle.std.specs.Prelude.{◌≡◌, ◌==◌, ◌≤◌, ◌<◌, ◌+◌, ◌++◌, ◌∷◌, [], false, true, Bool, List, drop, length, take, MatchOption, None, OnOk, Some, option_to_list, map};
 ghost use Rattle.lake_model.specs.declared.Counts.{Counts};
-ghost use Rattle.lake_model.specs.Journal.{Entry};
+ghost use Rattle.lake_model.specs.Journal.{Entry, standard_limits};
+ghost use Rattle.catalogue.specs.Kept.{IsWithin};
 ghost use Rattle.script_model.specs.Answered.{answer_to, adds, has_pin};
 ghost use Rattle.script_model.specs.Commands.{Command as CommandOf};
 ghost use Rattle.script_model.specs.Replies.{tables_reply};
 ghost use Rattle.script_model.specs.Play.{answers_of, done_with, reply_or_denied, step, who_of};
-ghost use Rattle.script_text.specs.Tasks.{IsTaskInRange, task_of};
 ghost use Rattle.reply_text.specs.Replies.{reply_of};
 ghost use Rattle.lake_core.specs.Lanes.{alone, lane_from, position_of, IsHeld, IsHeldAt};
 ghost use Rattle.lake_core.specs.Loads.{with_added};
+ghost use Rattle.lake_core.specs.Searches.{IsPinOf};
+ghost use Rattle.lake_core.specs.Works.{merge_policy, work_of};
 
 use crate::dropping::drop_table;
 use crate::loading::{load, load_file};
+use crate::merging::{Planned, plan_now, swap};
 use crate::searching::finish;
-use catalogue::{Catalogue, Who};
+use crate::work::Work;
+use catalogue::Catalogue;
+use lake_model::Policy;
 use no_memory::NoMemory;
-use reply_text::{Answered, By, Reply, RunRecord};
-use script_text::{Command, Task};
+use reply_text::{Answered, Reply, RunRecord};
+use script_text::Task;
 use segment_core::Pin;
 use std::alloc::Global;
 use std::collections::VecDeque;
 use std::marker::Model;
 
-/// What a lane holds for the search or the like that it has begun.
+/// What a lane holds for the work that it has begun.
 #[derive(Drop)]
 pub enum Held {
-    /// The version of the lake at the first step.
+    /// For a search or a like, the version of the lake at the first step.
     At(Pin),
+    /// For a merge, what was planned at the first step.
+    Swap(Planned),
     /// Memory was wanting at the first step, where the journal was this long.
     Denied { at: u64 },
 }
 
-/// A command with its reply.
+/// What was done, with its reply.
 #[derive(Drop)]
 pub struct Done<'a> {
-    command: &'a Command,
+    work: Work<'a>,
     reply: Reply,
 }
 
 impl<'a> Model for Done<'a> {
     ghost use Rattle.script_model.specs.Play.{Done as DoneOf, done_with};
     ghost use Rattle.reply_text.specs.Replies.{reply_of};
+    ghost use Rattle.lake_core.specs.Works.{work_of};
 
     ghost Value = { DoneOf };
 
-    ghost view = { λ d. done_with d.command.now (reply_of d.reply) };
+    ghost view = { λ d. done_with (work_of d.work) (reply_of d.reply) };
 }
 
-/// A lane of a batch. There is room for what is done of the commands still to do.
+/// A lane of a batch. There is room for what is done of the work still to do.
 #[derive(Drop)]
 pub struct Lane<'a> {
-    todo: VecDeque<&'a Command>,
+    todo: VecDeque<Work<'a>>,
     held: Option<Held>,
     done: VecDeque<Done<'a>>,
 }
@@ -60,27 +68,18 @@ impl<'a> Model for Lane<'a> {
     ghost use Rattle.std.specs.Prelude.{◌+◌, ◌≤◌, length, map};
     ghost use Rattle.std.specs.VecDeque.{deque_capacity};
     ghost use Rattle.lake_core.specs.Lanes.{LaneOf, lane_from};
+    ghost use Rattle.lake_core.specs.Works.{work_of};
 
     ghost Value = { LaneOf };
 
-    ghost view = { λ l. lane_from (map (λ c. c.now) l.todo.items) l.held l.done.items };
+    ghost view = { λ l. lane_from (map work_of l.todo.items) l.held l.done.items };
 
     ghost invariant = { λ l. length l.todo.items + length l.done.items ≤ deque_capacity l.done };
 }
 
-// Whether a task has a pin of its own, which is its first step.
-fn has_pin(task: &Task) -> bool
-    ensures { result ≡ has_pin (task_of task.now) }
-{
-    match task {
-        Task::Search { .. } | Task::Like { .. } => true,
-        Task::Load { .. } | Task::LoadFile { .. } | Task::Drop { .. } | Task::Tables => false,
-    }
-}
-
 // Holds the newest version, or else the position at which memory was wanting for that.
 fn hold(catalogue: &Catalogue) -> Held
-    ensures held { IsHeldAt catalogue.now.journal result }
+    ensures held { IsHeldAt catalogue.now.journal None result }
     ensures position { position_of result ≡ length catalogue.now.journal }
 {
     match catalogue.pin() {
@@ -89,14 +88,65 @@ fn hold(catalogue: &Catalogue) -> Held
     }
 }
 
-// The reply to a search or a like that was begun.
-fn reply_when_held(alloc: Global, held: Held, task: &Task) -> Reply
-    requires pins { has_pin (task_of task.now) ≡ true }
-    requires in_range { IsTaskInRange task.now }
-    ensures { (limits : Counts) (journal : List Entry) → IsHeldAt journal held → (denied : Bool) × (reply_of result ≡ reply_or_denied denied (answer_to limits (task_of task.now) (take (position_of held) journal) journal)) }
+// Holds a merge that is planned in the newest version, or else the position at which memory was wanting for that.
+fn hold_merge(alloc: Global, catalogue: &Catalogue, policy: Policy) -> Held
+    requires { IsWithin standard_limits catalogue.now.limits }
+    ensures held { IsHeldAt catalogue.now.journal (Some policy) result }
+    ensures position { position_of result ≡ length catalogue.now.journal }
+{
+    match plan_now(alloc, catalogue, policy) {
+        Ok(planned) => Held::Swap(planned),
+        Err(NoMemory) => Held::Denied { at: catalogue.at() },
+    }
+}
+
+// What is held for work that has a pin, from its first step on.
+fn begin(alloc: Global, catalogue: &Catalogue, work: &Work<'_>) -> Held
+    requires { IsWithin standard_limits catalogue.now.limits }
+    ensures held { IsHeldAt catalogue.now.journal (merge_policy (work_of work.now).task) result }
+    ensures position { position_of result ≡ length catalogue.now.journal }
+{
+    match work.policy() {
+        Some(policy) => hold_merge(alloc, catalogue, policy),
+        None => hold(catalogue),
+    }
+}
+
+// The reply to a search or a like at its pin.
+fn reply_at_pin(alloc: Global, pin: Pin, work: &Work<'_>) -> Reply
+    requires pins { has_pin (work_of work.now).task ≡ true }
+    requires merges { merge_policy (work_of work.now).task ≡ None }
+    ensures { (limits : Counts) (journal : List Entry) → IsPinOf journal pin → (denied : Bool) × (reply_of result ≡ reply_or_denied denied (answer_to limits (work_of work.now).task journal journal)) }
+{
+    match work {
+        Work::Given(command) => finish(alloc, pin, command.task()),
+        Work::Merge { .. } => unreachable!(),
+    }
+}
+
+// The reply to work that was begun. A merge that is swapped in puts its entry into the record.
+fn reply_when_held(
+    alloc: Global,
+    catalogue: &mut Catalogue,
+    work: &Work<'_>,
+    held: Held,
+    out: &mut RunRecord,
+) -> Reply
+    requires pins { has_pin (work_of work.now).task ≡ true }
+    requires held { IsHeldAt catalogue.old.journal (merge_policy (work_of work.now).task) held }
+    requires journal { out.old.made.journal ≡ catalogue.old.journal }
+    requires entries { 0 < out.old.entries_room }
+    ensures answered { (denied : Bool) × (reply_of result ≡ reply_or_denied denied (answer_to catalogue.old.limits (work_of work.now).task (take (position_of held) catalogue.old.journal) catalogue.old.journal)) }
+    ensures made { out.new.made ≡ with_added (who_of (work_of work.now)) (adds (work_of work.now).task (take (position_of held) out.old.made.journal) (reply_of result)) out.old.made }
+    ensures journal { out.new.made.journal ≡ catalogue.new.journal }
+    ensures limits { catalogue.new.limits ≡ catalogue.old.limits }
+    ensures answers_room { out.new.answers_room ≡ out.old.answers_room }
+    ensures entries_room { out.old.entries_room ≤ out.new.entries_room + 1 }
+    ensures syncs_room { out.new.syncs_room ≡ out.old.syncs_room }
 {
     match held {
-        Held::At(pin) => finish(alloc, pin, task),
+        Held::At(pin) => reply_at_pin(alloc, pin, work),
+        Held::Swap(planned) => swap(alloc, catalogue, work.who(), planned, out),
         Held::Denied { .. } => Reply::NoMemory,
     }
 }
@@ -111,34 +161,34 @@ fn list_now(alloc: Global, catalogue: &Catalogue) -> Reply
     }
 }
 
-// The reply to a command that has no pin. An accepted load or drop puts its entry into the record.
+// The reply to work that has no pin. An accepted load or drop puts its entry into the record.
 fn reply_now(
     alloc: Global,
     catalogue: &mut Catalogue,
-    command: &Command,
+    work: &Work<'_>,
     out: &mut RunRecord,
 ) -> Reply
-    requires pins { has_pin command.now.task ≡ false }
+    requires pins { has_pin (work_of work.now).task ≡ false }
     requires journal { out.old.made.journal ≡ catalogue.old.journal }
     requires entries { 0 < out.old.entries_room }
-    ensures answered { (denied : Bool) × (reply_of result ≡ reply_or_denied denied (answer_to catalogue.old.limits command.now.task catalogue.old.journal catalogue.old.journal)) }
-    ensures made { out.new.made ≡ with_added (who_of command.now) (adds command.now.task out.old.made.journal (reply_of result)) out.old.made }
+    ensures answered { (denied : Bool) × (reply_of result ≡ reply_or_denied denied (answer_to catalogue.old.limits (work_of work.now).task catalogue.old.journal catalogue.old.journal)) }
+    ensures made { out.new.made ≡ with_added (who_of (work_of work.now)) (adds (work_of work.now).task out.old.made.journal (reply_of result)) out.old.made }
     ensures journal { out.new.made.journal ≡ catalogue.new.journal }
     ensures limits { catalogue.new.limits ≡ catalogue.old.limits }
     ensures answers_room { out.new.answers_room ≡ out.old.answers_room }
     ensures entries_room { out.old.entries_room ≤ out.new.entries_room + 1 }
     ensures syncs_room { out.new.syncs_room ≡ out.old.syncs_room }
 {
-    let who = Who {
-        caller: command.lane(),
-        command: command.number(),
+    let who = work.who();
+    let Work::Given(command) = work else {
+        unreachable!()
     };
     match command.task() {
         Task::Load { name, body } => load(alloc, catalogue, who, name, body, out),
         Task::LoadFile { name, file } => load_file(alloc, catalogue, who, name, file, out),
         Task::Drop { name } => drop_table(catalogue, who, name, out),
         Task::Tables => list_now(alloc, catalogue),
-        Task::Search { .. } | Task::Like { .. } => unreachable!(),
+        Task::Search { .. } | Task::Like { .. } | Task::Merge { .. } => unreachable!(),
     }
 }
 
@@ -154,16 +204,16 @@ impl<'a> Lane<'a> {
         }
     }
 
-    /// Puts a command behind those still to do.
-    pub fn add(&mut self, command: &'a Command) -> Result<(), NoMemory>
+    /// Puts work behind that still to do.
+    pub fn add(&mut self, work: Work<'a>) -> Result<(), NoMemory>
         requires { self.old.done ≡ [] }
-        ensures { OnOk result (self.new ≡ lane_from (self.old.todo ++ command.now ∷ []) self.old.held []) }
+        ensures { OnOk result (self.new ≡ lane_from (self.old.todo ++ work_of work.entry ∷ []) self.old.held []) }
     {
         let Some(room) = self.todo.len().checked_add(1) else {
             return Err(NoMemory);
         };
         self.done.reserve(room)?;
-        self.todo.push_back(command)?;
+        self.todo.push_back(work)?;
         Ok(())
     }
 
@@ -174,31 +224,32 @@ impl<'a> Lane<'a> {
         self.todo.is_empty()
     }
 
-    // The first of the commands still to do.
-    fn first(&self) -> Option<&'a Command>
-        ensures { MatchOption result (self.now.todo ≡ []) (λ command. self.now.todo ≡ command.now ∷ drop 1 self.now.todo) }
+    // The first of the work still to do.
+    fn first(&self) -> Option<Work<'a>>
+        ensures { MatchOption result (self.now.todo ≡ []) (λ work. self.now.todo ≡ work_of work ∷ drop 1 self.now.todo) }
     {
         self.todo.front().copied()
     }
 
-    // The first of the commands still to do is answered.
+    // The first of the work still to do is answered.
     fn answer(&mut self, reply: Reply)
         ensures { (command : CommandOf) (todo : List CommandOf) → self.old.todo ≡ command ∷ todo → self.new ≡ lane_from todo None (self.old.done ++ done_with command (reply_of reply) ∷ []) }
     {
         self.held = None;
-        if let Some(command) = self.todo.pop_front() {
-            self.done.push_back_reserved(Done { command, reply });
+        if let Some(work) = self.todo.pop_front() {
+            self.done.push_back_reserved(Done { work, reply });
         }
     }
 
-    /// Takes the next step, where there is one: the first command of those still to do is answered; but a search or a like has a step
-    /// before, in which the version of the lake is held at which it is answered.
+    /// Takes the next step, where there is one: the first of the work still to do is answered; but a search, a like or a merge has a
+    /// step before, in which the version of the lake is held at which it is answered, or the merge is planned.
     pub fn step(&mut self, alloc: Global, catalogue: &mut Catalogue, out: &mut RunRecord)
+        requires limits { IsWithin standard_limits catalogue.old.limits }
         requires journal { out.old.made.journal ≡ catalogue.old.journal }
-        requires held { IsHeld catalogue.old.journal self.old.held }
+        requires held { IsHeld catalogue.old.journal self.old.todo self.old.held }
         requires entries { length self.old.todo ≤ out.old.entries_room }
         ensures steps { (denied : Bool) × (alone catalogue.new.journal self.new ≡ step catalogue.old.limits (alone catalogue.old.journal self.old) (0, denied)) }
-        ensures held { IsHeld catalogue.new.journal self.new.held }
+        ensures held { IsHeld catalogue.new.journal self.new.todo self.new.held }
         ensures grows { (more : List Entry) × (catalogue.new.journal ≡ catalogue.old.journal ++ more) }
         ensures made { out.new.made ≡ record out.old.made { journal = catalogue.new.journal } }
         ensures limits { catalogue.new.limits ≡ catalogue.old.limits }
@@ -206,17 +257,17 @@ impl<'a> Lane<'a> {
         ensures answers_room { out.new.answers_room ≡ out.old.answers_room }
         ensures syncs_room { out.new.syncs_room ≡ out.old.syncs_room }
     {
-        let Some(command) = self.first() else {
+        let Some(work) = self.first() else {
             return;
         };
-        if !has_pin(command.task()) {
-            let reply = reply_now(alloc, catalogue, command, out);
+        if !work.has_pin() {
+            let reply = reply_now(alloc, catalogue, &work, out);
             self.answer(reply);
             return;
         }
         match self.held.take() {
-            None => self.held = Some(hold(catalogue)),
-            Some(held) => self.answer(reply_when_held(alloc, held, command.task())),
+            None => self.held = Some(begin(alloc, catalogue, &work)),
+            Some(held) => self.answer(reply_when_held(alloc, catalogue, &work, held, out)),
         }
     }
 
@@ -225,12 +276,9 @@ impl<'a> Lane<'a> {
         ensures answer { option_to_list result ≡ answers_of (take 1 self.old.done) }
         ensures rest { self.new ≡ lane_from self.old.todo self.old.held (drop 1 self.old.done) }
     {
-        let Done { command, reply } = self.done.pop_front()?;
+        let Done { work, reply } = self.done.pop_front()?;
         Some(Answered {
-            by: By::Command {
-                number: command.number(),
-                lane: command.lane(),
-            },
+            by: work.by(),
             reply,
         })
     }

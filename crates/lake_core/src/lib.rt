@@ -5,7 +5,9 @@ mod driving;
 mod dropping;
 mod lane;
 mod loading;
+mod merging;
 mod searching;
+mod work;
 
 pub use driving::drive;
 pub use loading::{Loadable, make_table, make_table_of_file};

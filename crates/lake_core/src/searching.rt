@@ -1,5 +1,5 @@
 //! What is asked of the lake at a pin: searches, likes, and the list of the live tables.
-ghost use Rattle.std.specs.Prelude.{◌≡◌, ◌≤◌, Bool, List, false, option_copied, IfOk};
+ghost use Rattle.std.specs.Prelude.{◌≡◌, ◌≤◌, Bool, List, false, None, option_copied, IfOk};
 ghost use Rattle.josie_search.specs.Search.{query_with};
 ghost use Rattle.lake_model.specs.declared.Counts.{Counts};
 ghost use Rattle.lake_model.specs.Journal.{Entry};
@@ -8,6 +8,7 @@ ghost use Rattle.script_model.specs.Answered.{answer_to, is_update_task, query_r
 ghost use Rattle.script_model.specs.Play.{reply_or_denied};
 ghost use Rattle.script_text.specs.Tasks.{IsTaskInRange, task_of};
 ghost use Rattle.lake_core.specs.Searches.{column_reply, found_at, IsPinOf};
+ghost use Rattle.lake_core.specs.Works.{merge_policy};
 ghost use Rattle.reply_text.specs.Replies.{reply_of};
 
 use column_set::{Name, QueryRefused, QuerySet};
@@ -113,6 +114,7 @@ fn list(alloc: Global, pin: &Pin) -> Reply
 /// that memory is wanting.
 pub fn finish(alloc: Global, pin: Pin, task: &Task) -> Reply
     requires asks { is_update_task (task_of task.now) ≡ false }
+    requires merges { merge_policy (task_of task.now) ≡ None }
     requires in_range { IsTaskInRange task.now }
     ensures { (limits : Counts) (journal : List Entry) → IsPinOf journal pin → (denied : Bool) × (reply_of result ≡ reply_or_denied denied (answer_to limits (task_of task.now) journal journal)) }
 {
@@ -120,6 +122,7 @@ pub fn finish(alloc: Global, pin: Pin, task: &Task) -> Reply
         Task::Search { k, body } => search(alloc, &pin, *k, body),
         Task::Like { k, name, place } => like(alloc, &pin, *k, name, *place),
         Task::Tables => list(alloc, &pin),
-        Task::Load { .. } | Task::LoadFile { .. } | Task::Drop { .. } => unreachable!(),
+        Task::Load { .. } | Task::LoadFile { .. } | Task::Drop { .. } | Task::Merge { .. } =>
+            unreachable!(),
     }
 }

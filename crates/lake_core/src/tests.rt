@@ -1,6 +1,7 @@
-//! Two lanes whose steps are taken in several orders.
-ghost use Rattle.std.specs.Prelude.{IfOk};
-ghost use Rattle.script_model.specs.Lanes.{HasNoMerge, IsOfLanes};
+//! Lanes whose steps are taken in several orders, and merges among them.
+ghost use Rattle.std.specs.Prelude.{◌≡◌, ◌≤◌, IfOk};
+ghost use Rattle.script_model.specs.Lanes.{IsOfLanes};
+ghost use Rattle.script_text.specs.Tasks.{IsTaskInRange};
 
 use super::drive;
 use catalogue::{Catalogue, Limits};
@@ -9,6 +10,33 @@ use reply_text::{Reply, RunRecord};
 use script_text::{Batch, Body, Command, Task};
 use std::alloc::Global;
 use std::test::Fail;
+
+// What an answer is, with its position; a search has the number of its rows before, a swap and a stale merge that of their plan.
+#[derive(Clone, Copy, Debug, PartialEq, Eq)]
+enum Kind {
+    Loaded(u64),
+    Dropped(u64),
+    Found(usize, u64),
+    Merged(u64, u64),
+    Nothing(u64),
+    Stale(u64, u64),
+    Other,
+}
+
+use Kind::{Dropped, Found, Loaded, Merged, Nothing, Stale};
+
+// The kind of a reply.
+fn kind_of(reply: &Reply) -> Kind {
+    match reply {
+        Reply::Loaded { at, .. } => Loaded(*at),
+        Reply::Dropped { at, .. } => Dropped(*at),
+        Reply::Found { rows, layout, .. } => Found(rows.list().len(), layout.at()),
+        Reply::Merged { layout, at, .. } => Merged(layout.at(), *at),
+        Reply::NothingToMerge { layout } => Nothing(layout.at()),
+        Reply::Stale { layout, at, .. } => Stale(layout.at(), *at),
+        _ => Kind::Other,
+    }
+}
 
 // The name that a text is.
 fn name(text: &str) -> Result<Name, Fail> {
@@ -20,83 +48,164 @@ fn body(alloc: Global, text: &str) -> Result<Body, Fail> {
     Ok(Body::new(Vec::from_slice(alloc, text.as_bytes())?).ok_or("no body")?)
 }
 
-// Lane 1 loads two tables and searches them; lane 2 drops the second and searches too.
-fn two_lanes(alloc: Global) -> Result<Batch, Fail>
-    ensures lanes { IfOk result (λ batch. IsOfLanes 2 batch) }
-    ensures merges { IfOk result (λ batch. HasNoMerge batch) }
+// A command.
+fn command(number: u64, lane: u32, task: Task) -> Command
+    requires lane { 1 ≤ lane }
+    requires task { IsTaskInRange task }
+    ensures { result.lane ≡ lane }
 {
-    let first = Task::Load {
-        name: name("a1")?,
+    Command { number, lane, task }
+}
+
+// The load of a table of one column with one key, on lane 1.
+fn load(alloc: Global, number: u64, table: &str) -> Result<Command, Fail>
+    ensures { IfOk result (λ command. command.lane ≡ 1) }
+{
+    let task = Task::Load {
+        name: name(table)?,
         body: body(alloc, "c\nx\n")?,
     };
-    let second = Task::Load {
-        name: name("a2")?,
-        body: body(alloc, "c\nx\n")?,
-    };
-    let drop_second = Task::Drop { name: name("a2")? };
-    let search = Task::Search {
+    Ok(command(number, 1, task))
+}
+
+// A search for that key.
+fn search(alloc: Global, number: u64, lane: u32) -> Result<Command, Fail>
+    requires { 1 ≤ lane }
+    ensures { IfOk result (λ command. command.lane ≡ lane) }
+{
+    let task = Task::Search {
         k: 9,
         body: body(alloc, "x\n")?,
     };
-    let search_again = Task::Search {
-        k: 9,
-        body: body(alloc, "x\n")?,
-    };
+    Ok(command(number, lane, task))
+}
+
+// The drop of a table.
+fn drop_table(number: u64, lane: u32, table: &str) -> Result<Command, Fail>
+    requires { 1 ≤ lane }
+    ensures { IfOk result (λ command. command.lane ≡ lane) }
+{
+    let task = Task::Drop { name: name(table)? };
+    Ok(command(number, lane, task))
+}
+
+// Lane 1 loads two tables and searches them; lane 2 drops the second and searches too.
+fn searches(alloc: Global) -> Result<Batch, Fail>
+    ensures { IfOk result (λ batch. IsOfLanes 2 batch) }
+{
     let commands = [
-        Command {
-            number: 1,
-            lane: 1,
-            task: first,
-        },
-        Command {
-            number: 2,
-            lane: 1,
-            task: second,
-        },
-        Command {
-            number: 3,
-            lane: 2,
-            task: drop_second,
-        },
-        Command {
-            number: 4,
-            lane: 2,
-            task: search,
-        },
-        Command {
-            number: 5,
-            lane: 1,
-            task: search_again,
-        },
+        load(alloc, 1, "a1")?,
+        load(alloc, 2, "a2")?,
+        drop_table(3, 2, "a2")?,
+        search(alloc, 4, 2)?,
+        search(alloc, 5, 1)?,
     ];
     Ok(Batch::new(Vec::from_array(alloc, commands)?))
 }
 
-// How many rows the answer of this index has, and the position of its layout.
-fn found(record: &RunRecord, index: usize) -> Option<(usize, u64)> {
-    match &record.answers().get(index)?.reply {
-        Reply::Found { rows, layout, .. } => Some((rows.list().len(), layout.at())),
-        _ => None,
-    }
+// Lane 1 loads four tables and merges; lane 2 merges too.
+fn merges(alloc: Global) -> Result<Batch, Fail>
+    ensures { IfOk result (λ batch. IsOfLanes 2 batch) }
+{
+    let commands = [
+        load(alloc, 1, "a1")?,
+        load(alloc, 2, "a2")?,
+        load(alloc, 3, "a3")?,
+        load(alloc, 4, "a4")?,
+        command(5, 1, Task::Merge { all: false }),
+        command(6, 2, Task::Merge { all: false }),
+    ];
+    Ok(Batch::new(Vec::from_array(alloc, commands)?))
 }
 
-// What lane 2's search and then lane 1's find in this order.
-fn finds(alloc: Global, piece: &[u32]) -> Result<[Option<(usize, u64)>; 2], Fail> {
+// Lane 1 loads four tables and drops one.
+fn updates(alloc: Global) -> Result<Batch, Fail>
+    ensures { IfOk result (λ batch. IsOfLanes 2 batch) }
+{
+    let commands = [
+        load(alloc, 1, "a1")?,
+        load(alloc, 2, "a2")?,
+        load(alloc, 3, "a3")?,
+        load(alloc, 4, "a4")?,
+        drop_table(5, 1, "a1")?,
+    ];
+    Ok(Batch::new(Vec::from_array(alloc, commands)?))
+}
+
+// The kinds of the answers of a batch of two lanes, from an index on, in a new lake; with a merger, if it is asked for.
+fn answers(
+    alloc: Global,
+    batch: &Batch,
+    piece: &[u32],
+    merge: bool,
+    from: usize,
+) -> Result<Vec<Kind>, Fail>
+    requires { IsOfLanes 2 batch.now }
+{
+    if batch.updates() > 100 {
+        return Err("too many".into());
+    }
+    let merger = if merge { Some(1) } else { None };
     let mut catalogue = Catalogue::new(alloc, Limits::standard())?;
     let mut record = RunRecord::new(alloc);
-    let batch = two_lanes(alloc)?;
-    drive(alloc, &mut catalogue, &batch, piece, 2, None, &mut record)?;
-    Ok([found(&record, 3), found(&record, 4)])
+    drive(alloc, &mut catalogue, batch, piece, 2, merger, &mut record)?;
+    let mut kinds = Vec::new(alloc);
+    for answered in record.answers().iter().skip(from) {
+        kinds.push(kind_of(&answered.reply))?;
+    }
+    Ok(kinds)
 }
 
 #[test]
 fn orders(rt: HostRuntime) -> Result<(), Fail> {
     let alloc = rt.alloc();
-    assert_eq!(rt; finds(alloc, &[])?, [Some((1, 3)), Some((2, 2))]);
-    assert_eq!(rt; finds(alloc, &[1, 1, 2, 1])?, [Some((1, 3)), Some((1, 3))]);
+    let batch = searches(alloc)?;
+    for (piece, want) in [
+        ([].as_slice(), [Found(1, 3), Found(2, 2)]),
+        ([1, 1, 2, 1].as_slice(), [Found(1, 3), Found(1, 3)]),
+        ([2, 2, 1, 1, 2].as_slice(), [Found(0, 0), Found(2, 2)]),
+    ] {
+        assert_eq!(rt;
+            answers(alloc, &batch, piece, false, 3)?.as_slice(),
+            want.as_slice()
+        );
+    }
+    Ok(())
+}
+
+// Where lane 1 swaps before lane 2 plans, nothing is left to merge; where it swaps after that, the plan of lane 2 is stale.
+#[test]
+fn two_merges(rt: HostRuntime) -> Result<(), Fail> {
+    let alloc = rt.alloc();
+    let batch = merges(alloc)?;
     assert_eq!(rt;
-        finds(alloc, &[2, 2, 1, 1, 2])?,
-        [Some((0, 0)), Some((2, 2))]
+        answers(alloc, &batch, &[], false, 4)?.as_slice(),
+        [Merged(4, 5), Nothing(5)].as_slice()
+    );
+    assert_eq!(rt;
+        answers(alloc, &batch, &[1, 1, 1, 1, 1, 2, 1, 2], false, 4)?.as_slice(),
+        [Merged(4, 5), Stale(4, 5)].as_slice()
+    );
+    Ok(())
+}
+
+// The merger plans before the drop, and swaps after it. Of its five commands the others find nothing to merge.
+#[test]
+fn merger(rt: HostRuntime) -> Result<(), Fail> {
+    let alloc = rt.alloc();
+    let batch = updates(alloc)?;
+    assert_eq!(rt;
+        answers(alloc, &batch, &[1, 1, 1, 1, 0, 1, 0], true, 3)?.as_slice(),
+        [
+            Loaded(4),
+            Dropped(5),
+            Merged(4, 6),
+            Nothing(6),
+            Nothing(6),
+            Nothing(6),
+            Nothing(6)
+        ]
+        .as_slice()
     );
     Ok(())
 }

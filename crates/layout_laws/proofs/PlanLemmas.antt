@@ -99,7 +99,7 @@ filter_agree p q (x ∷ xs) h = λ i. cond (h.0 i) (x ∷ filter_agree p q xs h.
 abbrev IsKeptAs : List ℕ → Place → Type 0
 IsKeptAs kept place = is_among kept place.position ≡ not place.marked
 
-kept_as : (places : List Place) → AreDistinct (positions_in places) → AllByRecursion (IsKeptAs (positions_in (unmarked places))) places
+pub kept_as : (places : List Place) → AreDistinct (positions_in places) → AllByRecursion (IsKeptAs (positions_in (unmarked places))) places
 kept_as [] h = tt
 kept_as (p ∷ ps) h = by p.marked refl (kept_as ps h.1)
   where

@@ -1,3 +1,4 @@
 mod KeepingLemmas
 mod LayoutLemmas
 mod NumberedLemmas
+mod ListedLemmas

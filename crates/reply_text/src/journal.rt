@@ -1,10 +1,10 @@
 //! The text of a journal: how many entries it has, and a line for each.
 ghost use Rattle.std.specs.Prelude.{◌≡◌, ◌++◌, ◌∷◌, [], codes, decimal, flat_map, map, OnOk};
 ghost use Rattle.std.specs.List.{enumerate_from};
-ghost use Rattle.script_model.specs.Texts.{command_text, entry_line, journal_lines, line_text, spaced};
+ghost use Rattle.script_model.specs.Texts.{command_text, entry_line, journal_lines, line_text, listed, spaced};
 ghost use Rattle.reply_text.specs.Keeping.{Keeps};
 
-use crate::words::Word::{Command, Number, Text};
+use crate::words::Word::{Command, Number, Numbers, Text};
 use crate::words::{push_bytes, push_line, push_number};
 use catalogue::{Entry, What};
 use column_set::Name;
@@ -33,6 +33,31 @@ fn push_update<'a>(
     push_line("  ", position, &words, into)
 }
 
+// `  P swap lane C command N from NUMBERS kept POSITIONS`
+fn push_swap<'a>(
+    position: u64,
+    who: Who,
+    from: &'a [u64],
+    kept: &'a [u64],
+    into: &mut Vec<u8>,
+) -> Result<(), NoMemory>
+    ensures ok { OnOk result (into.new.items ≡ into.old.items ++ line_text (codes "  " ++ spaced (decimal position ∷ codes "swap" ∷ codes "lane" ∷ decimal who.caller ∷ codes "command" ∷ command_text who ∷ codes "from" ∷ listed decimal from.now ∷ codes "kept" ∷ listed decimal kept.now ∷ []))) }
+    ensures kept { Keeps into.old.items into.new.items }
+{
+    let words = [
+        Text("swap"),
+        Text("lane"),
+        Number(u64::from(who.caller)),
+        Text("command"),
+        Command(who),
+        Text("from"),
+        Numbers(from),
+        Text("kept"),
+        Numbers(kept),
+    ];
+    push_line("  ", position, &words, into)
+}
+
 // The line of the entry at a position.
 fn push_entry(position: u64, entry: &Entry, into: &mut Vec<u8>) -> Result<(), NoMemory>
     ensures ok { OnOk result (into.new.items ≡ into.old.items ++ line_text (entry_line (position, entry.now))) }
@@ -41,6 +66,13 @@ fn push_entry(position: u64, entry: &Entry, into: &mut Vec<u8>) -> Result<(), No
     match &entry.what {
         What::Loaded(table) => push_update(position, "load", entry.who, table.table().name(), into),
         What::Dropped(name) => push_update(position, "drop", entry.who, name, into),
+        What::Swapped { from, kept } => push_swap(
+            position,
+            entry.who,
+            from.list(),
+            kept.list(),
+            into,
+        ),
     }
 }
 
@@ -55,8 +87,9 @@ fn push_entries(entries: &[Entry], into: &mut Vec<u8>) -> Result<(), NoMemory>
     Ok(())
 }
 
-/// Appends the text of a journal: `journal L` for its L entries, and for each a line with its position, `load` or `drop`, the lane
-/// and the command that made it, and the name of the table.
+/// Appends the text of a journal: `journal L` for its L entries, and for each a line with its position, `load`, `drop` or `swap`, the
+/// lane and the command that made it, and the name of the table, or the numbers of the parts that gave way and the positions that were
+/// kept of them, each with commas between, or `none`.
 pub fn push_journal(entries: &[Entry], into: &mut Vec<u8>) -> Result<(), NoMemory>
     ensures ok { OnOk result (into.new.items ≡ into.old.items ++ flat_map line_text (journal_lines entries.now)) }
     ensures kept { Keeps into.old.items into.new.items }

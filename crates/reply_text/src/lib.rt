@@ -14,6 +14,7 @@ mod words;
 pub use record::{Answered, By, RunRecord};
 pub use reply::Reply;
 pub use text::write_replies;
+pub use words::{push_bytes, push_number};
 
 #[cfg(test)]
 mod tests;

@@ -6,7 +6,7 @@ use csv_table::read_table;
 use lake_model::{Which, Who};
 use no_memory::NoMemory;
 use script_text::{Options, Order};
-use segment_core::{Layout, Places, TableLines};
+use segment_core::{Layout, Numbers, Places, TableLines};
 use std::alloc::Global;
 use std::process::Abort;
 use std::sync::Arc;
@@ -364,6 +364,30 @@ fn the_journal_stands_behind_a_traced_record_that_ended(rt: HostRuntime) -> Resu
     writes(&rt, &record, false, "")?;
     let wanted =
         "journal 3\n  1 load lane 1 command 1 a\n  2 drop lane 1 command 2 a\n  3 load lane 2 command 3 b\n";
+    writes(&rt, &record, true, wanted)?;
+    Ok(())
+}
+
+#[test]
+fn a_swap_shows_its_parts_and_the_positions_that_it_kept(rt: HostRuntime) -> Result<(), Fail> {
+    let alloc = rt.alloc();
+    let mut record = RunRecord::new(alloc);
+    record.room(0, 2)?;
+    let merger = Who {
+        caller: 0,
+        command: 2,
+    };
+    let from = Numbers::new(vec![in alloc; 1, 12]?);
+    record.add_entry(Entry::swapped(merger, from, Numbers::new(Vec::new(alloc))));
+    let lane = Who {
+        caller: 3,
+        command: 9,
+    };
+    let from = Numbers::new(vec![in alloc; 4]?);
+    record.add_entry(Entry::swapped(lane, from, Numbers::new(vec![in alloc; 7, 8]?)));
+    record.close();
+    let wanted =
+        "journal 2\n  1 swap lane 0 command m2 from 1,12 kept none\n  2 swap lane 3 command 9 from 4 kept 7,8\n";
     writes(&rt, &record, true, wanted)?;
     Ok(())
 }

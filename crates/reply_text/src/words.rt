@@ -1,6 +1,7 @@
 //! Numbers, words and lines, put behind what a text has already. Where memory is wanting, the text keeps what it had.
 ghost use Rattle.std.specs.Prelude.{◌≡◌, ◌==◌, ◌++◌, ◌∷◌, [], decimal, flat_map, if◌then◌else◌, map, OnOk};
-ghost use Rattle.script_model.specs.Texts.{command_text, line_text, spaced};
+ghost use Rattle.std.specs.List.{join_by};
+ghost use Rattle.script_model.specs.Texts.{command_text, line_text, listed, spaced};
 ghost use Rattle.reply_text.specs.Keeping.{Keeps};
 ghost use Rattle.reply_text.specs.Words.{word_text};
 
@@ -16,6 +17,8 @@ pub enum Word<'a> {
     Text(&'a str),
     /// In decimal.
     Number(u64),
+    /// Each in decimal, with commas between; `none` where there is none.
+    Numbers(&'a [u64]),
     /// In quotes, with escapes.
     Quoted(&'a str),
     /// The number of a command, behind `m` where it is the merger's.
@@ -56,6 +59,41 @@ fn push_command(who: Who, into: &mut Vec<u8>) -> Result<(), NoMemory>
     push_number(who.command, into)
 }
 
+// Appends numbers in decimal, each behind a comma.
+fn push_further_numbers(numbers: &[u64], into: &mut Vec<u8>) -> Result<(), NoMemory>
+    ensures ok { OnOk result (into.new.items ≡ into.old.items ++ flat_map (λ number. 0x2C ∷ decimal number) numbers.now) }
+    ensures kept { Keeps into.old.items into.new.items }
+{
+    for number in numbers {
+        push_bytes(b",", into)?;
+        push_number(*number, into)?;
+    }
+    Ok(())
+}
+
+// Appends numbers in decimal, with commas between.
+fn push_joined(numbers: &[u64], into: &mut Vec<u8>) -> Result<(), NoMemory>
+    ensures ok { OnOk result (into.new.items ≡ into.old.items ++ join_by decimal (0x2C ∷ []) numbers.now) }
+    ensures kept { Keeps into.old.items into.new.items }
+{
+    let [first, rest @ ..] = numbers else {
+        return Ok(());
+    };
+    push_number(*first, into)?;
+    push_further_numbers(rest, into)
+}
+
+// Appends numbers in decimal, with commas between, or `none`.
+fn push_numbers(numbers: &[u64], into: &mut Vec<u8>) -> Result<(), NoMemory>
+    ensures ok { OnOk result (into.new.items ≡ into.old.items ++ listed decimal numbers.now) }
+    ensures kept { Keeps into.old.items into.new.items }
+{
+    if numbers.is_empty() {
+        return push_bytes(b"none", into);
+    }
+    push_joined(numbers, into)
+}
+
 // Appends a word.
 fn push_word(word: &Word<'_>, into: &mut Vec<u8>) -> Result<(), NoMemory>
     ensures ok { OnOk result (into.new.items ≡ into.old.items ++ word_text word.now) }
@@ -64,6 +102,7 @@ fn push_word(word: &Word<'_>, into: &mut Vec<u8>) -> Result<(), NoMemory>
     match word {
         Word::Text(text) => push_bytes(text.as_bytes(), into),
         Word::Number(number) => push_number(*number, into),
+        Word::Numbers(numbers) => push_numbers(numbers, into),
         Word::Quoted(text) => push_quoted(text, into),
         Word::Command(who) => push_command(*who, into),
     }

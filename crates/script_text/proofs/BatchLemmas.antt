@@ -21,8 +21,9 @@ use Rattle.script_text.specs.Inputs.{Came, EndsLine}
 use Rattle.script_text.specs.Outcomes.{AreFetched}
 use Rattle.script_text.specs.Parts.{HasSameRules, IsFaultOf, IsHeldFault}
 use Rattle.script_text.specs.Readings.{Turns}
+use Rattle.script_text.specs.Runs.{LeadsOn}
 use Rattle.script_text.proofs.EndLemmas.{commands_end}
-use Rattle.script_text.proofs.ProgressLemmas.{Progress, after_turn, cut_push, fetched_join, goes_line, line_goes, none_fetched, reads_more, read_push, size_of_line, whole_push}
+use Rattle.script_text.proofs.ProgressLemmas.{Progress, after_turn, cut_push, fetched_join, goes_line, line_goes, lines_lead, none_fetched, reads_more, read_push, size_of_line, whole_push}
 
 -- an answer, by what was given and fetched
 abbrev pub Answers : Result (Option Batch) ScriptEnd → Gathering → Gathering → Option (List ℕ) → Option (List ℕ) → Option (List shelf.File) → ℕ → ℕ → Type 0
@@ -200,6 +201,23 @@ module _ (before now : Gathering) (left_before left : Option (List ℕ)) (files_
     same_files = files_same ∙ u.same_files;
     later = (u.later.0, omega (arith, u.later.1, h));
   }
+
+  pub step_lines : (next : Gathering) → LeadsOn (grammar now) now.reading next.reading now.held next.held → next.reading.used + length next.held ≡ now.reading.used + length now.held → length next.held ≤ length now.held
+      → next.reading.commands ≡ now.reading.commands → next.reading.used ≤ next.limits.input → HasSameRules now next → IsUnder before next left_before left files_before files first middle source_first source
+  step_lines next leads used less commands within same = record {
+    progress = lines_lead (grammar before) before.reading before.held left_before files_before first left middle now.reading next.reading now.held next.held u.progress
+        (subst (λ (from : Grammar). LeadsOn from now.reading next.reading now.held next.held) same_grammar leads)
+        (fits_before next.reading.used (subst (λ (limits : ScriptLimits). next.reading.used ≤ limits.input) same.limits within));
+    limits = same.limits ∙ u.limits;
+    lanes = same.lanes ∙ u.lanes;
+    ended = same.ended ∙ u.ended;
+    used = omega (arith, u.used, used, less, ap length commands);
+    same_files = u.same_files;
+    later = u.later;
+  }
+
+  pub answer_memory : (next : Gathering) → Answers (Err NoMemory) before next left_before left files_before first middle
+  answer_memory next = out_of_memory before next left_before left files_before first middle now.reading now.held u.progress middle [] [] (none_fetched files_before middle middle (omega arith))
 
   pub answer_sync : (next given : Gathering) (last at : ℕ) (batch : Batch) → EndsLine now.held at → now.reading.used + (at + 1) ≤ now.limits.input
       → Turns (turn_of (grammar now) (take at now.held)) (Ok (Some batch)) (now.reading.lines + 1) now.reading next.reading files middle last → next.held ≡ drop (at + 1) now.held → given ≡ record next { ended = false }

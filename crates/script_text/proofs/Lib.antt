@@ -16,3 +16,4 @@ pub mod CommandLemmas
 pub mod OrderLemmas
 pub mod ParsedLemmas
 pub mod ModeLemmas
+pub mod RunLemmas

@@ -13,11 +13,13 @@ use Rattle.script_model.specs.Reading.{Fails, Gives, Goes, Grammar, LinesRead, R
 use Rattle.script_model.specs.Script.{Commands, FaultAt, commands_from, commands_with}
 use Rattle.script_model.specs.Texts.{line_text}
 use Rattle.script_model.specs.Words.{NoFeed}
+use Rattle.script_model.proofs.LinesLemmas.{commands_lines}
 use Rattle.script_model.proofs.ScriptLemmas.{commands_line, read_on}
 use Rattle.script_text.specs.Gathering.{grammar, lines_text, reading_at}
 use Rattle.script_text.specs.Inputs.{Came, EndsLine}
 use Rattle.script_text.specs.Outcomes.{AreFetched, AreOutcomes, RoseBy, is_failed}
 use Rattle.script_text.specs.Readings.{Turns}
+use Rattle.script_text.specs.Runs.{LeadsOn}
 
 -- what an input gives behind a turn
 abbrev pub with_batches : List Batch → Commands → Commands
@@ -72,6 +74,16 @@ text_push (first ∷ lines) line rest =
 pub whole_push : (lines : List Text) (line : Text) → AllByRecursion NoFeed lines → NoFeed line → AllByRecursion NoFeed (lines ++ line ∷ [])
 whole_push [] line h k = (k, tt)
 whole_push (first ∷ lines) line h k = (h.0, whole_push lines line h.1 k)
+
+text_join : (lines more : List Text) (rest : List ℕ) → lines_text (lines ++ more) ++ rest ≡ lines_text lines ++ (lines_text more ++ rest)
+text_join [] more rest = refl
+text_join (first ∷ lines) more rest =
+    append_assoc (line_text first) (lines_text (lines ++ more)) rest ∙ ap (λ (xs : List ℕ). line_text first ++ xs) (text_join lines more rest)
+    ∙ sym (append_assoc (line_text first) (lines_text lines) (lines_text more ++ rest))
+
+whole_join : (lines more : List Text) → AllByRecursion NoFeed lines → AllByRecursion NoFeed more → AllByRecursion NoFeed (lines ++ more)
+whole_join [] more h k = k
+whole_join (first ∷ lines) more h k = (h.0, whole_join lines more h.1 k)
 
 -- ---- the beginning, and a read
 
@@ -158,4 +170,22 @@ module _ (from : Grammar) (before : Reading) (held_before : List ℕ) (left_befo
         ap (commands_from from (reading_at before [] ((p.outcomes ++ turn.outcomes) ++ later))) (text_push p.lines (take at held) more)
         ∙ goes_line now faults left held p (take at held) turn.outcomes later more line.whole (size_of_line now held at line fits)
         ∙ ap (λ (t : Turn). after_turn from (now.lines + 1) t more) (turn.turned p.asked later);
+  }
+
+  -- Lines that are held lead on.
+  pub lines_lead : (left : Option (List ℕ)) (faults : ℕ) (now next : Reading) (held held_next : List ℕ) → Progress from before held_before left_before left files faults_before faults now held
+      → LeadsOn from now next held held_next → next.used ≤ from.input → Progress from before held_before left_before left files faults_before faults next held_next
+  lines_lead left faults now next held held_next p on within = record {
+    given = p.given;
+    asked = p.asked;
+    outcomes = p.outcomes;
+    lines = p.lines ++ on.lines;
+    gave = p.gave;
+    fetched = p.fetched;
+    whole = whole_join p.lines on.lines p.whole on.whole;
+    cut = p.cut ∙ ap (λ (xs : List ℕ). lines_text p.lines ++ xs) on.cut ∙ sym (text_join p.lines on.lines held_next);
+    reads = λ later. read_on from (read_with [] (Stands (reading_at before [] (p.outcomes ++ later)))) p.lines on.lines ∙ ap (λ (made : LinesRead). read from made on.lines) (p.reads later) ∙ on.leads p.asked later;
+    goes = λ later more.
+        ap (commands_from from (reading_at before [] (p.outcomes ++ later))) (text_join p.lines on.lines more) ∙ p.goes later (lines_text on.lines ++ more)
+        ∙ commands_lines from on.lines (reading_at now p.asked later) [] (reading_at next p.asked later) more on.whole (on.leads p.asked later) within;
   }

@@ -7,4 +7,5 @@ pub mod Readings
 pub mod Endings
 pub mod Inputs
 pub mod Parts
+pub mod Runs
 pub mod Words

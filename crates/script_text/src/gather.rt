@@ -12,6 +12,7 @@ ghost use Rattle.script_text.specs.Gathers.{Gathers, Taken};
 ghost use Rattle.script_text.specs.Inputs.{Came, EndsLine};
 ghost use Rattle.script_text.specs.Parts.{HasSameRules, IsHeldFault};
 ghost use Rattle.script_text.specs.Readings.{GrowsByOne, Turns};
+ghost use Rattle.script_text.specs.Runs.{LeadsOn};
 
 use crate::command::Batch;
 use crate::input::Input;
@@ -114,6 +115,7 @@ impl Gather {
                 self.set_ended(false);
                 return Ok(Some(batch));
             }
+            self.read_run()?;
         }
     }
 
@@ -154,6 +156,21 @@ impl Gather {
         let answer = self.reader.read_line(shelf, line);
         self.input.use_up(at + 1);
         answer
+    }
+
+    // Reads the whole lines that are held by which an open block goes on, as far as they can be read at once.
+    fn read_run(&mut self) -> Result<(), NoMemory>
+        requires { self.old.ended ≡ true }
+        ensures leads { OnOk result (LeadsOn (grammar self.old) self.old.reading self.new.reading self.old.held self.new.held) }
+        ensures used { OnOk result (self.new.reading.used + length self.new.held ≡ self.old.reading.used + length self.old.held) }
+        ensures less { OnOk result (length self.new.held ≤ length self.old.held) }
+        ensures commands { OnOk result (self.new.reading.commands ≡ self.old.reading.commands) }
+        ensures within { self.new.reading.used ≤ self.new.limits.input }
+        ensures same { HasSameRules self.old self.new }
+    {
+        let count = self.reader.read_run(self.input.held())?;
+        self.input.use_up(count);
+        Ok(())
     }
 
     // Reads once from the source, where what is held is not too long. The answer is how many bytes came, and 0 only at the end.

@@ -12,6 +12,7 @@ mod options;
 mod reader;
 mod refused;
 mod rules;
+mod runs;
 mod spaces;
 mod words;
 

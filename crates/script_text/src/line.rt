@@ -1,5 +1,5 @@
 //! Lines, as they are cut from a script and from a block.
-ghost use Rattle.std.specs.Prelude.{◌≡◌, ◌==◌};
+ghost use Rattle.std.specs.Prelude.{◌≡◌, ◌==◌, get_or};
 ghost use Rattle.std.specs.List.{list_all};
 ghost use Rattle.script_model.specs.Words.{without_return};
 ghost use Rattle.script_model.specs.Reading.{is_end, undotted};
@@ -20,6 +20,13 @@ pub(crate) fn is_end(line: &[u8]) -> bool
     ensures { result ≡ is_end line.now }
 {
     matches!(without_return(line), b".")
+}
+
+// Whether the text begins with a dot.
+pub(crate) fn begins_with_dot(text: &[u8]) -> bool
+    ensures { result ≡ (get_or text.now 0 0 == 0x2E) }
+{
+    matches!(text, [b'.', ..])
 }
 
 // The line of a block without the dot that it begins with.

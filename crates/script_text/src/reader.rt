@@ -1,7 +1,7 @@
 //! How far a script was read, and what each line does.
-ghost use Rattle.std.specs.Prelude.{◌<◌, ◌≡◌, ◌≢◌, ◌+◌, ◌-◌, ◌++◌, ◌∷◌, ◌≤◌, ℕ, IfErr, IfOk, IfSome, IsSome, List, None, OnOk, Some, [], count_by, false, length};
+ghost use Rattle.std.specs.Prelude.{◌<◌, ◌≡◌, ◌≢◌, ◌+◌, ◌-◌, ◌++◌, ◌∷◌, ◌≤◌, ℕ, IfErr, IfOk, IfSome, IsSome, List, None, OnOk, Some, [], count_by, drop, false, length};
 ghost use Rattle.lake_io.specs.Refusals.{Refuses};
-ghost use Rattle.lake_model.specs.Texts.{Text};
+ghost use Rattle.lake_model.specs.Texts.{Text, lines_of};
 ghost use Rattle.script_model.specs.Commands.{File};
 ghost use Rattle.script_model.specs.Lanes.{IsOfLanes};
 ghost use Rattle.script_model.specs.Reading.{Reading, Stands, batch_ended, block_ended, body_fault, does, line_fault, line_in, turn_of, with_command};
@@ -13,6 +13,7 @@ ghost use Rattle.script_text.specs.Fronts.{IsFrontInRange, IsLane, IsSaidInRange
 ghost use Rattle.script_text.specs.Gathering.{reading_at};
 ghost use Rattle.script_text.specs.Outcomes.{MayCome, RoseBy, is_failed};
 ghost use Rattle.script_text.specs.Readings.{AreRules, GoesOn, GrowsAtEnd, GrowsByOne, Turns, added, batches_of, body_size, grammar_by, none_given, open_with, state_with, too_long};
+ghost use Rattle.script_text.specs.Runs.{HasRoom, IsRun, Leads, LeadsOn};
 ghost use Rattle.script_text.specs.Tasks.{IsTaskInRange, file_of, task_of};
 
 use crate::body::Body;
@@ -21,6 +22,7 @@ use crate::front::{Front, Said, read_said};
 use crate::line::{is_end, undotted, without_return};
 use crate::refused::ScriptEnd;
 use crate::rules::Rules;
+use crate::runs::{line_count, run_of};
 use column_set::Name;
 use lake_io::{Shelf, ShelfRefused};
 use no_memory::NoMemory;
@@ -99,6 +101,16 @@ impl OpenBlock {
     {
         self.body.extend_from_slice(text)?;
         self.body.push(b'\n')?;
+        Ok(())
+    }
+
+    // Adds lines of the block, each with its line feed, of which none begins with a dot.
+    fn push_lines(&mut self, lines: &[u8]) -> Result<(), NoMemory>
+        ensures added { OnOk result (self.new ≡ record self.old { body = self.old.body ++ lines.now }) }
+        ensures size { length self.new.body ≤ length self.old.body + length lines.now }
+        ensures same { self.new.lane ≡ self.old.lane }
+    {
+        self.body.extend_from_slice(lines)?;
         Ok(())
     }
 
@@ -436,6 +448,59 @@ impl Reader {
         }
         block.push_line(text)?;
         Ok(())
+    }
+
+    // Reads the longest run of whole lines with which the bytes begin and by which the block goes on, none of which begins with a dot. The
+    // answer is how many bytes the run has.
+    pub(crate) fn read_run(&mut self, held: &[u8]) -> Result<usize, NoMemory>
+        ensures leads { IfOk result (λ count. LeadsOn (grammar_by self.old.rules) self.old.reading self.new.reading held.now (drop count held.now)) }
+        ensures used { IfOk result (λ count. self.new.reading.used ≡ self.old.reading.used + count) }
+        ensures within { IfOk result (λ count. count ≤ length held.now) }
+        ensures input { self.new.reading.used ≤ self.new.rules.limits.input }
+        ensures commands { OnOk result (self.new.reading.commands ≡ self.old.reading.commands) }
+        ensures rules { self.new.rules ≡ self.old.rules }
+    {
+        if self.block.is_none() {
+            return Ok(0);
+        }
+        let room = self.block_room();
+        let run = run_of(&held[..held.len().min(room)]);
+        self.push_run(run)?;
+        Ok(run.len())
+    }
+
+    // How many bytes may still come to the block, by each limit.
+    fn block_room(&self) -> usize
+        requires { IsSome self.now.reading.block }
+        ensures room { (size : ℕ) → size ≤ result → HasRoom self.now.rules self.now.reading size }
+    {
+        let Some(block) = &self.block else {
+            unreachable!()
+        };
+        let limits = &self.rules.limits;
+        let in_block = limits.block - block.size();
+        let in_batch = limits.bytes - self.bytes - block.size();
+        let in_input = limits.input - self.used;
+        in_block.min(in_batch).min(in_input) as usize
+    }
+
+    // Adds a run of lines to the block, where the limits have room for it.
+    fn push_run(&mut self, run: &[u8]) -> Result<(), NoMemory>
+        requires block { IsSome self.old.reading.block }
+        requires run { IsRun run.now }
+        requires room { HasRoom self.old.rules self.old.reading (length run.now) }
+        ensures leads { OnOk result (Leads (grammar_by self.old.rules) self.old.reading (lines_of run.now).ended self.new.reading) }
+        ensures used { self.new.reading.used ≡ self.old.reading.used + length run.now }
+        ensures input { self.new.reading.used ≤ self.new.rules.limits.input }
+        ensures commands { self.new.reading.commands ≡ self.old.reading.commands }
+        ensures rules { self.new.rules ≡ self.old.rules }
+    {
+        self.lines += line_count(run) as u64;
+        self.used += run.len() as u64;
+        let Some(block) = &mut self.block else {
+            unreachable!()
+        };
+        block.push_lines(run)
     }
 
     // Ends the block, and its command comes.

@@ -18,9 +18,7 @@ use Rattle.std.proofs.lemmas.Map.Text.{is_eq-slice_cmp}
 use Rattle.std.proofs.Math.Seq.{drop-cons}
 use Rattle.lake_model.specs.Texts.{Text}
 use Rattle.search_model.specs.Segment.{Token}
-use Rattle.search_model.specs.Arrays.{key_of, numbers_of, IsByKey, IsToken, token_with, token_at, pointed}
-use Rattle.lake_model.specs.Tables.{Table}
-use Rattle.search_model.specs.declared.TokenAt.{TokenAt}
+use Rattle.search_model.specs.Arrays.{key_of, token_keys, numbers_of, IsByKey, IsToken, token_with}
 
 -- the keys of the tokens from the n-th on
 any_from : (all : List Token) (key : Text) (n : ℕ) (rest : List Token) → drop n all ≡ rest
@@ -69,11 +67,7 @@ module _ (tokens : List Token) (numbers : List ℕ) (sorted : IsByKey tokens num
   searched (Ok at) bound is = λ n e. found at n bound e (ap compare e ∙ is n)
   searched (Err at) bound is = let p = is rising in none at (λ k d l. p.0 k d (omega arith) l) (λ k d g h. p.1 k d g h)
 
--- the key at which a token points
-pub key_here : (tables : List Table) (tokens : List TokenAt) (named : List Token) (n : ℕ) (at : TokenAt) → map (token_at tables) tokens ≡ named → n < length tokens → at ≡ get_or tokens n at → pointed tables at ≡ key_of named n
-key_here tables tokens named n at is h e =
-    let inside : n < length (map (token_at tables) tokens) = omega (arith, length-map tokens (token_at tables)) in
-    ap (pointed tables) e
-    ∙ ap (λ (t : Token). t.key) (sym (get_or-map (token_at tables) tokens n at (token_at tables at) h))
-    ∙ sym (get_or-map (λ (t : Token). t.key) (map (token_at tables) tokens) n (token_at tables at) [] inside)
-    ∙ ap (λ (ts : List Token). key_of ts n) is
+-- the key of a token, where these places have the keys of the tokens
+pub key_here : {X : Type 0} (key : X → Text) (places : List X) (tokens : List Token) (n : ℕ) (at : X) → map key places ≡ token_keys tokens → n < length places → at ≡ get_or places n at → key at ≡ key_of tokens n
+key_here {X = X} key places tokens n at is h e =
+    ap key e ∙ sym (get_or-map key places n at [] h) ∙ ap (λ (ks : List Text). get_or ks n []) is

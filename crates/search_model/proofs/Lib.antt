@@ -1,5 +1,6 @@
 pub mod TokenLemmas
 pub mod KeyLemmas
+pub mod ColumnLemmas
 pub mod OverlapLemmas
 pub mod BoundLemmas
 pub mod FilterLemmas

@@ -1,5 +1,5 @@
 -- The inverted index of a list of tables: its columns, its tokens in their order, each column's tokens, each token's postings.
-use Rattle.std.specs.Prelude.{ℕ, List, length, map, filter, flat_map, count_by, nat_eq, nat_lt}
+use Rattle.std.specs.Prelude.{ℕ, ◌-◌, List, [], length, map, filter, flat_map, get_or, count_by, nat_eq, nat_lt}
 use Rattle.std.specs.List.{list_any, enumerate_from}
 use Rattle.std.specs.Ordering.{ordering_then, nat_cmp}
 use Rattle.std.specs.declared.cmp.Ordering.{Ordering}
@@ -7,7 +7,7 @@ use Rattle.std.specs.Cmp.Lexicographic.{slice_cmp}
 use Rattle.search_model.specs.declared.Posting.{Posting}
 use Rattle.lake_model.specs.Sorting.{in_order}
 use Rattle.lake_model.specs.Texts.{Text}
-use Rattle.lake_model.specs.Tables.{Column, Table, has_key, distinct}
+use Rattle.lake_model.specs.Tables.{Column, Table, column_with, has_key, distinct}
 
 -- a column of the list: the index of its table, its place there from 1, and the two names
 pub record Titled : Type 0 where
@@ -22,6 +22,14 @@ titled from table place column = record { from = from; table = table; place = pl
 -- the columns by table, and then by place
 abbrev pub columns_of : List Table → List Titled
 columns_of tables = flat_map (λ t. map (λ c. titled t.0 t.1.name c.0 c.1) (enumerate_from 1 t.1.columns)) (enumerate_from 0 tables)
+
+-- the columns of the table of an index
+abbrev pub columns_in : ℕ → Table → List Titled
+columns_in from table = map (λ c. titled from table.name c.0 c.1) (enumerate_from 1 table.columns)
+
+-- the column at a place of that table
+abbrev pub titled_in : ℕ → Table → ℕ → Titled
+titled_in from table place = titled from table.name place (get_or table.columns (place - 1) (column_with [] []))
 
 -- a key, and how many columns hold it
 pub record Token : Type 0 where

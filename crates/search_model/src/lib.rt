@@ -34,14 +34,13 @@ pub struct Summary {
     pub gain: u64,
 }
 
-/// Where a key stands: the index of its table in a list of tables, from 0, the place of its column there, from 1, and its index among
-/// the column's keys, from 0; and how many columns of the list hold it.
+/// Where a key stands: the number of its column among all columns of a list of tables, by table and then by place, from 0, and its index
+/// among the column's keys, from 0. There is one for each distinct key, so it is kept small: the table and the place are the column's
+/// [`Owner`].
 #[derive(Clone, Copy, Debug, PartialEq, Eq)]
 pub struct TokenAt {
-    pub table: u32,
-    pub place: u32,
+    pub column: u32,
     pub index: u32,
-    pub frequency: u32,
 }
 
 /// Where a column stands: the index of its table in a list of tables, from 0, and its place there, from 1.

@@ -3,7 +3,7 @@ use Rattle.std.proofs.Common.{◌≡◌, refl, ap, sym, ◌∙◌, subst, ℕ, z
 use Rattle.std.specs.Prelude.{sum_by}
 use Rattle.std.specs.List.{All, AllByRecursion, count_by, flat_map, enumerate_from, list_any}
 use Rattle.std.proofs.lemmas.Bool.Decides.{nat_tests}
-use Rattle.std.proofs.lemmas.List.{get_or-map, length-map, map_more}
+use Rattle.std.proofs.lemmas.List.{get_or-map, length-map, take_more}
 use Rattle.std.proofs.lemmas.List.FromFn.{length-enumerate_from}
 use Rattle.std.proofs.lemmas.List.Sums.{sum_by-cons}
 use Rattle.lake_model.specs.Texts.{Text}
@@ -12,13 +12,14 @@ use Rattle.lake_model.proofs.SortingLemmas.{all_in_order}
 use Rattle.search_model.specs.declared.Owner.{Owner}
 use Rattle.search_model.specs.declared.Posting.{Posting}
 use Rattle.search_model.specs.declared.TokenAt.{TokenAt}
-use Rattle.search_model.specs.Arrays.{all_of, key_of, starts_of, token_at, AreArrays, IsAt, IsByKey}
-use Rattle.search_model.specs.Segment.{Titled, Token, columns_of, postings_of, segment, titled, token_of, tokens_in, tokens_of}
+use Rattle.search_model.specs.Arrays.{all_of, key_of, pointed, starts_of, token_keys, AreArrays, IsAt, IsByKey}
+use Rattle.search_model.specs.Segment.{Titled, Token, columns_of, postings_of, segment, titled, token_of, tokens_in, tokens_of, columns_in}
 use Rattle.search_model.proofs.FilterLemmas.{rising}
 use Rattle.search_model.proofs.OverlapLemmas.{front, tokens_from, tokens_from-cons}
 use Rattle.search_model.proofs.TokenLemmas.{token_cmp_total}
 use Rattle.segment_core.proofs.PartLemmas.{all_at}
-use Rattle.segment_build.specs.Holding.{all_tokens, columns_in, held_with, sets_for, HasMore}
+use Rattle.token_order.specs.Vocabulary.{frequencies_of}
+use Rattle.segment_build.specs.Holding.{all_tokens, held_with, sets_for, HasMore}
 use Rattle.segment_build.specs.Inverse.{lists_from, sets_in, sums_from, AreFlat, AreSets, IsSet}
 use Rattle.segment_build.proofs.HoldLemmas.{starts_ends}
 use Rattle.segment_build.proofs.InverseLemmas.{length-lists_from, length-postings, length-starts, sets_in_is}
@@ -35,17 +36,13 @@ sums_push n size (s ∷ sizes) =
     let e : n + s + sum_by (λ s. s) sizes + size ≡ n + sum_by (λ s. s) (s ∷ sizes) + size = omega (arith, sum_by-cons (λ (s : ℕ). s) s sizes) in
     ap (λ (ns : List ℕ). n ∷ ns) (sums_push (n + s) size sizes ∙ ap (λ (k : ℕ). sums_from (n + s) sizes ++ k ∷ []) e)
 
-sum-map : {X : Type 0} (f : X → ℕ) (xs : List X) → sum_by (λ s. s) (map f xs) ≡ sum_by f xs
-sum-map f [] = refl
-sum-map f (x ∷ xs) = omega (arith, sum_by-cons f x xs, sum_by-cons (λ (s : ℕ). s) (f x) (map f xs), sum-map f xs)
+sum-plain : (sizes : List ℕ) → 0 + sum_by (λ n. n) sizes ≡ sum_by (λ n. n) sizes
+sum-plain sizes = omega arith
 
 -- one more of the numbers that are summed
-pub sums_more : {X : Type 0} (f : X → ℕ) (xs : List X) (i : ℕ) (d : X) → i < length xs → sums_from 0 (map f (take (i + 1) xs)) ≡ sums_from 0 (map f (take i xs)) ++ (sum_by f (take i xs) + f (get_or xs i d)) ∷ []
-sums_more f xs i d h =
-    let size = f (get_or xs i d) in
-    let sizes = map f (take i xs) in
-    let e : 0 + sum_by (λ s. s) sizes + size ≡ sum_by f (take i xs) + size = omega (arith, sum-map f (take i xs)) in
-    ap (sums_from 0) (map_more f xs i d h) ∙ sums_push 0 size sizes ∙ ap (λ (k : ℕ). sums_from 0 sizes ++ k ∷ []) e
+pub sums_more : (sizes : List ℕ) (i : ℕ) → i < length sizes → sums_from 0 (take (i + 1) sizes) ≡ sums_from 0 (take i sizes) ++ (sum_by (λ n. n) (take i sizes) + get_or sizes i 0) ∷ []
+sums_more sizes i h =
+    ap (sums_from 0) (take_more sizes i 0 h) ∙ sums_push 0 (get_or sizes i 0) (take i sizes) ∙ ap (λ (k : ℕ). sums_from 0 (take i sizes) ++ (k + get_or sizes i 0) ∷ []) (sum-plain (take i sizes))
 
 -- ---- a token stands in the sets of the columns that hold its key
 
@@ -128,10 +125,6 @@ lengths_from sets n (t ∷ tokens) h =
     let rest = lengths_from sets (n + 1) tokens (λ m d l. (let e : n + 1 + m ≡ n + suc m = omega arith in ap (λ (k : ℕ). length (postings_of sets k)) e) ∙ h (suc m) d (omega arith)) in
     λ i. first i ∷ rest i
 
-frequencies_of : (tables : List Table) (tokens : List TokenAt) → map (λ t. t.frequency) (map (token_at tables) tokens) ≡ map (λ at. at.frequency) tokens
-frequencies_of tables [] = refl
-frequencies_of tables (at ∷ tokens) = ap (λ (ns : List ℕ). at.frequency ∷ ns) (frequencies_of tables tokens)
-
 -- ---- the sets are sets
 
 lower : (n : ℕ) (m : ℕ) (set : List ℕ) → n ≤ m → AllByRecursion (λ t. t < n) set → AllByRecursion (λ t. t < m) set
@@ -173,25 +166,22 @@ length-columns_from n (t ∷ tables) =
 -- what the columns, the tokens and the starts of the lists are, where all are of the tables
 pub record IsMade (tables : List Table) (owners : List Owner) (tokens : List TokenAt) (list_starts set_starts set_tokens : List ℕ) : Type 0 where
   pub more : HasMore (all_tokens tables) (held_with [] (0 ∷ []) []) (held_with owners set_starts set_tokens) (columns_of tables)
-  pub named : map (token_at tables) tokens ≡ all_tokens tables
-  pub starts : list_starts ≡ sums_from 0 (map (λ at. at.frequency) tokens)
+  pub named : map (pointed tables) tokens ≡ token_keys (all_tokens tables)
+  pub starts : list_starts ≡ sums_from 0 (frequencies_of (all_tokens tables))
 
-pub is_made : (tables : List Table) (owners : List Owner) (tokens : List TokenAt) (list_starts set_starts set_tokens : List ℕ) (held given : List Table) (counted : List TokenAt) → held ≡ tables → given ≡ tables → counted ≡ tokens
-    → HasMore (all_tokens given) (held_with [] (0 ∷ []) []) (held_with owners set_starts set_tokens) (columns_of given) → map (token_at held) tokens ≡ all_tokens held → list_starts ≡ sums_from 0 (map (λ at. at.frequency) counted)
+pub is_made : (tables : List Table) (owners : List Owner) (tokens : List TokenAt) (list_starts set_starts set_tokens : List ℕ) (held given : List Table) (frequencies counted : List ℕ) → held ≡ tables → given ≡ tables → counted ≡ frequencies
+    → HasMore (all_tokens given) (held_with [] (0 ∷ []) []) (held_with owners set_starts set_tokens) (columns_of given) → map (pointed held) tokens ≡ token_keys (all_tokens held) → frequencies ≡ frequencies_of (all_tokens held) → list_starts ≡ sums_from 0 counted
     → IsMade tables owners tokens list_starts set_starts set_tokens
-is_made tables owners tokens list_starts set_starts set_tokens held given counted e f g more named starts =
+is_made tables owners tokens list_starts set_starts set_tokens held given frequencies counted e f g more named frequent starts =
     record {
       more = subst (λ (ts : List Table). HasMore (all_tokens ts) (held_with [] (0 ∷ []) []) (held_with owners set_starts set_tokens) (columns_of ts)) f more;
-      named = subst (λ (ts : List Table). map (token_at ts) tokens ≡ all_tokens ts) e named;
-      starts = starts ∙ ap (λ (ats : List TokenAt). sums_from 0 (map (λ at. at.frequency) ats)) g;
+      named = subst (λ (ts : List Table). map (pointed ts) tokens ≡ token_keys (all_tokens ts)) e named;
+      starts = starts ∙ ap (sums_from 0) (g ∙ frequent ∙ ap (λ (ts : List Table). frequencies_of (all_tokens ts)) e);
     }
 
 module _ (tables : List Table) (owners : List Owner) (tokens : List TokenAt) (list_starts set_starts set_tokens : List ℕ) (made : IsMade tables owners tokens list_starts set_starts set_tokens) where
   abbrev sets : List (List ℕ)
   sets = sets_for (all_tokens tables) (columns_of tables)
-
-  token_count : length tokens ≡ length (all_tokens tables)
-  token_count = sym (length-map tokens (token_at tables)) ∙ ap length made.named
 
   set_bounds : set_starts ≡ starts_of 0 sets
   set_bounds = made.more.bounds ∙ starts_ends 0 sets
@@ -205,8 +195,6 @@ module _ (tables : List Table) (owners : List Owner) (tokens : List TokenAt) (li
       let lengths : map (λ l. length l) lists ≡ map (λ t. t.frequency) (all_tokens tables) =
       lengths_from sets 0 (all_tokens tables) (λ m d h. (let z : 0 + m ≡ m = omega arith in ap (λ (k : ℕ). length (postings_of sets k)) z) ∙ frequency_at (columns_of tables) m d h) in
       made.starts
-      ∙ ap (sums_from 0) (sym (frequencies_of tables tokens))
-      ∙ ap (λ (ts : List Token). sums_from 0 (map (λ t. t.frequency) ts)) made.named
       ∙ ap (sums_from 0) (sym lengths)
       ∙ sym (starts_sums 0 lists)
 

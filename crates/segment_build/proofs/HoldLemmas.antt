@@ -1,17 +1,17 @@
 -- Columns that are added behind others, one at a time and one table at a time.
-use Rattle.std.proofs.Common.{◌≡◌, refl, ap, sym, ◌∙◌, ℕ, zero, suc, ◌+◌, ◌-◌, ◌<◌, ◌≤◌, List, [], ◌∷◌, ◌++◌, map, length, get_or, take, arith, append-nil, append_assoc, length-append}
+use Rattle.std.proofs.Common.{◌≡◌, refl, ap, sym, ◌∙◌, ℕ, ◌+◌, ◌-◌, ◌<◌, ◌≤◌, List, [], ◌∷◌, ◌++◌, map, length, get_or, take, arith, append-nil, append_assoc, length-append}
 use Rattle.std.specs.Prelude.{bytes_eq, sum_by}
-use Rattle.std.specs.List.{flat_map, enumerate_from, IsDistinct}
-use Rattle.std.proofs.lemmas.List.{get_or-map, length-map, map-append, take_all, take_more}
+use Rattle.std.specs.List.{enumerate_from, IsDistinct}
+use Rattle.std.proofs.lemmas.List.{get_or-map, map-append}
 use Rattle.std.proofs.lemmas.List.Concat.{flat_map-append}
-use Rattle.std.proofs.lemmas.List.FromFn.{get_or-enumerate_from, length-enumerate_from}
 use Rattle.std.proofs.lemmas.List.Sums.{sum_by-append, sum_by-cons, sum_by_more, sum_by-take-le}
 use Rattle.lake_model.specs.Tables.{Column, Table, column_with, keys_at, members}
 use Rattle.search_model.specs.declared.Owner.{Owner}
 use Rattle.search_model.specs.Arrays.{all_of, no_table, no_titled, owner_of, starts_of, table_at}
-use Rattle.search_model.specs.Segment.{Titled, Token, columns_of, segment, titled, tokens_in}
+use Rattle.search_model.specs.Segment.{Titled, Token, columns_of, segment, titled, tokens_in, columns_in, titled_in}
+use Rattle.search_model.proofs.ColumnLemmas.{columns_from, column_in, length-columns_in}
 use Rattle.segment_core.proofs.FoundLemmas.{tokens_differ}
-use Rattle.segment_build.specs.Holding.{all_tokens, columns_in, ends_of, held_with, key_count, sets_for, titled_in, Held, HasMore}
+use Rattle.segment_build.specs.Holding.{all_tokens, ends_of, held_with, key_count, sets_for, Held, HasMore}
 
 -- ---- lists behind one another
 
@@ -71,46 +71,6 @@ more_push tokens old number table place owner set all end low high is many owns 
       long = omega (arith, ap length grown, length-append old.tokens set, many, ap length there, sum_by-cons (λ (c : Titled). length c.column.keys) (titled_in number table place) []);
     }
 
-length-columns_in : (number : ℕ) (table : Table) → length (columns_in number table) ≡ length table.columns
-length-columns_in number table = length-map (enumerate_from 1 table.columns) (λ (c : ℕ × Column). titled number table.name c.0 c.1) ∙ length-enumerate_from 1 table.columns
-
-column_at : (number : ℕ) (table : Table) (i : ℕ) → i < length table.columns → get_or (columns_in number table) i no_titled ≡ titled_in number table (i + 1)
-column_at number table i h =
-    let no = column_with [] [] in
-    let of : ℕ × Column → Titled = λ c. titled number table.name c.0 c.1 in
-    let inside : i < length (enumerate_from 1 table.columns) = omega (arith, length-enumerate_from 1 table.columns) in
-    let one : 1 + i ≡ i + 1 = omega arith in
-    let back : i ≡ i + 1 - 1 = omega arith in
-    get_or-map of (enumerate_from 1 table.columns) i (1, no) no_titled inside
-    ∙ ap of (get_or-enumerate_from 1 table.columns i (1, no) h)
-    ∙ (λ j. titled number table.name (one j) (get_or table.columns (back j) no))
-
--- the columns of a table, one more
-pub columns_in_more : (number : ℕ) (table : Table) (i : ℕ) → i < length table.columns → take (i + 1) (columns_in number table) ≡ take i (columns_in number table) ++ titled_in number table (i + 1) ∷ []
-columns_in_more number table i h =
-    take_more (columns_in number table) i no_titled (omega (arith, length-columns_in number table)) ∙ ap (λ (c : Titled). take i (columns_in number table) ++ c ∷ []) (column_at number table i h)
-
-pub columns_in_all : (number : ℕ) (table : Table) (i : ℕ) → length table.columns ≤ i → take i (columns_in number table) ≡ columns_in number table
-columns_in_all number table i h = take_all i (columns_in number table) (omega (arith, length-columns_in number table))
-
-abbrev columns_from : ℕ → List Table → List Titled
-columns_from n tables = flat_map (λ t. columns_in t.0 t.1) (enumerate_from n tables)
-
-tables_from : (n : ℕ) (tables : List Table) (i : ℕ) → i < length tables → columns_from n (take (suc i) tables) ≡ columns_from n (take i tables) ++ columns_in (n + i) (table_at tables i)
-tables_from n [] i h = absurd (omega arith)
-tables_from n (t ∷ tables) zero h = let z : n ≡ n + 0 = omega arith in append-nil (columns_in n t) ∙ ap (λ (k : ℕ). columns_in k t) z
-tables_from n (t ∷ tables) (suc i) h =
-    let e : n + 1 + i ≡ n + suc i = omega arith in
-    ap (λ (cs : List Titled). columns_in n t ++ cs) (tables_from (n + 1) tables i (omega arith) ∙ ap (λ (k : ℕ). columns_from (n + 1) (take i tables) ++ columns_in k (table_at tables i)) e)
-    ∙ sym (append_assoc (columns_in n t) (columns_from (n + 1) (take i tables)) (columns_in (n + suc i) (table_at tables i)))
-
--- the columns of the tables, those of one more table
-pub columns_of_more : (tables : List Table) (i : ℕ) → i < length tables → columns_of (take (i + 1) tables) ≡ columns_of (take i tables) ++ columns_in i (table_at tables i)
-columns_of_more tables i h =
-    let one : i + 1 ≡ suc i = omega arith in
-    let z : 0 + i ≡ i = omega arith in
-    ap (λ (n : ℕ). columns_of (take n tables)) one ∙ tables_from 0 tables i h ∙ ap (λ (k : ℕ). columns_of (take i tables) ++ columns_in k (table_at tables i)) z
-
 -- ---- how many keys
 
 count_in : (number : ℕ) (name : List ℕ) (n : ℕ) (columns : List Column) → key_count (map (λ c. titled number name c.0 c.1) (enumerate_from n columns)) ≡ sum_by (λ c. length c.keys) columns
@@ -138,7 +98,7 @@ count_columns_of tables = count_from 0 tables
 pub room_in : (number : ℕ) (table : Table) (i : ℕ) → i < length table.columns → key_count (take i (columns_in number table)) + length (keys_at table (i + 1)) ≤ members table
 room_in number table i h =
     let size : Titled → ℕ = λ c. length c.column.keys in
-    let at = column_at number table i h in
+    let at = column_in number table i h in
     let there = keys_there table (i + 1) (omega arith) (omega arith) in
     omega (
       arith,

@@ -7,10 +7,10 @@ use Rattle.std.proofs.lemmas.List.Sums.{sum_by-cons}
 use Rattle.lake_model.specs.Texts.{Text}
 use Rattle.lake_model.specs.Tables.{Column, Table, keys_at, sets_of}
 use Rattle.search_model.specs.Arrays.{all_of, no_table, table_at}
-use Rattle.search_model.specs.Segment.{Titled, columns_of, titled}
+use Rattle.search_model.specs.Segment.{Titled, columns_of, titled, columns_in}
 use Rattle.token_order.specs.Places.{keys_in, keys_of}
 use Rattle.token_order.proofs.PlaceLemmas.{length-keys_of}
-use Rattle.segment_build.specs.Holding.{columns_in, key_count, IsStretch}
+use Rattle.segment_build.specs.Holding.{key_count, IsStretch}
 use Rattle.segment_build.proofs.HoldLemmas.{count_columns_of}
 
 stretch_at : (before keys after : List Text) → IsStretch (before ++ (keys ++ after)) keys (length before)

@@ -1,6 +1,6 @@
 -- One table, of which column p has the keys z and a, and column q has a: what is read of it tells that it is that table, and the
 -- arrays of its segment, by hand.
-use Rattle.std.proofs.Common.{◌≡◌, refl, ap, ℕ, zero, suc, ◌+◌, ◌<◌, ◌≤◌, false, List, [], ◌∷◌, map, length, get_or, arith, lit<, lit≤}
+use Rattle.std.proofs.Common.{◌≡◌, refl, ap, ℕ, zero, suc, ◌+◌, ◌<◌, ◌≤◌, false, List, [], ◌∷◌, map, length, get_or, arith, lit<}
 use Rattle.std.specs.Prelude.{codes}
 use Rattle.std.specs.Cmp.Lexicographic.{slice_cmp}
 use Rattle.std.specs.Ordering.{is_lt, nat_cmp}
@@ -37,8 +37,8 @@ is_worked t name n p q first second =
     (λ i. table_with (name i) (columns i))
 
 within : (i : ℕ) (d : TokenAt) → i < 2 → IsAt (worked_table ∷ []) (get_or worked_tokens i d)
-within zero d h = record { table = lit< tt; low = lit< tt; high = lit≤ tt; index = lit< tt }
-within (suc zero) d h = record { table = lit< tt; low = lit< tt; high = lit≤ tt; index = lit< tt }
+within zero d h = record { column = lit< tt; index = lit< tt }
+within (suc zero) d h = record { column = lit< tt; index = lit< tt }
 within (suc (suc i)) d h = absurd (omega arith)
 
 abbrev named : List Token

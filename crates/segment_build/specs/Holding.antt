@@ -1,19 +1,10 @@
 -- Columns that are added behind others, with their tokens.
-use Rattle.std.specs.Prelude.{◌≡◌, ℕ, ◌+◌, ◌-◌, ◌<◌, ◌≤◌, List, [], ◌∷◌, ◌++◌, get_or, length, map, sum_by}
-use Rattle.std.specs.List.{enumerate_from}
+use Rattle.std.specs.Prelude.{◌≡◌, ℕ, ◌+◌, ◌<◌, ◌≤◌, List, [], ◌∷◌, ◌++◌, get_or, length, map, sum_by}
 use Rattle.lake_model.specs.Texts.{Text}
-use Rattle.lake_model.specs.Tables.{Table, column_with}
+use Rattle.lake_model.specs.Tables.{Table}
 use Rattle.search_model.specs.declared.Owner.{Owner}
 use Rattle.search_model.specs.Arrays.{all_of, owner_of}
-use Rattle.search_model.specs.Segment.{Titled, Token, columns_of, titled, tokens_in, tokens_of}
-
--- the columns of the table of a number
-abbrev pub columns_in : ℕ → Table → List Titled
-columns_in number table = map (λ c. titled number table.name c.0 c.1) (enumerate_from 1 table.columns)
-
--- the column at a place of the table of a number
-abbrev pub titled_in : ℕ → Table → ℕ → Titled
-titled_in number table place = titled number table.name place (get_or table.columns (place - 1) (column_with [] []))
+use Rattle.search_model.specs.Segment.{Titled, Token, columns_of, tokens_in, tokens_of}
 
 -- the columns' tokens
 abbrev pub sets_for : List Token → List Titled → List (List ℕ)

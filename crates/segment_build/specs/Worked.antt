@@ -13,8 +13,8 @@ worked_table = table_with (codes "t") (column_with (codes "p") (codes "z" ∷ co
 abbrev pub owner : ℕ → ℕ → Owner
 owner table place = record { table = table; place = place }
 
-abbrev pub token_at : ℕ → ℕ → ℕ → ℕ → TokenAt
-token_at table place index frequency = record { table = table; place = place; index = index; frequency = frequency }
+abbrev pub token_at : ℕ → ℕ → TokenAt
+token_at column index = record { column = column; index = index }
 
 abbrev pub posting : ℕ → ℕ → ℕ → Posting
 posting column position size = record { column = column; position = position; size = size }
@@ -24,7 +24,7 @@ abbrev pub worked_owners : List Owner
 worked_owners = owner 0 1 ∷ owner 0 2 ∷ []
 
 abbrev pub worked_tokens : List TokenAt
-worked_tokens = token_at 0 1 0 1 ∷ token_at 0 1 1 2 ∷ []
+worked_tokens = token_at 0 0 ∷ token_at 0 1 ∷ []
 
 abbrev pub worked_postings : List Posting
 worked_postings = posting 0 0 2 ∷ posting 0 1 2 ∷ posting 1 0 1 ∷ []

@@ -3,8 +3,8 @@ ghost use Rattle.std.specs.Prelude.{◌≡◌, ◌+◌, ◌<◌, ◌≤◌, ◌^
 ghost use Rattle.std.specs.List.Sorted.{IsPermutation};
 ghost use Rattle.lake_model.specs.Tables.{keys_at, members};
 ghost use Rattle.search_model.specs.Arrays.{no_titled, table_at};
-ghost use Rattle.search_model.specs.Segment.{columns_of, tokens_in};
-ghost use Rattle.segment_build.specs.Holding.{all_tokens, columns_in, held_with, titled_in, HasMore, IsStretch};
+ghost use Rattle.search_model.specs.Segment.{columns_of, tokens_in, columns_in, titled_in};
+ghost use Rattle.segment_build.specs.Holding.{all_tokens, held_with, HasMore, IsStretch};
 ghost use Rattle.token_order.specs.Places.{keys_in, keys_of};
 
 use column_set::{SharedTable, TableSets};

@@ -78,16 +78,12 @@ fn tokens(alloc: Global) -> Result<Vec<TokenAt>, NoMemory>
     ensures { IfOk result (λ tokens. tokens.items ≡ worked_tokens) }
 {
     let z = TokenAt {
-        table: 0,
-        place: 1,
+        column: 0,
         index: 0,
-        frequency: 1,
     };
     let a = TokenAt {
-        table: 0,
-        place: 1,
+        column: 0,
         index: 1,
-        frequency: 2,
     };
     Ok(vec![in alloc; z, a]?)
 }

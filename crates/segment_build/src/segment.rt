@@ -3,21 +3,21 @@ ghost use Rattle.std.specs.Prelude.{◌≡◌, ◌<◌, ◌^◌, length, sum_by,
 ghost use Rattle.lake_model.specs.Tables.{members};
 
 use crate::columns::column_sets;
-use crate::lists::{list_starts, postings_of};
+use crate::lists::{PostingLists, list_starts, posting_lists};
 use column_set::SharedTable;
 use no_memory::NoMemory;
 use segment_core::Segment;
 use std::alloc::Global;
-use token_order::Vocab;
+use token_order::{TokenLists, Vocab};
 
 /// The segment of these tables. Its index is that of Zhu, Deng, Nargesian and Miller, "JOSIE: Overlap Set Similarity Search for Finding
 /// Joinable Tables in Data Lakes", SIGMOD 2019.
 ///
 /// It takes the time to sort all keys of all columns by their bytes, once. That gives the token of each key of each column; the distinct
 /// keys and the sets are then sorted as numbers, and the posting lists written in one pass, and no key is compared again. The most
-/// memory is taken at the end, and is what the segment keeps: 16 bytes for each key of each column, 24 for each distinct key, and 12
+/// memory is taken at the end, and is what the segment keeps: 16 bytes for each key of each column, 16 for each distinct key, and 12
 /// for each column. (While the keys are sorted, they take 12 bytes for each key of each column, and at most 32 for each distinct key;
-/// where few keys stand in two columns, that is more.) It is refused only for want of memory.
+/// where few keys stand in more than three columns, that is more.) It is refused only for want of memory.
 pub fn build(alloc: Global, tables: Vec<SharedTable>) -> Result<Segment, NoMemory>
     requires columns { sum_by (λ t. length t.columns) tables.items < 2 ^ 32 }
     requires members { sum_by members tables.items < 2 ^ 32 }
@@ -25,10 +25,20 @@ pub fn build(alloc: Global, tables: Vec<SharedTable>) -> Result<Segment, NoMemor
 {
     let vocab = Vocab::build(alloc, &tables)?;
     let sets = column_sets(alloc, &tables, &vocab)?;
-    let (tokens, by_key) = vocab.into_lists();
-    let next = list_starts(alloc, &tokens)?;
-    let postings = postings_of(alloc, &sets.starts, &sets.tokens, next)?;
-    let starts = list_starts(alloc, &tokens)?;
+    let TokenLists {
+        tokens,
+        frequencies,
+        by_key,
+    } = vocab.into_lists();
+    let list_starts = list_starts(alloc, &frequencies)?;
+    // The starts say the same, and the most memory is taken behind here.
+    drop(frequencies);
+    let PostingLists { starts, postings } = posting_lists(
+        alloc,
+        &sets.starts,
+        &sets.tokens,
+        list_starts,
+    )?;
     Ok(Segment::new(
         tables,
         sets.owners,

@@ -11,7 +11,7 @@ use Rattle.lake_model.specs.Layout.{Place, Part}
 use Rattle.search_model.specs.Arrays.{table_at}
 use Rattle.segment_core.specs.Plans.{loads_in, loads_without, kept_loads, named, replaced}
 use Rattle.segment_core.specs.Positions.{loads_of}
-use Rattle.segment_core.specs.Versions.{tables_of, marks_of, part_with}
+use Rattle.segment_core.specs.Versions.{tables_of, marks_of}
 
 without_from : (ns : List ℕ) (ts : List Table) (ms : List Bool) (i : ℕ) → i < length ts → length ns ≡ length ts → length ms ≡ length ts
     → loads_without (take (suc i) ns) (take (suc i) ts) (take (suc i) ms) ≡ loads_without (take i ns) (take i ts) (take i ms) ++ cond (get_or ms i false) [] ((get_or ns i 0, table_at ts i) ∷ [])

@@ -1,13 +1,16 @@
 -- What the arrays of a segment say of the lists and the sets of its tables.
-use Rattle.std.proofs.Common.{◌≡◌, ◌∙◌, sym, ap, subst, ℕ, ◌<◌, List, [], get_or, length, map, arith}
+use Rattle.std.proofs.Common.{◌≡◌, ◌∙◌, refl, sym, ap, subst, ℕ, ◌<◌, ◌≤◌, List, [], get_or, length, map, arith}
 use Rattle.std.proofs.lemmas.List.{length-map, get_or-map}
 use Rattle.std.proofs.lemmas.List.FromFn.{length-enumerate_from}
-use Rattle.lake_model.specs.Tables.{Table}
+use Rattle.lake_model.specs.Texts.{Text}
+use Rattle.lake_model.specs.Tables.{Table, keys_at}
 use Rattle.search_model.specs.declared.Posting.{Posting}
 use Rattle.search_model.specs.declared.TokenAt.{TokenAt}
 use Rattle.search_model.specs.declared.Owner.{Owner}
-use Rattle.search_model.specs.Segment.{segment}
-use Rattle.search_model.specs.Arrays.{AreArrays, IsByKey, all_of, no_titled, owner_of, starts_of, titled_at, token_at}
+use Rattle.search_model.specs.Segment.{Token, segment}
+use Rattle.search_model.proofs.ColumnLemmas.{stands, Stands}
+use Rattle.search_model.proofs.KeyLemmas.{key_here}
+use Rattle.search_model.specs.Arrays.{AreArrays, IsByKey, all_of, key_of, no_titled, owner_of, pointed, starts_of, table_at, titled_at}
 use Rattle.segment_core.proofs.ListsLemmas.{Bounds, bounds}
 
 pub length-sets : (tables : List Table) → length (segment tables).sets ≡ length (segment tables).columns
@@ -38,7 +41,46 @@ module _ (held tables : List Table) (is : held ≡ tables) (owners : List Owner)
   owner_at set d h = ap (λ (os : List Owner). get_or os set d) owned ∙ get_or-map owner_of (segment tables).columns set no_titled d (omega (arith, length-sets tables))
 
   pub token_count : length tokens ≡ length (segment tables).tokens
-  token_count = sym (length-map tokens (token_at held)) ∙ ap length arrays.named ∙ ap (λ (ts : List Table). length (segment ts).tokens) is
+  token_count = sym (length-map tokens (pointed held)) ∙ ap length arrays.named ∙ length-map (segment held).tokens (λ (t : Token). t.key) ∙ ap (λ (ts : List Table). length (segment ts).tokens) is
 
   pub sorted_keys : IsByKey (segment tables).tokens by_key
   sorted_keys = subst (λ (ts : List Table). IsByKey (segment ts).tokens by_key) is arrays.sorted
+
+-- the column of a number stands in its table
+pub stands_there : (tables : List Table) (set : ℕ) → set < length (segment tables).columns → Stands tables (titled_at (segment tables).columns set)
+unfolding segment
+stands_there tables set h = stands tables set h
+
+-- Where the key of a token is read: its place is one of the columns, this is one of a table, and that table has the key there.
+pub record IsRead (tables : List Table) (at : TokenAt) (owner : Owner) (token : ℕ) : Type 0 where
+  pub table : owner.table < length tables
+  pub low : 0 < owner.place
+  pub high : owner.place ≤ length (table_at tables owner.table).columns
+  pub key : get_or (keys_at (table_at tables owner.table) owner.place) at.index [] ≡ key_of (segment tables).tokens token
+
+module _ (tables : List Table) (owners : List Owner) (tokens : List TokenAt) (by_key list_starts : List ℕ) (postings : List Posting) (set_starts set_tokens : List ℕ)
+    (arrays : AreArrays tables owners tokens by_key list_starts postings set_starts set_tokens) (token : ℕ) (within : token < length tokens) (at : TokenAt) (is : at ≡ get_or tokens token at) where
+  column_there : at.column < length (segment tables).columns
+  unfolding segment
+  column_there = subst (λ (t : TokenAt). t.column < length (segment tables).columns) (sym is) (arrays.within token at within).column
+
+  pub owner_there : at.column < length owners
+  owner_there = omega (arith, column_there, ap length arrays.owned, length-map (segment tables).columns owner_of)
+
+  keys_there : (owner : Owner) → owner ≡ get_or owners at.column owner → owner ≡ owner_of (titled_at (segment tables).columns at.column)
+  keys_there owner e = e ∙ owner_at tables tables refl owners tokens by_key list_starts postings set_starts set_tokens arrays at.column owner (omega (arith, column_there, length-sets tables))
+
+  named : get_or (titled_at (segment tables).columns at.column).column.keys at.index [] ≡ key_of (segment tables).tokens token
+  unfolding segment
+  named = key_here (pointed tables) tokens (segment tables).tokens token at arrays.named within is
+
+  pub is_read : (owner : Owner) → owner ≡ get_or owners at.column owner → IsRead tables at owner token
+  is_read owner e =
+      let c = titled_at (segment tables).columns at.column in
+      let here = stands_there tables at.column column_there in
+      subst (λ (o : Owner). IsRead tables at o token) (sym (keys_there owner e)) (record {
+        table = here.table;
+        low = here.low;
+        high = here.high;
+        key = ap (λ (keys : List Text). get_or keys at.index []) here.keys ∙ named;
+      })

@@ -185,9 +185,10 @@ impl Segment {
             return "";
         }
         let at = self.tokens[token as usize];
-        self.tables[at.table as usize]
+        let owner = self.owners[at.column as usize];
+        self.tables[owner.table as usize]
             .table()
-            .key(at.place, at.index)
+            .key(owner.place, at.index)
     }
 }
 

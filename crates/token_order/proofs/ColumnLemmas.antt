@@ -1,13 +1,16 @@
 -- Columns that are added behind others.
-use Rattle.std.proofs.Common.{◌≡◌, ap, sym, ◌∙◌, ℕ, ◌+◌, ◌<◌, List, [], ◌∷◌, ◌++◌, length, take, arith, inl, inr, append-nil, append_assoc, length-append}
+use Rattle.std.proofs.Common.{◌≡◌, ap, sym, ◌∙◌, ℕ, ◌+◌, ◌<◌, List, [], ◌∷◌, ◌++◌, length, map, take, arith, inl, inr, append-nil, append_assoc, length-append}
 use Rattle.std.proofs.lemmas.Bool.{cases_lt}
-use Rattle.std.proofs.lemmas.List.{get_or_append_left, get_or_push, length_push, take-append-le, take_more}
+use Rattle.std.proofs.lemmas.List.{get_or_append_left, get_or_push, length_push, map_push, take-append-le, take_more}
 use Rattle.std.proofs.lemmas.List.Concat.{flat_map-append}
 use Rattle.std.proofs.lemmas.List.Elements.{All-push}
 use Rattle.std.proofs.Math.Seq.{take-append_seam}
 use Rattle.lake_model.specs.Texts.{Text}
 use Rattle.lake_model.specs.Tables.{Table}
-use Rattle.token_order.specs.Columns.{column_at, keys_there, keys_through, no_column, AreColumns, AreMoreColumns, IsColumn}
+use Rattle.search_model.specs.declared.Owner.{Owner}
+use Rattle.search_model.specs.Arrays.{owner_of}
+use Rattle.search_model.specs.Segment.{Titled}
+use Rattle.token_order.specs.Columns.{column_at, keys_there, keys_through, no_column, owner_there, AreColumns, AreMoreColumns, IsColumn}
 use Rattle.token_order.specs.declared.columns.ColumnAt.{ColumnAt}
 
 -- the keys, with those of one more column
@@ -38,13 +41,18 @@ columns_push tables columns column are is first =
       ];
     }
 
--- one more column, of these keys
-pub more_column : (tables : List Table) (old new : List ColumnAt) (keys : List Text) (first next : ℕ) (column : ColumnAt) → AreMoreColumns tables old new keys first → IsColumn tables column → column.first ≡ first → next ≡ first + length (keys_there tables column)
-    → AreMoreColumns tables old (new ++ column ∷ []) (keys ++ keys_there tables column) next
-more_column tables old new keys first next column more is at after =
+-- one more column, of these keys, which is this one of the table of an index
+pub more_column : (tables : List Table) (old new : List ColumnAt) (added : List Titled) (keys : List Text) (first next : ℕ) (column : ColumnAt) (titled : Titled) → AreMoreColumns tables old new added keys first → IsColumn tables column → owner_there column ≡ owner_of titled → column.first ≡ first → next ≡ first + length (keys_there tables column)
+    → AreMoreColumns tables old (new ++ column ∷ []) (added ++ titled ∷ []) (keys ++ keys_there tables column) next
+more_column tables old new added keys first next column titled more is owns at after =
     let push = keys_through_push tables new column in
     record {
       columns = columns_push tables new column more.columns is (at ∙ more.counted);
+      owned =
+          map_push owner_there new column
+          ∙ (λ i. more.owned i ++ owns i ∷ [])
+          ∙ append_assoc (map owner_there old) (map owner_of added) (owner_of titled ∷ [])
+          ∙ ap (λ (os : List Owner). map owner_there old ++ os) (sym (map_push owner_of added titled));
       held = push ∙ ap (λ (ks : List Text). ks ++ keys_there tables column) more.held ∙ append_assoc (keys_through tables old) keys (keys_there tables column);
       counted = omega (arith, after, more.counted, ap (λ (ks : List Text). length ks) push, length-append (keys_through tables new) (keys_there tables column));
     }

@@ -14,7 +14,7 @@ use Rattle.token_order.specs.Counting.{IsCounting}
 use Rattle.token_order.specs.Places.{pointed_by, IsThere}
 use Rattle.token_order.specs.Ranks.{IsRank}
 use Rattle.token_order.specs.declared.columns.ColumnAt.{ColumnAt}
-use Rattle.token_order.specs.declared.places.Member.{Member}
+use Rattle.search_model.specs.declared.TokenAt.{TokenAt}
 use Rattle.token_order.specs.declared.runs.Run.{Run}
 use Rattle.token_order.specs.Runs.{run_token, runs_from, runs_of, AreRanked}
 
@@ -34,7 +34,7 @@ abbrev pub longer : Run → ℕ → Run
 longer run n = record { first = run.first; frequency = n; rank = run.rank }
 
 -- a run that begins at a member
-abbrev pub run_with : Member → ℕ → Run
+abbrev pub run_with : TokenAt → ℕ → Run
 run_with m rank = record { first = m; frequency = 1; rank = rank }
 
 ranked_push : (runs : List Run) (run : Run) → run.rank ≡ length runs → AreRanked runs → AreRanked (runs ++ run ∷ [])
@@ -45,20 +45,20 @@ ranked_push runs run e h i d b = elim (cases_lt i (length runs)) [
       ap (λ (r : Run). r.rank) (get_or_push runs run d i (sym at)) ∙ e ∙ sym at
 ]
 
-module _ (tables : List Table) (all : List Token) (columns : List ColumnAt) (members : List Member) (ended : List Run) (run : Run) (i : ℕ) where
-  abbrev then : Bool → Member → List Token
+module _ (tables : List Table) (all : List Token) (columns : List ColumnAt) (members : List TokenAt) (ended : List Run) (run : Run) (i : ℕ) where
+  abbrev then : Bool → TokenAt → List Token
   then b m = cond b (runs_from (token_with (pointed_by tables columns run.first) (run.frequency + 1)) (map (pointed_by tables columns) (drop (i + 1) members))) (run_token tables columns run ∷ runs_from (token_with (pointed_by tables columns m) 1) (map (pointed_by tables columns) (drop (i + 1) members)))
 
-  one_more : (b : Bool) (m : Member) → IsCounting tables all columns members ended run i → i < length members → m ≡ get_or members i m → bytes_eq (pointed_by tables columns m) (pointed_by tables columns run.first) ≡ b → map (run_token tables columns) ended ++ then b m ≡ all
+  one_more : (b : Bool) (m : TokenAt) → IsCounting tables all columns members ended run i → i < length members → m ≡ get_or members i m → bytes_eq (pointed_by tables columns m) (pointed_by tables columns run.first) ≡ b → map (run_token tables columns) ended ++ then b m ≡ all
   one_more b m h within is test =
-      let from : List Member → List Token = λ ms. map (run_token tables columns) ended ++ runs_from (run_token tables columns run) (map (pointed_by tables columns) ms) in
-      sym (ap (λ b. map (run_token tables columns) ended ++ then b m) test) ∙ ap (λ (n : Member). from (n ∷ drop (i + 1) members)) is ∙ sym (at_drop_more from members i m within) ∙ h.runs
+      let from : List TokenAt → List Token = λ ms. map (run_token tables columns) ended ++ runs_from (run_token tables columns run) (map (pointed_by tables columns) ms) in
+      sym (ap (λ b. map (run_token tables columns) ended ++ then b m) test) ∙ ap (λ (n : TokenAt). from (n ∷ drop (i + 1) members)) is ∙ sym (at_drop_more from members i m within) ∙ h.runs
 
-  pub counting_same : (m : Member) → IsCounting tables all columns members ended run i → i < length members → m ≡ get_or members i m → bytes_eq (pointed_by tables columns m) (pointed_by tables columns run.first) ≡ true → IsCounting tables all columns members ended (longer run (run.frequency + 1)) (i + 1)
+  pub counting_same : (m : TokenAt) → IsCounting tables all columns members ended run i → i < length members → m ≡ get_or members i m → bytes_eq (pointed_by tables columns m) (pointed_by tables columns run.first) ≡ true → IsCounting tables all columns members ended (longer run (run.frequency + 1)) (i + 1)
   counting_same m h within is test =
       record { runs = one_more true m h within is test; within = h.within; here = h.here; ranked = h.ranked; rank = h.rank; short = omega (arith, h.short); few = omega (arith, h.few) }
 
-  pub counting_next : (m : Member) → IsCounting tables all columns members ended run i → i < length members → m ≡ get_or members i m → bytes_eq (pointed_by tables columns m) (pointed_by tables columns run.first) ≡ false → IsThere tables columns m → IsCounting tables all columns members (ended ++ run ∷ []) (run_with m (run.rank + 1)) (i + 1)
+  pub counting_next : (m : TokenAt) → IsCounting tables all columns members ended run i → i < length members → m ≡ get_or members i m → bytes_eq (pointed_by tables columns m) (pointed_by tables columns run.first) ≡ false → IsThere tables columns m → IsCounting tables all columns members (ended ++ run ∷ []) (run_with m (run.rank + 1)) (i + 1)
   counting_next m h within is test here =
       let more = runs_from (token_with (pointed_by tables columns m) 1) (map (pointed_by tables columns) (drop (i + 1) members)) in
       record {
@@ -76,7 +76,7 @@ module _ (tables : List Table) (all : List Token) (columns : List ColumnAt) (mem
 
   pub counting_ends : IsCounting tables all columns members ended run i → length members ≤ i → map (run_token tables columns) (ended ++ run ∷ []) ≡ all
   counting_ends h past =
-      let from : List Member → List Token = λ ms. map (run_token tables columns) ended ++ runs_from (run_token tables columns run) (map (pointed_by tables columns) ms) in
+      let from : List TokenAt → List Token = λ ms. map (run_token tables columns) ended ++ runs_from (run_token tables columns run) (map (pointed_by tables columns) ms) in
       map_push (run_token tables columns) ended run ∙ sym (at_drop_all from members i past) ∙ h.runs
 
   pub counting_ranked : IsCounting tables all columns members ended run i → AreRanked (ended ++ run ∷ [])
@@ -95,7 +95,7 @@ module _ (tables : List Table) (all : List Token) (columns : List ColumnAt) (mem
       (omega (arith, ap length split, length-append (map key before) (map key rest), long, first.0), ap (λ (ks : List Text). get_or ks (length ended) []) split ∙ get_or-append_right (map key before) (map key rest) (length ended) (length ended) [] long (omega arith) ∙ (let z : length ended - length ended ≡ 0 = omega arith in ap (λ (n : ℕ). get_or (map key rest) n []) z) ∙ first.1) in
       subst (IsRank (map key all) (pointed_by tables columns run.first)) (sym h.rank) number
 
-pub counting_starts : (tables : List Table) (columns : List ColumnAt) (members : List Member) (first : Run) → first.frequency ≡ 0 → first.rank ≡ 0 → IsThere tables columns first.first → IsCounting tables (runs_from (run_token tables columns first) (map (pointed_by tables columns) members)) columns members [] first 0
+pub counting_starts : (tables : List Table) (columns : List ColumnAt) (members : List TokenAt) (first : Run) → first.frequency ≡ 0 → first.rank ≡ 0 → IsThere tables columns first.first → IsCounting tables (runs_from (run_token tables columns first) (map (pointed_by tables columns) members)) columns members [] first 0
 counting_starts tables columns members first none zero h =
     record { runs = refl; within = λ k d b. absurd (omega arith); here = h; ranked = λ k d b. absurd (omega arith); rank = zero; short = omega arith; few = omega arith }
 
@@ -116,7 +116,7 @@ slot_written {X = X} P slot written xs i x n within is inside holds before =
     All-more (λ q. P (slot q) (get_or (set written (slot x) n) (slot q) 0)) xs i x within each (here (get_or xs i x) (ap slot (sym is)))
 
 -- the runs from a first one that is not counted yet
-pub from_first : (tables : List Table) (columns : List ColumnAt) (members : List Member) (first : Run) (m : Member) → first.first ≡ m → first.frequency ≡ 0 → 0 < length members → m ≡ get_or members 0 m
+pub from_first : (tables : List Table) (columns : List ColumnAt) (members : List TokenAt) (first : Run) (m : TokenAt) → first.first ≡ m → first.frequency ≡ 0 → 0 < length members → m ≡ get_or members 0 m
     → runs_from (run_token tables columns first) (map (pointed_by tables columns) members) ≡ runs_of (map (pointed_by tables columns) members)
 from_first tables columns [] first m e f h is = absurd (omega arith)
 from_first tables columns (n ∷ members) first m e f h is =

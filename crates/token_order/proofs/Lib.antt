@@ -5,6 +5,6 @@ pub mod OrderLemmas
 pub mod RunLemmas
 pub mod SortLemmas
 pub mod TokenLemmas
-pub mod FrequencyLemmas
+pub mod HeldLemmas
 pub mod CountLemmas
 pub mod RankLemmas

@@ -11,20 +11,20 @@ use Rattle.std.proofs.lemmas.List.{ext_get_or, get_or_default, get_or-map, lengt
 use Rattle.std.proofs.lemmas.List.Elements.{All-map}
 use Rattle.std.proofs.lemmas.List.FromFn.{get_or-enumerate_from, get_or-range_with_len, length-enumerate_from, length-range_with_len}
 use Rattle.std.proofs.lemmas.List.Sorted.{All-permutation, IsPermutation-map, IsPermutation-sym, length_permutation, sum_by-IsPermutation}
+use Rattle.std.proofs.lemmas.List.Sums.{sum_by-cons}
 use Rattle.column_set.specs.Columns.{HasDistinctKeys}
 use Rattle.lake_model.specs.Texts.{Text}
 use Rattle.lake_model.specs.Tables.{Table}
 use Rattle.search_model.specs.declared.TokenAt.{TokenAt}
-use Rattle.search_model.specs.Arrays.{key_of, numbers_of, token_at, token_with, IsAt, IsByKey}
+use Rattle.search_model.specs.Arrays.{key_of, numbers_of, token_keys, token_with, IsByKey}
 use Rattle.search_model.specs.Segment.{Token, columns_of, token_cmp, tokens_of}
 use Rattle.token_order.specs.Counted.{sorted_keys, AreCounted, AreNumbers, ArePlaces}
 use Rattle.token_order.specs.Places.{keys_of, pointed_by, IsThere}
 use Rattle.token_order.specs.Ranks.{names_of, IsRank}
-use Rattle.token_order.specs.Runs.{run_at, run_cmp, run_keys, run_token, runs_of, AreRanked}
-use Rattle.token_order.specs.Vocabulary.{IsVocabulary}
+use Rattle.token_order.specs.Runs.{run_cmp, run_keys, run_token, runs_of, AreRanked}
+use Rattle.token_order.specs.Vocabulary.{frequencies_of, IsVocabulary}
 use Rattle.token_order.specs.declared.columns.ColumnAt.{ColumnAt}
 use Rattle.token_order.specs.declared.runs.Run.{Run}
-use Rattle.token_order.proofs.FrequencyLemmas.{frequencies}
 use Rattle.token_order.proofs.NameLemmas.{differ_moved, places_compare, same_place}
 use Rattle.token_order.proofs.PlaceLemmas.{length-keys_of}
 use Rattle.token_order.proofs.RankLemmas.{runs_named}
@@ -135,10 +135,20 @@ places_by_key tokens names ranks places rise differ moved all long key are =
 
 -- ---- the vocabulary
 
--- the places name the tokens
-pub places_named : (tables : List Table) (columns : List ColumnAt) (runs : List Run) → map (token_at tables) (map (run_at columns) runs) ≡ map (run_token tables columns) runs
+-- the runs' first members have the tokens' keys
+places_named : (tables : List Table) (columns : List ColumnAt) (runs : List Run) → map (pointed_by tables columns) (map (λ r. r.first) runs) ≡ token_keys (map (run_token tables columns) runs)
 places_named tables columns [] = refl
-places_named tables columns (r ∷ runs) = ap (λ (ts : List Token). run_token tables columns r ∷ ts) (places_named tables columns runs)
+places_named tables columns (r ∷ runs) = ap (λ (keys : List Text). pointed_by tables columns r.first ∷ keys) (places_named tables columns runs)
+
+-- and they are as long as the tokens are frequent
+as_frequent : (tables : List Table) (columns : List ColumnAt) (runs : List Run) → map (λ r. r.frequency) runs ≡ frequencies_of (map (run_token tables columns) runs)
+as_frequent tables columns [] = refl
+as_frequent tables columns (r ∷ runs) = ap (λ (ns : List ℕ). r.frequency ∷ ns) (as_frequent tables columns runs)
+
+summed : (tokens : List Token) → sum_by (λ n. n) (frequencies_of tokens) ≡ sum_by (λ t. t.frequency) tokens
+summed [] = refl
+summed (t ∷ tokens) =
+    omega (arith, sum_by-cons (λ (n : ℕ). n) t.frequency (frequencies_of tokens), sum_by-cons (λ (t : Token). t.frequency) t tokens, summed tokens)
 
 module _ (tables : List Table) (columns : List ColumnAt) (runs ordered : List Run) (ranks : List ℕ) (counted : AreCounted tables columns runs ranks) (perm : IsPermutation runs ordered) where
   abbrev names : List Text
@@ -189,12 +199,14 @@ module _ (tables : List Table) (columns : List ColumnAt) (runs ordered : List Ru
       ∙ ap is_lt (same_order y x (have_ranks (k + 1) no late) (have_ranks k no early))
       ∙ up k no (omega arith) late
 
-  pub vocabulary : (places : List TokenAt) (by_key : List ℕ) → All HasDistinctKeys tables → IsSorted run_cmp ordered → ArePlaces (map rank_of ordered) by_key → places ≡ map (run_at columns) ordered → IsVocabulary tables places by_key ranks
-  vocabulary places by_key different up are made =
+  pub vocabulary : (places : List TokenAt) (frequencies by_key : List ℕ) → All HasDistinctKeys tables → IsSorted run_cmp ordered → ArePlaces (map rank_of ordered) by_key → places ≡ map (λ r. r.first) ordered → frequencies ≡ map (λ r. r.frequency) ordered
+      → IsVocabulary tables columns places frequencies by_key ranks
+  vocabulary places frequencies by_key different up are made sized =
       let key : Token → Text = λ t. t.key in
+      let first : Run → TokenAt = λ r. r.first in
       let named : tokens ≡ tokens_of (columns_of tables) = tokens_are tables (sorted_keys tables) tokens different counted.same counted.sorted moved (tokens_up up) in
-      let here : map (token_at tables) places ≡ tokens = ap (map (token_at tables)) made ∙ places_named tables columns ordered in
-      let within : All (IsAt tables) places = subst (All (IsAt tables)) (sym made) (All-map (IsAt tables) (run_at columns) ordered (λ k d b. (let h = (All-permutation (λ r. IsThere tables columns r.first) runs ordered perm counted.within k d b).0 in record { table = h.table; low = h.low; high = h.high; index = h.index }))) in
+      let within : All (IsThere tables columns) places = subst (All (IsThere tables columns)) (sym made) (All-map (IsThere tables columns) first ordered (All-permutation (λ r. IsThere tables columns r.first) runs ordered perm counted.within)) in
+      let frequent : frequencies ≡ frequencies_of tokens = sized ∙ as_frequent tables columns ordered in
       let as_long : length (map rank_of ordered) ≡ length tokens = length-map ordered rank_of ∙ sym (length-map ordered (run_token tables columns)) in
       let no : Run = record { first = record { column = 0; index = 0 }; frequency = 0; rank = 0 } in
       let keys_at_ranks : (t : ℕ) → t < length tokens → key_of tokens t ≡ get_or names (get_or (map rank_of ordered) t 0) [] = λ t b.
@@ -208,13 +220,15 @@ module _ (tables : List Table) (columns : List ColumnAt) (runs ordered : List Ru
       places_by_key tokens names (map rank_of ordered) by_key rise differ (IsPermutation-map key (runs_of (sorted_keys tables)) tokens moved) (numbered runs ordered counted.numbered perm) as_long keys_at_ranks are in
       let ranked : names ≡ names_of (tokens_of (columns_of tables)) = runs_named (sorted_keys tables) tokens counted.sorted moved ∙ ap names_of named in
       record {
-        named = here ∙ named;
+        owned = counted.owned;
+        named = ap (map (pointed_by tables columns)) made ∙ places_named tables columns ordered ∙ ap token_keys named;
         within = within;
-        sorted = subst (λ (ts : List Token). IsByKey ts by_key) (sym here) sorted;
-        few = omega (arith, ap (λ (ats : List TokenAt). length ats) made, length-map ordered (run_at columns), length_permutation runs ordered perm, counted.few);
+        frequent = frequent ∙ ap frequencies_of named;
+        sorted = subst (λ (ts : List Token). IsByKey ts by_key) named sorted;
+        few = omega (arith, ap (λ (ats : List TokenAt). length ats) made, length-map ordered first, length_permutation runs ordered perm, counted.few);
         counted =
-            frequencies tables places
-            ∙ ap (λ (ts : List Token). sum_by (λ (t : Token). t.frequency) ts) here
+            ap (sum_by (λ n. n)) frequent
+            ∙ summed tokens
             ∙ sum_by-IsPermutation (λ (t : Token). t.frequency) (runs_of (sorted_keys tables)) tokens moved
             ∙ runs_long (sorted_keys tables)
             ∙ length_permutation (keys_of tables) (sorted_keys tables) counted.same

@@ -17,11 +17,11 @@ use Rattle.search_model.specs.Arrays.{all_of, no_table, table_at}
 use Rattle.search_model.specs.Segment.{Titled, columns_of, titled}
 use Rattle.token_order.specs.Places.{keys_in, keys_of, number_of, pointed_by, AreMembers, IsMember, IsMore, IsNumbered, IsThere}
 use Rattle.token_order.specs.declared.columns.ColumnAt.{ColumnAt}
-use Rattle.token_order.specs.declared.places.Member.{Member}
+use Rattle.search_model.specs.declared.TokenAt.{TokenAt}
 
 -- ---- more members
 
-pub numbered_push : (columns : List ColumnAt) (ms : List Member) (m : Member) → number_of columns m ≡ length ms → IsNumbered columns ms → IsNumbered columns (ms ++ m ∷ [])
+pub numbered_push : (columns : List ColumnAt) (ms : List TokenAt) (m : TokenAt) → number_of columns m ≡ length ms → IsNumbered columns ms → IsNumbered columns (ms ++ m ∷ [])
 numbered_push columns ms m e h i d b = elim (cases_lt i (length ms)) [
   | inl l ↦ ap (number_of columns) (get_or_append_left ms (m ∷ []) d i l) ∙ h i d l
   | inr g ↦
@@ -29,10 +29,10 @@ numbered_push columns ms m e h i d b = elim (cases_lt i (length ms)) [
       ap (number_of columns) (get_or_push ms m d i (sym at)) ∙ e ∙ sym at
 ]
 
-pub more_none : (tables : List Table) (columns : List ColumnAt) (ms : List Member) → IsMore tables columns ms ms []
+pub more_none : (tables : List Table) (columns : List ColumnAt) (ms : List TokenAt) → IsMore tables columns ms ms []
 more_none tables columns ms = record { points = sym (append-nil (map (pointed_by tables columns) ms)); within = λ h. h; numbered = λ h. h }
 
-pub more_push : (tables : List Table) (columns : List ColumnAt) (old new : List Member) (keys : List Text) (m : Member) (key : Text) → IsMore tables columns old new keys → IsThere tables columns m → pointed_by tables columns m ≡ key → number_of columns m ≡ length new
+pub more_push : (tables : List Table) (columns : List ColumnAt) (old new : List TokenAt) (keys : List Text) (m : TokenAt) (key : Text) → IsMore tables columns old new keys → IsThere tables columns m → pointed_by tables columns m ≡ key → number_of columns m ≡ length new
     → IsMore tables columns old (new ++ m ∷ []) (keys ++ key ∷ [])
 more_push tables columns old new keys m key more is points number =
     record {
@@ -45,7 +45,7 @@ more_push tables columns old new keys m key more is points number =
       numbered = λ h. numbered_push columns new m number (more.numbered h);
     }
 
-pub more_more : (tables : List Table) (columns : List ColumnAt) (old new newer : List Member) (keys others : List Text) → IsMore tables columns old new keys → IsMore tables columns new newer others → IsMore tables columns old newer (keys ++ others)
+pub more_more : (tables : List Table) (columns : List ColumnAt) (old new newer : List TokenAt) (keys others : List Text) → IsMore tables columns old new keys → IsMore tables columns new newer others → IsMore tables columns old newer (keys ++ others)
 more_more tables columns old new newer keys others first second =
     record {
       points = second.points ∙ ap (λ (ks : List Text). ks ++ others) first.points ∙ append_assoc (map (pointed_by tables columns) old) keys others;
@@ -54,7 +54,7 @@ more_more tables columns old new newer keys others first second =
     }
 
 -- as many members were added as keys
-pub more_long : (tables : List Table) (columns : List ColumnAt) (old new : List Member) (keys : List Text) → IsMore tables columns old new keys → length new ≡ length old + length keys
+pub more_long : (tables : List Table) (columns : List ColumnAt) (old new : List TokenAt) (keys : List Text) → IsMore tables columns old new keys → length new ≡ length old + length keys
 more_long tables columns old new keys more =
     omega (arith, length-map new (pointed_by tables columns), length-map old (pointed_by tables columns), ap (λ (ks : List Text). length ks) more.points, length-append (map (pointed_by tables columns) old) keys)
 
@@ -119,12 +119,12 @@ pub columns_differ : (tables : List Table) → All HasDistinctKeys tables → Al
 columns_differ tables h = differ_all 0 tables (recursion_from_All HasDistinctKeys tables h)
 
 -- as many as there are keys, where they point at all keys, in whatever order
-pub member_count : (tables : List Table) (columns : List ColumnAt) (found : List Member) → IsPermutation (keys_of tables) (map (pointed_by tables columns) found) → length found ≡ sum_by members tables
+pub member_count : (tables : List Table) (columns : List ColumnAt) (found : List TokenAt) → IsPermutation (keys_of tables) (map (pointed_by tables columns) found) → length found ≡ sum_by members tables
 member_count tables columns found same = sym (length-map found (pointed_by tables columns)) ∙ length_permutation (keys_of tables) (map (pointed_by tables columns) found) same ∙ length-keys_of tables
 
 -- ---- all members
 
-pub all_are : (tables : List Table) (columns : List ColumnAt) (found sorted : List Member) → IsMore tables columns [] found (keys_of tables) → IsPermutation found sorted → AreMembers tables columns sorted
+pub all_are : (tables : List Table) (columns : List ColumnAt) (found sorted : List TokenAt) → IsMore tables columns [] found (keys_of tables) → IsPermutation found sorted → AreMembers tables columns sorted
 all_are tables columns found sorted more moved =
     let keys = keys_of tables in
     let points : map (pointed_by tables columns) found ≡ keys = more.points in
@@ -139,7 +139,7 @@ all_are tables columns found sorted more moved =
     let numbers : range_with_len 0 (length keys) ≡ map (number_of columns) found =
     ext_get_or 0 (range_with_len 0 (length keys)) (map (number_of columns) found) (omega (arith, length-range_with_len 0 (length keys), length-map found (number_of columns), long))
     (λ i b. let inside : i < length found = omega (arith, b, length-range_with_len 0 (length keys), long) in
-    let no : Member = record { column = 0; index = 0 } in
+    let no : TokenAt = record { column = 0; index = 0 } in
     let z : 0 + i ≡ i = omega arith in
     get_or-range_with_len 0 (length keys) i 0 (omega (arith, inside, long)) ∙ z ∙ sym (get_or-map (number_of columns) found i no 0 inside ∙ numbered i no inside)) in
     record {

@@ -16,8 +16,9 @@ use Rattle.lake_model.specs.Tables.{Table}
 use Rattle.lake_model.proofs.SortingLemmas.{in_order-IsPermutation, sorted_is}
 use Rattle.search_model.specs.declared.TokenAt.{TokenAt}
 use Rattle.search_model.specs.Segment.{Token, columns_of, tokens_of}
-use Rattle.search_model.specs.Arrays.{key_of, numbers_of, IsByKey, IsToken}
+use Rattle.search_model.specs.Arrays.{key_of, numbers_of, owner_of, IsByKey, IsToken}
 use Rattle.search_model.proofs.KeyLemmas.{found}
+use Rattle.token_order.specs.Columns.{owner_there}
 use Rattle.token_order.specs.Counted.{sorted_keys, AreCounted}
 use Rattle.token_order.specs.Places.{keys_of, number_of, pointed_by, AreMembers, IsThere}
 use Rattle.token_order.specs.Ranks.{names_of, AreRanks, HaveRanks, IsRank}
@@ -25,7 +26,6 @@ use Rattle.token_order.specs.Runs.{run_keys, run_token, runs_of, AreRanked}
 use Rattle.token_order.specs.declared.runs.Run.{Run}
 use Rattle.token_order.specs.Vocabulary.{IsVocabulary}
 use Rattle.token_order.specs.declared.columns.ColumnAt.{ColumnAt}
-use Rattle.token_order.specs.declared.places.Member.{Member}
 use Rattle.token_order.proofs.NameLemmas.{level_itself}
 use Rattle.token_order.proofs.RunLemmas.{runs_few, runs_rise}
 use Rattle.token_order.proofs.SortLemmas.{rises, sorted_from_rises, sorted_map}
@@ -59,7 +59,7 @@ runs_named keys tokens up moved =
 -- ---- the ranks
 
 -- what is written for all members are the ranks
-pub ranks_are : (tables : List Table) (columns : List ColumnAt) (members : List Member) (names : List Text) (ranks : List ℕ) → AreMembers tables columns members → HaveRanks names (keys_of tables) ranks columns members
+pub ranks_are : (tables : List Table) (columns : List ColumnAt) (members : List TokenAt) (names : List Text) (ranks : List ℕ) → AreMembers tables columns members → HaveRanks names (keys_of tables) ranks columns members
     → (n : ℕ) → n < length (keys_of tables) → IsRank names (get_or (keys_of tables) n []) (get_or ranks n 0)
 ranks_are tables columns members names ranks all written n b =
     let keys = keys_of tables in
@@ -70,13 +70,14 @@ ranks_are tables columns members names ranks all written n b =
     subst IsHere at (each n 0 (omega (arith, b, length-range_with_len 0 (length keys))))
 
 -- the runs of sorted members are counted
-pub counted : (tables : List Table) (columns : List ColumnAt) (members : List Member) (runs : List Run) (ranks : List ℕ) → IsSorted (slice_cmp nat_cmp) (map (pointed_by tables columns) members) → IsPermutation (keys_of tables) (map (pointed_by tables columns) members) → AreMembers tables columns members
+pub counted : (tables : List Table) (columns : List ColumnAt) (members : List TokenAt) (runs : List Run) (ranks : List ℕ) → IsSorted (slice_cmp nat_cmp) (map (pointed_by tables columns) members) → IsPermutation (keys_of tables) (map (pointed_by tables columns) members) → AreMembers tables columns members
     → map (run_token tables columns) runs ≡ runs_of (map (pointed_by tables columns) members) → All (λ r. IsThere tables columns r.first) runs → AreRanked runs → HaveRanks (run_keys (map (pointed_by tables columns) members)) (keys_of tables) ranks columns members
-    → length ranks ≡ length (keys_of tables) → length members < 2 ^ 32 → AreCounted tables columns runs ranks
-counted tables columns members runs ranks up same all made within numbered written long few =
+    → length ranks ≡ length (keys_of tables) → length members < 2 ^ 32 → map owner_there columns ≡ map owner_of (columns_of tables) → AreCounted tables columns runs ranks
+counted tables columns members runs ranks up same all made within numbered written long few owned =
     let found = map (pointed_by tables columns) members in
     let is : found ≡ sorted_keys tables = sorted_is nat_list_cmp_total exact_bytes found up ∙ in_order-IsPermutation nat_list_cmp_total exact_bytes (keys_of tables) found same in
     record {
+      owned = owned;
       sorted = subst (IsSorted (slice_cmp nat_cmp)) is up;
       same = subst (IsPermutation (keys_of tables)) is same;
       counted = made ∙ ap runs_of is;
@@ -100,12 +101,12 @@ token_there tokens numbers key rank number by_key is at =
     found tokens numbers by_key key rank number within at (ap (λ (k : Text). slice_cmp nat_cmp k key) same ∙ level_itself (slice_cmp nat_cmp key key) (nat_list_cmp_total.antisymm key key))
 
 -- what a vocabulary holds, of its tables
-pub by_key_of : (tables held : List Table) (places : List TokenAt) (by_key ranks : List ℕ) → IsVocabulary held places by_key ranks → held ≡ tables → IsByKey (tokens_of (columns_of tables)) by_key
-by_key_of tables held places by_key ranks is e =
-    subst (λ (ts : List Table). IsByKey (tokens_of (columns_of ts)) by_key) e (subst (λ (ts : List Token). IsByKey ts by_key) is.named is.sorted)
+pub by_key_of : (tables held : List Table) (columns : List ColumnAt) (places : List TokenAt) (frequencies by_key ranks : List ℕ) → IsVocabulary held columns places frequencies by_key ranks → held ≡ tables → IsByKey (tokens_of (columns_of tables)) by_key
+by_key_of tables held columns places frequencies by_key ranks is e =
+    subst (λ (ts : List Table). IsByKey (tokens_of (columns_of ts)) by_key) e is.sorted
 
-pub rank_of : (tables held : List Table) (places : List TokenAt) (by_key ranks : List ℕ) (number rank : ℕ) → IsVocabulary held places by_key ranks → held ≡ tables → number < length (keys_of tables) → rank ≡ get_or ranks number rank
+pub rank_of : (tables held : List Table) (columns : List ColumnAt) (places : List TokenAt) (frequencies by_key ranks : List ℕ) (number rank : ℕ) → IsVocabulary held columns places frequencies by_key ranks → held ≡ tables → number < length (keys_of tables) → rank ≡ get_or ranks number rank
     → IsRank (names_of (tokens_of (columns_of tables))) (get_or (keys_of tables) number []) rank
-rank_of tables held places by_key ranks number rank is e within at =
+rank_of tables held columns places frequencies by_key ranks number rank is e within at =
     let all : AreRanks tables ranks = subst (λ (ts : List Table). AreRanks ts ranks) e is.ranked in
     subst (IsRank (names_of (tokens_of (columns_of tables))) (get_or (keys_of tables) number [])) (sym (at ∙ get_or_default_zero ranks number rank (omega (arith, within, all.long)))) (all.each number within)

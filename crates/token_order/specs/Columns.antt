@@ -1,9 +1,11 @@
 -- The columns of tables, each with the number of its first member.
-use Rattle.std.specs.Prelude.{◌≡◌, ℕ, ◌<◌, ◌≤◌, List, ◌++◌, flat_map, get_or, length, take}
+use Rattle.std.specs.Prelude.{◌≡◌, ℕ, ◌<◌, ◌≤◌, List, ◌++◌, flat_map, get_or, length, map, take}
 use Rattle.std.specs.List.{All}
 use Rattle.lake_model.specs.Texts.{Text}
 use Rattle.lake_model.specs.Tables.{Table, keys_at}
-use Rattle.search_model.specs.Arrays.{table_at}
+use Rattle.search_model.specs.declared.Owner.{Owner}
+use Rattle.search_model.specs.Arrays.{owner_of, table_at}
+use Rattle.search_model.specs.Segment.{Titled}
 use Rattle.token_order.specs.declared.columns.ColumnAt.{ColumnAt}
 
 abbrev pub no_column : ColumnAt
@@ -12,6 +14,10 @@ no_column = record { table = 0; place = 0; first = 0 }
 -- the column of a number
 abbrev pub column_at : List ColumnAt → ℕ → ColumnAt
 column_at columns number = get_or columns number no_column
+
+-- where a column stands
+abbrev pub owner_there : ColumnAt → Owner
+owner_there column = record { table = column.table; place = column.place }
 
 -- the keys of a column
 abbrev pub keys_there : List Table → ColumnAt → List Text
@@ -32,8 +38,9 @@ pub record AreColumns (tables : List Table) (columns : List ColumnAt) : Type 0 w
   pub each : All (IsColumn tables) columns
   pub firsts : (i : ℕ) (d : ColumnAt) → i < length columns → (get_or columns i d).first ≡ length (keys_through tables (take i columns))
 
--- columns with these keys were added behind others, and next is the number of the first member behind them
-pub record AreMoreColumns (tables : List Table) (old new : List ColumnAt) (keys : List Text) (next : ℕ) : Type 0 where
+-- these columns, which have these keys, were added behind others, and next is the number of the first member behind them
+pub record AreMoreColumns (tables : List Table) (old new : List ColumnAt) (added : List Titled) (keys : List Text) (next : ℕ) : Type 0 where
   pub columns : AreColumns tables new
+  pub owned : map owner_there new ≡ map owner_there old ++ map owner_of added
   pub held : keys_through tables new ≡ keys_through tables old ++ keys
   pub counted : next ≡ length (keys_through tables new)

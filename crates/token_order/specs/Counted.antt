@@ -7,6 +7,9 @@ use Rattle.std.specs.Ordering.{nat_cmp}
 use Rattle.lake_model.specs.Sorting.{in_order}
 use Rattle.lake_model.specs.Texts.{Text}
 use Rattle.lake_model.specs.Tables.{Table}
+use Rattle.search_model.specs.Arrays.{owner_of}
+use Rattle.search_model.specs.Segment.{columns_of}
+use Rattle.token_order.specs.Columns.{owner_there}
 use Rattle.token_order.specs.Places.{keys_of, IsThere}
 use Rattle.token_order.specs.Ranks.{IsRank}
 use Rattle.token_order.specs.Runs.{run_keys, run_token, runs_of, AreRanked}
@@ -19,6 +22,7 @@ sorted_keys tables = in_order (slice_cmp nat_cmp) (keys_of tables)
 
 -- all runs, by their keys, and for each member the number of its run
 pub record AreCounted (tables : List Table) (columns : List ColumnAt) (runs : List Run) (ranks : List ℕ) : Type 0 where
+  pub owned : map owner_there columns ≡ map owner_of (columns_of tables)
   pub sorted : IsSorted (slice_cmp nat_cmp) (sorted_keys tables)
   pub same : IsPermutation (keys_of tables) (sorted_keys tables)
   pub counted : map (run_token tables columns) runs ≡ runs_of (sorted_keys tables)

@@ -6,11 +6,11 @@ use Rattle.search_model.specs.Segment.{Token}
 use Rattle.token_order.specs.Places.{pointed_by, IsThere}
 use Rattle.token_order.specs.Runs.{run_token, runs_from, AreRanked}
 use Rattle.token_order.specs.declared.columns.ColumnAt.{ColumnAt}
-use Rattle.token_order.specs.declared.places.Member.{Member}
+use Rattle.search_model.specs.declared.TokenAt.{TokenAt}
 use Rattle.token_order.specs.declared.runs.Run.{Run}
 
 -- the runs so far, with those from the present one on, are all runs
-pub record IsCounting (tables : List Table) (all : List Token) (columns : List ColumnAt) (members : List Member) (ended : List Run) (run : Run) (i : ℕ) : Type 0 where
+pub record IsCounting (tables : List Table) (all : List Token) (columns : List ColumnAt) (members : List TokenAt) (ended : List Run) (run : Run) (i : ℕ) : Type 0 where
   pub runs : map (run_token tables columns) ended ++ runs_from (run_token tables columns run) (map (pointed_by tables columns) (drop i members)) ≡ all
   pub within : All (λ r. IsThere tables columns r.first) ended
   pub here : IsThere tables columns run.first

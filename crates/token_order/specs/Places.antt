@@ -5,10 +5,9 @@ use Rattle.std.specs.List.Sorted.{IsPermutation}
 use Rattle.lake_model.specs.Texts.{Text}
 use Rattle.lake_model.specs.Tables.{Table, sets_of}
 use Rattle.search_model.specs.declared.TokenAt.{TokenAt}
-use Rattle.search_model.specs.Arrays.{all_of, pointed, IsAt}
-use Rattle.token_order.specs.Columns.{column_at}
+use Rattle.search_model.specs.Arrays.{all_of}
+use Rattle.token_order.specs.Columns.{column_at, keys_there}
 use Rattle.token_order.specs.declared.columns.ColumnAt.{ColumnAt}
-use Rattle.token_order.specs.declared.places.Member.{Member}
 
 -- the keys of all columns of a table
 abbrev pub keys_in : Table → List Text
@@ -18,44 +17,36 @@ keys_in table = all_of (sets_of table)
 abbrev pub keys_of : List Table → List Text
 keys_of tables = flat_map keys_in tables
 
--- where a member's key stands, with a frequency
-abbrev pub at_of : List ColumnAt → Member → ℕ → TokenAt
-at_of columns member frequency = record {
-  table = (column_at columns member.column).table;
-  place = (column_at columns member.column).place;
-  index = member.index;
-  frequency = frequency;
-}
-
 -- the key that a member points at
-abbrev pub pointed_by : List Table → List ColumnAt → Member → Text
-pointed_by tables columns member = pointed tables (at_of columns member 1)
+abbrev pub pointed_by : List Table → List ColumnAt → TokenAt → Text
+pointed_by tables columns member = get_or (keys_there tables (column_at columns member.column)) member.index []
 
 -- a member's number
-abbrev pub number_of : List ColumnAt → Member → ℕ
+abbrev pub number_of : List ColumnAt → TokenAt → ℕ
 number_of columns member = (column_at columns member.column).first + member.index
 
--- a member stands in one of the columns
-abbrev pub IsThere : List Table → List ColumnAt → Member → Type 0
-IsThere tables columns member = IsAt tables (at_of columns member 1) × (member.column < length columns)
+-- a member is a key of one of the columns
+pub record IsThere (tables : List Table) (columns : List ColumnAt) (member : TokenAt) : Type 0 where
+  pub column : member.column < length columns
+  pub index : member.index < length (keys_there tables (column_at columns member.column))
 
 -- a member is the key of its number
-pub record IsMember (tables : List Table) (columns : List ColumnAt) (member : Member) : Type 0 where
+pub record IsMember (tables : List Table) (columns : List ColumnAt) (member : TokenAt) : Type 0 where
   pub here : IsThere tables columns member
   pub inside : number_of columns member < length (keys_of tables)
   pub points : get_or (keys_of tables) (number_of columns member) [] ≡ pointed_by tables columns member
 
 -- all members, in whatever order
-pub record AreMembers (tables : List Table) (columns : List ColumnAt) (members : List Member) : Type 0 where
+pub record AreMembers (tables : List Table) (columns : List ColumnAt) (members : List TokenAt) : Type 0 where
   pub each : All (IsMember tables columns) members
   pub all : IsPermutation (range_with_len 0 (length (keys_of tables))) (map (number_of columns) members)
 
 -- each member's number is its place in the list
-abbrev pub IsNumbered : List ColumnAt → List Member → Type 0
-IsNumbered columns members = (i : ℕ) (d : Member) → i < length members → number_of columns (get_or members i d) ≡ i
+abbrev pub IsNumbered : List ColumnAt → List TokenAt → Type 0
+IsNumbered columns members = (i : ℕ) (d : TokenAt) → i < length members → number_of columns (get_or members i d) ≡ i
 
 -- members were added behind others, they point at these keys, and all stand in columns, and are numbered, if the others did and were
-pub record IsMore (tables : List Table) (columns : List ColumnAt) (old new : List Member) (keys : List Text) : Type 0 where
+pub record IsMore (tables : List Table) (columns : List ColumnAt) (old new : List TokenAt) (keys : List Text) : Type 0 where
   pub points : map (pointed_by tables columns) new ≡ map (pointed_by tables columns) old ++ keys
   pub within : All (IsThere tables columns) old → All (IsThere tables columns) new
   pub numbered : IsNumbered columns old → IsNumbered columns new

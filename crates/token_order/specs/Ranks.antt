@@ -9,14 +9,14 @@ use Rattle.lake_model.specs.Tables.{Table}
 use Rattle.search_model.specs.Segment.{Token, columns_of, tokens_of}
 use Rattle.token_order.specs.Places.{keys_of, number_of}
 use Rattle.token_order.specs.declared.columns.ColumnAt.{ColumnAt}
-use Rattle.token_order.specs.declared.places.Member.{Member}
+use Rattle.search_model.specs.declared.TokenAt.{TokenAt}
 
 -- the text is the one of this number
 abbrev pub IsRank : List Text → Text → ℕ → Type 0
 IsRank names key n = (n < length names) × (get_or names n [] ≡ key)
 
 -- the numbers written for these members are those of their keys among the names
-abbrev pub HaveRanks : List Text → List Text → List ℕ → List ColumnAt → List Member → Type 0
+abbrev pub HaveRanks : List Text → List Text → List ℕ → List ColumnAt → List TokenAt → Type 0
 HaveRanks names keys ranks columns members = All (λ m. IsRank names (get_or keys (number_of columns m) []) (get_or ranks (number_of columns m) 0)) members
 
 -- the keys of the tokens, by their bytes

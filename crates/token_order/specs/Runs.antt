@@ -4,10 +4,9 @@ use Rattle.std.specs.Ordering.{nat_cmp, ordering_then}
 use Rattle.std.specs.declared.cmp.Ordering.{Ordering}
 use Rattle.lake_model.specs.Texts.{Text}
 use Rattle.lake_model.specs.Tables.{Table}
-use Rattle.search_model.specs.declared.TokenAt.{TokenAt}
 use Rattle.search_model.specs.Segment.{Token}
 use Rattle.search_model.specs.Arrays.{token_with}
-use Rattle.token_order.specs.Places.{at_of, pointed_by}
+use Rattle.token_order.specs.Places.{pointed_by}
 use Rattle.token_order.specs.declared.columns.ColumnAt.{ColumnAt}
 use Rattle.token_order.specs.declared.runs.Run.{Run}
 
@@ -27,10 +26,6 @@ run_keys keys = map (λ t. t.key) (runs_of keys)
 -- the token of a run of members
 abbrev pub run_token : List Table → List ColumnAt → Run → Token
 run_token tables columns run = token_with (pointed_by tables columns run.first) run.frequency
-
--- where the key of a run stands, with the run's length as its frequency
-abbrev pub run_at : List ColumnAt → Run → TokenAt
-run_at columns run = at_of columns run.first run.frequency
 
 -- the shorter run first, and then by number
 abbrev pub run_cmp : Run → Run → Ordering

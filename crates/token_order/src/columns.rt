@@ -1,9 +1,10 @@
 //! The columns of tables, with the numbers of their members.
-ghost use Rattle.std.specs.Prelude.{◌≡◌, ◌<◌, ◌^◌, length, IfOk, OnOk};
+ghost use Rattle.std.specs.Prelude.{◌≡◌, ◌<◌, ◌^◌, length, map, IfOk, OnOk};
 ghost use Rattle.std.specs.List.{All};
 ghost use Rattle.column_set.specs.Columns.{HasDistinctKeys};
-ghost use Rattle.search_model.specs.Arrays.{table_at};
-ghost use Rattle.token_order.specs.Columns.{keys_through, AreColumns, AreMoreColumns};
+ghost use Rattle.search_model.specs.Arrays.{owner_of, table_at};
+ghost use Rattle.search_model.specs.Segment.{columns_in, columns_of};
+ghost use Rattle.token_order.specs.Columns.{keys_through, owner_there, AreColumns, AreMoreColumns};
 ghost use Rattle.token_order.specs.Places.{keys_in, keys_of};
 
 use column_set::{SharedTable, TableSets};
@@ -23,6 +24,7 @@ pub struct ColumnAt {
 /// members, or more.
 pub fn all_columns(alloc: Global, tables: &[SharedTable]) -> Result<Vec<ColumnAt>, NoMemory>
     ensures columns { IfOk result (λ columns. AreColumns tables.now columns.items) }
+    ensures owned { IfOk result (λ columns. map owner_there columns.items ≡ map owner_of (columns_of tables.now)) }
     ensures keys { IfOk result (λ columns. keys_through tables.now columns.items ≡ keys_of tables.now) }
     ensures few { IfOk result (λ columns. length columns.items < 2 ^ 32) }
     ensures different { OnOk result (All HasDistinctKeys tables.now) }
@@ -51,7 +53,7 @@ fn push_columns(
     requires table { table < length tables.now }
     requires columns { AreColumns tables.now columns.old.items }
     requires first { first ≡ length (keys_through tables.now columns.old.items) }
-    ensures more { IfOk result (λ next. AreMoreColumns tables.now columns.old.items columns.new.items (keys_in (table_at tables.now table)) next) }
+    ensures more { IfOk result (λ next. AreMoreColumns tables.now columns.old.items columns.new.items (columns_in table (table_at tables.now table)) (keys_in (table_at tables.now table)) next) }
     ensures different { OnOk result (HasDistinctKeys (table_at tables.now table)) }
 {
     let sets = table_of(tables, table);

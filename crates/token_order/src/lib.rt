@@ -10,7 +10,7 @@ mod vocab;
 
 pub use places::member_count;
 pub use search_model::TokenAt;
-pub use vocab::Vocab;
+pub use vocab::{TokenLists, Vocab};
 
 #[cfg(test)]
 mod tests;

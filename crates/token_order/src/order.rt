@@ -2,7 +2,6 @@
 ghost use Rattle.std.specs.Prelude.{◌≡◌, ◌<◌, ◌^◌, length, map, sum_by, IfOk};
 ghost use Rattle.lake_model.specs.Tables.{members};
 ghost use Rattle.token_order.specs.Counted.{AreNumbers, ArePlaces};
-ghost use Rattle.token_order.specs.Runs.{run_at};
 ghost use Rattle.token_order.specs.Vocabulary.{IsVocabulary};
 
 use crate::columns::ColumnAt;
@@ -12,11 +11,13 @@ use no_memory::NoMemory;
 use search_model::TokenAt;
 use std::alloc::Global;
 
-/// Where the keys of the tokens stand, in the order of tokens, the numbers of the tokens by the bytes of their keys, and for each member,
-/// at its number, which of the distinct keys it has, by their bytes.
+/// The columns, where the keys of the tokens stand among them and how frequent the tokens are, in the order of tokens, the numbers of the
+/// tokens by the bytes of their keys, and for each member, at its number, which of the distinct keys it has, by their bytes.
 #[derive(Drop)]
 pub struct OrderedTokens {
+    pub columns: Vec<ColumnAt>,
     pub tokens: Vec<TokenAt>,
+    pub frequencies: Vec<u32>,
     pub by_key: Vec<u32>,
     pub ranks: Vec<u32>,
 }
@@ -24,7 +25,7 @@ pub struct OrderedTokens {
 /// The tokens of the tables. The runs are numbered by their keys, so that no key is compared to put them in order.
 pub fn ordered_tokens(alloc: Global, tables: &[SharedTable]) -> Result<OrderedTokens, NoMemory>
     requires { sum_by members tables.now < 2 ^ 32 }
-    ensures { IfOk result (λ made. IsVocabulary tables.now made.tokens.items made.by_key.items made.ranks.items) }
+    ensures { IfOk result (λ made. IsVocabulary tables.now made.columns.items made.tokens.items made.frequencies.items made.by_key.items made.ranks.items) }
 {
     let CountedRuns {
         columns,
@@ -33,9 +34,12 @@ pub fn ordered_tokens(alloc: Global, tables: &[SharedTable]) -> Result<OrderedTo
     } = counted_runs(alloc, tables)?;
     runs.sort_unstable_by(|a, b| run_order(*a, *b));
     let by_key = numbers_by_rank(alloc, &runs)?;
-    let tokens = places_of(alloc, &columns, &runs)?;
+    let tokens = places_of(alloc, &runs)?;
+    let frequencies = frequencies_of(alloc, &runs)?;
     Ok(OrderedTokens {
+        columns,
         tokens,
+        frequencies,
         by_key,
         ranks,
     })
@@ -66,12 +70,23 @@ fn number_runs(runs: &[Run], numbers: &mut [u32])
 }
 
 // Where the keys of the runs stand.
-fn places_of(alloc: Global, columns: &[ColumnAt], runs: &[Run]) -> Result<Vec<TokenAt>, NoMemory>
-    ensures { IfOk result (λ tokens. tokens.items ≡ map (run_at columns.now) runs.now) }
+fn places_of(alloc: Global, runs: &[Run]) -> Result<Vec<TokenAt>, NoMemory>
+    ensures { IfOk result (λ tokens. tokens.items ≡ map (λ r. r.first) runs.now) }
 {
     let mut tokens = Vec::with_capacity(alloc, runs.len())?;
     for run in runs {
-        tokens.push(run.first.at(columns, run.frequency))?;
+        tokens.push(run.first)?;
     }
     Ok(tokens)
+}
+
+// How many members the runs have.
+fn frequencies_of(alloc: Global, runs: &[Run]) -> Result<Vec<u32>, NoMemory>
+    ensures { IfOk result (λ frequencies. frequencies.items ≡ map (λ r. r.frequency) runs.now) }
+{
+    let mut frequencies = Vec::with_capacity(alloc, runs.len())?;
+    for run in runs {
+        frequencies.push(run.frequency)?;
+    }
+    Ok(frequencies)
 }

@@ -1,60 +1,48 @@
-//! The members of the columns of tables, sorted by their keys.
+//! The members of the columns of tables, sorted by their keys. A member is a key of a column. As many as there are members are sorted, so one
+//! is kept as the number of its column and its index there.
 ghost use Rattle.std.specs.Prelude.{◌≡◌, ◌<◌, ◌^◌, [], get_or, length, map, sum_by, IfOk, OnOk};
 ghost use Rattle.std.specs.Cmp.Lexicographic.{slice_cmp};
 ghost use Rattle.std.specs.List.Sorted.{IsPermutation, IsSorted};
 ghost use Rattle.std.specs.Ordering.{nat_cmp};
 ghost use Rattle.lake_model.specs.Tables.{keys_at, members};
-ghost use Rattle.search_model.specs.Arrays.{pointed};
-ghost use Rattle.token_order.specs.Columns.{column_at, keys_there, keys_through, AreColumns};
-ghost use Rattle.token_order.specs.Places.{at_of, keys_of, number_of, pointed_by, AreMembers, IsMore};
+ghost use Rattle.token_order.specs.Columns.{column_at, keys_there, keys_through, owner_there, AreColumns};
+ghost use Rattle.token_order.specs.Places.{keys_of, number_of, pointed_by, AreMembers, IsMore};
 
 use crate::columns::{ColumnAt, table_of};
 use column_set::{SharedTable, TableSets};
 use no_memory::NoMemory;
-use search_model::TokenAt;
+use search_model::{Owner, TokenAt};
 use std::alloc::Global;
 
-/// A member of a column: the number of its column among the columns of all tables, by table and place, from 0, and its index among the
-/// column's keys, from 0. As many as there are members are sorted, so it is kept small.
-#[derive(Clone, Copy)]
-pub struct Member {
-    pub column: u32,
-    pub index: u32,
-}
-
-impl Member {
-    /// Where its key stands, with a frequency. Past the columns it is no place.
-    pub fn at(self, columns: &[ColumnAt], frequency: u32) -> TokenAt
-        ensures { result ≡ at_of columns.now self frequency }
-    {
-        let (table, place) = match columns.get(self.column as usize) {
-            Some(column) => (column.table, column.place),
-            None => (0, 0),
-        };
-        TokenAt {
-            table,
-            place,
-            index: self.index,
-            frequency,
-        }
-    }
-
-    /// Its number among the members of all columns, by table, place and index, from 0.
-    pub fn number(self, columns: &[ColumnAt]) -> usize
-        requires { self.column < length columns.now }
-        ensures { result ≡ number_of columns.now self }
-    {
-        columns[self.column as usize].first as usize + self.index as usize
-    }
-}
-
-/// The key that a place points at, and an empty text where there is none.
-pub fn key_at<'a>(tables: &'a [SharedTable], at: TokenAt) -> &'a str
-    ensures { result.now ≡ pointed tables.now at }
+/// The number of a member among the members of all columns, by table, place and index, from 0.
+pub fn number_of(columns: &[ColumnAt], member: TokenAt) -> usize
+    requires { member.column < length columns.now }
+    ensures { result ≡ number_of columns.now member }
 {
-    match tables.get(at.table as usize) {
-        Some(table) => key_in(table.table(), at.place, at.index),
+    columns[member.column as usize].first as usize + member.index as usize
+}
+
+/// The key of a member, and an empty text where there is none.
+pub fn key_at<'a>(tables: &'a [SharedTable], columns: &[ColumnAt], member: TokenAt) -> &'a str
+    ensures { result.now ≡ pointed_by tables.now columns.now member }
+{
+    let Owner { table, place } = owner_at(columns, member.column);
+    match tables.get(table as usize) {
+        Some(sets) => key_in(sets.table(), place, member.index),
         None => "",
+    }
+}
+
+// Where the column of a number stands. Past the columns it is no place.
+fn owner_at(columns: &[ColumnAt], number: u32) -> Owner
+    ensures { result ≡ owner_there (column_at columns.now number) }
+{
+    match columns.get(number as usize) {
+        Some(column) => Owner {
+            table: column.table,
+            place: column.place,
+        },
+        None => Owner { table: 0, place: 0 },
     }
 }
 
@@ -85,7 +73,7 @@ pub fn member_count(tables: &[SharedTable]) -> Result<usize, NoMemory>
 
 // Adds each member of the column of a number, where as many members are there as the number of its first says.
 fn push_column(
-    members: &mut Vec<Member>,
+    members: &mut Vec<TokenAt>,
     tables: &[SharedTable],
     columns: &[ColumnAt],
     column: u32,
@@ -97,7 +85,7 @@ fn push_column(
 {
     let ColumnAt { table, place, .. } = columns[column as usize];
     for index in 0..table_of(tables, table).size(place) {
-        members.push(Member { column, index })?;
+        members.push(TokenAt { column, index })?;
     }
     Ok(())
 }
@@ -107,7 +95,7 @@ fn all_members(
     alloc: Global,
     tables: &[SharedTable],
     columns: &[ColumnAt],
-) -> Result<Vec<Member>, NoMemory>
+) -> Result<Vec<TokenAt>, NoMemory>
     requires columns { AreColumns tables.now columns.now }
     requires few { length columns.now < 2 ^ 32 }
     ensures { IfOk result (λ members. IsMore tables.now columns.now [] members.items (keys_through tables.now columns.now)) }
@@ -124,7 +112,7 @@ pub fn members_by_key(
     alloc: Global,
     tables: &[SharedTable],
     columns: &[ColumnAt],
-) -> Result<Vec<Member>, NoMemory>
+) -> Result<Vec<TokenAt>, NoMemory>
     requires columns { AreColumns tables.now columns.now }
     requires few { length columns.now < 2 ^ 32 }
     requires all { keys_through tables.now columns.now ≡ keys_of tables.now }
@@ -133,8 +121,6 @@ pub fn members_by_key(
     ensures all { IfOk result (λ members. AreMembers tables.now columns.now members.items) }
 {
     let mut members = all_members(alloc, tables, columns)?;
-    members.sort_unstable_by(|a, b| {
-        key_at(tables, a.at(columns, 1)).cmp(key_at(tables, b.at(columns, 1)))
-    });
+    members.sort_unstable_by(|a, b| key_at(tables, columns, *a).cmp(key_at(tables, columns, *b)));
     Ok(members)
 }

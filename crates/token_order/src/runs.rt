@@ -9,16 +9,17 @@ ghost use Rattle.token_order.specs.Ranks.{HaveRanks};
 ghost use Rattle.token_order.specs.Runs.{run_cmp, run_keys, run_token, runs_from, runs_of, AreRanked};
 
 use crate::columns::{ColumnAt, all_columns};
-use crate::places::{Member, key_at, members_by_key};
+use crate::places::{key_at, members_by_key, number_of};
 use column_set::SharedTable;
 use no_memory::NoMemory;
+use search_model::TokenAt;
 use std::alloc::Global;
 use std::cmp::Ordering;
 
 /// A run of neighbours of equal keys among the sorted members: its first member, how many it has, and its number among the runs, from 0.
 #[derive(Clone, Copy)]
 pub struct Run {
-    pub first: Member,
+    pub first: TokenAt,
     pub frequency: u32,
     pub rank: u32,
 }
@@ -63,7 +64,7 @@ fn count_runs(
     alloc: Global,
     tables: &[SharedTable],
     columns: &[ColumnAt],
-    members: &[Member],
+    members: &[TokenAt],
     ranks: &mut [u32],
 ) -> Result<Vec<Run>, NoMemory>
     requires members { AreMembers tables.now columns.now members.now }
@@ -92,7 +93,7 @@ fn count_from(
     tables: &[SharedTable],
     columns: &[ColumnAt],
     first: Run,
-    members: &[Member],
+    members: &[TokenAt],
     ranks: &mut [u32],
 ) -> Result<Vec<Run>, NoMemory>
     requires none { first.frequency ≡ 0 }
@@ -110,7 +111,7 @@ fn count_from(
     let mut runs = Vec::new(alloc);
     let mut run = first;
     for member in members {
-        if key_at(tables, member.at(columns, 1)) == key_at(tables, run.first.at(columns, 1)) {
+        if key_at(tables, columns, *member) == key_at(tables, columns, run.first) {
             run.frequency += 1;
         } else {
             runs.push(run)?;
@@ -120,7 +121,7 @@ fn count_from(
                 rank: run.rank + 1,
             };
         }
-        ranks[member.number(columns)] = run.rank;
+        ranks[number_of(columns, *member)] = run.rank;
     }
     runs.push(run)?;
     Ok(runs)

@@ -2,10 +2,11 @@
 ghost use Rattle.std.specs.Prelude.{◌≡◌, ◌<◌, ◌^◌, length, map, sum_by, IfOk};
 ghost use Rattle.std.specs.List.{All};
 ghost use Rattle.lake_model.specs.Tables.{members};
-ghost use Rattle.search_model.specs.Arrays.{token_at, IsAt};
+ghost use Rattle.search_model.specs.Arrays.{pointed, token_keys, IsAt};
 ghost use Rattle.search_model.specs.Segment.{columns_of, token_cmp, tokens_of};
 ghost use Rattle.token_order.specs.Ranks.{AreRanks};
 
+use crate::columns::ColumnAt;
 use crate::numbers;
 use crate::order::{OrderedTokens, ordered_tokens};
 use column_set::SharedTable;
@@ -14,6 +15,15 @@ use search_model::TokenAt;
 use std::alloc::Global;
 use std::marker::Model;
 
+/// Where the key of each token stands and how many columns hold it, in the order of the tokens, and the tokens' numbers by the bytes of
+/// their keys.
+#[derive(Drop)]
+pub struct TokenLists {
+    pub tokens: Vec<TokenAt>,
+    pub frequencies: Vec<u32>,
+    pub by_key: Vec<u32>,
+}
+
 /// The distinct keys of the columns of a list of tables, as tokens. They are numbered from 0 by rising frequency, which is how many
 /// columns hold the key, and then by the bytes of the key (Zhu, Deng, Nargesian and Miller, "JOSIE: Overlap Set Similarity Search for
 /// Finding Joinable Tables in Data Lakes", SIGMOD 2019). A key is kept as a place in the tables, which are borrowed. A contract sees
@@ -21,7 +31,9 @@ use std::marker::Model;
 #[derive(Drop)]
 pub struct Vocab<'a> {
     tables: &'a [SharedTable],
+    columns: Vec<ColumnAt>,
     tokens: Vec<TokenAt>,
+    frequencies: Vec<u32>,
     by_key: Vec<u32>,
     ranks: Vec<u32>,
 }
@@ -35,32 +47,36 @@ impl<'a> Model for Vocab<'a> {
 
     ghost view = { λ v. v.tables.now };
 
-    ghost invariant = { λ v. IsVocabulary v.tables.now v.tokens.items v.by_key.items v.ranks.items };
+    ghost invariant = { λ v. IsVocabulary v.tables.now v.columns.items v.tokens.items v.frequencies.items v.by_key.items v.ranks.items };
 }
 
 impl<'a> Vocab<'a> {
     ghost use Rattle.search_model.specs.Arrays.{key_of, IsByKey, IsToken};
     ghost use Rattle.std.specs.Prelude.{Some, get_or, []};
     ghost use Rattle.token_order.specs.Places.{keys_of};
-    ghost use Rattle.token_order.specs.Vocabulary.{frequency_of};
+    ghost use Rattle.token_order.specs.Vocabulary.{frequencies_of, frequency_of};
 
     /// The vocabulary of the tables. It takes the time to sort all keys of all columns by their bytes, once. While the keys are sorted
     /// and counted, they take 12 bytes for each key of each column and at most 32 for each distinct key; while these are put in order,
-    /// 4 for each key of each column and at most 52 for each distinct key; and at most 24 for each column all the time. What is left
-    /// is 4 for each key of each column, and 20 for each distinct key. It is refused only for want of memory.
+    /// 4 for each key of each column and at most 48 for each distinct key; and at most 24 for each column all the time. What is left
+    /// is 4 for each key of each column, 16 for each distinct key, and at most 24 for each column. It is refused only for want of memory.
     pub fn build(alloc: Global, tables: &'a [SharedTable]) -> Result<Vocab<'a>, NoMemory>
         requires columns { sum_by (λ t. length t.columns) tables.now < 2 ^ 32 }
         requires members { sum_by members tables.now < 2 ^ 32 }
         ensures { IfOk result (λ vocab. vocab ≡ tables.now) }
     {
         let OrderedTokens {
+            columns,
             tokens,
+            frequencies,
             by_key,
             ranks,
         } = ordered_tokens(alloc, tables)?;
         Ok(Vocab {
             tables,
+            columns,
             tokens,
+            frequencies,
             by_key,
             ranks,
         })
@@ -78,7 +94,7 @@ impl<'a> Vocab<'a> {
     pub fn find(&self, key: &str) -> Option<u32>
         ensures { IsToken (tokens_of (columns_of self.now)) key.now result }
     {
-        numbers::find(self.tables, &self.tokens, &self.by_key, key)
+        numbers::find(self.tables, &self.columns, &self.tokens, &self.by_key, key)
     }
 
     /// The token of the member of a number, where the members of all columns are numbered from 0, by table, place and index. It takes
@@ -95,7 +111,7 @@ impl<'a> Vocab<'a> {
         requires { token < length (tokens_of (columns_of self.now)) }
         ensures { result ≡ frequency_of (tokens_of (columns_of self.now)) token }
     {
-        self.tokens[token as usize].frequency
+        self.frequencies[token as usize]
     }
 
     /// The key of the token.
@@ -103,18 +119,23 @@ impl<'a> Vocab<'a> {
         requires { token < length (tokens_of (columns_of self.now)) }
         ensures { result.now ≡ key_of (tokens_of (columns_of self.now)) token }
     {
-        numbers::key_of(self.tables, &self.tokens, token)
+        numbers::key_of(self.tables, &self.columns, &self.tokens, token)
     }
 
-    /// Where the key of each token stands and how many columns hold it, in the order of the tokens, and the tokens' numbers by the
-    /// bytes of their keys. All frequencies together are the members of all columns.
-    pub fn into_lists(self) -> (Vec<TokenAt>, Vec<u32>)
-        ensures tokens { map (token_at self.entry) result.0.items ≡ tokens_of (columns_of self.entry) }
-        ensures within { All (IsAt self.entry) result.0.items }
-        ensures by_key { IsByKey (tokens_of (columns_of self.entry)) result.1.items }
-        ensures counted { sum_by (λ at. at.frequency) result.0.items ≡ sum_by members self.entry }
-        ensures few { length result.0.items < 2 ^ 32 }
+    /// Where the key of each token stands and how many columns hold it, and the tokens' numbers by the bytes of their keys. All
+    /// frequencies together are the members of all columns.
+    pub fn into_lists(self) -> TokenLists
+        ensures tokens { map (pointed self.entry) result.tokens.items ≡ token_keys (tokens_of (columns_of self.entry)) }
+        ensures within { All (IsAt self.entry) result.tokens.items }
+        ensures frequencies { result.frequencies.items ≡ frequencies_of (tokens_of (columns_of self.entry)) }
+        ensures by_key { IsByKey (tokens_of (columns_of self.entry)) result.by_key.items }
+        ensures counted { sum_by (λ n. n) result.frequencies.items ≡ sum_by members self.entry }
+        ensures few { length result.tokens.items < 2 ^ 32 }
     {
-        (self.tokens, self.by_key)
+        TokenLists {
+            tokens: self.tokens,
+            frequencies: self.frequencies,
+            by_key: self.by_key,
+        }
     }
 }

@@ -1,6 +1,5 @@
-use Rattle.std.proofs.Common.{rules, ◌≡◌, refl, sym, subst, inl, inr, map, string_bytes}
+use Rattle.std.proofs.Common.{map, string_bytes}
 use Rattle.lake_model.specs.Journal.{standard_limits}
-use Rattle.script_model.specs.declared.Status.{Status}
 use Rattle.script_text.proofs.ModeLemmas.{plain_is_read}
 use Rattle.josie_top.proofs.RunFacts.{words_refused}
 use Rattle.josie_top.proofs.run.Goals as goal

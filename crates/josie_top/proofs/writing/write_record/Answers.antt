@@ -1,5 +1,4 @@
-use Rattle.std.proofs.Common.{rules, ◌≡◌, ℕ, List, [], ap, ◌∙◌, sym, subst, take}
-use Rattle.std.specs.Io.KnownBytes.{Appends}
+use Rattle.std.proofs.Common.{rules, ◌≡◌, [], subst, take}
 use Rattle.script_model.specs.Statuses.{IsPrefix}
 use Rattle.script_model.specs.Texts.{text_behind}
 use Rattle.josie_top.proofs.TextFacts.{prefix_take}

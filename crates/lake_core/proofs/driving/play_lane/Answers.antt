@@ -1,4 +1,4 @@
-use Rattle.std.proofs.Common.{rules, ◌*◌, ◌-◌, ◌≤◌, replicate, sym, arith}
+use Rattle.std.proofs.Common.{◌*◌, ◌-◌, ◌≤◌, sym, arith}
 use Rattle.lake_core.specs.Plays.{state_with}
 use Rattle.lake_core.proofs.BatchLemmas.{two_more, turns_left}
 use Rattle.lake_core.proofs.TurnLemmas.{goes_none, goes_on, goes_by, goes_idle, ready_after}
@@ -10,7 +10,7 @@ loop-taken-init c = goes_none (state_with c.args.catalogue.now c.args.lanes.now 
 pub returns-then-is_idle : goal.returns-then-is_idle
 returns-then-is_idle c =
     let n = c.loop-taken._taken in
-    let all = c.args.commands in
+    let all = c.args.works in
     let state = state_with c.loop-taken.catalogue c.loop-taken.lanes c.loop-taken.out in
     let within : n ≤ all = omega arith in
     goes_by _ _ _ _ _ _ (turns_left n all c.args.lane within) c.loop-taken.invariant

@@ -9,10 +9,10 @@ pub loop-before-init : goal.loop-before-init
 loop-before-init c = goes_none (state_with c.args.catalogue.now c.args.lanes.now c.args.out.now) c.requires
 
 pub loop-before-preserved : goal.loop-before-preserved
-loop-before-preserved c = goes_by _ _ _ _ _ _ (sym (lane_more (2 * c.args.commands) c.loop-before.before)) c.loop-before.invariant c.play_lane.ensures
+loop-before-preserved c = goes_by _ _ _ _ _ _ (sym (lane_more (2 * c.args.works) c.loop-before.before)) c.loop-before.invariant c.play_lane.ensures
 
 pub returns : goal.returns
 returns c =
-    let steps : ℕ = 2 * c.args.commands in
+    let steps : ℕ = 2 * c.args.works in
     let all : c.loop-before.before ≡ c.args.count = omega arith in
     goes_by _ _ _ _ _ _ (ap (λ (n : ℕ). turns_each steps (range_with_len 1 n) ++ replicate steps 0) all ∙ sym (merger_last steps c.args.count)) c.loop-before.invariant c.play_lane-2.ensures

@@ -1,8 +1,40 @@
-use Rattle.script_text.specs.Tasks.{task_of}
+use Rattle.std.proofs.Common.{◌≡◌, ap, sym, subst, ◌∙◌, take}
+use Rattle.script_model.specs.Answered.{adds, answer_to}
 use Rattle.reply_text.specs.Replies.{reply_of}
-use Rattle.lake_core.proofs.LaneLemmas.{no_merge, held_answer}
+use Rattle.lake_core.specs.Lanes.{IsHeldAt, position_of}
+use Rattle.lake_core.specs.Loads.{with_added}
+use Rattle.lake_core.specs.Merging.{swapped_by}
+use Rattle.lake_core.specs.Works.{merge_policy, work_of}
+use Rattle.lake_core.proofs.LoadLemmas.{Answers}
+use Rattle.lake_core.proofs.LaneLemmas.{held_adds, held_answer, held_swap}
 use Rattle.lake_core.proofs.lane.reply_when_held.Goals as goal
 
-pub returns-in-At : goal.returns-in-At
-returns-in-At c limits journal is =
-    held_answer limits (task_of c.args.task.now) journal c.args.held c.in-At.pin (reply_of c.finish.result) c.in-At.is c.requires.pins (no_merge c.args.task.now) is (c.finish.ensures limits)
+pub returns-in-At-clause-answered : goal.returns-in-At-clause-answered
+returns-in-At-clause-answered c =
+    let limits = c.args.catalogue.now.limits in
+    let journal = c.args.catalogue.now.journal in
+    let task = (work_of c.args.work.now).task in
+    let reply = reply_of c.reply_at_pin.result in
+    subst (λ held. Answers reply (answer_to limits task (take (position_of held) journal) journal)) (sym c.in-At.is)
+    (held_answer limits task journal c.in-At.pin reply c.requires.pins (subst (IsHeldAt journal (merge_policy task)) c.in-At.is c.requires.held) (c.reply_at_pin.ensures limits))
+
+pub returns-in-Swap-clause-answered : goal.returns-in-Swap-clause-answered
+returns-in-Swap-clause-answered c =
+    let limits = c.args.catalogue.now.limits in
+    let journal = c.args.catalogue.now.journal in
+    let task = (work_of c.args.work.now).task in
+    let reply = reply_of c.swap.result in
+    subst (λ held. Answers reply (answer_to limits task (take (position_of held) journal) journal)) (sym c.in-Swap.is)
+    (held_swap limits task journal c.in-Swap.planned reply (subst (IsHeldAt journal (merge_policy task)) c.in-Swap.is c.requires.held) c.swap.ensures.answered)
+
+pub returns-in-Swap-clause-made : goal.returns-in-Swap-clause-made
+returns-in-Swap-clause-made c =
+    let journal = c.args.catalogue.now.journal in
+    let made = c.args.out.now.made in
+    let task = (work_of c.args.work.now).task in
+    let planned = c.in-Swap.planned in
+    let reply = reply_of c.swap.result in
+    let same : swapped_by planned.merged reply ≡ adds task (take (position_of c.args.held) made.journal) reply =
+    held_adds task journal made.journal planned reply (subst (IsHeldAt journal (merge_policy task)) c.in-Swap.is c.requires.held) c.requires.journal
+    ∙ ap (λ held. adds task (take (position_of held) made.journal) reply) (sym c.in-Swap.is) in
+    c.swap.ensures.made ∙ (λ i. with_added (c.who.ensures i) (same i) made)

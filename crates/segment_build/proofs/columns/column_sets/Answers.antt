@@ -1,10 +1,11 @@
 use Rattle.std.proofs.Common.{ap, sym, subst, ◌<◌, List, [], ◌∷◌, length, take, arith}
 use Rattle.lake_model.specs.Tables.{Table, members}
 use Rattle.search_model.specs.Arrays.{table_at}
-use Rattle.search_model.specs.Segment.{columns_of}
-use Rattle.segment_build.specs.Holding.{all_tokens, columns_in, held_with, HasMore, IsStretch}
+use Rattle.search_model.specs.Segment.{columns_of, columns_in}
+use Rattle.segment_build.specs.Holding.{all_tokens, held_with, HasMore, IsStretch}
 use Rattle.token_order.specs.Places.{keys_in, keys_of}
-use Rattle.segment_build.proofs.HoldLemmas.{columns_of_more, more_more, room_of}
+use Rattle.search_model.proofs.ColumnLemmas.{columns_of_more}
+use Rattle.segment_build.proofs.HoldLemmas.{more_more, room_of}
 use Rattle.segment_build.proofs.StretchLemmas.{table_stretch}
 use Rattle.segment_build.proofs.columns.column_sets.Goals as goal
 

@@ -1,7 +1,9 @@
 use Rattle.std.proofs.Common.{sym, subst, ◌+◌, ◌<◌, [], ◌∷◌, length, take, arith}
-use Rattle.segment_build.specs.Holding.{all_tokens, columns_in, held_with, titled_in, HasMore}
+use Rattle.search_model.specs.Segment.{columns_in, titled_in}
+use Rattle.segment_build.specs.Holding.{all_tokens, held_with, HasMore}
 use Rattle.token_order.specs.Places.{keys_of}
-use Rattle.segment_build.proofs.HoldLemmas.{columns_in_all, columns_in_more, more_more, room_in}
+use Rattle.search_model.proofs.ColumnLemmas.{columns_in_all, columns_in_more}
+use Rattle.segment_build.proofs.HoldLemmas.{more_more, room_in}
 use Rattle.segment_build.proofs.StretchLemmas.{column_stretch}
 use Rattle.segment_build.proofs.columns.push_table.Goals as goal
 

@@ -1,5 +1,6 @@
 use Rattle.std.proofs.Common.{take}
-use Rattle.segment_build.specs.Holding.{all_tokens, columns_in, held_with, HasMore}
+use Rattle.search_model.specs.Segment.{columns_in}
+use Rattle.segment_build.specs.Holding.{all_tokens, held_with, HasMore}
 use Rattle.segment_build.proofs.columns.push_table.Given as goal
 
 abbrev pub invariant-loop-i : goal.invariant-loop-i

@@ -1,8 +1,7 @@
 use Rattle.std.proofs.Common.{◌∙◌, subst, ap, sym, List, map, rules}
 use Rattle.std.specs.List.Sorted.{IsSorted}
 use Rattle.token_order.specs.Counted.{AreNumbers, ArePlaces}
-use Rattle.token_order.specs.Runs.{run_at, run_cmp}
-use Rattle.token_order.specs.declared.columns.ColumnAt.{ColumnAt}
+use Rattle.token_order.specs.Runs.{run_cmp}
 use Rattle.token_order.specs.declared.runs.Run.{Run}
 use Rattle.token_order.proofs.OrderLemmas.{numbered, rank_of, run_cmp_total, vocabulary}
 use Rattle.token_order.proofs.SortLemmas.{sorted_by_key}
@@ -22,5 +21,6 @@ returns c =
     let ordered = c.sort_unstable_by.new.self.items in
     let up : IsSorted run_cmp ordered = sorted_by_key run_cmp_total (λ (r : Run). r) ordered c.sort_unstable_by.ensures.sorted (λ a r f' k. search rules) in
     let are = subst (λ (rs : List Run). ArePlaces (map rank_of rs) c.in_ok-by_key.by_key.items) c.deref.ensures.value c.in_ok-by_key.ensures in
-    let made = c.in_ok-tokens.ensures ∙ ap (λ (cs : List ColumnAt). map (run_at cs) c.deref-3.result.now) c.deref-2.ensures.value ∙ ap (map (run_at columns)) c.deref-3.ensures.value in
-    vocabulary tables columns runs ordered c.in_ok-columns.field-0.ranks.items c.in_ok-columns.ensures.counted c.sort_unstable_by.ensures.permutation c.in_ok-tokens.tokens.items c.in_ok-by_key.by_key.items c.in_ok-columns.ensures.different up are made
+    let made = c.in_ok-tokens.ensures ∙ ap (λ (rs : List Run). map (λ r. r.first) rs) c.deref-2.ensures.value in
+    let sized = c.in_ok-frequencies.ensures ∙ ap (λ (rs : List Run). map (λ r. r.frequency) rs) c.deref-3.ensures.value in
+    vocabulary tables columns runs ordered c.in_ok-columns.field-0.ranks.items c.in_ok-columns.ensures.counted c.sort_unstable_by.ensures.permutation c.in_ok-tokens.tokens.items c.in_ok-frequencies.frequencies.items c.in_ok-by_key.by_key.items c.in_ok-columns.ensures.different up are made sized

@@ -1,6 +1,5 @@
 use Rattle.std.proofs.Common.{◌≡◌, map, take}
-use Rattle.token_order.specs.Runs.{run_at}
 use Rattle.token_order.proofs.order.places_of.Given as goal
 
 abbrev pub invariant-loop-run : goal.invariant-loop-run
-invariant-loop-run l = l.tokens.items ≡ map (run_at l.columns) (take l.run-index l.runs)
+invariant-loop-run l = l.tokens.items ≡ map (λ r. r.first) (take l.run-index l.runs)

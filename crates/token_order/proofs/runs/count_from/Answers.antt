@@ -7,12 +7,11 @@ use Rattle.std.proofs.lemmas.List.Elements.{All-push}
 use Rattle.std.proofs.lemmas.Slice.Eq.{bytes_eq-Decides}
 use Rattle.lake_model.specs.Texts.{Text}
 use Rattle.search_model.specs.Segment.{Token}
-use Rattle.search_model.specs.Arrays.{pointed}
 use Rattle.token_order.specs.Counting.{IsCounting}
 use Rattle.token_order.specs.Places.{keys_of, number_of, pointed_by, IsMember, IsThere}
 use Rattle.token_order.specs.Ranks.{HaveRanks, IsRank}
 use Rattle.token_order.specs.Runs.{run_token, runs_from, AreRanked}
-use Rattle.token_order.specs.declared.places.Member.{Member}
+use Rattle.search_model.specs.declared.TokenAt.{TokenAt}
 use Rattle.token_order.specs.declared.runs.Run.{Run}
 use Rattle.token_order.proofs.CountLemmas.{counting_ends, counting_here, counting_next, counting_ranked, counting_same, longer, run_with, slot_written}
 use Rattle.token_order.proofs.runs.count_from.Goals as goal
@@ -30,12 +29,12 @@ loop-member-preserved c =
     let all = runs_from (run_token tables columns c.args.first) (map (pointed_by tables columns) members) in
     let names = map (λ (t : Token). t.key) all in
     let within : i < length members = omega arith in
-    let no : Member = record { column = 0; index = 0 } in
-    let m : Member = get_or members i no in
+    let no : TokenAt = record { column = 0; index = 0 } in
+    let m : TokenAt = get_or members i no in
     let is : m ≡ get_or members i m = get_or_default members i no m within in
     let here : IsMember tables columns m = c.requires.members.each i no within in
     let test : c.eq.result ≡ bytes_eq (pointed_by tables columns m) (pointed_by tables columns run.first) =
-    c.eq.ensures ∙ ap (λ (key : Text). bytes_eq key c.key_at-in-loop-member.result.now) (c.key_at.ensures ∙ ap (pointed tables) c.at.ensures) ∙ ap (bytes_eq (pointed_by tables columns m)) (c.key_at-in-loop-member.ensures ∙ ap (pointed tables) c.at-in-loop-member.ensures) in
+    c.eq.ensures ∙ ap (λ (key : Text). bytes_eq key c.key_at-in-loop-member.result.now) c.key_at.ensures ∙ ap (bytes_eq (pointed_by tables columns m)) c.key_at-in-loop-member.ensures in
     let step : IsCounting tables all columns members c.if-eq.runs.items c.if-eq.run (i + 1) × (pointed_by tables columns c.if-eq.run.first ≡ pointed_by tables columns m) = elim c.if-eq.branch [
       | then-eq w ↦
           let same = counting_same tables all columns members ended run i m c.loop-member.invariant.counting within is (sym test ∙ w.if-eq.true) in
@@ -56,9 +55,9 @@ loop-member-preserved c =
     record {
       counting = step.0;
       ranked =
-          subst (λ (slot : ℕ). HaveRanks names keys (set c.loop-member.ranks slot rank) columns (take (i + 1) members)) (sym c.number.ensures)
+          subst (λ (slot : ℕ). HaveRanks names keys (set c.loop-member.ranks slot rank) columns (take (i + 1) members)) (sym c.number_of.ensures)
           (slot_written (λ n r. IsRank names (get_or keys n []) r) (number_of columns) c.loop-member.ranks members i m rank within is (omega (arith, here.inside, long)) number c.loop-member.invariant.ranked);
-      long = length-set c.loop-member.ranks c.number.result rank ∙ c.loop-member.invariant.long;
+      long = length-set c.loop-member.ranks c.number_of.result rank ∙ c.loop-member.invariant.long;
     }
 
 pub returns-clause-runs : goal.returns-clause-runs

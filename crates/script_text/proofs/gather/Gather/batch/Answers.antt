@@ -10,7 +10,7 @@ use Rattle.script_model.specs.Words.{NoFeed}
 use Rattle.script_text.specs.Gathering.{Gathering, grammar}
 use Rattle.script_text.specs.Inputs.{EndsLine}
 use Rattle.script_text.specs.declared.refused.ScriptEnd.TheVariants.{ReadFault}
-use Rattle.script_text.proofs.BatchLemmas.{Answers, IsUnder, answer_end, answer_held, answer_line, answer_sync, no_line_fault, no_read_fault, nothing_came, step_line, step_read}
+use Rattle.script_text.proofs.BatchLemmas.{Answers, IsUnder, answer_end, answer_held, answer_line, answer_memory, answer_sync, no_line_fault, no_read_fault, nothing_came, step_line, step_lines, step_read}
 use Rattle.script_text.proofs.ProgressLemmas.{begins}
 use Rattle.script_text.proofs.gather.Gather.batch.Goals as goal
 
@@ -105,9 +105,22 @@ returns-in-Some-2-clause-gathered g c =
     answer_sync c.args.self.now c.find_line.new.self _ _ _ _ _ _ _ _ under c.read_line.new.self c.set_ended-in-Some-2.new.self _ c.in-Some.at c.in-Some-2.batch found.0 found.1 (rw c.in-Some-2.is at c.in_ok-batch.ensures.turn) c.in_ok-batch.ensures.held
     c.set_ended-in-Some-2.ensures.set
 
+pub returns-in_err-read_run-clause-gathered : goal.returns-in_err-read_run-clause-gathered
+returns-in_err-read_run-clause-gathered g c =
+    let under = subst (λ (s : Gathering). IsUnder c.args.self.now s (g.S.Source.left c.args.source.now) (g.S.Source.left c.lines.source) (g.F.Shelf.files c.args.shelf.now) (g.F.Shelf.files c.lines.shelf) (g.F.Shelf.faults c.args.shelf.now) (g.F.Shelf.faults c.lines.shelf) (g.S.Source.faults c.args.source.now) (g.S.Source.faults c.lines.source))
+    (sym c.in-Some.ensures.same) c.lines.invariant in
+    let found = subst (λ (s : Gathering). EndsLine s.held c.in-Some.at × (s.reading.used + (c.in-Some.at + 1) ≤ s.limits.input)) (sym c.in-Some.ensures.same) c.in-Some.ensures.found in
+    let line = step_line c.args.self.now c.find_line.new.self _ _ _ _ _ _ _ _ under c.read_line.new.self (g.F.Shelf.files c.read_line.new.shelf) (g.F.Shelf.faults c.read_line.new.shelf) c.in-Some.at found.0 found.1 (rw c.in_default-2.is at c.in_ok-batch.ensures.turn) c.in_ok-batch.ensures.held c.in_ok-batch.ensures.used (rw c.in_default-2.is at c.in_ok-batch.ensures.grows) c.in_ok-batch.ensures.same c.in_ok-batch.ensures.later c.in_ok-batch.ensures.files in
+    let p = err_from_is_err_and c.from_residual-in_err-read_run.result c.from_residual-in_err-read_run.ensures.1 in
+    subst (λ (r : Result (Option Batch) ScriptEnd). Answers r c.args.self.now c.read_run.new.self (g.S.Source.left c.args.source.now) (g.S.Source.left c.lines.source) (g.F.Shelf.files c.args.shelf.now) (g.F.Shelf.faults c.args.shelf.now) (g.F.Shelf.faults c.read_line.new.shelf))
+    (sym (p.1 ∙ ap Err p.2))
+    (answer_memory c.args.self.now c.read_line.new.self _ _ _ _ _ _ _ _ line c.read_run.new.self)
+
 pub lines-preserved : goal.lines-preserved
 lines-preserved g c =
     let under = subst (λ (s : Gathering). IsUnder c.args.self.now s (g.S.Source.left c.args.source.now) (g.S.Source.left c.lines.source) (g.F.Shelf.files c.args.shelf.now) (g.F.Shelf.files c.lines.shelf) (g.F.Shelf.faults c.args.shelf.now) (g.F.Shelf.faults c.lines.shelf) (g.S.Source.faults c.args.source.now) (g.S.Source.faults c.lines.source))
     (sym c.in-Some.ensures.same) c.lines.invariant in
     let found = subst (λ (s : Gathering). EndsLine s.held c.in-Some.at × (s.reading.used + (c.in-Some.at + 1) ≤ s.limits.input)) (sym c.in-Some.ensures.same) c.in-Some.ensures.found in
-    step_line c.args.self.now c.find_line.new.self _ _ _ _ _ _ _ _ under c.read_line.new.self _ _ c.in-Some.at found.0 found.1 (rw c.in_default-2.is at c.in_ok-batch.ensures.turn) c.in_ok-batch.ensures.held c.in_ok-batch.ensures.used (rw c.in_default-2.is at c.in_ok-batch.ensures.grows) c.in_ok-batch.ensures.same c.in_ok-batch.ensures.later c.in_ok-batch.ensures.files
+    let line = step_line c.args.self.now c.find_line.new.self _ _ _ _ _ _ _ _ under c.read_line.new.self (g.F.Shelf.files c.read_line.new.shelf) (g.F.Shelf.faults c.read_line.new.shelf) c.in-Some.at found.0 found.1 (rw c.in_default-2.is at c.in_ok-batch.ensures.turn) c.in_ok-batch.ensures.held c.in_ok-batch.ensures.used (rw c.in_default-2.is at c.in_ok-batch.ensures.grows) c.in_ok-batch.ensures.same c.in_ok-batch.ensures.later c.in_ok-batch.ensures.files in
+    let run = c.in_ok-read_run.ensures in
+    step_lines c.args.self.now c.read_line.new.self _ _ _ _ _ _ _ _ line c.read_run.new.self run.leads run.used run.less run.commands run.within run.same

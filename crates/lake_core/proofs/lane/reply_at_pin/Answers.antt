@@ -1,0 +1,10 @@
+use Rattle.std.proofs.Common.{ap, sym, ◌∙◌}
+use Rattle.script_model.specs.Answered.{answer_to}
+use Rattle.script_model.specs.Play.{reply_or_denied}
+use Rattle.lake_core.specs.Works.{work_of}
+use Rattle.lake_core.proofs.lane.reply_at_pin.Goals as goal
+
+pub returns : goal.returns
+returns c limits journal is =
+    let (denied, said) = c.finish.ensures limits journal is in
+    (denied, said ∙ ap (λ task. reply_or_denied denied (answer_to limits task journal journal)) (c.task.ensures.value ∙ ap (λ work. (work_of work).task) (sym c.in-Given.is)))

@@ -1,0 +1,6 @@
+mod DrawLemmas
+mod NumberedLemmas
+mod RangeLemmas
+mod StepLemmas
+mod SumLemmas
+mod TextLemmas

@@ -1,0 +1,15 @@
+//! A lake that is made of a seed: the batch of commands that loads its tables and searches them, and the summary of what came of these.
+#![tactic(auto)]
+
+mod batch;
+mod draws;
+mod numbered;
+mod summary;
+mod sums;
+mod table;
+
+pub use batch::made_batch;
+pub use summary::write_summary;
+
+#[cfg(test)]
+mod tests;

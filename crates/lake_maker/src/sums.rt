@@ -1,0 +1,90 @@
+//! The sums of a summary.
+ghost use Rattle.std.specs.Prelude.{◌≡◌, ◌+◌, sum_by, IfOk};
+ghost use Rattle.lake_maker.specs.Sums.{added, sums_in, sums_of};
+ghost use Rattle.reply_text.specs.Replies.{reply_of};
+
+use column_set::KeptRow;
+use no_memory::NoMemory;
+use reply_text::{Answered, Reply};
+
+// What came of a made lake: accepted loads and their members, accepted swaps, and the searches that were answered, their rows and the
+// overlaps of these.
+#[derive(Clone, Copy)]
+pub(crate) struct Sums {
+    pub(crate) tables: u128,
+    pub(crate) members: u128,
+    pub(crate) merges: u128,
+    pub(crate) answers: u128,
+    pub(crate) rows: u128,
+    pub(crate) overlap: u128,
+}
+
+// Nothing came of it.
+const NONE: Sums = Sums {
+    tables: 0,
+    members: 0,
+    merges: 0,
+    answers: 0,
+    rows: 0,
+    overlap: 0,
+};
+
+// The overlaps of rows.
+fn overlap_of(rows: &[KeptRow]) -> u128
+    ensures { result ≡ sum_by (λ row. row.overlap) rows.now }
+{
+    rows.iter().map(|row| u128::from(row.overlap())).sum()
+}
+
+// What a reply adds to each sum.
+fn sums_in(reply: &Reply) -> Sums
+    ensures { result ≡ sums_in (reply_of reply.now) }
+{
+    match reply {
+        Reply::Loaded { members, .. } => Sums {
+            tables: 1,
+            members: u128::from(*members),
+            ..NONE
+        },
+        Reply::Merged { .. } => Sums { merges: 1, ..NONE },
+        Reply::Found { rows, .. } => Sums {
+            answers: 1,
+            rows: rows.list().len() as u128,
+            overlap: overlap_of(rows.list()),
+            ..NONE
+        },
+        _ => NONE,
+    }
+}
+
+// A sum. No memory holds a record whose sums take more than 128 bits.
+fn plus(this: u128, that: u128) -> Result<u128, NoMemory>
+    ensures { IfOk result (λ sum. sum ≡ this + that) }
+{
+    this.checked_add(that).ok_or(NoMemory)
+}
+
+// Both, sum by sum.
+fn add(these: Sums, those: Sums) -> Result<Sums, NoMemory>
+    ensures { IfOk result (λ sums. sums ≡ added these those) }
+{
+    Ok(Sums {
+        tables: plus(these.tables, those.tables)?,
+        members: plus(these.members, those.members)?,
+        merges: plus(these.merges, those.merges)?,
+        answers: plus(these.answers, those.answers)?,
+        rows: plus(these.rows, those.rows)?,
+        overlap: plus(these.overlap, those.overlap)?,
+    })
+}
+
+// The sums of answers.
+pub(crate) fn sums_of(answers: &[Answered]) -> Result<Sums, NoMemory>
+    ensures { IfOk result (λ sums. sums ≡ sums_of answers.now) }
+{
+    let mut sums = NONE;
+    for answer in answers {
+        sums = add(sums, sums_in(&answer.reply))?;
+    }
+    Ok(sums)
+}
