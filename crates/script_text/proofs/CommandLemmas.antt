@@ -1,5 +1,5 @@
 -- What clap's calls give, of the commands of the two modes.
-use Rattle.std.proofs.Common.{◌≡◌, ◌⊎◌, ◌≤◌, ◌<◌, ◌^◌, ◌∙◌, ap, ap₂, refl, sym, subst, inl, inr, ℕ, List, [], ◌∷◌, Bool, true, false, codes, Option, Some, None, option_map, Result, Ok, Err, IfOk, arith}
+use Rattle.std.proofs.Common.{◌≡◌, ◌⊎◌, ◌≤◌, ◌∙◌, ap, ap₂, refl, sym, subst, inl, inr, ℕ, List, [], ◌∷◌, Bool, true, false, codes, Option, Some, None, option_map, Result, Ok, Err, IfOk, arith}
 use Rattle.std.specs.Prelude.{⊤, IfErr, MatchOption, ok_or, unwrap_or}
 use Rattle.std.specs.List.{AllByRecursion}
 use Rattle.std.proofs.lemmas.Bool.{and_parts}

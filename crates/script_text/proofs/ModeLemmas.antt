@@ -1,9 +1,9 @@
 -- Clap reads in plain words what they say.
-use Rattle.std.proofs.Common.{◌≡◌, refl, inl, inr, ◌⊎◌, ap, ap₂, sym, ◌∙◌, ◌&&◌, ◌^◌, ◌<◌, ℕ, length, Result, Ok, Err, List, [], ◌∷◌, Bool, true, false, cond, codes, Option, Some, None, option_map, true≢false}
+use Rattle.std.proofs.Common.{◌≡◌, refl, inl, inr, ◌⊎◌, ap, ap₂, sym, ◌∙◌, ◌&&◌, ◌^◌, ℕ, length, Result, Ok, Err, List, [], ◌∷◌, Bool, true, false, cond, codes, Option, Some, None, option_map, true≢false}
 use Rattle.std.specs.Prelude.{⊤, IfErr, IfOk, IsErr, MatchResult, bytes_eq, nat_lt, option_and_then, unwrap_or}
 use Rattle.std.specs.List.{list_all}
 use Rattle.std.specs.Option.{option_map_or}
-use Rattle.std.specs.Str.Parse.{AllDigits, IsNumeral, ParsesBool, ParsesUnsigned, digits_value, without_leading_plus}
+use Rattle.std.specs.Str.Parse.{AllDigits, ParsesBool, ParsesUnsigned, digits_value, without_leading_plus}
 use Rattle.std.proofs.lemmas.Bool.{and_parts, false_from_ne_true, lt-ltb, ltb-true}
 use Rattle.std.proofs.lemmas.Slice.Eq.{bytes_eq-Decides}
 use Rattle.clap.specs.Matches.{ReadsOne}

@@ -1,10 +1,10 @@
 -- Clap reads a number in decimal digits as the number that it is.
-use Rattle.std.proofs.Common.{◌≡◌, ◌≤◌, ◌<◌, ◌+◌, ◌-◌, ◌*◌, ◌^◌, refl, ap, ap₂, sym, ◌∙◌, subst, ℕ, List, [], ◌∷◌, Bool, true, false, ◌&&◌, cond, Option, Some, None, arith, drop, length}
+use Rattle.std.proofs.Common.{◌≡◌, ◌≤◌, ◌<◌, ◌+◌, ◌-◌, ◌*◌, ◌^◌, refl, ap, ap₂, sym, ◌∙◌, subst, ℕ, [], ◌∷◌, Bool, true, false, ◌&&◌, cond, Some, None, arith, drop, length}
 use Rattle.std.specs.Prelude.{◌==◌, bytes_eq, fold, nat_le, nat_lt, option_and_then}
 use Rattle.std.specs.List.{list_all}
 use Rattle.std.specs.Char.{digit_value}
 use Rattle.std.specs.Str.Parse.{digits_value as parsed_value, digits_value_after, without_leading_plus}
-use Rattle.std.proofs.lemmas.Bool.{and_parts, eqb-false, le-leb, leb-true, lt-ltb, ne_eqb}
+use Rattle.std.proofs.lemmas.Bool.{and_parts, le-leb, leb-true, lt-ltb, ne_eqb}
 use Rattle.std.proofs.lemmas.Slice.Eq.{bytes_eq-Decides}
 use Rattle.std.proofs.lemmas.Str.{digit_value_digit}
 use Rattle.clap.specs.Lexer.{short_of, short_of_rest, without_minus}

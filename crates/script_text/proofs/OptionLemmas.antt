@@ -1,17 +1,16 @@
 -- What clap's matches hold of the plain words behind `run`.
-use Rattle.std.proofs.Common.{◌≡◌, refl, ap, ap₂, sym, ◌∙◌, ℕ, List, [], ◌∷◌, Bool, true, false, ◌||◌, cond, codes, Option, Some, None, option_map, arith}
+use Rattle.std.proofs.Common.{◌≡◌, refl, ap, ap₂, ◌∙◌, ℕ, List, [], ◌∷◌, Bool, true, false, ◌||◌, cond, codes, Option, Some, None, option_map, arith}
 use Rattle.std.specs.Prelude.{bytes_eq, option_and_then, slice_get, unwrap_or}
 use Rattle.std.specs.Option.{option_map_or}
-use Rattle.clap.specs.Faults.{check_fault, default_fault, defaults_fault, fault_of, given_default_fault, settle_fault, walk_fault}
+use Rattle.clap.specs.Faults.{check_fault, default_fault, defaults_fault, fault_of, given_default_fault, settle_fault}
 use Rattle.clap.specs.Kinds.{Kinds, or_else}
 use Rattle.clap.specs.Simple.{built, filled, matches_of}
-use Rattle.clap.specs.Walk.{Held, Row, Rule, Text, finished, first_of, has_row, idle, is_empty, nothing_held, row_text, settled, settled_rows, walk_from, with_default}
+use Rattle.clap.specs.Walk.{Held, Row, Rule, Text, finished, first_of, has_row, idle, is_empty, nothing_held, row_text, settled, settled_rows, with_default}
 use Rattle.clap.specs.declared.builder.value_parser.Reading.TheVariants as reading
 use Rattle.clap.specs.declared.parser.matches.ValueSource.TheVariants.{DefaultValue}
 use Rattle.clap.proofs.FaultLemmas.{leaf_fault}
-use Rattle.script_model.specs.Words.{number}
 use Rattle.script_model.specs.Record.{Options, options_with}
-use Rattle.script_model.specs.Plain.{Awaited, Given, LanesNext, NoValue, OrderNext, Refused, lanes_said, nothing_given, options_of, order_of, order_said, run_options, take_words}
+use Rattle.script_model.specs.Plain.{Awaited, Given, LanesNext, NoValue, OrderNext, Refused, lanes_said, nothing_given, options_of, order_said, run_options, take_words}
 use Rattle.script_text.specs.Words.{flag_of, flag_option, held_without, lanes_option, number_held, number_read, options_held, order_option, order_stated, run_command, run_words}
 use Rattle.script_text.proofs.NumberLemmas.{number_is_read}
 use Rattle.script_text.proofs.RowLemmas.{default_kept, default_row, no_default, row_at, row_with}

@@ -1,26 +1,23 @@
 -- A number that clap has read lies in the range of its argument.
-use Rattle.std.proofs.Common.{◌≡◌, ◌⊎◌, ◌∙◌, ◌≤◌, ◌<◌, ◌^◌, ◌&&◌, refl, ap, sym, subst, inl, inr, ℕ, zero, suc, List, [], ◌∷◌, map, length, Bool, true, false, not, cond, codes, Option, Some, None, Result, Ok, Err, option_map, arith, true≢false}
-use Rattle.std.specs.Prelude.{⊤, bytes_eq, option_and_then, pos, slice_get}
+use Rattle.std.proofs.Common.{◌≡◌, ◌∙◌, ◌≤◌, ◌<◌, ◌^◌, ◌&&◌, refl, ap, sym, subst, inl, inr, ℕ, zero, suc, List, [], ◌∷◌, map, length, Bool, true, not, codes, Option, Some, None, option_map, arith, true≢false}
+use Rattle.std.specs.Prelude.{⊤, bytes_eq, option_and_then, slice_get}
 use Rattle.std.specs.Borrow.{Bor}
 use Rattle.std.specs.List.{All, list_all, slice_index_or}
-use Rattle.std.specs.Str.Parse.{ParsesUnsigned, digits_value, without_leading_plus}
+use Rattle.std.specs.Str.Parse.{ParsesUnsigned}
 use Rattle.std.proofs.lemmas.Bool.{and_parts}
-use Rattle.std.proofs.lemmas.List.Elements.{All-get_or}
 use Rattle.std.proofs.lemmas.Slice.Eq.{bytes_eq-Decides}
 use Rattle.clap.specs.Built.{IsAuto, IsParsedFrom}
 use Rattle.clap.specs.Facts.{Entry, EntryPasses, HasReading, PassesArg, ValuesPass, args_of, groups_of, parser_of, parser_of_value}
 use Rattle.clap.specs.Lexer.{without_minus}
-use Rattle.clap.specs.Matches.{ReadsOne, found_of, matched_of, one_text}
+use Rattle.clap.specs.Matches.{found_of, matched_of, one_text}
 use Rattle.clap.specs.Simple.{App, app_of, has_simple_rules, shape_of}
 use Rattle.clap.specs.Values.{Accepts, read_as, reading_of}
-use Rattle.clap.specs.ValueTests.{is_numeral}
 use Rattle.clap.specs.Walk.{Rule, Text, one_of, rows_of, rule_of}
 use Rattle.clap.specs.declared.builder.arg.Arg.{Arg}
 use Rattle.clap.specs.declared.builder.command.Command.{Command}
 use Rattle.clap.specs.declared.builder.value_parser.Reading.{Reading}
 use Rattle.clap.specs.declared.builder.value_parser.ValueParser.{ValueParser}
 use Rattle.clap.specs.declared.parser.matches.ArgMatches.{ArgMatches}
-use Rattle.clap.specs.declared.parser.matches.Found.{Found}
 use Rattle.clap.specs.declared.parser.matches.MatchedArg.{MatchedArg}
 use Rattle.clap.proofs.CallerLemmas.{entry_by_id, same_rules_by_id}
 use Rattle.clap.proofs.CallerReads.{signed_reads}

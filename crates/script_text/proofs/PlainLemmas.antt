@@ -12,7 +12,7 @@ use Rattle.script_model.specs.Words.{number}
 use Rattle.script_model.specs.Record.{Options, options_with}
 use Rattle.script_model.specs.Plain.{Argument, Awaited, Given, LanesNext, LanesValue, MergeFlag, NoArgument, NoValue, OrderNext, OrderValue, Refused, Taken, TraceFlag, all_there, argument_of, lane_number, lanes_said, nothing_given, options_of, order_of, order_said, piece_of, run_options, take_argument, take_word, take_words}
 use Rattle.script_text.specs.Words.{flag_option}
-use Rattle.script_text.proofs.NumberLemmas.{IsRead, IsValue, number_is_read}
+use Rattle.script_text.proofs.NumberLemmas.{IsValue, number_is_read}
 use Rattle.script_text.proofs.RunWordLemmas.{Agrees, Pending, Stands, between, held, lanes_settle, lanes_turn, lanes_used, lanes_value, lanes_value_turn, lanes_walk, merge_turn, merge_used, merge_walk, more_lanes, more_merge, more_order, more_trace, no_lanes, no_merge, no_order, no_trace, order_settle, order_turn, order_used, order_value, order_value_turn, order_walk, rules, stands_first, top, trace_turn, trace_used, trace_walk}
 
 -- ---- the values that plain words have

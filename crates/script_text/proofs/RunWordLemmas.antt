@@ -1,7 +1,6 @@
 -- How clap walks over the words behind `run`.
-use Rattle.std.proofs.Common.{◌≡◌, refl, ap, ap₂, sym, ◌∙◌, subst, ℕ, List, [], ◌∷◌, ◌++◌, Bool, true, false, not, ◌&&◌, cond, codes, Option, Some, None, is_some, option_map}
-use Rattle.std.specs.Prelude.{◌==◌, bytes_eq, fold}
-use Rattle.clap.specs.Faults.{settle_fault, turn_fault, use_fault, walk_fault}
+use Rattle.std.proofs.Common.{◌≡◌, refl, ap, ap₂, ◌∙◌, List, [], ◌∷◌, ◌++◌, Bool, true, false, ◌&&◌, cond, codes, Option, Some, None, is_some, option_map}
+use Rattle.clap.specs.Faults.{settle_fault, turn_fault}
 use Rattle.clap.specs.Kinds.{Kinds, or_else}
 use Rattle.clap.specs.Simple.{Shape, built, filled}
 use Rattle.clap.specs.ValueTests.{accepts}
@@ -11,7 +10,7 @@ use Rattle.clap.specs.declared.error.kind.ErrorKind.TheVariants as kind
 use Rattle.clap.specs.declared.parser.matches.ValueSource.TheVariants.{CommandLine}
 use Rattle.clap.proofs.OnLiterals.{clap_on_literals}
 use Rattle.script_model.specs.Plain.{Given, nothing_given}
-use Rattle.script_text.specs.Words.{between as range, flag_option, lanes_option, order_option, run_command}
+use Rattle.script_text.specs.Words.{between as range, flag_option, run_command}
 use Rattle.script_text.proofs.NumberLemmas.{IsValue, not_short}
 use Rattle.script_text.proofs.RowLemmas.{found_before, found_behind, has_row_is, row_at, row_with, used_once}
 

@@ -1,6 +1,5 @@
 use Rattle.std.proofs.Common.{◌≡◌, ◌∙◌, ap, rules, codes}
-use Rattle.clap.specs.Simple.{with_rule}
-use Rattle.script_text.specs.Words.{bare, between, number_word}
+use Rattle.script_text.specs.Words.{between, number_word}
 use Rattle.script_text.proofs.CommandLemmas.{with_arg}
 use Rattle.script_text.proofs.words.make_command.Goals as goal
 

@@ -1,4 +1,4 @@
-use Rattle.std.proofs.Common.{◌≡◌, ◌⊎◌, ◌-◌, arith, drop, length, map, string_bytes, subst, sym, take, Global, IfErr, IfOk, None, Option, Some, option_map}
+use Rattle.std.proofs.Common.{◌≡◌, ◌⊎◌, ◌-◌, arith, drop, length, map, string_bytes, subst, take, Global, IfErr, IfOk, None, Option, Some, option_map}
 use Rattle.std.proofs.lemmas.Grind.{common_steps}
 use Rattle.clap.proofs.TakesLemmas.{passed_up}
 use Rattle.script_model.specs.Plain.{Mode, Run}
