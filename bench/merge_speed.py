@@ -14,7 +14,6 @@ import shlex
 import subprocess
 import sys
 import tempfile
-import time
 
 from program import given_words
 
@@ -37,23 +36,23 @@ def loads(members):
     return "".join(line + "\n" for line in lines)
 
 
-def measured(times, command, script):
-    """The least CPU time of some runs in seconds, and the greatest memory of one in bytes."""
-    best, peak = None, 0
+def measured(times, command, path):
+    """The least CPU time of some runs over a script in seconds, and the greatest memory of one in bytes, each measured in a process of its own."""
+    code = (
+        "import resource, subprocess, sys\n"
+        "ended = subprocess.run(sys.argv[2:], stdin=open(sys.argv[1], 'rb'), stdout=subprocess.PIPE)\n"
+        "usage = resource.getrusage(resource.RUSAGE_CHILDREN)\n"
+        "refused = b' refused ' in ended.stdout or b' no memory' in ended.stdout\n"
+        "print(usage.ru_utime + usage.ru_stime, usage.ru_maxrss * 1024, ended.returncode or int(refused))\n"
+    )
+    runs = []
     for _ in range(times):
-        with tempfile.TemporaryFile() as text:
-            text.write(script.encode())
-            text.seek(0)
-            child = subprocess.Popen(command, stdin=text, stdout=subprocess.PIPE)
-            written = child.stdout.read()
-            _, status, usage = os.wait4(child.pid, 0)
-            child.returncode = status
-        if status != 0 or b" refused " in written or b" no memory" in written:
+        ended = subprocess.run([sys.executable, "-c", code, path, *command], capture_output=True, check=True, text=True)
+        taken, peak, failed = ended.stdout.split()
+        if failed != "0":
             sys.exit("merge_speed: a command was refused")
-        taken = usage.ru_utime + usage.ru_stime
-        best = taken if best is None else min(best, taken)
-        peak = max(peak, usage.ru_maxrss * 1024)
-    return best, peak
+        runs.append((float(taken), int(peak)))
+    return min(taken for taken, _ in runs), max(peak for _, peak in runs)
 
 
 def main():
@@ -64,14 +63,20 @@ def main():
         beside = [shlex.split(words[place + 1])]
         del sys.argv[place + 1:place + 3]
     given = given_words(__doc__, 3)
-    for members in SIZES:
-        script = loads(members)
-        for command in [[given.josie, "run"], *beside]:
-            loaded, loaded_peak = measured(given.times, command, script)
-            merged, merged_peak = measured(given.times, command, script + "merge all\n")
-            nanoseconds = (merged - loaded) / members * 1e9
-            print(f"{members:8} members: {nanoseconds:7.1f} ns a member   peak {loaded_peak / 2**20:6.1f} MiB loaded, {merged_peak / 2**20:6.1f} MiB merged   "
-                  f"{os.path.basename(command[0])}", flush=True)
+    with tempfile.TemporaryDirectory() as folder:
+        for members in SIZES:
+            paths = [os.path.join(folder, name) for name in ("loads", "merge")]
+            script = loads(members)
+            for path, text in zip(paths, (script, script + "merge all\n")):
+                with open(path, "w", encoding="ascii") as file:
+                    file.write(text)
+            for command in [[given.josie, "run"], *beside]:
+                (loaded, loaded_peak), (merged, merged_peak) = [measured(given.times, command, path) for path in paths]
+                print(
+                    f"{members:8} members: {(merged - loaded) / members * 1e9:7.1f} ns a member   "
+                    f"peak {loaded_peak / 2**20:6.1f} MiB loaded, {merged_peak / 2**20:6.1f} MiB merged   {os.path.basename(command[0])}",
+                    flush=True,
+                )
 
 
 if __name__ == "__main__":
