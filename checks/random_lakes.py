@@ -22,6 +22,8 @@ from plain_lake import NOT_UTF8
 
 SCRIPTS = 6
 COMMANDS = 450
+MERGE_SCRIPTS = 2  # in these, twenty searches stand before and behind each merge
+MERGE_COMMANDS = 2000
 NAMES = ["a", "b", "B", "ab", "t-1", "t1", "t10", "t2", "~", "!x", "\"q\"", "\\"]
 COLUMNS = ["c", "C", "c", "d", "", " c", "two words", "a,b", "\"", "\\", "x\ny", "tab\there"]
 WORDS = ["amber", "cedar", "delta", "fjord", "heron", "iris", "maple", "onyx", "ss", "1", "01", "a b", "a  b", "#", "."]
@@ -32,8 +34,9 @@ MOST_TABLES = 9
 class Script:
     """A script as it grows, its files, and what the model answers to it."""
 
-    def __init__(self, seed):
+    def __init__(self, seed, asked_merges):
         self.chance = random.Random(seed)
+        self.asked_merges = asked_merges
         self.lake = plain_lake.EMPTY
         self.lines = []
         self.replies = []
@@ -146,11 +149,11 @@ class Script:
             self.command(f"search {most}", plain_lake.search(self.lake, most, block), block)
 
     def merge(self):
-        """A merge, now and then with the same twenty searches before and behind it: their rows stay, as the model's do not depend on parts."""
+        """A merge, with the same twenty searches before and behind it where that is asked: their rows stay, as the model's do not depend on parts."""
         chance = self.chance
         whole = chance.random() < 0.3
         searches = []
-        if chance.random() < 0.1:
+        if self.asked_merges:
             searches = [(chance.choice([1, 2, 5, 10000]), [self.value() for _ in range(chance.randint(1, 7))]) for _ in range(20)]
         self.ask(searches)
         self.update("merge all" if whole else "merge", plain_lake.merge(self.lake, self.lake, whole))
@@ -182,8 +185,9 @@ class Script:
 
 
 def script_of(seed):
-    script = Script(seed)
-    while script.commands < COMMANDS:
+    asked_merges = seed > SCRIPTS
+    script = Script(seed, asked_merges)
+    while script.commands < (MERGE_COMMANDS if asked_merges else COMMANDS):
         script.step()
     return script
 
@@ -213,7 +217,7 @@ def main():
     here = os.path.dirname(os.path.abspath(__file__))
     josie = sys.argv[1] if len(sys.argv) > 1 else os.path.join(here, "..", "crates", "josie", "out", "josie")
     commands = 0
-    for seed in range(1, SCRIPTS + 1):
+    for seed in range(1, SCRIPTS + MERGE_SCRIPTS + 1):
         script = script_of(seed)
         commands += script.commands
         with tempfile.TemporaryDirectory() as folder:
@@ -221,7 +225,7 @@ def main():
         if found:
             print(f"random lakes: {found}")
             return 1
-    print(f"random lakes: {SCRIPTS} scripts, {commands} commands, as the model says")
+    print(f"random lakes: {SCRIPTS + MERGE_SCRIPTS} scripts, {commands} commands, as the model says")
     return 0
 
 

@@ -1,0 +1,57 @@
+#!/usr/bin/env python3
+"""A file is fetched when its line is read, and not when its command runs.
+
+    checks/early_fetch.py [JOSIE]
+
+The file is a named pipe, which opens for writing only when somebody opens it for reading. josie is given the line alone, and the `sync` behind it only
+when the pipe was open and written. It prints one line, and ends with 0 where the table was loaded.
+"""
+import os
+import subprocess
+import sys
+import tempfile
+import time
+
+
+def opened(path, seconds):
+    """The pipe, open for writing; None where nobody opens it for reading in this time."""
+    end = time.monotonic() + seconds
+    while time.monotonic() < end:
+        try:
+            return os.open(path, os.O_WRONLY | os.O_NONBLOCK)
+        except OSError:
+            time.sleep(0.01)
+    return None
+
+
+def reply(josie, folder):
+    """What josie answers, or why it could not be asked."""
+    path = os.path.join(folder, "table.csv")
+    os.mkfifo(path)
+    child = subprocess.Popen([josie, "run"], stdin=subprocess.PIPE, stdout=subprocess.PIPE, cwd=folder)
+    child.stdin.write(b"loadfile t table.csv\n")
+    child.stdin.flush()
+    pipe = opened(path, 20)
+    if pipe is None:
+        child.kill()
+        return "the file was not fetched when its line was read"
+    os.write(pipe, b"c\nx\n")
+    os.close(pipe)
+    out, _ = child.communicate(b"sync\n", timeout=20)
+    return out.decode()
+
+
+def main():
+    here = os.path.dirname(os.path.abspath(__file__))
+    josie = os.path.abspath(sys.argv[1] if len(sys.argv) > 1 else os.path.join(here, "..", "crates", "josie", "out", "josie"))
+    with tempfile.TemporaryDirectory() as folder:
+        got = reply(josie, folder)
+    if got != "1 loaded t columns 1 members 1 at 1\n":
+        print(f"early fetch: {got!r}")
+        return 1
+    print("early fetch: the file was fetched when its line was read")
+    return 0
+
+
+if __name__ == "__main__":
+    sys.exit(main())
