@@ -10,7 +10,6 @@ program that reads such scripts and writes such replies, which is measured besid
 """
 import os
 import random
-import shlex
 import subprocess
 import sys
 import tempfile
@@ -56,13 +55,7 @@ def measured(times, command, path):
 
 
 def main():
-    words = sys.argv[1:]
-    beside = []
-    if "--beside" in words:
-        place = words.index("--beside")
-        beside = [shlex.split(words[place + 1])]
-        del sys.argv[place + 1:place + 3]
-    given = given_words(__doc__, 3)
+    given = given_words(__doc__, 3, has_beside=True)
     with tempfile.TemporaryDirectory() as folder:
         for members in SIZES:
             paths = [os.path.join(folder, name) for name in ("loads", "merge")]
@@ -70,7 +63,7 @@ def main():
             for path, text in zip(paths, (script, script + "merge all\n")):
                 with open(path, "w", encoding="ascii") as file:
                     file.write(text)
-            for command in [[given.josie, "run"], *beside]:
+            for command in [[given.josie, "run"], *([given.beside] if given.beside else [])]:
                 (loaded, loaded_peak), (merged, merged_peak) = [measured(given.times, command, path) for path in paths]
                 print(
                     f"{members:8} members: {(merged - loaded) / members * 1e9:7.1f} ns a member   "

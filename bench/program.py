@@ -1,14 +1,18 @@
-"""The words of a benchmark of ./josie: where the program is, and how often each run is made."""
+"""The words of a benchmark of ./josie: where the program is, how often each run is made, and what is measured beside it."""
 import argparse
 import os
+import shlex
 
 
-def given_words(about, times):
-    """What the words say: `josie`, the program's whole path, and `times`, a number of runs. `about` is the benchmark's head."""
+def given_words(about, times, has_beside=False):
+    """What the words say: `josie`, the program's whole path, `times`, a number of runs, and, where the benchmark takes it, `beside`, the words of
+    another program, or none. `about` is the benchmark's head."""
     here = os.path.dirname(os.path.abspath(__file__))
     words = argparse.ArgumentParser(description=about.splitlines()[0])
     words.add_argument("josie", nargs="?", default=os.path.join(here, "..", "crates", "josie", "out", "josie"))
     words.add_argument("--times", type=int, default=times)
+    if has_beside:
+        words.add_argument("--beside", type=shlex.split, metavar="COMMAND")
     given = words.parse_args()
     given.josie = os.path.abspath(given.josie)
     return given
