@@ -8,9 +8,10 @@ when the pipe was open and written. It prints one line, and ends with 0 where th
 """
 import os
 import subprocess
-import sys
 import tempfile
 import time
+
+from check import Wrong, main
 
 
 def opened(path, seconds):
@@ -41,17 +42,13 @@ def reply(josie, folder):
     return out.decode()
 
 
-def main():
-    here = os.path.dirname(os.path.abspath(__file__))
-    josie = os.path.abspath(sys.argv[1] if len(sys.argv) > 1 else os.path.join(here, "..", "crates", "josie", "out", "josie"))
+def check(josie, _words):
     with tempfile.TemporaryDirectory() as folder:
         got = reply(josie, folder)
     if got != "1 loaded t columns 1 members 1 at 1\n":
-        print(f"early fetch: {got!r}")
-        return 1
-    print("early fetch: the file was fetched when its line was read")
-    return 0
+        raise Wrong(repr(got))
+    return "the file was fetched when its line was read"
 
 
 if __name__ == "__main__":
-    sys.exit(main())
+    main("early fetch", check)

@@ -10,8 +10,9 @@ memory and a minute, so `.ci/run` does not run it. Its last line is `N passed, M
 """
 import os
 import subprocess
-import sys
 import tempfile
+
+from check import Wrong, main
 
 LINE, BLOCK, COMMANDS, BYTES = 4_096, 67_108_864, 4_096, 536_870_912
 
@@ -67,12 +68,12 @@ def trials(folder):
     yield "files of more bytes", [b"loadfile t most.csv\n"] * 9, "josie: line 9: too many bytes in a batch"
 
 
-def main():
-    here = os.path.dirname(os.path.abspath(__file__))
-    josie = os.path.abspath(sys.argv[1] if len(sys.argv) > 1 else os.path.join(here, "..", "crates", "josie", "out", "josie"))
-    passed = failed = 0
+def check(josie, _words):
+    wrong = []
+    count = 0
     with tempfile.TemporaryDirectory() as folder:
         for name, pieces, wanted in trials(folder):
+            count += 1
             status, out, err = run(josie, pieces, folder)
             if wanted == "fine":
                 well = status == 0 and err == ""
@@ -80,12 +81,12 @@ def main():
                 well = status == 0 and out == wanted
             else:
                 well = status == 1 and err == wanted
-            passed, failed = passed + well, failed + (not well)
             if not well:
-                print(f"{name}: wanted {wanted!r}, got status {status}, {err!r}, {out[:80]!r}")
-    print(f"{passed} passed, {failed} failed")
-    return 1 if failed else 0
+                wrong.append(f"{name}: wanted {wanted!r}, got status {status}, {err!r}, {out[:80]!r}")
+    if wrong:
+        raise Wrong("\n".join(wrong))
+    return f"{count} trials, as the limits say"
 
 
 if __name__ == "__main__":
-    sys.exit(main())
+    main("limits", check)

@@ -6,10 +6,9 @@
 The model draws the same numbers, loads, merges and counts by `plain_lake.py`, and sums; each summary is compared byte for byte, and each lake is made
 twice. It prints one line, and ends with 0 where all is as the model says.
 """
-import os
 import subprocess
-import sys
 
+from check import Wrong, main
 import plain_lake
 
 LAKES = [(0, 1, 2), (7, 40, 500), (4294967295, 3, 1), (1, 1, 1), (12, 16, 30), (99, 9, 200)]
@@ -25,7 +24,7 @@ def draws(seed):
 
 def summary(seed, tables, rows):
     drawn = draws(seed)
-    lake, members, merges, answers, found, overlap = plain_lake.EMPTY, 0, 0, 0, 0, 0
+    lake, members, merges, answers, found, overlap, reads, probes = plain_lake.EMPTY, 0, 0, 0, 0, 0, 0, 0
     for number in range(1, tables + 1):
         cells = [[f"v{next(drawn) % below}" for below in (64, 1024, 16384)] for _ in range(rows)]
         reply, lake, _ = plain_lake.load(lake, f"g{number}", [["a", "b", "c"], *cells])
@@ -35,26 +34,25 @@ def summary(seed, tables, rows):
             merges += change is not None
     for _ in range(50):
         name, place = f"g{1 + next(drawn) % tables}", 1 + next(drawn) % 3
-        lines = plain_lake.like(lake, 10, name, place)
+        _, *rows_found, work, _ = plain_lake.like(lake, 10, name, place)
         answers += 1
-        found += len(lines) - 2
-        overlap += sum(int(line.split()[0]) for line in lines[1:-1])
-    return f"tables {tables}\nmembers {members}\nmerges {merges}\nanswers {answers} rows {found} overlap {overlap}\n".encode()
+        found += len(rows_found)
+        overlap += sum(int(line.split()[0]) for line in rows_found)
+        reads += int(work.split()[2])
+        probes += int(work.split()[4])
+    lines = [f"tables {tables}", f"members {members}", f"merges {merges}", f"answers {answers} rows {found} overlap {overlap}", f"reads {reads} probes {probes}"]
+    return "".join(line + "\n" for line in lines).encode()
 
 
-def main():
-    here = os.path.dirname(os.path.abspath(__file__))
-    josie = os.path.abspath(sys.argv[1] if len(sys.argv) > 1 else os.path.join(here, "..", "crates", "josie", "out", "josie"))
+def check(josie, _words):
     for lake in LAKES:
         want = summary(*lake)
         for _ in range(2):
             ended = subprocess.run([josie, "make", *map(str, lake)], stdin=subprocess.DEVNULL, capture_output=True, timeout=100)
             if ended.returncode != 0 or ended.stdout != want:
-                print(f"made lakes: {lake}: want {want!r}, got {ended.stdout!r} (status {ended.returncode})")
-                return 1
-    print(f"made lakes: {len(LAKES)} lakes, as the model says")
-    return 0
+                raise Wrong(f"{lake}: want {want!r}, got {ended.stdout!r} (status {ended.returncode})")
+    return f"{len(LAKES)} lakes, as the model says"
 
 
 if __name__ == "__main__":
-    sys.exit(main())
+    main("made lakes", check)

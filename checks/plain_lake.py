@@ -7,6 +7,8 @@ it is.
 """
 from typing import NamedTuple
 
+import plain_search
+
 NOT_UTF8 = "\udcff"  # stands for the byte ff
 
 
@@ -143,7 +145,8 @@ def answer(at, most, query, excepted):
                 found.append((-shared, name.encode(), title.encode(), place))
     found = sorted(found)[:most]
     rows = [f"  {-less} {name.decode()} {place} \"{quoted(title.decode())}\"" for less, name, title, place in found]
-    return [f"answer {len(found)} of {len(query)} at {at.position}"] + rows + [layout(at)]
+    reads, probes = plain_search.work(at.parts, query, most, excepted)
+    return [f"answer {len(found)} of {len(query)} at {at.position}"] + rows + [f"  work reads {reads} probes {probes}", layout(at)]
 
 
 def search(at, most, lines):
@@ -171,4 +174,4 @@ def written(replies, journal, trace):
     """What a run writes of its replies and its journal, with a trace or without."""
     if trace:
         return replies + [f"journal {len(journal)}"] + journal
-    return [text for text in replies if not text.startswith("  layout at ")]
+    return [text for text in replies if not text.startswith(("  work reads ", "  layout at "))]

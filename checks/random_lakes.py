@@ -14,12 +14,11 @@ It prints one line, and ends with 0 where josie says what the model says, and el
 import os
 import random
 import subprocess
-import sys
 import tempfile
 
+from check import Wrong, main
 import plain_lake
 from plain_lake import NOT_UTF8
-
 SCRIPTS = 6
 COMMANDS = 450
 MERGE_SCRIPTS = 2  # in these, twenty searches stand before and behind each merge
@@ -213,21 +212,17 @@ def difference(seed, script, josie, folder):
     return f"script {seed}: {len(want_lines) - 1} lines of replies wanted, got {len(got_lines) - 1}"
 
 
-def main():
-    here = os.path.dirname(os.path.abspath(__file__))
-    josie = sys.argv[1] if len(sys.argv) > 1 else os.path.join(here, "..", "crates", "josie", "out", "josie")
+def check(josie, _words):
     commands = 0
     for seed in range(1, SCRIPTS + MERGE_SCRIPTS + 1):
         script = script_of(seed)
         commands += script.commands
         with tempfile.TemporaryDirectory() as folder:
-            found = difference(seed, script, os.path.abspath(josie), folder)
+            found = difference(seed, script, josie, folder)
         if found:
-            print(f"random lakes: {found}")
-            return 1
-    print(f"random lakes: {SCRIPTS + MERGE_SCRIPTS} scripts, {commands} commands, as the model says")
-    return 0
+            raise Wrong(found)
+    return f"{SCRIPTS + MERGE_SCRIPTS} scripts, {commands} commands, as the model says"
 
 
 if __name__ == "__main__":
-    sys.exit(main())
+    main("random lakes", check)

@@ -10,11 +10,10 @@ byte. The model is a list of versions (`plain_lake.py`): a load, a drop and a li
 the version that they are answered at. The seeds are fixed. It prints one line, and ends with 0 where all is as the model says.
 """
 import itertools
-import os
 import random
 import subprocess
-import sys
 
+from check import Wrong, main
 import plain_lake
 
 SCRIPTS = 1500
@@ -146,19 +145,15 @@ def every_order():
         yield [loads, race], 3, [[], list(order)], False, True
 
 
-def main():
-    here = os.path.dirname(os.path.abspath(__file__))
-    josie = os.path.abspath(sys.argv[1] if len(sys.argv) > 1 else os.path.join(here, "..", "crates", "josie", "out", "josie"))
+def check(josie, _words):
     runs = 0
     for run in itertools.chain(random_runs(), every_order()):
         runs += 1
         found = difference(josie, *run)
         if found:
-            print(f"random orders: {found}")
-            return 1
-    print(f"random orders: {runs} runs, as the model says")
-    return 0
+            raise Wrong(found)
+    return f"{runs} runs, as the model says"
 
 
 if __name__ == "__main__":
-    sys.exit(main())
+    main("random orders", check)

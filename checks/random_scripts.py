@@ -9,11 +9,12 @@ commands, blocks, comments, `sync` lines, lanes' words and lines at fault, with 
 written whole, and then in random pieces. The exit code, the line on standard error and the replies must be the model's. The model cuts the whole
 script into lines and reads one after another. The seed is fixed. It prints one line, and ends with 0 where all is as the model says.
 """
-import os
 import random
 import subprocess
 import sys
 import time
+
+from check import Wrong, main
 
 WORDS, LANE, UNKNOWN, NO_END, LONG = "bad words", "no such lane", "no such command", "block without end", "line too long"
 TEMPLATES = [
@@ -199,10 +200,7 @@ def cut(chance, script):
     return pieces or [b""]
 
 
-def main():
-    here = os.path.dirname(os.path.abspath(__file__))
-    words = [word for word in sys.argv[1:] if word != "--all"]
-    josie = os.path.abspath(words[0] if words else os.path.join(here, "..", "crates", "josie", "out", "josie"))
+def check(josie, _words):
     step = 1 if "--all" in sys.argv else 5
     chance = random.Random(1)
     scripts = []
@@ -216,11 +214,9 @@ def main():
         for pieces in [[script]] + ([cut(chance, script)] if in_pieces else []):
             got = run(josie, script, pieces)
             if got != wanted:
-                print(f"random scripts: {script!r} in {len(pieces)} pieces: wanted {wanted}, got {got}")
-                return 1
-    print(f"random scripts: {len(scripts)} scripts, as the model says")
-    return 0
+                raise Wrong(f"{script!r} in {len(pieces)} pieces: wanted {wanted}, got {got}")
+    return f"{len(scripts)} scripts, as the model says"
 
 
 if __name__ == "__main__":
-    sys.exit(main())
+    main("random scripts", check)

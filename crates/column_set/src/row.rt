@@ -1,6 +1,11 @@
 //! The rows of an answer, which borrow the titles of a table, and the same rows with a share of the titles of their own.
 ghost use Rattle.std.specs.Prelude.{◌≡◌, IfOk};
+ghost use Rattle.std.specs.Cmp.{po, partial_equiv_from_equiv};
+ghost use Rattle.std.specs.Ordering.{as_partial_cmp, eq_by_cmp};
+ghost use Rattle.std.proofs.Common.{refl};
+ghost use Rattle.std.proofs.lemmas.Cmp.{eq_by_cmp_equiv};
 ghost use Rattle.lake_model.specs.Answer.{row_cmp};
+ghost use Rattle.lake_model.proofs.AnswerLemmas.{row_cmp_total};
 
 use crate::name::Name;
 use crate::titles::Titles;
@@ -66,6 +71,45 @@ impl<'a> Row<'a> {
             titles: Arc::try_clone(self.titles)?,
             place: self.place,
         })
+    }
+}
+
+impl<'a> PartialEq for Row<'a> {
+    ghost eq = { eq_by_cmp row_cmp };
+
+    ghost laws = { partial_equiv_from_equiv (eq_by_cmp_equiv row_cmp_total) };
+
+    fn eq(&self, other: &Row<'a>) -> bool {
+        self.order(other).is_eq()
+    }
+}
+
+impl<'a> Eq for Row<'a> {
+    ghost laws = { eq_by_cmp_equiv row_cmp_total };
+}
+
+impl<'a> PartialOrd for Row<'a> {
+    ghost partial_cmp = { as_partial_cmp row_cmp };
+
+    ghost laws = { po row_cmp_total (λ x y. refl) };
+
+    fn partial_cmp(&self, other: &Row<'a>) -> Option<Ordering> {
+        Some(self.order(other))
+    }
+}
+
+/// Rows compare in the order of an answer, so the greatest of some rows is the last in an answer.
+impl<'a> Ord for Row<'a> {
+    ghost cmp = { row_cmp };
+
+    ghost total = { row_cmp_total };
+
+    ghost matches_partial_cmp = { λ a b. refl };
+
+    ghost matches_eq = { λ a b. refl };
+
+    fn cmp(&self, other: &Row<'a>) -> Ordering {
+        self.order(other)
     }
 }
 

@@ -29,7 +29,7 @@ const HELP: &str = "josie run [--lanes N] [--order LIST] [--merge] [--trace]
     --lanes N           there are N lanes, 1 to 16; the lanes of a batch run one after another where no order is stated
     --order LIST        the lanes take their steps in this order: lane numbers with commas between, one such piece a batch, pieces with / between
     --merge             a merger, which is lane 0, merges beside the lanes: once for each load and drop of a batch
-    --trace             writes the layout of the lake behind each answer and merge, and the journal at the end
+    --trace             writes what was read behind each answer, the layout of the lake behind each answer and merge, and the journal at the end
 josie make SEED TABLES ROWS
     makes a lake of chance numbers, asks fifty searches of it, and writes a summary
 josie --help     prints this text

@@ -1,6 +1,10 @@
 pub mod Search
-pub mod Reads
-pub mod Counts
+pub mod Tallies
+pub mod Columns
 pub mod Rows
-pub mod Ready
+pub mod State
+pub mod Costs
+pub mod Open
+pub mod Offers
 pub mod Room
+pub mod Ready

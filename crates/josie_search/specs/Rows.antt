@@ -1,21 +1,68 @@
--- The rows of a part, from a count for each of its columns.
-use Rattle.std.specs.Prelude.{ℕ, Bool, false, ◌&&◌, not, List, [], ◌∷◌, flat_map, get_or, nat_lt, if◌then◌else◌, Option}
-use Rattle.std.specs.List.{enumerate_from}
-use Rattle.lake_model.specs.Answer.{Row, is_excepted}
-use Rattle.lake_model.specs.Layout.{Part}
-use Rattle.lake_model.specs.Texts.{Text}
-use Rattle.search_model.specs.Looks.{row_with}
-use Rattle.search_model.specs.Segment.{Titled}
-use Rattle.segment_core.specs.Versions.{marks_of, segment_of}
+-- The columns that may be open, and the rows of their bounds, from what the code keeps.
+use Rattle.std.specs.Prelude.{◌≡◌, ℕ, ◌+◌, ◌-◌, ◌<◌, min, Bool, true, false, ◌&&◌, not, List, [], ◌∷◌, get_or, nat_lt, if◌then◌else◌, Option, Some, None}
+use Rattle.std.specs.Option.{MatchOption}
+use Rattle.std.specs.Ordering.{is_lt, nat_cmp, ordering_then}
+use Rattle.lake_model.specs.Answer.{Query, Row, row_cmp}
+use Rattle.lake_model.specs.Layout.{is_among}
+use Rattle.search_model.specs.Looks.{Searched, is_eligible, row_with}
+use Rattle.search_state.specs.State.{column_at}
+use Rattle.josie_search.specs.declared.tally.Tally.{Tally}
+use Rattle.josie_search.specs.Tallies.{tally_at}
 
--- the column's table is unmarked, and is not the excepted one
-abbrev pub is_searched : Option Text → List Bool → Titled → Bool
-is_searched except marks column = not (get_or marks column.from false) && not (is_excepted except column.table)
+-- how many tokens of the column come behind the last list that holds it
+abbrev pub rest_of : Tally → ℕ
+rest_of tally = tally.size - 1 - tally.position
 
--- a row for a column that is counted
-abbrev pub counted_row : Option Text → List Bool → ℕ → Titled → List Row
-counted_row except marks count column = if nat_lt 0 count && is_searched except marks column then row_with count column ∷ [] else []
+-- the most that its overlap can be, with so many lists left
+abbrev pub most_of : ℕ → Tally → ℕ
+most_of left tally = tally.count + min left (rest_of tally)
 
--- a row for each column of the part that is counted
-abbrev pub counted_rows : Option Text → Part → (ℕ → ℕ) → List Row
-counted_rows except part count = flat_map (λ c. counted_row except (marks_of part) (count c.0) c.1) (enumerate_from 0 (segment_of part).columns)
+-- it was seen, is not known, and may be in the answer
+abbrev pub leads : Query → Searched → List Tally → List Bool → ℕ → Bool
+leads query part tallies known x = is_eligible query part (column_at part x) && not (get_or known x false) && nat_lt 0 (tally_at tallies x).count
+
+abbrev pub bound_row : Searched → List Tally → ℕ → ℕ → Row
+bound_row part tallies left x = row_with (most_of left (tally_at tallies x)) (column_at part x)
+
+-- the row of its bound
+abbrev pub lead_row : Query → Searched → List Tally → List Bool → ℕ → ℕ → List Row
+lead_row query part tallies known left x = if leads query part tallies known x then bound_row part tallies left x ∷ [] else []
+
+abbrev pub is_before : Row → Row → Bool
+is_before a b = is_lt (row_cmp a b)
+
+-- The first of those among the first n columns: of equal rows that of the lower number.
+pub record IsFirst (query : Query) (part : Searched) (tallies : List Tally) (known : List Bool) (left n x : ℕ) (row : Row) : Type 0 where
+  pub within : x < n
+  pub does : leads query part tallies known x ≡ true
+  pub same : row ≡ bound_row part tallies left x
+  pub lower : (y : ℕ) → y < x → leads query part tallies known y ≡ true → is_before row (bound_row part tallies left y) ≡ true
+  pub higher : (y : ℕ) → x < y → y < n → leads query part tallies known y ≡ true → is_before (bound_row part tallies left y) row ≡ false
+
+abbrev pub NoneLeads : Query → Searched → List Tally → List Bool → ℕ → Type 0
+NoneLeads query part tallies known n = (y : ℕ) → y < n → leads query part tallies known y ≡ false
+
+abbrev pub FoundTo : Query → Searched → List Tally → List Bool → ℕ → ℕ → Option (ℕ × Row) → Type 0
+FoundTo query part tallies known left n found = MatchOption found (NoneLeads query part tallies known n) (λ f. IsFirst query part tallies known left n f.0 f.1)
+
+-- The first of those among some columns, in whatever order they come: of equal rows that of the lower number.
+pub record IsFirstAmong (query : Query) (part : Searched) (tallies : List Tally) (known : List Bool) (left : ℕ) (done : List ℕ) (x : ℕ) (row : Row) : Type 0 where
+  pub does : leads query part tallies known x ≡ true
+  pub same : row ≡ bound_row part tallies left x
+  pub lower : (y : ℕ) → is_among done y ≡ true → y < x → leads query part tallies known y ≡ true → is_before row (bound_row part tallies left y) ≡ true
+  pub higher : (y : ℕ) → is_among done y ≡ true → x < y → leads query part tallies known y ≡ true → is_before (bound_row part tallies left y) row ≡ false
+
+abbrev pub NoneLeadsAmong : Query → Searched → List Tally → List Bool → List ℕ → Type 0
+NoneLeadsAmong query part tallies known done = (y : ℕ) → is_among done y ≡ true → leads query part tallies known y ≡ false
+
+abbrev pub FoundAmong : Query → Searched → List Tally → List Bool → ℕ → List ℕ → Option (ℕ × Row) → Type 0
+FoundAmong query part tallies known left done found = MatchOption found (NoneLeadsAmong query part tallies known done) (λ f. IsFirstAmong query part tallies known left done f.0 f.1)
+
+-- the first of those found, and of one more: of equal rows that of the lower number
+abbrev pub first_pair : Option (ℕ × Row) → ℕ → Row → ℕ × Row
+first_pair None x row = (x, row)
+first_pair (Some found) x row = if is_lt (ordering_then (row_cmp row found.1) (nat_cmp x found.0)) then (x, row) else found
+
+abbrev pub first_of : Option (ℕ × Row) → ℕ → Option Row → Option (ℕ × Row)
+first_of found x None = found
+first_of found x (Some row) = Some (first_pair found x row)

@@ -1,15 +1,21 @@
-//! The search that counts: the columns of a lake's live tables that share most keys with a query, found by counting in how many
-//! posting lists of the query's tokens each column stands.
+//! The search: the columns of a lake's live tables that share most keys with a query. It reads posting lists and probes sets as a chooser
+//! says, and stops in a part where no column can come before the k-th row that it knows.
 #![tactic(auto)]
 
-mod counters;
+mod columns;
+mod cost;
+mod first;
+mod next;
+mod offer;
 mod part;
-mod room;
+mod probe;
+mod query;
+mod row;
 mod search;
+mod sure;
+mod tally;
 
 pub use search::{Answer, Prepared, prepare};
 
-#[cfg(test)]
-mod random_tests;
 #[cfg(test)]
 mod tests;

@@ -1,49 +1,43 @@
 //! A search of a version.
-ghost use Rattle.std.specs.Prelude.{◌≡◌, ◌<◌, ◌≤◌, [], length, map, option_copied, sum_by, IfOk};
+ghost use Rattle.std.specs.Prelude.{◌≡◌, ◌<◌, ◌≤◌, ◌+◌, [], length, map, option_copied, sum_by, IfOk};
 ghost use Rattle.std.specs.List.{All};
-ghost use Rattle.josie_search.specs.Reads.{all_lists, asked_in};
 ghost use Rattle.josie_search.specs.Ready.{IsMost};
-ghost use Rattle.josie_search.specs.Room.{most_rows, rows_bound};
+ghost use Rattle.josie_search.specs.Room.{asked_in, looks_in, probes_bound};
 ghost use Rattle.josie_search.specs.Search.{answer_of, query_with, search_with};
+ghost use Rattle.search_model.specs.Looks.{log};
 ghost use Rattle.segment_core.specs.Versions.{live_of, part_at, segment_at};
 
-use crate::counters::Counters;
+use crate::columns::Columns;
 use crate::part::search_part;
-use column_set::{Name, QuerySet, Row, Rows};
+use crate::query::Asked;
+use column_set::{Name, QuerySet, Rows};
+use cost_model::Chooser;
 use no_memory::NoMemory;
 use segment_core::Looks;
 use std::alloc::Global;
 use std::marker::Model;
+use topk_heap::TopK;
 
 /// A search that is ready to run, with all the memory that it needs. A contract sees the version and the query.
 #[derive(Drop)]
 pub struct Prepared<'a, 'q> {
     looks: Looks<'a>,
-    query: &'q QuerySet,
-    k: u32,
-    except: Option<&'q Name>,
-    asked: Vec<Vec<u32>>,
-    counters: Counters,
-    rows: Vec<Row<'a>>,
+    query: Asked<'q>,
+    tokens: Vec<Vec<u32>>,
+    columns: Columns,
+    top: TopK<'a>,
 }
 
 impl<'a, 'q> Model for Prepared<'a, 'q> {
-    ghost use Rattle.std.specs.Prelude.{◌≡◌, [], map, option_copied, vec_capacity};
+    ghost use Rattle.std.specs.Prelude.{◌≡◌, [], map};
     ghost use Rattle.josie_search.specs.Ready.{IsReady};
-    ghost use Rattle.josie_search.specs.Search.{query_with, search_with, SearchOf};
+    ghost use Rattle.josie_search.specs.Search.{search_with, SearchOf};
 
     ghost Value = { SearchOf };
 
-    ghost view = { λ p. search_with p.looks.version (query_with p.k p.query.now (option_copied p.except)) };
+    ghost view = { λ p. search_with p.looks.version p.query };
 
-    ghost invariant = { λ p. (p.looks.log ≡ []) × (p.rows.items ≡ []) × IsReady p.looks.version.parts p.query.now p.looks.spare (map (λ tokens. tokens.items) p.asked.items) p.counters (vec_capacity p.rows) };
-}
-
-// The query's tokens of each part, and how many rows a search for them can find in all parts.
-#[derive(Drop)]
-struct Asked {
-    tokens: Vec<Vec<u32>>,
-    rows: usize,
+    ghost invariant = { λ p. (p.looks.log ≡ []) × IsReady p.looks.version.parts p.query p.looks.spare (map (λ tokens. tokens.items) p.tokens.items) p.columns p.top };
 }
 
 /// The rows of an answer, and the looks with the log of what was read for it.
@@ -53,9 +47,10 @@ pub struct Answer<'a> {
     pub looks: Looks<'a>,
 }
 
-/// All that a search needs, taken before it runs: the query's tokens of each part, room in the log for as many looks, a counter for
-/// each column of the part that has most, and room for the rows. These are, of each part, no more than there are postings in the
-/// lists of its tokens, and no more than its columns. The search leaves out the columns of the table named `except`, if any.
+/// All that a search needs, taken before it runs: the query's tokens of each part, a tally and a mark for each column of the part that has
+/// most, the first k rows, and room in the log for as many looks as the search can take. These are, of each part, as many as it has lists
+/// of the query's tokens, and as many again as these have postings or the part has columns, whichever is less. The search leaves out the
+/// columns of the table named `except`, if any.
 ///
 /// It is refused only for want of memory; what it gives takes none.
 pub fn prepare<'a, 'q>(
@@ -70,52 +65,50 @@ pub fn prepare<'a, 'q>(
     requires high { k ≤ 10000 }
     ensures { IfOk result (λ prepared. prepared ≡ search_with looks.entry.version (query_with k query.now (option_copied except.entry))) }
 {
-    let asked = ask_parts(alloc, &mut looks, query)?;
-    let counters = Counters::zeros(alloc, most_columns(&looks))?;
-    let rows = Vec::with_capacity(alloc, asked.rows)?;
-    // No counter is raised past the number of the query's keys.
-    prove!(query.len() < u32::MAX);
+    let tokens = ask_parts(alloc, &mut looks, query)?;
+    let columns = Columns::new(alloc, most_columns(&looks))?;
+    let top = TopK::new(alloc, k)?;
+    // A search takes at most as many lists as the query has keys.
+    prove!(query.len() <= 4_194_304);
     Ok(Prepared {
         looks,
-        query,
-        k,
-        except,
-        asked: asked.tokens,
-        counters,
-        rows,
+        query: Asked {
+            keys: query,
+            k,
+            except,
+        },
+        tokens,
+        columns,
+        top,
     })
 }
 
-// The query's tokens of each part, and how many rows they can give. The log gets room for as many looks as there are tokens.
-fn ask_parts(alloc: Global, looks: &mut Looks<'_>, query: &QuerySet) -> Result<Asked, NoMemory>
-    ensures asked { IfOk result (λ asked. map (λ tokens. tokens.items) asked.tokens.items ≡ map (asked_in query.now) looks.old.version.parts) }
-    ensures rows { IfOk result (λ asked. asked.rows ≡ sum_by (most_rows query.now) looks.old.version.parts) }
+// The query's tokens of each part. The log gets room for as many looks as a search for them can take.
+fn ask_parts(
+    alloc: Global,
+    looks: &mut Looks<'_>,
+    query: &QuerySet,
+) -> Result<Vec<Vec<u32>>, NoMemory>
+    ensures asked { IfOk result (λ asked. map (λ tokens. tokens.items) asked.items ≡ map (asked_in query.now) looks.old.version.parts) }
     ensures version { looks.new.version ≡ looks.old.version }
     ensures log { looks.new.log ≡ looks.old.log }
-    ensures room { IfOk result (λ asked. sum_by length (map (λ tokens. tokens.items) asked.tokens.items) ≤ looks.new.spare) }
+    ensures room { IfOk result (λ asked. sum_by (looks_in query.now) looks.old.version.parts ≤ looks.new.spare) }
 {
     let mut asked = Vec::new(alloc);
-    let mut rows = 0usize;
     for part in 0..looks.parts() {
         let tokens = looks.query_tokens(alloc, part, query)?;
-        looks.reserve_log(tokens.len())?;
-        let Some(more) = rows.checked_add(most_rows(looks, part, &tokens) as usize) else {
-            return Err(NoMemory);
-        };
-        rows = more;
+        let probes = most_probes(looks, part, &tokens);
+        looks.reserve_log(tokens.len() + probes as usize)?;
         asked.push(tokens)?;
     }
-    Ok(Asked {
-        tokens: asked,
-        rows,
-    })
+    Ok(asked)
 }
 
-// The most rows that a search for these tokens can find in a part.
-fn most_rows(looks: &Looks<'_>, part: u32, tokens: &[u32]) -> u32
+// The most columns of a part that a search for these tokens can probe.
+fn most_probes(looks: &Looks<'_>, part: u32, tokens: &[u32]) -> u32
     requires part { part < length looks.now.version.parts }
     requires tokens { All (λ token. token < length (segment_at looks.now.version.parts part).tokens) tokens.now }
-    ensures { result ≡ rows_bound (part_at looks.now.version.parts part) tokens.now }
+    ensures { result ≡ probes_bound (part_at looks.now.version.parts part) tokens.now }
 {
     let columns = looks.sets(part);
     let mut most = 0;
@@ -142,30 +135,36 @@ impl<'a, 'q> Prepared<'a, 'q> {
     /// and then by the bytes of the table's name, those of the column's name, and the place, which is also how ties for the last
     /// row are settled. The columns of the excepted table, if any, are left out.
     ///
-    /// It reads each list of the query's tokens once. It takes the time to walk these, and to sort the columns that they hold. It
-    /// takes no memory, and refuses nothing.
-    pub fn run(self) -> Answer<'a>
+    /// The answer is the same for every chooser; which lists it reads and which columns it probes for it goes by what the chooser says.
+    /// It reads no list and probes no column twice, and reads no list and probes no column of a part where its bounds tell that none
+    /// of them can come before the k-th row that is known. It takes no memory, and refuses nothing.
+    pub fn run<C: Chooser>(self, chooser: &C) -> Answer<'a>
         ensures rows { result.rows ≡ answer_of (live_of self.entry.version.parts) self.entry.query }
-        ensures log { result.looks.log ≡ all_lists self.entry.query self.entry.version.parts }
+        ensures log { result.looks.log ≡ log (C.says chooser.now) self.entry.query self.entry.version.parts }
         ensures version { result.looks.version ≡ self.entry.version }
     {
         let Prepared {
             mut looks,
-            query: _,
-            k,
-            except,
-            asked,
-            mut counters,
-            mut rows,
+            query,
+            tokens,
+            mut columns,
+            mut top,
         } = self;
         for part in 0..looks.parts() {
-            let tokens = &asked[part as usize];
-            search_part(&mut looks, part, tokens, except, &mut counters, &mut rows);
+            columns.clear();
+            let asked = &tokens[part as usize];
+            search_part(
+                &mut looks,
+                part,
+                &query,
+                asked,
+                &mut columns,
+                &mut top,
+                chooser,
+            );
         }
-        rows.sort_unstable_by(|a, b| a.order(b));
-        rows.truncate(k as usize);
         Answer {
-            rows: Rows::new(rows),
+            rows: top.into_rows(),
             looks,
         }
     }

@@ -1,5 +1,5 @@
 -- The record of batches that were played one behind another.
-use Rattle.std.proofs.Common.{◌≡◌, refl, ap, sym, ◌∙◌, subst, ℕ, ◌+◌, List, [], ◌∷◌, ◌++◌, Bool, true, false, length, map, take, drop, get_or, sum_by, arith, length-append}
+use Rattle.std.proofs.Common.{◌≡◌, refl, ap, sym, ◌∙◌, subst, ℕ, suc, ◌+◌, List, [], ◌∷◌, ◌++◌, Bool, true, false, length, map, take, drop, get_or, sum_by, arith, length-append}
 use Rattle.std.specs.Prelude.{if◌then◌else◌}
 use Rattle.std.proofs.lemmas.List.{length-map, take-append-drop}
 use Rattle.std.proofs.lemmas.List.FromFn.{length-map-range_with_len}
@@ -73,7 +73,7 @@ pub made_record : (limits : Counts) (options : Options) (batches : List Batch) (
 made_record limits options batches made ended is = record {
   options_are = made_options limits options batches made is;
   right = record_right plans_stay limits options batches (with_end ended made) is.lanes (is.denials, ap (with_end ended) is.played);
-  played = (is.denials, ap (with_end ended) is.played);
+  played = λ stated. (is.denials, ap (with_end ended) is.played);
 }
 
 same_record : (made : RunRecord) → made.ended ≡ false → with_end false made ≡ made
@@ -113,3 +113,18 @@ right_count limits lanes merge next journal from (batch ∷ batches) (sync ∷ s
 
 pub record_count : (limits : Counts) (options : Options) (batches : List Batch) (made : RunRecord) → IsRecordOf limits options batches made → length made.answers ≡ answer_count options.merge batches
 record_count limits options batches made is = right_count limits options.lanes options.merge 1 made.journal 0 batches made.syncs made.answers is.right.each
+
+-- ---- how many batches were answered
+
+right_syncs : (limits : Counts) (lanes : ℕ) (merge : Bool) (next : ℕ) (journal : List Entry) (from : ℕ) (batches : List Batch) (syncs : List ℕ) (answers : List Answered)
+    → AreBatchesRight limits lanes merge next journal from batches syncs answers → length syncs ≡ length batches
+right_syncs limits lanes merge next journal from [] [] [] h = refl
+right_syncs limits lanes merge next journal from [] [] (answer ∷ answers) h = absurd h
+right_syncs limits lanes merge next journal from [] (sync ∷ syncs) answers h = absurd h
+right_syncs limits lanes merge next journal from (batch ∷ batches) [] answers h = absurd h
+right_syncs limits lanes merge next journal from (batch ∷ batches) (sync ∷ syncs) answers (up, here, others) =
+    let commands : List Command = batch ++ merger_commands merge next batch in
+    ap (λ (n : ℕ). suc n) (right_syncs limits lanes merge (next + updates batch) journal sync batches syncs (drop (length commands) answers) others)
+
+pub record_syncs : (limits : Counts) (options : Options) (batches : List Batch) (made : RunRecord) → IsRecordOf limits options batches made → length made.syncs ≡ length batches
+record_syncs limits options batches made is = right_syncs limits options.lanes options.merge 1 made.journal 0 batches made.syncs made.answers is.right.each

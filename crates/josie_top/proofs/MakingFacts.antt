@@ -35,7 +35,7 @@ lake_made limits seed tables rows batch turns made now batch_is lanes is closed 
     whole ∙ ap (λ (b : Bool). with_end b (played limits made_options (batch ∷ []) (turns ∷ []))) (sym ended) in
     record {
       ended = ended;
-      record_of = subst (λ (b : Batch). IsRecordOf limits made_options (b ∷ []) now) batch_is (record { options_are = options_are; right = record_right plans_stay limits made_options (batch ∷ []) now (lanes, tt) (turns ∷ [], is_played); played = (turns ∷ [], is_played) });
+      record_of = subst (λ (b : Batch). IsRecordOf limits made_options (b ∷ []) now) batch_is (record { options_are = options_are; right = record_right plans_stay limits made_options (batch ∷ []) now (lanes, tt) (turns ∷ [], is_played); played = λ stated. (turns ∷ [], is_played) });
     }
 
 -- ---- the rows

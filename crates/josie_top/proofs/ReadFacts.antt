@@ -1,10 +1,8 @@
 -- What was read call by call was read in one.
-use Rattle.std.proofs.Common.{◌≡◌, refl, ap, sym, ◌∙◌, ℕ, suc, Bool, ◌+◌, ◌-◌, ◌^◌, ◌≤◌, List, [], ◌∷◌, ◌++◌, append_assoc, length, flat_map, arith, length-append}
-use Rattle.std.specs.Prelude.{Option, count_by, filter, min}
+use Rattle.std.proofs.Common.{◌≡◌, refl, ap, sym, ◌∙◌, ℕ, suc, ◌≤◌, List, [], ◌∷◌, ◌++◌, append_assoc, length, flat_map}
+use Rattle.std.specs.Prelude.{Option}
 use Rattle.std.proofs.lemmas.List.{append-nil}
 use Rattle.std.proofs.lemmas.Grind.{flat_map-append}
-use Rattle.std.proofs.lemmas.List.Elements.{filter-append}
-use Rattle.std.proofs.lemmas.List.Sums.{length-filter}
 use Rattle.lake_io.specs.Files as shelf
 use Rattle.lake_model.specs.Texts.{Text}
 use Rattle.script_model.specs.Commands.{File, Batch}
@@ -16,7 +14,7 @@ use Rattle.script_model.proofs.ScriptLemmas.{read_on, behind_batches, read_behin
 use Rattle.script_model.proofs.AskedLemmas.{asking, lines_asking, reached_asking, read_asking, commands_from_asking}
 use Rattle.script_model.proofs.LinesLemmas.{commands_lines}
 use Rattle.script_model.proofs.RightLemmas.{all_append}
-use Rattle.script_text.specs.Outcomes.{AreOutcomes, AreFetched, is_failed}
+use Rattle.script_text.specs.Outcomes.{AreFetched, AreFetchedSoFar}
 use Rattle.script_text.specs.Gathering.{ReadsOn, reading_at}
 
 -- ---- lines behind lines
@@ -68,36 +66,12 @@ reads_commands from before after bytes held outcomes made asked later more lines
 
 -- ---- outcomes
 
-outcomes_more : (files : Option (List shelf.File)) (asked paths : List Text) (outcomes others : List File) → AreOutcomes files asked outcomes → AreOutcomes files paths others → AreOutcomes files (asked ++ paths) (outcomes ++ others)
-outcomes_more files [] paths [] others h k = k
-outcomes_more files [] paths (outcome ∷ outcomes) others h k = absurd h
-outcomes_more files (path ∷ asked) paths [] others h k = absurd h
-outcomes_more files (path ∷ asked) paths (outcome ∷ outcomes) others h k = (h.0, outcomes_more files asked paths outcomes others h.1 k)
+pub outcomes_size : (files : Option (List shelf.File)) (first second : ℕ) (asked : List Text) (outcomes : List File) → AreFetched files first second asked outcomes → length outcomes ≡ length asked
+outcomes_size files first second [] [] h = refl
+outcomes_size files first second [] (outcome ∷ outcomes) h = absurd h
+outcomes_size files first second (path ∷ asked) [] h = absurd h
+outcomes_size files first second (path ∷ asked) (outcome ∷ outcomes) (between, came, others) = ap (λ (n : ℕ). suc n) (outcomes_size files between second asked outcomes others)
 
-pub outcomes_size : (files : Option (List shelf.File)) (asked : List Text) (outcomes : List File) → AreOutcomes files asked outcomes → length outcomes ≡ length asked
-outcomes_size files [] [] h = refl
-outcomes_size files [] (outcome ∷ outcomes) h = absurd h
-outcomes_size files (path ∷ asked) [] h = absurd h
-outcomes_size files (path ∷ asked) (outcome ∷ outcomes) h = ap (λ (n : ℕ). suc n) (outcomes_size files asked outcomes h.1)
-
-count_more : {X : Type 0} (p : X → Bool) (xs ys : List X) → count_by p (xs ++ ys) ≡ count_by p xs + count_by p ys
-count_more p xs ys =
-    let both : length (filter p (xs ++ ys)) ≡ length (filter p xs ++ filter p ys) = ap (λ zs. length zs) (filter-append p xs ys) in
-    omega (arith, both, length-append (filter p xs) (filter p ys), length-filter p (xs ++ ys), length-filter p xs, length-filter p ys)
-
-rose_more : (top first second third n m k : ℕ) → k ≡ n + m → min (first + n) top ≤ second → min (second + m) top ≤ third → min (first + k) top ≤ third
-rose_more top first second third n m k is h i = omega (arith, is, h, i)
-
-pub fetched_more : (files : Option (List shelf.File)) (first second third : ℕ) (asked paths : List Text) (outcomes others : List File) → AreFetched files first second asked outcomes → AreFetched files second third paths others
-    → AreFetched files first third (asked ++ paths) (outcomes ++ others)
-fetched_more files first second third asked paths outcomes others h k = record {
-  each = outcomes_more files asked paths outcomes others h.each k.each;
-  failed = rose_more (2 ^ 64 - 1) first second third (count_by is_failed outcomes) (count_by is_failed others) (count_by is_failed (outcomes ++ others)) (count_more is_failed outcomes others) h.failed k.failed;
-}
-
--- a count of faults that rose further
-rose_on : (top first second third n : ℕ) → min (first + n) top ≤ second → second ≤ third → min (first + n) top ≤ third
-rose_on top first second third n h i = omega (arith, h, i)
-
-pub fetched_on : (files : Option (List shelf.File)) (first second third : ℕ) (asked : List Text) (outcomes : List File) → AreFetched files first second asked outcomes → second ≤ third → AreFetched files first third asked outcomes
-fetched_on files first second third asked outcomes h k = record { each = h.each; failed = rose_on (2 ^ 64 - 1) first second third (count_by is_failed outcomes) h.failed k }
+-- fetches behind which the count rose no further, or for want of memory
+pub fetched_so_far : (files : Option (List shelf.File)) (first second third : ℕ) (asked : List Text) (outcomes : List File) → AreFetched files first second asked outcomes → second ≤ third → AreFetchedSoFar files first third asked outcomes
+fetched_so_far files first second third asked outcomes h k = record { between = second; fetched = h; later = k }

@@ -1,5 +1,5 @@
 -- The rows of the table of statuses, from how far a run is.
-use Rattle.std.proofs.Common.{◌≡◌, refl, ap, sym, ◌∙◌, subst, ℕ, ◌-◌, ◌≤◌, inr, List, [], ◌∷◌, ◌++◌, append_assoc, true, false, length, take, arith, length-append, flat_map}
+use Rattle.std.proofs.Common.{◌≡◌, refl, ap, sym, ◌∙◌, subst, ℕ, ◌-◌, ◌<◌, ◌≤◌, inl, inr, sum_by, List, [], ◌∷◌, ◌++◌, append_assoc, true, false, length, take, arith, length-append, flat_map}
 use Rattle.std.specs.Prelude.{Option, Some, None}
 use Rattle.std.specs.Io.KnownBytes.{Consumes, IsAtEnd}
 use Rattle.std.proofs.KnownBytes.{Consumes-trans}
@@ -16,15 +16,18 @@ use Rattle.script_model.specs.Words.{NoFeed}
 use Rattle.script_model.specs.Reading.{Grammar, Reading, Stands, LinesRead, read, read_with}
 use Rattle.script_model.specs.Script.{Commands, Whole, FaultAt, commands_with, commands_from, grammar_of, standard, start}
 use Rattle.script_model.specs.Record.{Options, Answered, RunRecord, with_end}
-use Rattle.script_model.specs.Statuses.{left_of, script_of, begun, answer_count, IsPrefix, IsRecordOf, IsDone, IsRefused, IsBrokenOff, IsCutOff}
+use Rattle.script_model.specs.Statuses.{left_of, script_of, begun, answer_count, fetches, IsPrefix, IsRecordOf, IsDone, IsRefused, IsBrokenOff, IsCutOff}
 use Rattle.script_model.specs.Texts.{answers_text, line_text, text, text_behind}
 use Rattle.script_model.proofs.ScriptLemmas.{lines_none}
 use Rattle.script_model.proofs.LinesLemmas.{lines_whole}
-use Rattle.script_text.specs.Outcomes.{AreFetched}
+use Rattle.script_text.specs.Outcomes.{AreFetched, AreFetchedSoFar}
 use Rattle.script_text.specs.Gathering.{Gathering, ReadsOn, IsSynced, IsWhole, IsFaulty, IsUnfinished, reading_at, grammar}
-use Rattle.josie_top.specs.Meets.{Meets}
-use Rattle.josie_top.specs.Progress.{AreRead, AreWritten, IsGoingOn, IsMade}
-use Rattle.josie_top.proofs.ReadFacts.{given_before, reads_more, reads_commands, outcomes_size, fetched_more, fetched_on}
+use Rattle.script_text.proofs.BatchLemmas.{ReadsLate}
+use Rattle.script_text.proofs.ProgressLemmas.{fetched_join}
+use Rattle.josie_top.specs.Meets.{IsReadLate, Meets}
+use Rattle.josie_top.specs.Progress.{AreRead, AreWritten, IsGoingOn, IsLateSoFar, IsMade}
+use Rattle.script_laws.proofs.FetchFacts.{reads_fetches}
+use Rattle.josie_top.proofs.ReadFacts.{given_before, reads_more, reads_commands, outcomes_size, fetched_so_far}
 use Rattle.josie_top.proofs.MadeFacts.{made_options, made_unended, made_record, made_record_now, record_count}
 use Rattle.josie_top.proofs.TextFacts.{text_unended, text_more, text_ended, whole_prefix, prefix_more, prefix_behind, answers_prefix}
 
@@ -54,14 +57,20 @@ front_asked : (script rest : Commands) (batches : List Batch) (asked : List Text
 front_asked script rest batches asked outcomes is size =
     ap (λ (n : ℕ). take n script.asked) size ∙ ap (λ (s : Commands). take (length asked) s.asked) is ∙ take-append_seam asked rest.asked
 
+front_fetches : (script rest : Commands) (batches : List Batch) (asked : List Text) (outcomes : List File) → script ≡ given_before batches asked rest → length outcomes ≡ length asked → sum_by fetches batches ≤ length asked
+    → sum_by fetches (take (length batches) script.batches) ≤ length outcomes
+front_fetches script rest batches asked outcomes is size few =
+    subst (λ (b : List Batch). sum_by fetches b ≤ length outcomes) (sym (front_batches script rest batches asked is)) (subst (λ (n : ℕ). sum_by fetches batches ≤ n) (sym size) few)
+
 -- a run that ends behind some batches, whose source may have more
 pub cut : (limits : Counts) (options : Options) (outcomes : List File) (came : List Text → Type 0) (script rest : Commands) (left : Option (List ℕ)) (taken : List ℕ) (made : RunRecord) (batches : List Batch) (asked : List Text)
-    → script ≡ given_before batches asked rest → length outcomes ≡ length asked → came asked → IsRecordOf limits options batches made → made.ended ≡ false
+    → script ≡ given_before batches asked rest → length outcomes ≡ length asked → sum_by fetches batches ≤ length asked → came asked → IsRecordOf limits options batches made → made.ended ≡ false
     → IsPrefix taken (text made) → IsPrefix (answers_text options.trace (take (answer_count options.merge (take (length batches - 1) script.batches)) made.answers)) taken
     → IsCutOff limits options outcomes came script left taken made
-cut limits options outcomes came script rest left taken made batches asked is size fetched record_of not_ended beginning holds = record {
+cut limits options outcomes came script rest left taken made batches asked is size few fetched record_of not_ended beginning holds = record {
   count = length batches;
   fetched = subst came (sym (front_asked script rest batches asked outcomes is size)) fetched;
+  asked = front_fetches script rest batches asked outcomes is size few;
   record_of = subst (λ (b : List Batch). IsRecordOf limits options b made) (sym (front_batches script rest batches asked is)) record_of;
   ended = λ e. absurd (let no : true ≡ false = sym e ∙ not_ended in cc);
   beginning = beginning;
@@ -78,9 +87,10 @@ meets_between limits options left0 left1 left2 written0 written1 files f0 f1 f2 
     let same : been.outcomes ++ [] ≡ been.outcomes = append-nil been.outcomes in
     let script : script_of options been.outcomes (been.given ++ more) left2 ≡ given_before batches been.asked _ = ap (λ (o : List File). script_of options o (been.given ++ more) left2) (sym same) ∙ front in
     let all : writ.taken ≡ text made = writ.text_is ∙ sym (text_unended options made (made_options limits options batches made is) not_ended) in
-    let row : IsCutOff limits options been.outcomes (λ asked. AreFetched files f0 f2 asked been.outcomes) (script_of options been.outcomes (been.given ++ more) left2) left2 writ.taken made =
-    cut limits options been.outcomes (λ asked. AreFetched files f0 f2 asked been.outcomes) _ _ left2 writ.taken made batches been.asked script (outcomes_size files been.asked been.outcomes been.fetched.each)
-    (fetched_on files f0 f1 f2 been.asked been.outcomes been.fetched later) (made_record_now limits options batches made is) not_ended
+    let row : IsCutOff limits options been.outcomes (λ asked. AreFetchedSoFar files f0 f2 asked been.outcomes) (script_of options been.outcomes (been.given ++ more) left2) left2 writ.taken made =
+    cut limits options been.outcomes (λ asked. AreFetchedSoFar files f0 f2 asked been.outcomes) _ _ left2 writ.taken made batches been.asked script (outcomes_size files f0 f1 been.asked been.outcomes been.fetched)
+    (reads_fetches standard options.lanes gathering.reading been.given gathering.held been.outcomes batches been.asked been.lines_read)
+    (fetched_so_far files f0 f1 f2 been.asked been.outcomes been.fetched later) (made_record_now limits options batches made is) not_ended
     (whole_prefix writ.taken (text made) all) (subst (IsPrefix _) (sym writ.text_is) (answers_prefix options.trace _ made.answers)) in
     record {
       given = been.given ++ more;
@@ -89,6 +99,7 @@ meets_between limits options left0 left1 left2 written0 written1 files f0 f1 f2 
       gave = Consumes-trans left0 left1 left2 been.given more been.gave gave;
       took = writ.took;
       row = inr row;
+      late = tt;
     }
 
 -- ---- a batch that was answered, and whose text was written in part
@@ -112,18 +123,18 @@ first_answers options script rest batches batch asked before now new is count ar
 
 -- The run ended while a batch's text was written.
 pub cut_within : (limits : Counts) (options : Options) (outcomes : List File) (came : List Text → Type 0) (script rest : Commands) (left : Option (List ℕ)) (before now : RunRecord) (new : List Answered) (batches : List Batch) (batch : Batch) (asked : List Text) (taken part : List ℕ)
-    → script ≡ given_before (batches ++ batch ∷ []) asked rest → length outcomes ≡ length asked → came asked
+    → script ≡ given_before (batches ++ batch ∷ []) asked rest → length outcomes ≡ length asked → sum_by fetches (batches ++ batch ∷ []) ≤ length asked → came asked
     → IsMade limits options batches before → IsMade limits options (batches ++ batch ∷ []) now → now.answers ≡ before.answers ++ new
     → taken ≡ answers_text options.trace before.answers → IsPrefix part (text_behind options.trace (length before.answers) now)
     → IsCutOff limits options outcomes came script left (taken ++ part) now
-cut_within limits options outcomes came script rest left before now new batches batch asked taken part is size fetched made_before made_now are taken_is beginning =
+cut_within limits options outcomes came script rest left before now new batches batch asked taken part is size few fetched made_before made_now are taken_is beginning =
     let not_ended = made_unended limits options (batches ++ batch ∷ []) now made_now in
     let whole : text now ≡ taken ++ text_behind options.trace (length before.answers) now =
     batch_text options before now new (made_options limits options (batches ++ batch ∷ []) now made_now) are not_ended ∙ ap (λ (t : List ℕ). t ++ text_behind options.trace (length before.answers) now) (sym taken_is) in
     let count : length before.answers ≡ answer_count options.merge batches = record_count limits options batches before (made_record_now limits options batches before made_before) in
     let first : answers_text options.trace (take (answer_count options.merge (take (length (batches ++ batch ∷ []) - 1) script.batches)) now.answers) ≡ taken =
     ap (answers_text options.trace) (first_answers options script rest batches batch asked before now new is count are) ∙ sym taken_is in
-    cut limits options outcomes came script rest left (taken ++ part) now (batches ++ batch ∷ []) asked is size fetched (made_record_now limits options (batches ++ batch ∷ []) now made_now) not_ended
+    cut limits options outcomes came script rest left (taken ++ part) now (batches ++ batch ∷ []) asked is size few fetched (made_record_now limits options (batches ++ batch ∷ []) now made_now) not_ended
     (subst (IsPrefix (taken ++ part)) (sym whole) (prefix_behind taken part _ beginning))
     (prefix_more _ taken part (whole_prefix _ taken first))
 
@@ -164,10 +175,10 @@ done limits options came script left batches asked made taken is fetched at_end 
 
 -- All batches were answered, and their text was written, but of the journal's only a part.
 pub cut_at_end : (limits : Counts) (options : Options) (outcomes : List File) (came : List Text → Type 0) (script : Commands) (left : Option (List ℕ)) (batches : List Batch) (asked : List Text) (made : RunRecord) (taken part : List ℕ)
-    → script ≡ commands_with batches Whole asked → length outcomes ≡ length asked → came asked → IsAtEnd left → IsMade limits options batches made
+    → script ≡ commands_with batches Whole asked → length outcomes ≡ length asked → sum_by fetches batches ≤ length asked → came asked → IsAtEnd left → IsMade limits options batches made
     → taken ≡ answers_text options.trace made.answers → IsPrefix part (text_behind options.trace (length made.answers) (with_end true made))
     → IsCutOff limits options outcomes came script left (taken ++ part) (with_end true made)
-cut_at_end limits options outcomes came script left batches asked made taken part is size fetched at_end is_made taken_is beginning =
+cut_at_end limits options outcomes came script left batches asked made taken part is size few fetched at_end is_made taken_is beginning =
     let front = whole_front script batches asked is in
     let all : take (length batches) script.batches ≡ script.batches = front_batches script (commands_with [] Whole []) batches asked front ∙ sym (ap (λ (s : Commands). s.batches) is) in
     let whole : text (with_end true made) ≡ taken ++ text_behind options.trace (length made.answers) (with_end true made) =
@@ -175,6 +186,7 @@ cut_at_end limits options outcomes came script left batches asked made taken par
     record {
       count = length batches;
       fetched = subst came (sym (front_asked script (commands_with [] Whole []) batches asked outcomes front size)) fetched;
+      asked = front_fetches script (commands_with [] Whole []) batches asked outcomes front size few;
       record_of = subst (λ (b : List Batch). IsRecordOf limits options b (with_end true made)) (sym (front_batches script (commands_with [] Whole []) batches asked front)) (made_record limits options batches made true is_made);
       ended = λ e. (at_end, ap (λ (s : Commands). s.end) is, all);
       beginning = subst (IsPrefix (taken ++ part)) (sym whole) (prefix_behind taken part _ beginning);
@@ -197,7 +209,7 @@ refused limits options left0 left1 left2 files f0 f1 f2 gathering batches made t
     let not_ended = made_unended limits options batches made is in
     record {
       fault = ap (λ (s : Commands). s.end) script;
-      fetched = subst (λ (asked : List Text). AreFetched files f0 f2 asked (been.outcomes ++ others)) (sym (ap (λ (s : Commands). s.asked) script)) (fetched_more files f0 f1 f2 been.asked paths been.outcomes others been.fetched fetched);
+      fetched = subst (λ (asked : List Text). AreFetched files f0 f2 asked (been.outcomes ++ others)) (sym (ap (λ (s : Commands). s.asked) script)) (fetched_join files f0 f1 f2 been.asked paths been.outcomes others been.fetched fetched);
       ended = not_ended;
       record_of = subst (λ (b : List Batch). IsRecordOf limits options b made) (sym same) (made_record_now limits options batches made is);
       written = taken_is ∙ sym (text_unended options made (made_options limits options batches made is) not_ended);
@@ -205,14 +217,13 @@ refused limits options left0 left1 left2 files f0 f1 f2 gathering batches made t
 
 -- what was begun, where these lines came whole
 begun_is : (options : Options) (outcomes : List File) (given held : List ℕ) (batches : List Batch) (after : Reading) (asked : List Text)
-    → ReadsOn (grammar_of standard options.lanes) (start []) given outcomes batches after held asked → NoFeed held → begun options outcomes given ≡ read_with batches (Stands (reading_at after asked []))
-begun_is options outcomes given held batches after asked lines_read no_feed =
+    → ReadsOn (grammar_of standard options.lanes) (start []) given outcomes batches after held asked → NoFeed held → (later : List File) → begun options (outcomes ++ later) given ≡ read_with batches (Stands (reading_at after asked later))
+begun_is options outcomes given held batches after asked lines_read no_feed later =
     let lines : lines_of given ≡ lines_of (flat_map line_text lines_read.lines ++ held) = ap lines_of lines_read.cut in
     let whole = lines_whole lines_read.lines held lines_read.whole in
     let ends : (lines_of given).ended ≡ lines_read.lines =
     ap (λ (ls : Lines). ls.ended) (lines ∙ whole) ∙ ap (λ (ls : Lines). lines_read.lines ++ ls.ended) (lines_none held no_feed) ∙ append-nil lines_read.lines in
-    ap (read (grammar_of standard options.lanes) (read_with [] (Stands (start outcomes)))) ends
-    ∙ ap (λ (files : List File). read (grammar_of standard options.lanes) (read_with [] (Stands (start files))) lines_read.lines) (sym (append-nil outcomes)) ∙ lines_read.reads []
+    ap (read (grammar_of standard options.lanes) (read_with [] (Stands (start (outcomes ++ later))))) ends ∙ lines_read.reads later
 
 -- The source failed behind these batches.
 pub broken_off : (limits : Counts) (options : Options) (left0 left1 : Option (List ℕ)) (files : Option (List shelf.File)) (f0 f1 f2 : ℕ) (gathering : Gathering) (batches : List Batch) (made : RunRecord) (taken more : List ℕ) (paths : List Text) (others : List File)
@@ -224,12 +235,13 @@ broken_off limits options left0 left1 files f0 f1 f2 gathering batches made take
     subst (λ (g : Grammar). ReadsOn g gathering.reading (gathering.held ++ more) others [] unfinished.reading unfinished.held paths) (grammar_is options gathering goes) unfinished.lines_read in
     let all = reads_more (grammar_of standard options.lanes) (start []) gathering.reading unfinished.reading been.given more gathering.held unfinished.held been.outcomes others batches [] been.asked paths been.lines_read here in
     let begun_here : begun options (been.outcomes ++ others) (been.given ++ more) ≡ read_with (batches ++ []) (Stands (reading_at unfinished.reading (been.asked ++ paths) [])) =
-    begun_is options (been.outcomes ++ others) (been.given ++ more) unfinished.held (batches ++ []) unfinished.reading (been.asked ++ paths) all unfinished.rest in
+    ap (λ (o : List File). begun options o (been.given ++ more)) (sym (append-nil (been.outcomes ++ others)))
+    ∙ begun_is options (been.outcomes ++ others) (been.given ++ more) unfinished.held (batches ++ []) unfinished.reading (been.asked ++ paths) all unfinished.rest [] in
     let not_ended = made_unended limits options batches made is in
     let row : IsBrokenOff limits options (λ asked. AreFetched files f0 f2 asked (been.outcomes ++ others)) (read_with (batches ++ []) (Stands (reading_at unfinished.reading (been.asked ++ paths) []))) taken made =
     record {
       no_fault = tt;
-      fetched = fetched_more files f0 f1 f2 been.asked paths been.outcomes others been.fetched fetched;
+      fetched = fetched_join files f0 f1 f2 been.asked paths been.outcomes others been.fetched fetched;
       ended = not_ended;
       record_of = subst (λ (b : List Batch). IsRecordOf limits options b made) (sym (append-nil batches)) (made_record_now limits options batches made is);
       written = taken_is ∙ sym (text_unended options made (made_options limits options batches made is) not_ended);
@@ -250,6 +262,82 @@ read_synced options left0 left1 left2 files f0 f1 f2 before now batches batch mo
       asked = been.asked ++ paths;
       outcomes = been.outcomes ++ others;
       gave = Consumes-trans left0 left1 left2 been.given more been.gave gave;
-      fetched = fetched_more files f0 f1 f2 been.asked paths been.outcomes others been.fetched fetched;
+      fetched = fetched_join files f0 f1 f2 been.asked paths been.outcomes others been.fetched fetched;
       lines_read = reads_more (grammar_of standard options.lanes) (start []) before.reading now.reading been.given more before.held now.held been.outcomes others batches (batch ∷ []) been.asked paths been.lines_read here;
+    }
+
+-- ---- the last read
+
+-- Nothing was read.
+pub late_start : (options : Options) → IsLateSoFar options [] [] 0
+unfolding read
+late_start options = record {
+  first = [];
+  last = [];
+  came = [];
+  later = [];
+  asked = [];
+  batches = [];
+  reading = start [];
+  held = [];
+  given_is = refl;
+  few = omega arith;
+  outcomes_are = refl;
+  lines_read = record { lines = []; whole = tt; cut = refl; reads = λ later. refl };
+  rest = tt;
+  fewer = omega arith;
+}
+
+-- A batch more was gathered, and the source read late for it.
+pub late_more : (options : Options) (left0 left1 : Option (List ℕ)) (files : Option (List shelf.File)) (f0 f1 : ℕ) (gathering : Gathering) (batches : List Batch) (Idle : Type 0) (more : List ℕ) (others : List File)
+    → (been : AreRead options left0 left1 files f0 f1 gathering batches) → IsGoingOn options gathering → IsLateSoFar options been.given been.outcomes (length batches - 1) → ReadsLate Idle gathering more others
+    → IsLateSoFar options (been.given ++ more) (been.outcomes ++ others) (length batches)
+late_more options left0 left1 files f0 f1 gathering batches Idle more others been goes late (inl (idle, none)) = record {
+  first = late.first;
+  last = late.last;
+  came = late.came;
+  later = late.later ++ others;
+  asked = late.asked;
+  batches = late.batches;
+  reading = late.reading;
+  held = late.held;
+  given_is = ap (λ (bytes : List ℕ). been.given ++ bytes) none ∙ append-nil been.given ∙ late.given_is;
+  few = late.few;
+  outcomes_are = ap (λ (o : List File). o ++ others) late.outcomes_are ∙ append_assoc late.came late.later others;
+  lines_read = late.lines_read;
+  rest = late.rest;
+  fewer = omega (arith, late.fewer);
+}
+late_more options left0 left1 files f0 f1 gathering batches Idle more others been goes late (inr read_late) =
+    let unfinished = read_late.unfinished in
+    let here : ReadsOn (grammar_of standard options.lanes) gathering.reading (gathering.held ++ read_late.first) read_late.came [] unfinished.reading unfinished.held read_late.asked =
+    subst (λ (g : Grammar). ReadsOn g gathering.reading (gathering.held ++ read_late.first) read_late.came [] unfinished.reading unfinished.held read_late.asked) (grammar_is options gathering goes) unfinished.lines_read in
+    record {
+      first = been.given ++ read_late.first;
+      last = read_late.last;
+      came = been.outcomes ++ read_late.came;
+      later = read_late.later;
+      asked = been.asked ++ read_late.asked;
+      batches = batches ++ [];
+      reading = unfinished.reading;
+      held = unfinished.held;
+      given_is = ap (λ (bytes : List ℕ). been.given ++ bytes) read_late.given_is ∙ sym (append_assoc been.given read_late.first read_late.last);
+      few = read_late.few;
+      outcomes_are = ap (λ (o : List File). been.outcomes ++ o) read_late.outcomes_are ∙ sym (append_assoc been.outcomes read_late.came read_late.later);
+      lines_read = reads_more (grammar_of standard options.lanes) (start []) gathering.reading unfinished.reading been.given read_late.first gathering.held unfinished.held been.outcomes read_late.came batches [] been.asked read_late.asked been.lines_read here;
+      rest = unfinished.rest;
+      fewer = omega (arith, length-append batches []);
+    }
+
+-- The source was read late, where more batches were answered.
+pub late_within : (options : Options) (given : List ℕ) (outcomes : List File) (most : ℕ) (made : RunRecord) → IsLateSoFar options given outcomes most → most < length made.syncs → IsReadLate options given outcomes made
+late_within options given outcomes most made late more =
+    let begun_here : begun options outcomes late.first ≡ read_with late.batches (Stands (reading_at late.reading late.asked late.later)) =
+    ap (λ (o : List File). begun options o late.first) late.outcomes_are ∙ begun_is options late.came late.first late.held late.batches late.reading late.asked late.lines_read late.rest late.later in
+    record {
+      first = late.first;
+      last = late.last;
+      given_is = late.given_is;
+      few = late.few;
+      fewer = omega (arith, ap (λ (b : LinesRead). length b.batches) begun_here, late.fewer, more);
     }

@@ -1,6 +1,6 @@
 -- The ends of a run, and one batch more.
-use Rattle.std.proofs.Common.{◌≡◌, refl, ap, sym, ◌∙◌, subst, ℕ, ◌+◌, ◌^◌, ◌<◌, ◌≤◌, ◌⊎◌, inl, inr, List, [], ◌∷◌, ◌++◌, Bool, true, false, length, arith, sum_by, map, get_or, length-append}
-use Rattle.std.specs.Prelude.{Option, Some, None, Err, min, if◌then◌else◌, ⊤, MatchOption}
+use Rattle.std.proofs.Common.{◌≡◌, refl, ap, sym, ◌∙◌, subst, ℕ, ◌+◌, ◌-◌, ◌^◌, ◌<◌, ◌≤◌, ◌⊎◌, inl, inr, List, [], ◌∷◌, ◌++◌, Bool, true, false, length, arith, sum_by, map, get_or, length-append}
+use Rattle.std.specs.Prelude.{Option, Some, None, Ok, Err, if◌then◌else◌, ⊤, MatchOption}
 use Rattle.std.specs.Io.KnownBytes.{Consumes, Appends, IsAtEnd}
 use Rattle.std.proofs.KnownBytes.{Consumes-nil, Consumes-trans, Appends-nil, Appends-trans}
 use Rattle.std.proofs.lemmas.List.{append-nil}
@@ -22,24 +22,27 @@ use Rattle.script_model.specs.Record.{Options, Answered, RunRecord, plain, empty
 use Rattle.script_model.specs.Answered.{is_update_task}
 use Rattle.script_model.specs.Play.{Lane, answers_of, batch_after, gathered, merger_commands, merges_of, pieces_of, play_batch, updates}
 use Rattle.script_model.specs.Lanes.{IsOfLanes}
-use Rattle.script_model.specs.Statuses.{left_of, script_of, IsPrefix, IsCutOff}
+use Rattle.script_model.specs.Statuses.{fetches, left_of, script_of, IsPrefix, IsCutOff}
 use Rattle.script_model.specs.Texts.{text_behind}
 use Rattle.script_text.specs.declared.refused.ScriptEnd.{ScriptEnd}
 use Rattle.script_text.specs.declared.refused.ScriptEnd.TheVariants as end
 use Rattle.script_text.specs.declared.words.WordsRefused.{WordsRefused}
 use Rattle.script_text.specs.declared.words.WordsRefused.TheVariants as words
-use Rattle.script_text.specs.Outcomes.{AreFetched}
+use Rattle.script_text.specs.Outcomes.{AreFetched, AreFetchedSoFar}
 use Rattle.script_text.specs.Gathering.{Gathering, gathering_with, IsSynced, IsWhole}
 use Rattle.script_text.specs.Gathers.{Gathers, Taken}
 use Rattle.josie_top.specs.declared.writing.WriteStop.{WriteStop}
 use Rattle.josie_top.specs.declared.writing.WriteStop.TheVariants as stop
 use Rattle.josie_top.specs.Ends.{IsWritten, status_of_end, status_of_refused, status_of_stop}
-use Rattle.josie_top.specs.Meets.{IsSaid, Meets, MeetsMode}
-use Rattle.josie_top.specs.Progress.{AreCounted, AreWritten, IsGoingOn, IsMade, IsUnderWay}
-use Rattle.josie_top.proofs.ReadFacts.{given_before, outcomes_size, fetched_more}
-use Rattle.josie_top.proofs.MadeFacts.{made_start, made_more, made_unended}
+use Rattle.script_text.proofs.BatchLemmas.{ReadsLate}
+use Rattle.script_text.proofs.ProgressLemmas.{fetched_join}
+use Rattle.josie_top.specs.Meets.{HasNoFault, IsReadLate, IsSaid, Meets, MeetsMode}
+use Rattle.josie_top.specs.Progress.{AreCounted, AreWritten, IsGoingOn, IsLateSoFar, IsMade, IsUnderWay}
+use Rattle.script_laws.proofs.FetchFacts.{reads_fetches, script_fetches}
+use Rattle.josie_top.proofs.ReadFacts.{given_before, outcomes_size, fetched_so_far}
+use Rattle.josie_top.proofs.MadeFacts.{made_start, made_more, made_unended, made_record_now, record_syncs}
 use Rattle.josie_top.proofs.TextFacts.{text_more}
-use Rattle.josie_top.proofs.RowFacts.{script_front, script_whole, whole_front, meets_between, cut_within, done, cut_at_end, refused, broken_off, read_synced}
+use Rattle.josie_top.proofs.RowFacts.{script_front, script_whole, whole_front, meets_between, cut_within, done, cut_at_end, refused, broken_off, read_synced, late_start, late_more, late_within}
 
 -- ---- the start
 
@@ -51,17 +54,20 @@ starts limits options left written files faults gathering made lanes gathers are
     subst (λ (g : Gathering). IsUnderWay limits options left left written written files faults faults g made 0 1) (sym gathers)
     (subst (λ (m : RunRecord). IsUnderWay limits options left left written written files faults faults (gathering_with (start []) [] false standard lanes) m 0 1) (sym is) (record {
       batches = [];
-      been = record { given = []; asked = []; outcomes = []; gave = Consumes-nil left; fetched = record { each = tt; failed = none_failed faults _ }; lines_read = record { lines = []; whole = tt; cut = refl; reads = λ later. refl } };
+      been = record { given = []; asked = []; outcomes = []; gave = Consumes-nil left; fetched = refl; lines_read = record { lines = []; whole = tt; cut = refl; reads = λ later. refl } };
       goes = record { limits_are = refl; lanes_are = are; within = omega arith };
       is_made = made_start limits options;
       writ = record { taken = []; took = Appends-nil written; text_is = refl };
       counted = record { number_is = refl; next_is = refl; few = omega arith };
+      late = late_start options;
     }))
-  where
-    none_failed : (n top : ℕ) → min (n + 0) top ≤ n
-    none_failed n top = omega arith
 
 -- ---- the end of the input
+
+-- the batches of a whole script have no more fetches than it asks for paths
+whole_fetches : (options : Options) (outcomes : List File) (given : List ℕ) (left : Option (List ℕ)) (batches : List Batch) (asked : List Text) → script_of options outcomes given left ≡ commands_with batches Whole asked → sum_by fetches batches ≤ length asked
+whole_fetches options outcomes given left batches asked is =
+    subst (λ (script : Commands). sum_by fetches script.batches ≤ length script.asked) is (script_fetches standard options.lanes (given ++ left_of left) outcomes)
 
 -- All batches were answered and written, and the rest of the text as this status has it.
 finished : (limits : Counts) (options : Options) (ends : Status) (left0 left2 written0 written1 written2 : Option (List ℕ)) (files : Option (List shelf.File)) (f0 f2 : ℕ) (given : List ℕ) (outcomes : List File) (asked : List Text) (batches : List Batch) (made now : RunRecord)
@@ -76,6 +82,7 @@ finished limits options status.Done left0 left2 written0 written1 written2 files
       gave = gave;
       took = Appends-trans written0 written1 written2 writ.taken _ writ.took all;
       row = done limits options (λ paths. AreFetched files f0 f2 paths outcomes) _ left2 batches asked made writ.taken script fetched at_end is writ.text_is;
+      late = tt;
     })
 finished limits options status.WriteFault left0 left2 written0 written1 written2 files f0 f2 given outcomes asked batches made now gave at_end fetched script is writ closed (part, beginning, took) =
     subst (Meets limits options status.WriteFault left0 left2 written0 written2 files f0 f2) (sym closed) (record {
@@ -84,7 +91,8 @@ finished limits options status.WriteFault left0 left2 written0 written1 written2
       outcomes = outcomes;
       gave = gave;
       took = Appends-trans written0 written1 written2 writ.taken part writ.took took;
-      row = cut_at_end limits options outcomes (λ paths. AreFetched files f0 f2 paths outcomes) _ left2 batches asked made writ.taken part script (outcomes_size files asked outcomes fetched.each) fetched at_end is writ.text_is beginning;
+      row = cut_at_end limits options outcomes (λ paths. AreFetched files f0 f2 paths outcomes) _ left2 batches asked made writ.taken part script (outcomes_size files f0 f2 asked outcomes fetched) (whole_fetches options outcomes given left2 batches asked script) fetched at_end is writ.text_is beginning;
+      late = λ not_ended. absurd (let no : true ≡ false = not_ended in cc);
     })
 finished limits options status.NoMemory left0 left2 written0 written1 written2 files f0 f2 given outcomes asked batches made now gave at_end fetched script is writ closed (part, beginning, took) =
     subst (Meets limits options status.NoMemory left0 left2 written0 written2 files f0 f2) (sym closed) (record {
@@ -93,15 +101,16 @@ finished limits options status.NoMemory left0 left2 written0 written1 written2 f
       outcomes = outcomes;
       gave = gave;
       took = Appends-trans written0 written1 written2 writ.taken part writ.took took;
-      row = inr (cut_at_end limits options outcomes (λ paths. AreFetched files f0 f2 paths outcomes) _ left2 batches asked made writ.taken part script (outcomes_size files asked outcomes fetched.each) fetched at_end is writ.text_is beginning);
+      row = inr (cut_at_end limits options outcomes (λ paths. AreFetchedSoFar files f0 f2 paths outcomes) _ left2 batches asked made writ.taken part script (outcomes_size files f0 f2 asked outcomes fetched) (whole_fetches options outcomes given left2 batches asked script) (fetched_so_far files f0 f2 f2 asked outcomes fetched (omega arith)) at_end is writ.text_is beginning);
+      late = tt;
     })
 finished limits options status.Usage left0 left2 written0 written1 written2 files f0 f2 given outcomes asked batches made now gave at_end fetched script is writ closed none = absurd none
 finished limits options status.ReadFault left0 left2 written0 written1 written2 files f0 f2 given outcomes asked batches made now gave at_end fetched script is writ closed none = absurd none
 finished limits options (status.Script line why) left0 left2 written0 written1 written2 files f0 f2 given outcomes asked batches made now gave at_end fetched script is writ closed none = absurd none
 
 -- The input ended behind a `sync`, or behind no command.
-pub ends_without : {number next : ℕ} (limits : Counts) (options : Options) (ends : Status) (left0 left1 left2 written0 written1 written2 : Option (List ℕ)) (files : Option (List shelf.File)) (f0 f1 f2 : ℕ) (before after : Gathering) (made now : RunRecord)
-    → IsUnderWay limits options left0 left1 written0 written1 files f0 f1 before made number next → (took : Taken left1 left2 files f1 f2) → IsWhole before after left2 took.given took.asked took.outcomes []
+pub ends_without : {number next : ℕ} {found : Option Batch} (limits : Counts) (options : Options) (ends : Status) (left0 left1 left2 written0 written1 written2 : Option (List ℕ)) (files : Option (List shelf.File)) (f0 f1 f2 : ℕ) (before after : Gathering) (made now : RunRecord)
+    → IsUnderWay limits options left0 left1 written0 written1 files f0 f1 before made number next → (took : Taken (Ok found) left1 left2 files f1 f2) → IsWhole before after left2 took.given took.asked took.outcomes []
     → now ≡ with_end true made → IsWritten ends written1 written2 (text_behind options.trace (length made.answers) (with_end true made))
     → Meets limits options ends left0 left2 written0 written2 files f0 f2 now
 ends_without limits options ends left0 left1 left2 written0 written1 written2 files f0 f1 f2 before after made now way took whole closed rest =
@@ -109,7 +118,7 @@ ends_without limits options ends left0 left1 left2 written0 written1 written2 fi
     script_whole options left0 left1 left2 files f0 f1 before after way.batches [] took.given took.asked took.outcomes way.been way.goes whole in
     finished limits options ends left0 left2 written0 written1 written2 files f0 f2 (way.been.given ++ took.given) (way.been.outcomes ++ took.outcomes) (way.been.asked ++ took.asked) way.batches made now
     (Consumes-trans left0 left1 left2 way.been.given took.given way.been.gave took.gave) whole.at_end
-    (fetched_more files f0 f1 f2 way.been.asked took.asked way.been.outcomes took.outcomes way.been.fetched took.fetched)
+    (fetched_join files f0 f1 f2 way.been.asked took.asked way.been.outcomes took.outcomes way.been.fetched took.fetched)
     (script ∙ ap (λ (b : List Batch). commands_with b Whole (way.been.asked ++ took.asked)) (append-nil way.batches)) way.is_made way.writ closed rest
 
 -- ---- one batch more
@@ -191,13 +200,14 @@ pub standard_within : (limits : Counts) → limits ≡ standard_limits → IsWit
 standard_within limits is = subst (IsWithin standard_limits) (sym is) (record { live = omega arith; updates = omega arith; members = omega arith; key_bytes = omega arith })
 
 -- The batch was answered and written, and the gatherer goes on.
-pub one_more : {number next : ℕ} (limits : Counts) (options : Options) (left0 left1 left2 written0 written1 written2 : Option (List ℕ)) (files : Option (List shelf.File)) (f0 f1 f2 : ℕ) (before after : Gathering) (made now : RunRecord) (batch : Batch) (new : List Answered)
-    → (way : IsUnderWay limits options left0 left1 written0 written1 files f0 f1 before made number next) → (took : Taken left1 left2 files f1 f2) → after.ended ≡ false
+pub one_more : {number next : ℕ} {found : Option Batch} (limits : Counts) (options : Options) (left0 left1 left2 written0 written1 written2 : Option (List ℕ)) (files : Option (List shelf.File)) (f0 f1 f2 : ℕ) (before after : Gathering) (made now : RunRecord) (batch : Batch) (new : List Answered) (Idle : Type 0)
+    → (way : IsUnderWay limits options left0 left1 written0 written1 files f0 f1 before made number next) → (took : Taken (Ok found) left1 left2 files f1 f2) → ReadsLate Idle before took.given took.outcomes → after.ended ≡ false
     → IsSynced before after took.given took.asked took.outcomes batch ⊎ IsWhole before after left2 took.given took.asked took.outcomes (batch ∷ [])
     → after.limits ≡ before.limits → after.lanes ≡ before.lanes → after.reading.used ≤ after.limits.input
     → IsMade limits options (way.batches ++ batch ∷ []) now → now.answers ≡ made.answers ++ new → Appends written1 written2 (text_behind options.trace (length made.answers) now)
     → before.reading.used + length batch ≤ after.reading.used → IsUnderWay limits options left0 left2 written0 written2 files f0 f2 after now (number + 1) (next + updates batch)
-one_more {number = number} {next = next} limits options left0 left1 left2 written0 written1 written2 files f0 f1 f2 before after made now batch new way took on gathered limits_are lanes_are within is are written grows = record {
+unfolding read_synced
+one_more {number = number} {next = next} limits options left0 left1 left2 written0 written1 written2 files f0 f1 f2 before after made now batch new Idle way took late on gathered limits_are lanes_are within is are written grows = record {
   batches = way.batches ++ batch ∷ [];
   been = read_synced options left0 left1 left2 files f0 f1 f2 before after way.batches batch took.given took.asked took.outcomes way.been way.goes took.gave took.fetched
       (not_whole before after left2 took.given took.asked took.outcomes batch on gathered);
@@ -205,11 +215,14 @@ one_more {number = number} {next = next} limits options left0 left1 left2 writte
   is_made = is;
   writ = batch_written limits options written0 written1 written2 (way.batches ++ batch ∷ []) made now new way.writ is are written;
   counted = counted_more way.batches batch before.reading.used after.reading.used number next way.counted grows;
+  late = subst (IsLateSoFar options (way.been.given ++ took.given) (way.been.outcomes ++ took.outcomes))
+      (let many : length way.batches ≡ length (way.batches ++ batch ∷ []) - 1 = omega (arith, length-append way.batches (batch ∷ [])) in many)
+      (late_more options left0 left1 files f0 f1 before way.batches Idle took.given took.outcomes way.been way.goes way.late late);
 }
 
 -- The last batch was answered and written.
-pub ends_with : {number next : ℕ} (limits : Counts) (options : Options) (ends : Status) (left0 left1 left2 written0 written1 written2 written3 : Option (List ℕ)) (files : Option (List shelf.File)) (f0 f1 f2 : ℕ) (before after : Gathering) (made mid now : RunRecord) (batch : Batch) (new : List Answered)
-    → (way : IsUnderWay limits options left0 left1 written0 written1 files f0 f1 before made number next) → (took : Taken left1 left2 files f1 f2) → after.ended ≡ true
+pub ends_with : {number next : ℕ} {found : Option Batch} (limits : Counts) (options : Options) (ends : Status) (left0 left1 left2 written0 written1 written2 written3 : Option (List ℕ)) (files : Option (List shelf.File)) (f0 f1 f2 : ℕ) (before after : Gathering) (made mid now : RunRecord) (batch : Batch) (new : List Answered)
+    → (way : IsUnderWay limits options left0 left1 written0 written1 files f0 f1 before made number next) → (took : Taken (Ok found) left1 left2 files f1 f2) → after.ended ≡ true
     → IsSynced before after took.given took.asked took.outcomes batch ⊎ IsWhole before after left2 took.given took.asked took.outcomes (batch ∷ [])
     → IsMade limits options (way.batches ++ batch ∷ []) mid → mid.answers ≡ made.answers ++ new → Appends written1 written2 (text_behind options.trace (length made.answers) mid)
     → now ≡ with_end true mid → IsWritten ends written2 written3 (text_behind options.trace (length mid.answers) (with_end true mid))
@@ -218,7 +231,7 @@ ends_with limits options ends left0 left1 left2 written0 written1 written2 writt
     let whole = not_synced before after left2 took.given took.asked took.outcomes batch last gathered in
     finished limits options ends left0 left2 written0 written2 written3 files f0 f2 (way.been.given ++ took.given) (way.been.outcomes ++ took.outcomes) (way.been.asked ++ took.asked) (way.batches ++ batch ∷ []) mid now
     (Consumes-trans left0 left1 left2 way.been.given took.given way.been.gave took.gave) whole.at_end
-    (fetched_more files f0 f1 f2 way.been.asked took.asked way.been.outcomes took.outcomes way.been.fetched took.fetched)
+    (fetched_join files f0 f1 f2 way.been.asked took.asked way.been.outcomes took.outcomes way.been.fetched took.fetched)
     (script_whole options left0 left1 left2 files f0 f1 before after way.batches (batch ∷ []) took.given took.asked took.outcomes way.been way.goes whole) is
     (batch_written limits options written0 written1 written2 (way.batches ++ batch ∷ []) made mid new way.writ is are written) closed rest
 
@@ -228,9 +241,10 @@ ends_with limits options ends left0 left1 left2 written0 written1 written2 writt
 record Begins (options : Options) (outcomes : List File) (given : List ℕ) (left : Option (List ℕ)) (batches : List Batch) (asked : List Text) : Type 0 where
   pub rest : Commands
   pub is : script_of options outcomes given left ≡ given_before batches asked rest
+  pub few : sum_by fetches batches ≤ length asked
 
-begins : {number next : ℕ} (limits : Counts) (options : Options) (left0 left1 left2 written0 written1 : Option (List ℕ)) (files : Option (List shelf.File)) (f0 f1 f2 : ℕ) (before after : Gathering) (made : RunRecord) (batch : Batch)
-    → (way : IsUnderWay limits options left0 left1 written0 written1 files f0 f1 before made number next) → (took : Taken left1 left2 files f1 f2) → after.limits ≡ before.limits → after.lanes ≡ before.lanes → after.reading.used ≤ after.limits.input
+begins : {number next : ℕ} {found : Option Batch} (limits : Counts) (options : Options) (left0 left1 left2 written0 written1 : Option (List ℕ)) (files : Option (List shelf.File)) (f0 f1 f2 : ℕ) (before after : Gathering) (made : RunRecord) (batch : Batch)
+    → (way : IsUnderWay limits options left0 left1 written0 written1 files f0 f1 before made number next) → (took : Taken (Ok found) left1 left2 files f1 f2) → after.limits ≡ before.limits → after.lanes ≡ before.lanes → after.reading.used ≤ after.limits.input
     → IsSynced before after took.given took.asked took.outcomes batch ⊎ IsWhole before after left2 took.given took.asked took.outcomes (batch ∷ [])
     → Begins options (way.been.outcomes ++ took.outcomes) (way.been.given ++ took.given) left2 (way.batches ++ batch ∷ []) (way.been.asked ++ took.asked)
 unfolding read_synced
@@ -241,33 +255,54 @@ begins limits options left0 left1 left2 written0 written1 files f0 f1 f2 before 
       rest = _;
       is = ap (λ (o : List File). script_of options o (way.been.given ++ took.given) left2) (sym (append-nil (way.been.outcomes ++ took.outcomes)))
           ∙ ap (λ (b : List ℕ). script_of options ((way.been.outcomes ++ took.outcomes) ++ []) b left2) (sym (append-nil (way.been.given ++ took.given))) ∙ front;
+      few = reads_fetches standard options.lanes after.reading (way.been.given ++ took.given) after.held (way.been.outcomes ++ took.outcomes) (way.batches ++ batch ∷ []) (way.been.asked ++ took.asked) been.lines_read;
     }
-begins limits options left0 left1 left2 written0 written1 files f0 f1 f2 before after made batch way took limits_are lanes_are within (inr whole) = record {
-  rest = commands_with [] Whole [];
-  is = whole_front _ (way.batches ++ batch ∷ []) (way.been.asked ++ took.asked)
-      (script_whole options left0 left1 left2 files f0 f1 before after way.batches (batch ∷ []) took.given took.asked took.outcomes way.been way.goes whole);
+begins limits options left0 left1 left2 written0 written1 files f0 f1 f2 before after made batch way took limits_are lanes_are within (inr whole) =
+    let script = script_whole options left0 left1 left2 files f0 f1 before after way.batches (batch ∷ []) took.given took.asked took.outcomes way.been way.goes whole in
+    record {
+      rest = commands_with [] Whole [];
+      is = whole_front _ (way.batches ++ batch ∷ []) (way.been.asked ++ took.asked) script;
+      few = whole_fetches options (way.been.outcomes ++ took.outcomes) (way.been.given ++ took.given) left2 (way.batches ++ batch ∷ []) (way.been.asked ++ took.asked) script;
+    }
+
+-- a run that is cut for want of memory
+cut_so_far : (limits : Counts) (options : Options) (outcomes : List File) (files : Option (List shelf.File)) (f0 f2 : ℕ) (script : Commands) (left : Option (List ℕ)) (taken : List ℕ) (now : RunRecord)
+    → IsCutOff limits options outcomes (λ paths. AreFetched files f0 f2 paths outcomes) script left taken now → IsCutOff limits options outcomes (λ paths. AreFetchedSoFar files f0 f2 paths outcomes) script left taken now
+cut_so_far limits options outcomes files f0 f2 script left taken now row = record {
+  count = row.count;
+  fetched = fetched_so_far files f0 f2 f2 _ outcomes row.fetched (omega arith);
+  asked = row.asked;
+  record_of = row.record_of;
+  ended = row.ended;
+  beginning = row.beginning;
+  holds = row.holds;
 }
 
 -- a run that is cut, by why its text is not written whole
 cut_meets : (limits : Counts) (options : Options) (why : WriteStop) (left0 left2 written0 written2 : Option (List ℕ)) (files : Option (List shelf.File)) (f0 f2 : ℕ) (now : RunRecord) (given taken : List ℕ) (outcomes : List File)
     → Consumes left0 left2 given → Appends written0 written2 taken → IsCutOff limits options outcomes (λ paths. AreFetched files f0 f2 paths outcomes) (script_of options outcomes given left2) left2 taken now
-    → Meets limits options (status_of_stop why) left0 left2 written0 written2 files f0 f2 now
-cut_meets limits options stop.Failed left0 left2 written0 written2 files f0 f2 now given taken outcomes gave wrote row = record { given = given; taken = taken; outcomes = outcomes; gave = gave; took = wrote; row = row }
-cut_meets limits options stop.NoMemory left0 left2 written0 written2 files f0 f2 now given taken outcomes gave wrote row = record { given = given; taken = taken; outcomes = outcomes; gave = gave; took = wrote; row = inr row }
+    → IsReadLate options given outcomes now → Meets limits options (status_of_stop why) left0 left2 written0 written2 files f0 f2 now
+cut_meets limits options stop.Failed left0 left2 written0 written2 files f0 f2 now given taken outcomes gave wrote row late =
+    record { given = given; taken = taken; outcomes = outcomes; gave = gave; took = wrote; row = row; late = λ not_ended. late }
+cut_meets limits options stop.NoMemory left0 left2 written0 written2 files f0 f2 now given taken outcomes gave wrote row late =
+    record { given = given; taken = taken; outcomes = outcomes; gave = gave; took = wrote; row = inr (cut_so_far limits options outcomes files f0 f2 _ left2 taken now row); late = tt }
 
 -- The batch was answered, but its text not written whole.
-pub ends_writing : {number next : ℕ} (limits : Counts) (options : Options) (why : WriteStop) (left0 left1 left2 written0 written1 written2 : Option (List ℕ)) (files : Option (List shelf.File)) (f0 f1 f2 : ℕ) (before after : Gathering) (made now : RunRecord) (batch : Batch) (new : List Answered) (part : List ℕ)
-    → (way : IsUnderWay limits options left0 left1 written0 written1 files f0 f1 before made number next) → (took : Taken left1 left2 files f1 f2) → after.limits ≡ before.limits → after.lanes ≡ before.lanes → after.reading.used ≤ after.limits.input
+pub ends_writing : {number next : ℕ} {found : Option Batch} (limits : Counts) (options : Options) (why : WriteStop) (left0 left1 left2 written0 written1 written2 : Option (List ℕ)) (files : Option (List shelf.File)) (f0 f1 f2 : ℕ) (before after : Gathering) (made now : RunRecord) (batch : Batch) (new : List Answered) (part : List ℕ) (Idle : Type 0)
+    → (way : IsUnderWay limits options left0 left1 written0 written1 files f0 f1 before made number next) → (took : Taken (Ok found) left1 left2 files f1 f2) → ReadsLate Idle before took.given took.outcomes → after.limits ≡ before.limits → after.lanes ≡ before.lanes → after.reading.used ≤ after.limits.input
     → IsSynced before after took.given took.asked took.outcomes batch ⊎ IsWhole before after left2 took.given took.asked took.outcomes (batch ∷ [])
     → IsMade limits options (way.batches ++ batch ∷ []) now → now.answers ≡ made.answers ++ new → IsPrefix part (text_behind options.trace (length made.answers) now) → Appends written1 written2 part
     → Meets limits options (status_of_stop why) left0 left2 written0 written2 files f0 f2 now
-ends_writing limits options why left0 left1 left2 written0 written1 written2 files f0 f1 f2 before after made now batch new part way took limits_are lanes_are within gathered is are beginning written =
+ends_writing limits options why left0 left1 left2 written0 written1 written2 files f0 f1 f2 before after made now batch new part Idle way took late limits_are lanes_are within gathered is are beginning written =
     let script = begins limits options left0 left1 left2 written0 written1 files f0 f1 f2 before after made batch way took limits_are lanes_are within gathered in
-    let fetched = fetched_more files f0 f1 f2 way.been.asked took.asked way.been.outcomes took.outcomes way.been.fetched took.fetched in
+    let fetched = fetched_join files f0 f1 f2 way.been.asked took.asked way.been.outcomes took.outcomes way.been.fetched took.fetched in
     cut_meets limits options why left0 left2 written0 written2 files f0 f2 now (way.been.given ++ took.given) (way.writ.taken ++ part) (way.been.outcomes ++ took.outcomes)
     (Consumes-trans left0 left1 left2 way.been.given took.given way.been.gave took.gave) (Appends-trans written0 written1 written2 way.writ.taken part way.writ.took written)
     (cut_within limits options (way.been.outcomes ++ took.outcomes) (λ paths. AreFetched files f0 f2 paths (way.been.outcomes ++ took.outcomes)) _ script.rest left2 made now new way.batches batch (way.been.asked ++ took.asked) way.writ.taken part
-    script.is (outcomes_size files (way.been.asked ++ took.asked) (way.been.outcomes ++ took.outcomes) fetched.each) fetched way.is_made is are way.writ.text_is beginning)
+    script.is (outcomes_size files f0 f2 (way.been.asked ++ took.asked) (way.been.outcomes ++ took.outcomes) fetched) script.few fetched way.is_made is are way.writ.text_is beginning)
+    (late_within options (way.been.given ++ took.given) (way.been.outcomes ++ took.outcomes) (length way.batches) now
+    (late_more options left0 left1 files f0 f1 before way.batches Idle took.given took.outcomes way.been way.goes way.late late)
+    (omega (arith, record_syncs limits options (way.batches ++ batch ∷ []) now (made_record_now limits options (way.batches ++ batch ∷ []) now is), length-append way.batches (batch ∷ []))))
 
 -- Memory was wanting between two batches.
 pub ends_between : {number next : ℕ} (limits : Counts) (options : Options) (left0 left1 left2 written0 written1 : Option (List ℕ)) (files : Option (List shelf.File)) (f0 f1 f2 : ℕ) (before : Gathering) (made : RunRecord) (given : List ℕ)
@@ -278,7 +313,7 @@ ends_between limits options left0 left1 left2 written0 written1 files f0 f1 f2 b
 
 -- The gatherer gave no batch.
 pub ends_gathering : {number next : ℕ} (limits : Counts) (options : Options) (why : ScriptEnd) (left0 left1 left2 written0 written1 : Option (List ℕ)) (files : Option (List shelf.File)) (f0 f1 f2 : ℕ) (before after : Gathering) (made : RunRecord)
-    → IsUnderWay limits options left0 left1 written0 written1 files f0 f1 before made number next → (took : Taken left1 left2 files f1 f2) → Gathers (Err why) before after left2 took.given took.asked took.outcomes → f1 ≤ f2
+    → IsUnderWay limits options left0 left1 written0 written1 files f0 f1 before made number next → (took : Taken (Err why) left1 left2 files f1 f2) → Gathers (Err why) before after left2 took.given took.asked took.outcomes → f1 ≤ f2
     → Meets limits options (status_of_end why) left0 left2 written0 written1 files f0 f2 made
 ends_gathering limits options (end.Script line why) left0 left1 left2 written0 written1 files f0 f1 f2 before after made way took faulty later = record {
   given = way.been.given ++ took.given;
@@ -287,6 +322,7 @@ ends_gathering limits options (end.Script line why) left0 left1 left2 written0 w
   gave = Consumes-trans left0 left1 left2 way.been.given took.given way.been.gave took.gave;
   took = way.writ.took;
   row = refused limits options left0 left1 left2 files f0 f1 f2 before way.batches made way.writ.taken took.given took.asked took.outcomes line why way.been way.goes way.is_made way.writ.text_is took.fetched faulty;
+  late = tt;
 }
 ends_gathering limits options end.ReadFault left0 left1 left2 written0 written1 files f0 f1 f2 before after made way took unfinished later = record {
   given = way.been.given ++ took.given;
@@ -295,6 +331,7 @@ ends_gathering limits options end.ReadFault left0 left1 left2 written0 written1 
   gave = Consumes-trans left0 left1 left2 way.been.given took.given way.been.gave took.gave;
   took = way.writ.took;
   row = broken_off limits options left0 left1 files f0 f1 f2 before way.batches made way.writ.taken took.given took.asked took.outcomes way.been way.goes way.is_made way.writ.text_is took.fetched unfinished;
+  late = tt;
 }
 ends_gathering limits options end.NoMemory left0 left1 left2 written0 written1 files f0 f1 f2 before after made way took nothing later =
     ends_between limits options left0 left1 left2 written0 written1 files f0 f1 f2 before made took.given way took.gave later
@@ -311,10 +348,12 @@ whole_input (Some xs) (Some ys) given script gave told = let same : xs ≡ scrip
 
 -- A script without a fault is not refused.
 pub not_refused : (limits : Counts) (options : Options) (line : ℕ) (why : Reason) (left0 left1 written0 written1 : Option (List ℕ)) (files : Option (List shelf.File)) (f0 f1 : ℕ) (made : RunRecord) (script : List ℕ)
-    → Meets limits options (status.Script line why) left0 left1 written0 written1 files f0 f1 made → left0 ≡ Some script → ((outcomes : List File) → (commands standard options.lanes script outcomes).end ≡ Whole) → ⊥
+    → Meets limits options (status.Script line why) left0 left1 written0 written1 files f0 f1 made → left0 ≡ Some script → HasNoFault options script files f0 f1 → ⊥
 not_refused limits options line why left0 left1 written0 written1 files f0 f1 made script met told whole =
-    let input = whole_input left0 left1 met.given script met.gave told in
-    let no : FaultAt line why ≡ Whole = sym met.row.fault ∙ ap (λ (bytes : List ℕ). (commands standard options.lanes bytes met.outcomes).end) (sym input) ∙ whole met.outcomes in cc
+    let input : script ≡ met.given ++ left_of left1 = whole_input left0 left1 met.given script met.gave told in
+    let fetched : AreFetched files f0 f1 (commands standard options.lanes script met.outcomes).asked met.outcomes =
+    subst (λ (bytes : List ℕ). AreFetched files f0 f1 (commands standard options.lanes bytes met.outcomes).asked met.outcomes) (sym input) met.row.fetched in
+    let no : FaultAt line why ≡ Whole = sym met.row.fault ∙ ap (λ (bytes : List ℕ). (commands standard options.lanes bytes met.outcomes).end) (sym input) ∙ whole met.outcomes fetched in cc
 
 -- ---- which end gives which status
 
@@ -332,12 +371,12 @@ stop_failed stop.NoMemory is = absurd (let no : status.NoMemory ≡ status.Write
 -- Memory was wanting before anything was read.
 pub nothing_done : (limits : Counts) (options : Options) (left written : Option (List ℕ)) (files : Option (List shelf.File)) (faults : ℕ) (made : RunRecord) → made ≡ empty plain
     → Meets limits options status.NoMemory left left written written files faults faults made
-nothing_done limits options left written files faults made is = record { given = []; taken = []; outcomes = []; gave = Consumes-nil left; took = Appends-nil written; row = inl (refl, is) }
+nothing_done limits options left written files faults made is = record { given = []; taken = []; outcomes = []; gave = Consumes-nil left; took = Appends-nil written; row = inl (refl, is); late = tt }
 
 -- The words are refused.
 pub nothing_asked : (limits : Counts) (options : Options) (left written : Option (List ℕ)) (files : Option (List shelf.File)) (faults : ℕ) (made : RunRecord) → made ≡ empty plain
     → Meets limits options status.Usage left left written written files faults faults made
-nothing_asked limits options left written files faults made is = record { given = []; taken = []; outcomes = []; gave = Consumes-nil left; took = Appends-nil written; row = (refl, (refl, is)) }
+nothing_asked limits options left written files faults made is = record { given = []; taken = []; outcomes = []; gave = Consumes-nil left; took = Appends-nil written; row = (refl, (refl, is)); late = tt }
 
 -- ---- the words
 
@@ -372,7 +411,7 @@ words_refused limits said words.Usage left written files faults made is (inr non
 
 -- Without a fault a script that has none ends well, or memory is wanting.
 pub ends_well : (limits : Counts) (options : Options) (result : Status) (left0 left1 written0 written1 : Option (List ℕ)) (files : Option (List shelf.File)) (f0 f1 : ℕ) (made : RunRecord) (script : List ℕ) (Read Wrote : Type 0)
-    → Meets limits options result left0 left1 written0 written1 files f0 f1 made → left0 ≡ Some script → ((outcomes : List File) → (commands standard options.lanes script outcomes).end ≡ Whole)
+    → Meets limits options result left0 left1 written0 written1 files f0 f1 made → left0 ≡ Some script → HasNoFault options script files f0 f1
     → (result ≡ status.Usage → ⊥) → (result ≡ status.ReadFault → Read) → (result ≡ status.WriteFault → Wrote) → (Read → ⊥) → (Wrote → ⊥) → (result ≡ status.Done) ⊎ (result ≡ status.NoMemory)
 ends_well limits options status.Done left0 left1 written0 written1 files f0 f1 made script Read Wrote met told whole usage read wrote quiet still = inl refl
 ends_well limits options status.NoMemory left0 left1 written0 written1 files f0 f1 made script Read Wrote met told whole usage read wrote quiet still = inr refl

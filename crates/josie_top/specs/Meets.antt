@@ -1,15 +1,44 @@
 -- What a run comes to: what moved, and the row of its status.
-use Rattle.std.specs.Prelude.{ℕ, ◌≡◌, ⊤, List, Option, Some, None}
+use Rattle.std.specs.Prelude.{ℕ, ◌≡◌, ◌<◌, ◌≤◌, ⊤, false, List, ◌++◌, length, Option, Some, None}
 use Rattle.std.specs.Io.KnownBytes.{Consumes, Appends}
 use Rattle.lake_io.specs.Files as shelf
 use Rattle.lake_model.specs.declared.Counts.{Counts}
+use Rattle.lake_model.specs.Texts.{Text}
 use Rattle.script_model.specs.declared.Status.{Status}
+use Rattle.script_model.specs.declared.Status.TheVariants.{Done, Script, Usage, ReadFault, WriteFault, NoMemory}
 use Rattle.script_model.specs.Commands.{File}
 use Rattle.script_model.specs.Plain.{Mode, Run, Make}
-use Rattle.script_model.specs.Script.{Whole, commands, standard}
+use Rattle.script_model.specs.Script.{Commands, Whole, commands, standard}
 use Rattle.script_model.specs.Record.{Options, RunRecord}
-use Rattle.script_model.specs.Statuses.{MakeRow, Row}
-use Rattle.script_text.specs.Outcomes.{AreFetched}
+use Rattle.script_model.specs.Statuses.{MakeRow, Row, begun}
+use Rattle.script_text.specs.Outcomes.{AreFetched, AreFetchedSoFar}
+
+-- what came of the fetches of a run, by its status
+abbrev pub FetchedBy : Status → Option (List shelf.File) → ℕ → ℕ → List Text → List File → Type 0
+FetchedBy Done files before now asked outcomes = AreFetched files before now asked outcomes
+FetchedBy (Script line reason) files before now asked outcomes = AreFetched files before now asked outcomes
+FetchedBy Usage files before now asked outcomes = AreFetched files before now asked outcomes
+FetchedBy ReadFault files before now asked outcomes = AreFetched files before now asked outcomes
+FetchedBy WriteFault files before now asked outcomes = AreFetched files before now asked outcomes
+FetchedBy NoMemory files before now asked outcomes = AreFetchedSoFar files before now asked outcomes
+
+-- The bytes that came before the last read, of at most 65,536 bytes, have fewer whole batches than were answered: the replies to a batch are written before
+-- the next one is read.
+pub record IsReadLate (options : Options) (given : List ℕ) (outcomes : List File) (made : RunRecord) : Type 0 where
+  pub first : List ℕ
+  pub last : List ℕ
+  pub given_is : given ≡ first ++ last
+  pub few : length last ≤ 65536
+  pub fewer : length (begun options outcomes first).batches < length made.syncs
+
+-- where the sink failed before the input was read to its end, the source was read late
+abbrev pub ReadsLate : Status → Options → List ℕ → List File → RunRecord → Type 0
+ReadsLate Done options given outcomes made = ⊤
+ReadsLate (Script line reason) options given outcomes made = ⊤
+ReadsLate Usage options given outcomes made = ⊤
+ReadsLate ReadFault options given outcomes made = ⊤
+ReadsLate WriteFault options given outcomes made = made.ended ≡ false → IsReadLate options given outcomes made
+ReadsLate NoMemory options given outcomes made = ⊤
 
 -- The bytes that the source gave and those that the sink took, where they tell their content, and what came of the fetches; and of these the row of the
 -- status in the table.
@@ -19,7 +48,8 @@ pub record Meets (limits : Counts) (options : Options) (status : Status) (left_b
   pub outcomes : List File
   pub gave : Consumes left_before left_now given
   pub took : Appends written_before written_now taken
-  pub row : Row limits options outcomes (λ asked. AreFetched files faults_before faults_now asked outcomes) status given left_now taken made
+  pub row : Row limits options outcomes (λ asked. FetchedBy status files faults_before faults_now asked outcomes) status given left_now taken made
+  pub late : ReadsLate status options given outcomes made
 
 -- The bytes that the sink took of the summary of a lake that is made, where it tells its content, and of these the row of the status.
 pub record Makes (limits : Counts) (seed tables rows : ℕ) (status : Status) (written_before written_now : Option (List ℕ)) (made : RunRecord) : Type 0 where
@@ -39,12 +69,11 @@ abbrev pub IsSaid : Option Mode → Mode → Type 0
 IsSaid None mode = ⊤
 IsSaid (Some said) mode = mode ≡ said
 
--- a script has no line at fault, whatever comes of its fetches; a lake that is made has none
-abbrev pub HasNoFault : Mode → List ℕ → Type 0
-HasNoFault (Run options) script = (outcomes : List File) → (commands standard options.lanes script outcomes).end ≡ Whole
-HasNoFault (Make seed tables rows) script = ⊤
+-- whatever may come of the fetches of a script, from these files where they are told and by these counts of faults, it has no line at fault
+abbrev pub HasNoFault : Options → List ℕ → Option (List shelf.File) → ℕ → ℕ → Type 0
+HasNoFault options script files before now = (outcomes : List File) → let made : Commands = commands standard options.lanes script outcomes in AreFetched files before now made.asked outcomes → made.end ≡ Whole
 
--- nothing was read and no file fetched, where a lake is made
+-- a lake is made
 abbrev pub IsMaking : Mode → Type 0
 IsMaking (Run options) = ⊥
 IsMaking (Make seed tables rows) = ⊤

@@ -1,16 +1,18 @@
 -- How far a run is: what it has read, answered and written between two batches.
-use Rattle.std.specs.Prelude.{ℕ, ◌+◌, ◌≡◌, ◌≤◌, Bool, List, [], length, sum_by, Option}
+use Rattle.std.specs.Prelude.{ℕ, ◌+◌, ◌-◌, ◌≡◌, ◌≤◌, Bool, List, [], ◌++◌, length, sum_by, Option}
 use Rattle.std.specs.List.{AllByRecursion}
 use Rattle.std.specs.Io.KnownBytes.{Consumes, Appends}
 use Rattle.lake_io.specs.Files as shelf
 use Rattle.lake_model.specs.declared.Counts.{Counts}
 use Rattle.lake_model.specs.Texts.{Text}
 use Rattle.script_model.specs.Commands.{File, Batch}
+use Rattle.script_model.specs.Reading.{Reading}
 use Rattle.script_model.specs.Script.{grammar_of, standard, start}
 use Rattle.script_model.specs.Record.{Options, RunRecord, empty}
 use Rattle.script_model.specs.Play.{played_from, pieces_of, updates}
 use Rattle.script_model.specs.Lanes.{IsOfLanes}
 use Rattle.script_model.specs.Texts.{answers_text}
+use Rattle.script_model.specs.Words.{NoFeed}
 use Rattle.script_text.specs.Outcomes.{AreFetched}
 use Rattle.script_text.specs.Gathering.{Gathering, ReadsOn}
 
@@ -36,6 +38,23 @@ pub record AreRead (options : Options) (left_before left_now : Option (List ℕ)
   pub fetched : AreFetched files faults_before faults_now asked outcomes
   pub lines_read : ReadsOn (grammar_of standard options.lanes) (start []) given outcomes batches gathering.reading gathering.held asked
 
+-- The bytes that came before the last read, of at most 65,536 bytes, have at most so many whole batches, and stand in no fault.
+pub record IsLateSoFar (options : Options) (given : List ℕ) (outcomes : List File) (most : ℕ) : Type 0 where
+  pub first : List ℕ
+  pub last : List ℕ
+  pub came : List File
+  pub later : List File
+  pub asked : List Text
+  pub batches : List Batch
+  pub reading : Reading
+  pub held : List ℕ
+  pub given_is : given ≡ first ++ last
+  pub few : length last ≤ 65536
+  pub outcomes_are : outcomes ≡ came ++ later
+  pub lines_read : ReadsOn (grammar_of standard options.lanes) (start []) first came batches reading held asked
+  pub rest : NoFeed held
+  pub fewer : length batches ≤ most
+
 -- Their answers were written.
 pub record AreWritten (options : Options) (written_before written_now : Option (List ℕ)) (made : RunRecord) : Type 0 where
   pub taken : List ℕ
@@ -57,3 +76,4 @@ pub record IsUnderWay (limits : Counts) (options : Options) (left_before left_no
   pub is_made : IsMade limits options batches made
   pub writ : AreWritten options written_before written_now made
   pub counted : AreCounted batches gathering.reading.used number next
+  pub late : IsLateSoFar options been.given been.outcomes (length batches - 1)

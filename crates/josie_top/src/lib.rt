@@ -6,7 +6,7 @@ ghost use Rattle.lake_io.specs.Causes.{Rose};
 ghost use Rattle.lake_model.specs.Journal.{standard_limits};
 ghost use Rattle.script_model.specs.Plain.{plain_mode};
 ghost use Rattle.script_model.specs.Plain as said;
-ghost use Rattle.script_model.specs.Record.{empty, plain};
+ghost use Rattle.script_model.specs.Record.{Options, empty, plain};
 ghost use Rattle.script_text.specs.Words.{mode_of, mode_read, IsModeInRange};
 ghost use Rattle.josie_top.specs.Ends.{status_of_refused};
 ghost use Rattle.josie_top.specs.Meets.{HasNoFault, IsMaking, IsSaid, MeetsMode};
@@ -51,9 +51,11 @@ pub fn run_ordered<S: Source, K: Sink, F: Shelf>(
     // where a lake is made, nothing is read and no file is fetched
     ensures making { IsMaking (mode_of mode) → (source.new ≡ source.old) × (shelf.new ≡ shelf.old) }
     // nothing else comes but want of memory
-    ensures complete { (script : List ℕ) → S.left source.old ≡ Some script → HasNoFault (mode_of mode) script
+    ensures complete { (script : List ℕ) (options : Options) → mode_of mode ≡ said.Run options → S.left source.old ≡ Some script
+        → HasNoFault options script (F.files shelf.old) (F.faults shelf.old) (F.faults shelf.new)
         → ¬ Rose (S.faults source.old) (S.faults source.new) → ¬ Rose (K.faults sink.old) (K.faults sink.new)
         → (result ≡ Status.Done) ⊎ (result ≡ Status.NoMemory) }
+    ensures makes { IsMaking (mode_of mode) → ¬ Rose (K.faults sink.old) (K.faults sink.new) → (result ≡ Status.Done) ⊎ (result ≡ Status.NoMemory) }
 {
     match mode {
         Mode::Run(options) => run_script(alloc, options, source, sink, shelf, out),
@@ -92,7 +94,7 @@ pub fn run<R: Threads + Wait + Sync, S: Source, K: Sink, F: Shelf, G: Gate + Syn
     // when each status comes
     ensures usage { result ≡ Status.Usage → mode_read (map string_bytes words.now) ≡ None }
     ensures refused { mode_read (map string_bytes words.now) ≡ None → (result ≡ Status.Usage) ⊎ (result ≡ Status.NoMemory) }
-    ensures untouched { result ≡ Status.Usage → (source.new ≡ source.old) × (sink.new ≡ sink.old) × (shelf.new ≡ shelf.old) × (out.new.made ≡ out.old.made) }
+    ensures untouched { mode_read (map string_bytes words.now) ≡ None → (source.new ≡ source.old) × (sink.new ≡ sink.old) × (shelf.new ≡ shelf.old) × (out.new.made ≡ out.old.made) }
     ensures read_fault { result ≡ Status.ReadFault → Rose (S.faults source.old) (S.faults source.new) }
     ensures write_fault { result ≡ Status.WriteFault → Rose (K.faults sink.old) (K.faults sink.new) }
     ensures later { (S.faults source.old ≤ S.faults source.new) × (K.faults sink.old ≤ K.faults sink.new) × (F.faults shelf.old ≤ F.faults shelf.new) }
@@ -100,9 +102,12 @@ pub fn run<R: Threads + Wait + Sync, S: Source, K: Sink, F: Shelf, G: Gate + Syn
     // where a lake is made, nothing is read and no file is fetched
     ensures making { (mode : said.Mode) → mode_read (map string_bytes words.now) ≡ Some mode → IsMaking mode → (source.new ≡ source.old) × (shelf.new ≡ shelf.old) }
     // nothing else comes but want of memory
-    ensures complete { (script : List ℕ) (mode : said.Mode) → plain_mode (map string_bytes words.now) ≡ Some mode → S.left source.old ≡ Some script → HasNoFault mode script
+    ensures complete { (script : List ℕ) (options : Options) → mode_read (map string_bytes words.now) ≡ Some (said.Run options) → S.left source.old ≡ Some script
+        → HasNoFault options script (F.files shelf.old) (F.faults shelf.old) (F.faults shelf.new)
         → ¬ Rose (S.faults source.old) (S.faults source.new) → ¬ Rose (K.faults sink.old) (K.faults sink.new)
         → (result ≡ Status.Done) ⊎ (result ≡ Status.NoMemory) }
+    ensures makes { (mode : said.Mode) → mode_read (map string_bytes words.now) ≡ Some mode → IsMaking mode
+        → ¬ Rose (K.faults sink.old) (K.faults sink.new) → (result ≡ Status.Done) ⊎ (result ≡ Status.NoMemory) }
 {
     match read_words(alloc, words) {
         Ok(mode) => run_ordered(alloc, mode, source, sink, shelf, out),

@@ -2,7 +2,6 @@
 ghost use Rattle.std.specs.Prelude.{◌≡◌, ◌≤◌, ◌⊎◌, ℕ, List, Some};
 ghost use Rattle.lake_io.specs.Causes.{Rose};
 ghost use Rattle.lake_model.specs.Journal.{standard_limits};
-ghost use Rattle.script_model.specs.Plain as said;
 ghost use Rattle.script_model.specs.Record.{empty, plain};
 ghost use Rattle.josie_top.specs.Meets.{HasNoFault, Meets};
 
@@ -31,7 +30,7 @@ pub fn run_script<S: Source, K: Sink, F: Shelf>(
     ensures write_fault { result ≡ Status.WriteFault → Rose (K.faults sink.old) (K.faults sink.new) }
     ensures later { (S.faults source.old ≤ S.faults source.new) × (K.faults sink.old ≤ K.faults sink.new) × (F.faults shelf.old ≤ F.faults shelf.new) }
     ensures files { F.files shelf.new ≡ F.files shelf.old }
-    ensures complete { (script : List ℕ) → S.left source.old ≡ Some script → HasNoFault (said.Run options) script
+    ensures complete { (script : List ℕ) → S.left source.old ≡ Some script → HasNoFault options script (F.files shelf.old) (F.faults shelf.old) (F.faults shelf.new)
         → ¬ Rose (S.faults source.old) (S.faults source.new) → ¬ Rose (K.faults sink.old) (K.faults sink.new)
         → (result ≡ Status.Done) ⊎ (result ≡ Status.NoMemory) }
 {

@@ -158,6 +158,49 @@ fn writes_each_batch_before_it_reads_the_next(rt: HostRuntime) -> Result<(), Fai
     Ok(())
 }
 
+// How a run ends whose first write fails, and whether its source then has this left.
+fn leaves<R: Threads + Wait + Sync>(
+    rt: &R,
+    alloc: Global,
+    script: &str,
+    piece: usize,
+    left: &str,
+) -> Result<(Status, bool), Fail> {
+    let mut words = Vec::new(alloc);
+    words.push(String::from_str(alloc, "run")?)?;
+    let mut source = MemorySource::new(alloc, script.as_bytes(), piece.max(1), &[])
+        .ok()
+        .ok_or("memory")?;
+    let mut sink = MemorySink::new(alloc, 64, 64, &[1]).ok().ok_or("memory")?;
+    let mut shelf = MemoryShelf::new(alloc);
+    let mut record = RunRecord::new(alloc);
+    let status = run(
+        rt,
+        alloc,
+        words.as_slice(),
+        &mut source,
+        &mut sink,
+        &mut shelf,
+        &NoGate,
+        &mut record,
+    );
+    Ok((status, source.left() == left.as_bytes()))
+}
+
+#[test]
+fn leaves_the_batch_behind_a_failed_write_unread(rt: HostRuntime) -> Result<(), Fail> {
+    let script = "tables\nsync\ntables\nsync\n";
+    for (piece, left) in [
+        (6usize, "tables\nsync\n"),
+        (8, "es\nsync\n"),
+        (12, "tables\nsync\n"),
+    ] {
+        let (status, same) = leaves(&rt, rt.alloc(), script, piece, left)?;
+        assert!(rt; status == Status::WriteFault && same);
+    }
+    Ok(())
+}
+
 #[test]
 fn loads_from_files(rt: HostRuntime) -> Result<(), Fail> {
     let script = "loadfile f missing.csv\nloadfile g here.csv\n";

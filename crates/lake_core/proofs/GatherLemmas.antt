@@ -1,16 +1,15 @@
 -- The answers of a batch gathered from its lanes.
-use Rattle.std.proofs.Common.{◌≡◌, refl, ap, sym, ◌∙◌, ℕ, suc, ◌+◌, ◌<◌, ◌≤◌, List, [], ◌∷◌, ◌++◌, append_assoc, append-nil, length, take, drop, map, get_or, Option, arith}
+use Rattle.std.proofs.Common.{◌≡◌, refl, ap, sym, ◌∙◌, ℕ, ◌+◌, ◌<◌, ◌≤◌, List, [], ◌++◌, append_assoc, append-nil, length, take, drop, map, get_or, Option, arith}
 use Rattle.std.specs.Prelude.{slice_set, option_to_list}
-use Rattle.std.proofs.Math.Seq.{drop-cons}
-use Rattle.std.proofs.lemmas.List.{drop_all, map-append}
+use Rattle.std.proofs.lemmas.List.{drop_all}
 use Rattle.reply_text.specs.Rooms.{RecordOf}
 use Rattle.script_model.specs.Commands.{Command}
 use Rattle.script_model.specs.Record.{Answered, RunRecord}
 use Rattle.script_model.specs.Play.{Done, answers_of, gathered}
-use Rattle.lake_core.specs.declared.work.Work.{Work}
-use Rattle.lake_core.specs.Works.{work_of, works_of}
+use Rattle.batch_work.specs.declared.work.Work.{Work}
+use Rattle.batch_work.specs.Works.{work_of, works_of}
 use Rattle.lake_core.specs.Lanes.{LaneOf, done_in}
-use Rattle.lake_core.proofs.WorkLemmas.{work_at, works_long}
+use Rattle.batch_work.proofs.GatherLemmas.{gathered_next}
 
 -- a record with these answers behind its own
 abbrev pub with_answers : List Answered → RunRecord → RunRecord
@@ -25,33 +24,6 @@ pub record Gathers (commands : List Command) (n : ℕ) (lanes now : List LaneOf)
   pub room : length commands ≤ out.answers_room + n
   pub syncs : out.syncs_room ≡ before.syncs_room
 
--- the answer to the next command, if there is one
-gathers_more : (commands : List Command) (n : ℕ) (lanes now later : List LaneOf) (before out after : RecordOf) (command : Command) (answer : Option Answered)
-    → Gathers commands n lanes now before out → n < length commands → command ≡ get_or commands n command
-    → option_to_list answer ≡ answers_of (take 1 (get_or (lists_of now) command.lane []))
-    → lists_of later ≡ slice_set (lists_of now) command.lane (drop 1 (get_or (lists_of now) command.lane []))
-    → after.made ≡ with_answers (option_to_list answer) out.made → out.answers_room ≤ after.answers_room + 1 → after.syncs_room ≡ out.syncs_room
-    → Gathers commands (n + 1) lanes later before after
-gathers_more commands n lanes now later before out after command answer so_far within is answers rest makes room syncs =
-    let next : suc n ≡ n + 1 = omega arith in
-    let first : drop n commands ≡ command ∷ drop (n + 1) commands =
-    drop-cons commands n command within ∙ (λ i. sym is i ∷ drop (next i) commands) in
-    let own : List Done = take 1 (get_or (lists_of now) command.lane []) in
-    let others : List Done = gathered (drop (n + 1) commands) (lists_of later) in
-    let all : answers_of (gathered (drop n commands) (lists_of now)) ≡ option_to_list answer ++ answers_of others =
-    ap (λ (cs : List Command). answers_of (gathered cs (lists_of now))) first
-    ∙ ap (λ (lists : List (List Done)). answers_of (own ++ gathered (drop (n + 1) commands) lists)) (sym rest)
-    ∙ map-append _ own others
-    ∙ ap (λ (xs : List Answered). xs ++ answers_of others) (sym answers) in
-    record {
-      rest = ap (with_answers (answers_of others)) makes
-          ∙ ap (λ (xs : List Answered). record out.made { answers = xs }) (append_assoc out.made.answers (option_to_list answer) (answers_of others))
-          ∙ ap (λ (xs : List Answered). with_answers xs out.made) (sym all)
-          ∙ so_far.rest;
-      room = omega (arith, room, so_far.room);
-      syncs = syncs ∙ so_far.syncs;
-    }
-
 pub with_none : (made : RunRecord) → made ≡ with_answers [] made
 with_none made = λ i. record made { answers = sym (append-nil made.answers) i }
 
@@ -63,11 +35,16 @@ pub gathers_work : (works : List Work) (n l : ℕ) (lanes now later : List LaneO
     → after.made ≡ with_answers (option_to_list answer) out.made → out.answers_room ≤ after.answers_room + 1 → after.syncs_room ≡ out.syncs_room
     → Gathers (works_of works) (n + 1) lanes later before after
 gathers_work works n l lanes now later before out after item answer so_far within is at answers rest makes room syncs =
-    let lists = lists_of now in
-    gathers_more (works_of works) n lanes now later before out after (work_of item) answer so_far (omega (arith, within, works_long works)) (work_at works n item is within)
-    (answers ∙ ap (λ (k : ℕ). answers_of (take 1 (get_or lists k []))) at)
-    (rest ∙ ap (λ (k : ℕ). slice_set lists k (drop 1 (get_or lists k []))) at)
-    makes room syncs
+    let others : List Answered = answers_of (gathered (drop (n + 1) (works_of works)) (lists_of later)) in
+    let all = gathered_next works n l (lists_of now) (lists_of later) item answer within is at answers rest in
+    record {
+      rest = ap (with_answers others) makes
+          ∙ ap (λ (xs : List Answered). record out.made { answers = xs }) (append_assoc out.made.answers (option_to_list answer) others)
+          ∙ ap (λ (xs : List Answered). with_answers xs out.made) (sym all)
+          ∙ so_far.rest;
+      room = omega (arith, room, so_far.room);
+      syncs = syncs ∙ so_far.syncs;
+    }
 
 pub gathers_none : (commands : List Command) (lanes : List LaneOf) (out : RecordOf) → length commands ≤ out.answers_room → Gathers commands 0 lanes lanes out out
 gathers_none commands lanes out room = record { rest = refl; room = omega (arith, room); syncs = refl }

@@ -18,7 +18,7 @@ use Rattle.lake_core.proofs.MergeLemmas.{planned_change, planned_later, planned_
 use Rattle.lake_core.specs.declared.merging.Planned.{Planned}
 use Rattle.lake_core.specs.Loads.{with_added}
 use Rattle.lake_core.specs.Merging.{CanSwap, swap_reply, swapped_by}
-use Rattle.lake_core.specs.Works.{merge_policy}
+use Rattle.batch_work.specs.Works.{merge_policy}
 use Rattle.script_model.specs.Record.{RunRecord}
 use Rattle.lake_core.specs.Lanes.{LaneOf, lane_from, position_of, pin_of, played, alone, IsHeldAt, IsHeld}
 

@@ -1,6 +1,6 @@
-mod LoadLemmas
+pub mod LoadLemmas
 mod SearchLemmas
-mod MergeLemmas
+pub mod MergeLemmas
 mod WorkLemmas
 mod LaneLemmas
 mod TurnLemmas

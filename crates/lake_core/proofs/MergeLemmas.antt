@@ -1,6 +1,7 @@
 -- Merges: what is planned may be swapped, is small enough to be merged, and its swap is answered as the definitions say.
 use Rattle.std.proofs.Common.{◌≡◌, refl, ap, sym, ◌∙◌, subst, ℕ, ◌+◌, ◌*◌, ◌<◌, ◌≤◌, List, [], ◌∷◌, ◌++◌, Bool, true, false, not, cond, length, take, map, get_or, Option, Some, None, option_map, arith, length-append}
-use Rattle.std.specs.Prelude.{find, sum_by}
+use Rattle.std.specs.Prelude.{find, sum_by, IfOk, Ok, Err}
+use Rattle.std.specs.declared.result.Result.{Result}
 use Rattle.std.specs.List.{fold}
 use Rattle.std.proofs.lemmas.Simd.{map-map}
 use Rattle.std.proofs.lemmas.List.{length-map, map-append, take-append-le, take_all, take_more}
@@ -219,6 +220,13 @@ planned_now policy journal version planned legal current shows plans =
       },
       here,
     )
+
+-- the same of what was planned, if it was
+pub plans_on_ok : {F : Type 0} (policy : Policy) (journal : List Entry) (version : VersionOf) (made : Result Planned F) → is_legal journal ≡ true → version ≡ version_with (length journal) (layout journal)
+    → IfOk made (λ planned. planned.layout ≡ shown_with version.at (shown version.parts)) → IfOk made (λ planned. planned.merged ≡ option_map merge_of (plan_at policy version))
+    → IfOk made (λ planned. IsPlanned policy journal planned × (planned.layout.at ≡ length journal))
+plans_on_ok policy journal version (Ok planned) legal current shows plans = planned_now policy journal version planned legal current shows plans
+plans_on_ok policy journal version (Err e) legal current shows plans = tt
 
 -- ---- the width of tables
 

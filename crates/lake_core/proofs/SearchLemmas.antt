@@ -1,24 +1,44 @@
 -- What is answered at a pin is what the definitions answer at the journal of its version.
 use Rattle.std.proofs.Common.{◌≡◌, refl, ap, sym, ◌∙◌, ℕ, ◌-◌, ◌≤◌, List, length, map, Option, Some, None, Bool, true, false, cond, ◌⊎◌, inl, inr, arith}
-use Rattle.std.specs.Prelude.{find, nat_eq, slice_get}
+use Rattle.std.specs.Prelude.{count_by, find, nat_eq, not, slice_get}
 use Rattle.std.proofs.lemmas.Bool.Decides.{nat_tests}
 use Rattle.std.proofs.lemmas.Simd.{map-map}
-use Rattle.lake_model.specs.Answer.{Query, answer}
+use Rattle.lake_model.specs.Answer.{Query, Row, answer}
 use Rattle.lake_model.specs.Journal.{Entry, live, has_name, live_table}
-use Rattle.lake_model.specs.Layout.{Place, shown, shown_with, unmarked_of}
+use Rattle.lake_model.specs.Layout.{Place, Shown, shown, shown_with, unmarked_of}
 use Rattle.lake_model.specs.Tables.{Column, Table, Line, line_of}
 use Rattle.lake_model.specs.Texts.{Text}
+use Rattle.search_model.specs.declared.Look.{Look}
+use Rattle.search_model.specs.Choosers.{profile}
+use Rattle.search_model.specs.Looks.{is_read, log}
+use Rattle.josie_search.specs.Search.{SearchOf, answer_of, search_with}
 use Rattle.segment_core.specs.declared.column.ColumnRefused.{ColumnRefused}
 use Rattle.segment_core.specs.declared.column.ColumnRefused.TheVariants as refused
 use Rattle.segment_core.specs.Lines.{live_lines}
 use Rattle.segment_core.specs.LiveColumn.{column_fault, column_keys, column_of, fault_in, fault_of, keys_in, keys_of}
 use Rattle.segment_core.specs.Versions.{VersionOf, live_of}
 use Rattle.script_model.specs.Replies.{Found, Listed, search_reply, tables_reply, excepting, like_column, like_table, like_reply}
+use Rattle.script_model.specs.Work.{lists_read, sets_probed}
 use Rattle.lake_core.specs.Searches.{IsPinOf, found_at, column_reply}
 use Rattle.lake_core.proofs.LoadLemmas.{Answers}
 
+-- A reply of what a search gave, and of how much is in its log, is what a query finds at the version.
+pub found_here : (version : VersionOf) (query : Query) (search : SearchOf) (keys reads probes : ℕ) (rows kept : List Row) (looks : List Look) (layout : Shown)
+    → search ≡ search_with version query → keys ≡ length query.keys → rows ≡ answer_of (live_of search.version.parts) search.query → kept ≡ rows
+    → looks ≡ log profile search.query search.version.parts → reads ≡ count_by is_read looks → probes ≡ count_by (λ look. not (is_read look)) looks
+    → layout ≡ shown_with version.at (shown version.parts) → Found keys kept reads probes layout ≡ found_at version query
+unfolding lists_read sets_probed
+found_here version query search keys reads probes rows kept looks layout asked many answered same logged read probed at =
+    let all : kept ≡ answer_of (live_of version.parts) query = same ∙ answered ∙ ap (λ (s : SearchOf). answer_of (live_of s.version.parts) s.query) asked in
+    let entries : looks ≡ log profile query version.parts = logged ∙ ap (λ (s : SearchOf). log profile s.query s.version.parts) asked in
+    let lists : reads ≡ count_by is_read (log profile query version.parts) = read ∙ ap (λ (ls : List Look). count_by is_read ls) entries in
+    let sets : probes ≡ count_by (λ look. not (is_read look)) (log profile query version.parts) = probed ∙ ap (λ (ls : List Look). count_by (λ look. not (is_read look)) ls) entries in
+    λ i. Found (many i) (all i) (lists i) (sets i) (at i)
+
 pub found_now : (version : VersionOf) (journal : List Entry) (query : Query) → IsPinOf journal version → found_at version query ≡ search_reply query journal
-found_now version journal query is = λ i. Found (length query.keys) (answer (is.searched i) query.keys query.k query.except) (shown_with (is.current i).at (shown (is.current i).parts))
+found_now version journal query is = λ i.
+    Found (length query.keys) (answer (is.searched i) query.keys query.k query.except) (lists_read query (is.current i).parts) (sets_probed query (is.current i).parts)
+    (shown_with (is.current i).at (shown (is.current i).parts))
 
 pub listed_now : (version : VersionOf) (journal : List Entry) (lines : List Line) (at : ℕ) → IsPinOf journal version → lines ≡ live_lines version.parts → at ≡ version.at
     → Listed lines at ≡ tables_reply journal

@@ -1,18 +1,14 @@
--- The work of a batch: its commands, and the merger's behind them.
-use Rattle.std.proofs.Common.{◌≡◌, refl, ap, sym, ◌∙◌, subst, ℕ, zero, suc, ◌+◌, ◌<◌, ◌≤◌, List, [], ◌∷◌, ◌++◌, append-nil, append_assoc, length, get_or, Bool, true, false, cond, map, Option, Some, None, arith}
+-- The lanes of the work of a batch: its commands, and the merger's behind them.
+use Rattle.std.proofs.Common.{◌≡◌, refl, ap, sym, ◌∙◌, subst, ℕ, zero, suc, ◌+◌, ◌<◌, ◌≤◌, [], ◌∷◌, ◌++◌, append-nil, Bool, true, false, cond, map, Option, Some, None, arith}
 use Rattle.std.specs.Prelude.{◌==◌, filter}
 use Rattle.std.specs.List.{AllByRecursion, range_with_len}
 use Rattle.std.proofs.lemmas.Bool.Decides.{nat_tests}
-use Rattle.std.proofs.lemmas.List.{get_or-map, length-map, map-append}
 use Rattle.std.proofs.lemmas.List.Elements.{filter-append}
-use Rattle.std.proofs.lemmas.List.FromFn.{map-range_with_len_more}
 use Rattle.layout_laws.proofs.ListLemmas.{all_append, all_weaker}
 use Rattle.script_model.specs.Commands.{Command, command_with, Batch, Merge}
 use Rattle.script_model.specs.Lanes.{IsOfLanes}
 use Rattle.script_model.specs.Play.{lane_with, lane_of, lanes_of, merges_of, updates}
-use Rattle.lake_core.specs.declared.work.Work.{Work}
-use Rattle.lake_core.specs.declared.work.Work.TheVariants as work
-use Rattle.lake_core.specs.Works.{IsWithinLanes, work_of, works_of}
+use Rattle.batch_work.specs.Works.{IsWithinLanes}
 
 -- ---- the merger's commands
 
@@ -72,23 +68,3 @@ lanes_shared n merger batch works are is =
     let next : n + 1 ≡ suc n = omega arith in
     (λ i. map (lane_of (is i)) (range_with_len 0 (next i)))
     ∙ (λ i. merger_lane n batch merges are (mergers merger batch) i ∷ other_lanes 1 n batch merges (omega arith) (mergers merger batch) i)
-
--- ---- the work as a list
-
-pub work_at : (works : List Work) (n : ℕ) (item : Work) → item ≡ get_or works n item → n < length works → work_of item ≡ get_or (works_of works) n (work_of item)
-work_at works n item is within = ap work_of is ∙ sym (get_or-map work_of works n item (work_of item) within)
-
-pub works_long : (works : List Work) → length (works_of works) ≡ length works
-works_long works = length-map works work_of
-
--- the merger's commands, of which one more is added
-abbrev merges_from : ℕ → ℕ → Batch
-merges_from first count = map (λ n. command_with n 0 (Merge false)) (range_with_len first count)
-
-pub merge_more : (first added : ℕ) (front : Batch) (works later : List Work) → works_of works ≡ front ++ merges_from first added → later ≡ works ++ work.Merge (first + added) ∷ []
-    → works_of later ≡ front ++ merges_from first (added + 1)
-merge_more first added front works later so_far pushed =
-    ap works_of pushed ∙ map-append work_of works (work.Merge (first + added) ∷ [])
-    ∙ ap (λ (cs : Batch). cs ++ command_with (first + added) 0 (Merge false) ∷ []) so_far
-    ∙ append_assoc front (merges_from first added) (command_with (first + added) 0 (Merge false) ∷ [])
-    ∙ ap (λ (cs : Batch). front ++ cs) (sym (map-range_with_len_more (λ n. command_with n 0 (Merge false)) first added (first + added) refl))

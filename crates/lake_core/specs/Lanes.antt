@@ -9,7 +9,7 @@ use Rattle.lake_core.specs.declared.lane.Held.{Held}
 use Rattle.lake_core.specs.declared.lane.Held.TheVariants.{At, Swap, Denied}
 use Rattle.lake_core.specs.Merging.{IsPlanned}
 use Rattle.lake_core.specs.Searches.{IsPinOf}
-use Rattle.lake_core.specs.Works.{merge_policy}
+use Rattle.batch_work.specs.Works.{merge_policy}
 
 -- a lane: the commands still to do, what is held for the first of them, and what is done
 pub record LaneOf : Type 0 where

@@ -1,4 +1,3 @@
-pub mod Works
 pub mod Merging
 pub mod Loads
 pub mod Drops

@@ -5,12 +5,12 @@ ghost use Rattle.script_model.specs.Lanes.{IsOfLanes};
 ghost use Rattle.script_model.specs.Play.{answers_of, batch_after, gathered, merges_of, play, record_after, updates, whole_order};
 ghost use Rattle.lake_core.specs.Lanes.{AreShared, done_in, lane_from, play_of};
 ghost use Rattle.lake_core.specs.Plays.{Goes, IsReady, state_with};
-ghost use Rattle.lake_core.specs.Works.{works_of, IsWithinLanes};
+ghost use Rattle.batch_work.specs.Works.{works_of, IsWithinLanes};
 ghost use Rattle.lake_model.specs.Journal.{standard_limits};
 ghost use Rattle.catalogue.specs.Kept.{IsWithin};
 
 use crate::lane::Lane;
-use crate::work::{Work, works_of};
+use batch_work::{Work, works_of};
 use catalogue::Catalogue;
 use no_memory::NoMemory;
 use reply_text::{Answered, RunRecord};

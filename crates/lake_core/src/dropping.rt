@@ -12,8 +12,8 @@ use catalogue::{Catalogue, DropRefused, Entry, Who};
 use column_set::Name;
 use reply_text::{Reply, RunRecord};
 
-// The reply to the drop of this name that the catalogue refuses.
-fn reply_to_drop(refused: DropRefused, name: Name) -> Reply
+/// The reply to the drop of this name that the catalogue refuses.
+pub fn reply_to_drop(refused: DropRefused, name: Name) -> Reply
     ensures { reply_of result ≡ drop_refusal_reply name refused }
 {
     match refused {

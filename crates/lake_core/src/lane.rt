@@ -11,13 +11,13 @@ ghost use Rattle.reply_text.specs.Replies.{reply_of};
 ghost use Rattle.lake_core.specs.Lanes.{alone, lane_from, position_of, IsHeld, IsHeldAt};
 ghost use Rattle.lake_core.specs.Loads.{with_added};
 ghost use Rattle.lake_core.specs.Searches.{IsPinOf};
-ghost use Rattle.lake_core.specs.Works.{merge_policy, work_of};
+ghost use Rattle.batch_work.specs.Works.{merge_policy, work_of};
 
 use crate::dropping::drop_table;
 use crate::loading::{load, load_file};
 use crate::merging::{Planned, plan_now, swap};
 use crate::searching::finish;
-use crate::work::Work;
+use batch_work::{Done, Work, next_answer};
 use catalogue::Catalogue;
 use lake_model::Policy;
 use no_memory::NoMemory;
@@ -39,23 +39,6 @@ pub enum Held {
     Denied { at: u64 },
 }
 
-/// What was done, with its reply.
-#[derive(Drop)]
-pub struct Done<'a> {
-    work: Work<'a>,
-    reply: Reply,
-}
-
-impl<'a> Model for Done<'a> {
-    ghost use Rattle.script_model.specs.Play.{Done as DoneOf, done_with};
-    ghost use Rattle.reply_text.specs.Replies.{reply_of};
-    ghost use Rattle.lake_core.specs.Works.{work_of};
-
-    ghost Value = { DoneOf };
-
-    ghost view = { λ d. done_with (work_of d.work) (reply_of d.reply) };
-}
-
 /// A lane of a batch. There is room for what is done of the work still to do.
 #[derive(Drop)]
 pub struct Lane<'a> {
@@ -68,7 +51,7 @@ impl<'a> Model for Lane<'a> {
     ghost use Rattle.std.specs.Prelude.{◌+◌, ◌≤◌, length, map};
     ghost use Rattle.std.specs.VecDeque.{deque_capacity};
     ghost use Rattle.lake_core.specs.Lanes.{LaneOf, lane_from};
-    ghost use Rattle.lake_core.specs.Works.{work_of};
+    ghost use Rattle.batch_work.specs.Works.{work_of};
 
     ghost Value = { LaneOf };
 
@@ -237,7 +220,7 @@ impl<'a> Lane<'a> {
     {
         self.held = None;
         if let Some(work) = self.todo.pop_front() {
-            self.done.push_back_reserved(Done { work, reply });
+            self.done.push_back_reserved(Done::new(work, reply));
         }
     }
 
@@ -276,10 +259,6 @@ impl<'a> Lane<'a> {
         ensures answer { option_to_list result ≡ answers_of (take 1 self.old.done) }
         ensures rest { self.new ≡ lane_from self.old.todo self.old.held (drop 1 self.old.done) }
     {
-        let Done { work, reply } = self.done.pop_front()?;
-        Some(Answered {
-            by: work.by(),
-            reply,
-        })
+        next_answer(&mut self.done)
     }
 }

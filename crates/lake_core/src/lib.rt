@@ -7,11 +7,14 @@ mod lane;
 mod loading;
 mod merging;
 mod searching;
-mod work;
 
 pub use driving::drive;
-pub use loading::{Loadable, make_table, make_table_of_file};
+pub use dropping::reply_to_drop;
+pub use loading::{Loadable, make_table, make_table_of_file, reply_to_load};
+pub use merging::{Planned, plan_pinned};
 pub use searching::finish;
 
+#[cfg(test)]
+mod meter_tests;
 #[cfg(test)]
 mod tests;

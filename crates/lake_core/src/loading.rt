@@ -114,8 +114,8 @@ fn reply_to_sets(refused: SetRefused) -> Reply
     }
 }
 
-// The reply to a table of this name that the catalogue refuses.
-fn reply_to_load(refused: LoadRefused, name: Name) -> Reply
+/// The reply to a table of this name that the catalogue refuses.
+pub fn reply_to_load(refused: LoadRefused, name: Name) -> Reply
     ensures { reply_of result ≡ refusal_reply name refused }
 {
     match refused {

@@ -1,8 +1,10 @@
 //! Merges: the plan at a pin with what comes of it, and the swap, which may come later.
-ghost use Rattle.std.specs.Prelude.{◌≡◌, ◌≤◌, ◌<◌, ◌+◌, ◌*◌, Bool, length, sum_by, IfOk};
+ghost use Rattle.std.specs.Prelude.{◌≡◌, ◌≤◌, ◌<◌, ◌+◌, ◌*◌, Bool, length, sum_by, option_map, IfOk, Some};
 ghost use Rattle.lake_model.specs.Journal.{entry_with, standard_limits, Swapped};
 ghost use Rattle.lake_model.specs.Tables.{members};
-ghost use Rattle.segment_merge.specs.Planned.{load_tables};
+ghost use Rattle.lake_model.specs.Layout.{shown, shown_with};
+ghost use Rattle.segment_core.specs.Plans.{PlanOf};
+ghost use Rattle.segment_merge.specs.Planned.{load_tables, plan_at};
 ghost use Rattle.catalogue.specs.Kept.{IsWithin};
 ghost use Rattle.catalogue.specs.Swaps.{numbers_in};
 ghost use Rattle.script_model.specs.Play.{reply_or_denied};
@@ -15,7 +17,7 @@ use column_set::SharedTable;
 use lake_model::Policy;
 use no_memory::NoMemory;
 use reply_text::{Reply, RunRecord};
-use segment_core::{Layout, Merged, Numbers, Plan};
+use segment_core::{Layout, Merged, Numbers, Pin, Plan};
 use segment_merge::{merge, plan};
 use std::alloc::Global;
 
@@ -36,16 +38,27 @@ pub(crate) fn plan_now(
     ensures { IfOk result (λ planned. IsPlanned policy catalogue.now.journal planned × (planned.layout.at ≡ length catalogue.now.journal)) }
 {
     let pin = catalogue.pin()?;
+    // What is known of the journal and of its counts says that the plan is small enough.
+    let _legal = catalogue.journal();
+    let _within = catalogue.counts();
+    plan_pinned(alloc, &pin, policy)
+}
+
+/// Plans a merge of the version that a pin holds, and builds the segment of what it keeps. The plan keeps no more tables and members
+/// than a lake may have.
+pub fn plan_pinned(alloc: Global, pin: &Pin, policy: Policy) -> Result<Planned, NoMemory>
+    requires few { (plan : PlanOf) → plan_at policy pin.now ≡ Some plan → length plan.kept ≤ 65536 }
+    requires light { (plan : PlanOf) → plan_at policy pin.now ≡ Some plan → sum_by members (load_tables plan.kept) ≤ 16777216 }
+    ensures layout { IfOk result (λ planned. planned.layout ≡ shown_with pin.now.at (shown pin.now.parts)) }
+    ensures merged { IfOk result (λ planned. planned.merged ≡ option_map merge_of (plan_at policy pin.now)) }
+{
     let layout = pin.layout(alloc)?;
-    let Some(plan) = plan(alloc, &pin, policy)? else {
+    let Some(plan) = plan(alloc, pin, policy)? else {
         return Ok(Planned {
             layout,
             merged: None,
         });
     };
-    // What is known of the journal and of its counts says that the plan is small enough.
-    let _legal = catalogue.journal();
-    let _within = catalogue.counts();
     let merged = Some(merge_few(alloc, plan)?);
     Ok(Planned { layout, merged })
 }

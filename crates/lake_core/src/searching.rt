@@ -8,10 +8,11 @@ ghost use Rattle.script_model.specs.Answered.{answer_to, is_update_task, query_r
 ghost use Rattle.script_model.specs.Play.{reply_or_denied};
 ghost use Rattle.script_text.specs.Tasks.{IsTaskInRange, task_of};
 ghost use Rattle.lake_core.specs.Searches.{column_reply, found_at, IsPinOf};
-ghost use Rattle.lake_core.specs.Works.{merge_policy};
+ghost use Rattle.batch_work.specs.Works.{merge_policy};
 ghost use Rattle.reply_text.specs.Replies.{reply_of};
 
 use column_set::{Name, QueryRefused, QuerySet};
+use cost_model::Profile;
 use josie_search::prepare;
 use no_memory::NoMemory;
 use reply_text::Reply;
@@ -42,7 +43,7 @@ fn reply_to_column(refused: ColumnRefused, name: &Name, place: u32, at: u64) -> 
     }
 }
 
-// What a query finds at a pin, with the columns of the excepted table left out.
+// What a query finds at a pin, with the columns of the excepted table left out, and what it read for that.
 fn find(
     alloc: Global,
     pin: &Pin,
@@ -56,10 +57,12 @@ fn find(
 {
     let layout = pin.layout(alloc)?;
     let prepared = prepare(alloc, pin.looks(alloc), query, k, except)?;
-    let answer = prepared.run();
+    let answer = prepared.run(&Profile);
     Ok(Reply::Found {
         query: query.len(),
         rows: answer.rows.keep_all(alloc)?,
+        reads: answer.looks.reads(),
+        probes: answer.looks.probes(),
         layout,
     })
 }

@@ -30,11 +30,14 @@ fn push_sums(sums: Sums, into: &mut Vec<u8>) -> Result<(), NoMemory>
     push_sum("\nanswers ", sums.answers, into)?;
     push_sum(" rows ", sums.rows, into)?;
     push_sum(" overlap ", sums.overlap, into)?;
+    push_sum("\nreads ", sums.reads, into)?;
+    push_sum(" probes ", sums.probes, into)?;
     push_bytes(b"\n", into)
 }
 
-/// Appends the summary of a record: how many loads were accepted and their members, how many swaps, and how many searches were
-/// answered, their rows and the overlaps of these. Where memory is wanting, the text stands as it was.
+/// Appends the summary of a record: how many loads were accepted and their members, how many swaps, how many searches were answered,
+/// their rows and the overlaps of these, and how many posting lists these searches read and how many sets they probed. Where memory is
+/// wanting, the text stands as it was.
 pub fn write_summary(of: &RunRecord, into: &mut Vec<u8>) -> Result<(), NoMemory>
     ensures ok { OnOk result (into.new.items ≡ into.old.items ++ summary of.now.made) }
     ensures err { OnErr result (into.new.items ≡ into.old.items) }

@@ -7,8 +7,8 @@ use column_set::KeptRow;
 use no_memory::NoMemory;
 use reply_text::{Answered, Reply};
 
-// What came of a made lake: accepted loads and their members, accepted swaps, and the searches that were answered, their rows and the
-// overlaps of these.
+// What came of a made lake: accepted loads and their members, accepted swaps, the searches that were answered, their rows and the
+// overlaps of these, and the posting lists that these searches read and the sets that they probed.
 #[derive(Clone, Copy)]
 pub(crate) struct Sums {
     pub(crate) tables: u128,
@@ -17,6 +17,8 @@ pub(crate) struct Sums {
     pub(crate) answers: u128,
     pub(crate) rows: u128,
     pub(crate) overlap: u128,
+    pub(crate) reads: u128,
+    pub(crate) probes: u128,
 }
 
 // Nothing came of it.
@@ -27,6 +29,8 @@ const NONE: Sums = Sums {
     answers: 0,
     rows: 0,
     overlap: 0,
+    reads: 0,
+    probes: 0,
 };
 
 // The overlaps of rows.
@@ -47,10 +51,17 @@ fn sums_in(reply: &Reply) -> Sums
             ..NONE
         },
         Reply::Merged { .. } => Sums { merges: 1, ..NONE },
-        Reply::Found { rows, .. } => Sums {
+        Reply::Found {
+            rows,
+            reads,
+            probes,
+            ..
+        } => Sums {
             answers: 1,
             rows: rows.list().len() as u128,
             overlap: overlap_of(rows.list()),
+            reads: u128::from(*reads),
+            probes: u128::from(*probes),
             ..NONE
         },
         _ => NONE,
@@ -75,6 +86,8 @@ fn add(these: Sums, those: Sums) -> Result<Sums, NoMemory>
         answers: plus(these.answers, those.answers)?,
         rows: plus(these.rows, those.rows)?,
         overlap: plus(these.overlap, those.overlap)?,
+        reads: plus(these.reads, those.reads)?,
+        probes: plus(these.probes, those.probes)?,
     })
 }
 

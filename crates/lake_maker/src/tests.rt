@@ -23,7 +23,7 @@ fn first_table_of_seed_0(rt: HostRuntime) -> Result<(), Fail> {
 fn summary_of_nothing(rt: HostRuntime) -> Result<(), Fail> {
     let mut text = Vec::new(rt.alloc());
     write_summary(&RunRecord::new(rt.alloc()), &mut text)?;
-    let wanted = "tables 0\nmembers 0\nmerges 0\nanswers 0 rows 0 overlap 0\n";
+    let wanted = "tables 0\nmembers 0\nmerges 0\nanswers 0 rows 0 overlap 0\nreads 0 probes 0\n";
     assert_eq!(rt; text.as_slice(), wanted.as_bytes());
     Ok(())
 }

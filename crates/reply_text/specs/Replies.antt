@@ -11,7 +11,7 @@ abbrev pub reply_of : Declared → Reply
 reply_of (Loaded name columns members at) = model.Loaded name columns members at
 reply_of (Dropped name at) = model.Dropped name at
 reply_of (Listed tables at) = model.Listed tables at
-reply_of (Found query rows layout) = model.Found query rows layout
+reply_of (Found query rows reads probes layout) = model.Found query rows reads probes layout
 reply_of (Merged layout parts tables at) = model.Merged layout parts tables at
 reply_of NoHeader = model.NoHeader
 reply_of (TooManyColumns got) = model.TooManyColumns got

@@ -1,5 +1,5 @@
 //! The first line of each reply: the number of its command, and the words that say what it is answered.
-ghost use Rattle.std.specs.Prelude.{◌≡◌, ◌++◌, OnOk};
+ghost use Rattle.std.specs.Prelude.{◌≡◌, ◌++◌, ℕ, OnOk};
 ghost use Rattle.script_model.specs.Replies as model;
 ghost use Rattle.reply_text.specs.Keeping.{Keeps};
 ghost use Rattle.reply_text.specs.Replies.{first_line, reply_of};
@@ -76,7 +76,7 @@ fn push_found(
     layout: &Layout,
     into: &mut Vec<u8>,
 ) -> Result<(), NoMemory>
-    ensures ok { OnOk result (into.new.items ≡ into.old.items ++ first_line number (model.Found query rows.now layout.now)) }
+    ensures ok { (reads probes : ℕ) → OnOk result (into.new.items ≡ into.old.items ++ first_line number (model.Found query rows.now reads probes layout.now)) }
     ensures kept { Keeps into.old.items into.new.items }
 {
     let words = [
@@ -133,6 +133,7 @@ pub fn push_first_line(number: u64, reply: &Reply, into: &mut Vec<u8>) -> Result
             query,
             rows,
             layout,
+            ..
         } => push_found(number, *query, rows, layout, into),
         Reply::Merged {
             layout,

@@ -24,10 +24,13 @@ pub enum Reply {
         tables: TableLines,
         at: u64,
     },
-    /// The rows that answer a query of `query` keys, over the layout that was searched.
+    /// The rows that answer a query of `query` keys, over the layout that was searched. For them `reads` posting lists were read and
+    /// `probes` sets probed.
     Found {
         query: u32,
         rows: KeptRows,
+        reads: u64,
+        probes: u64,
         layout: Layout,
     },
     /// The `parts` parts that were planned gave way to one of `tables` tables, or to none where `tables` is 0, by the entry numbered

@@ -67,11 +67,13 @@ fn layout(alloc: Global, at: u64, parts: &[(u64, &[(u64, bool)])]) -> Result<Lay
     Ok(Layout::new(at, held))
 }
 
-// A reply with no row, found for a query of one key in this layout.
+// A reply with no row, found for a query of one key in this layout, of which two lists were read.
 fn nothing_found(alloc: Global, layout: Layout) -> Reply {
     Reply::Found {
         query: 1,
         rows: KeptRows::new(Vec::new(alloc)),
+        reads: 2,
+        probes: 0,
         layout,
     }
 }
@@ -130,6 +132,8 @@ fn rows_are_lines_and_column_names_are_quoted(rt: HostRuntime) -> Result<(), Fai
     let found = Reply::Found {
         query: 3,
         rows: KeptRows::new(rows),
+        reads: 1,
+        probes: 1,
         layout: Layout::new(18446744073709551615, Vec::new(alloc)),
     };
     let wanted =
@@ -248,7 +252,7 @@ fn text_begins_at_an_answer_and_leaves_out_the_merger(rt: HostRuntime) -> Result
 }
 
 #[test]
-fn layout_stands_behind_the_rows_of_a_traced_answer(rt: HostRuntime) -> Result<(), Fail> {
+fn work_and_layout_stand_behind_the_rows_of_a_traced_answer(rt: HostRuntime) -> Result<(), Fail> {
     let alloc = rt.alloc();
     let city = row(alloc, 2, Name::read(b"t1").ok_or("no name")?, "city")?;
     let mut rows = Vec::new(alloc);
@@ -256,9 +260,12 @@ fn layout_stands_behind_the_rows_of_a_traced_answer(rt: HostRuntime) -> Result<(
     let found = Reply::Found {
         query: 3,
         rows: KeptRows::new(rows),
+        reads: 12,
+        probes: 3,
         layout: layout(alloc, 1, &[(1, &[(1, false)])])?,
     };
-    let wanted = "7 answer 1 of 3 at 1\n  2 t1 2 \"city\"\n  layout at 1 parts 1:1\n";
+    let wanted =
+        "7 answer 1 of 3 at 1\n  2 t1 2 \"city\"\n  work reads 12 probes 3\n  layout at 1 parts 1:1\n";
     traces(&rt, found, wanted)?;
     Ok(())
 }
@@ -270,19 +277,19 @@ fn a_layout_shows_its_parts_and_marks_or_none(rt: HostRuntime) -> Result<(), Fai
     traces(
         &rt,
         nothing_found(alloc, dropped),
-        "7 answer 0 of 1 at 3\n  layout at 3 parts 1:1- 3:3\n",
+        "7 answer 0 of 1 at 3\n  work reads 2 probes 0\n  layout at 3 parts 1:1- 3:3\n",
     )?;
     let merged = layout(alloc, 5, &[(4, &[(1, false), (2, true), (3, false)])])?;
     traces(
         &rt,
         nothing_found(alloc, merged),
-        "7 answer 0 of 1 at 5\n  layout at 5 parts 4:1,2-,3\n",
+        "7 answer 0 of 1 at 5\n  work reads 2 probes 0\n  layout at 5 parts 4:1,2-,3\n",
     )?;
     let none = layout(alloc, 3, &[])?;
     traces(
         &rt,
         nothing_found(alloc, none),
-        "7 answer 0 of 1 at 3\n  layout at 3 parts none\n",
+        "7 answer 0 of 1 at 3\n  work reads 2 probes 0\n  layout at 3 parts none\n",
     )?;
     Ok(())
 }

@@ -1,6 +1,6 @@
 //! The text of a record: of its answers, of what a trace adds to them, and of its journal.
 ghost use Rattle.std.specs.Prelude.{◌≡◌, ◌++◌, false, flat_map, map, true, OnErr, OnOk};
-ghost use Rattle.script_model.specs.Texts.{answer_lines, answers_text, line_text, more_lines, row_line, table_line, text_behind, trace_lines, written_lines};
+ghost use Rattle.script_model.specs.Texts.{answer_lines, answers_text, layout_line, line_text, more_lines, row_line, table_line, text_behind, trace_lines, work_line, written_lines};
 ghost use Rattle.lake_model.specs.Tables.{line_with};
 ghost use Rattle.segment_core.specs.Lines.{line_from};
 ghost use Rattle.reply_text.specs.Keeping.{Keeps};
@@ -15,6 +15,7 @@ use crate::words::Word::{Number, Quoted, Text};
 use crate::words::{merger_mark, push_bytes, push_line, push_words};
 use column_set::{KeptRow, Name};
 use no_memory::NoMemory;
+use segment_core::Layout;
 
 // `  OVERLAP TABLE PLACE "COLUMN"`
 fn push_row(row: &KeptRow, into: &mut Vec<u8>) -> Result<(), NoMemory>
@@ -80,14 +81,43 @@ fn push_more_lines(reply: &Reply, into: &mut Vec<u8>) -> Result<(), NoMemory>
     }
 }
 
-// The lines that a trace puts behind a reply: the layout that was searched, or in which a merge was planned.
+// `  work reads A probes B`
+fn push_work(reads: u64, probes: u64, into: &mut Vec<u8>) -> Result<(), NoMemory>
+    ensures ok { OnOk result (into.new.items ≡ into.old.items ++ line_text (work_line reads probes)) }
+    ensures kept { Keeps into.old.items into.new.items }
+{
+    let words = [Text("probes"), Number(probes)];
+    push_line("  work reads ", reads, &words, into)
+}
+
+// The lines that a trace puts behind the rows of a search: what it read, and the layout that it searched.
+fn push_found_trace(
+    reads: u64,
+    probes: u64,
+    layout: &Layout,
+    into: &mut Vec<u8>,
+) -> Result<(), NoMemory>
+    ensures ok { OnOk result (into.new.items ≡ into.old.items ++ line_text (work_line reads probes) ++ line_text (layout_line layout.now)) }
+    ensures kept { Keeps into.old.items into.new.items }
+{
+    push_work(reads, probes, into)?;
+    push_layout(layout, into)
+}
+
+// The lines that a trace puts behind a reply: what a search read and the layout that it searched, or the layout in which a merge was
+// planned.
 fn push_trace_lines(reply: &Reply, into: &mut Vec<u8>) -> Result<(), NoMemory>
     ensures ok { OnOk result (into.new.items ≡ into.old.items ++ flat_map line_text (trace_lines (reply_of reply.now))) }
     ensures kept { Keeps into.old.items into.new.items }
 {
     match reply {
-        Reply::Found { layout, .. }
-        | Reply::Merged { layout, .. }
+        Reply::Found {
+            reads,
+            probes,
+            layout,
+            ..
+        } => push_found_trace(*reads, *probes, layout, into),
+        Reply::Merged { layout, .. }
         | Reply::NothingToMerge { layout }
         | Reply::Stale { layout, .. } => push_layout(layout, into),
         _ => Ok(()),
@@ -154,8 +184,8 @@ fn push_text(of: &RunRecord, first: usize, trace: bool, into: &mut Vec<u8>) -> R
 /// Appends the text of the answers of a record from an index on, which counts from 0: for each, a line with the number of the
 /// command and what it is answered, and behind that a line for each table or row. Where memory is wanting, the text stands as it was.
 ///
-/// With a trace, the merger's answers are written too, the layout stands behind each answer to a search or a merge, and the journal
-/// stands behind the answers where the source was read to its end.
+/// With a trace, the merger's answers are written too, what it read stands behind each answer to a search, the layout behind each answer
+/// to a search or a merge, and the journal behind the answers where the source was read to its end.
 pub fn write_replies(
     of: &RunRecord,
     first: usize,

@@ -127,7 +127,7 @@ abbrev pub standing : Reply → Standing
 standing (Loaded name columns members at) = Added at
 standing (Dropped name at) = Added at
 standing (Listed tables at) = Saw at
-standing (Found query rows layout) = Saw layout.at
+standing (Found query rows reads probes layout) = Saw layout.at
 standing (Merged layout parts tables at) = PlannedAndAdded layout.at at
 standing (Repeated name at) = Saw at
 standing (Unknown name at) = Saw at

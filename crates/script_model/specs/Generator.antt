@@ -82,27 +82,37 @@ merges_in (Merged layout parts tables at) = 1
 merges_in reply = 0
 
 abbrev pub answers_in : Reply → ℕ
-answers_in (Found query rows layout) = 1
+answers_in (Found query rows reads probes layout) = 1
 answers_in reply = 0
 
 abbrev pub rows_in : Reply → ℕ
-rows_in (Found query rows layout) = length rows
+rows_in (Found query rows reads probes layout) = length rows
 rows_in reply = 0
 
 abbrev pub overlap_in : Reply → ℕ
-overlap_in (Found query rows layout) = sum_by (λ row. row.overlap) rows
+overlap_in (Found query rows reads probes layout) = sum_by (λ row. row.overlap) rows
 overlap_in reply = 0
+
+abbrev pub reads_in : Reply → ℕ
+reads_in (Found query rows reads probes layout) = reads
+reads_in reply = 0
+
+abbrev pub probes_in : Reply → ℕ
+probes_in (Found query rows reads probes layout) = probes
+probes_in reply = 0
 
 abbrev pub summed : (Reply → ℕ) → List Answered → ℕ
 summed count answers = sum_by (λ answer. count answer.reply) answers
 
--- accepted loads and their members, accepted swaps, and the searches that were answered, their rows and the overlaps of these
+-- accepted loads and their members, accepted swaps, the searches that were answered, their rows and the overlaps of these, and the posting
+-- lists that these searches read and the sets that they probed
 abbrev pub summary_lines : List Answered → List Text
 summary_lines answers =
     spaced (codes "tables" ∷ decimal (summed loads_in answers) ∷ [])
     ∷ spaced (codes "members" ∷ decimal (summed members_in answers) ∷ [])
     ∷ spaced (codes "merges" ∷ decimal (summed merges_in answers) ∷ [])
     ∷ spaced (codes "answers" ∷ decimal (summed answers_in answers) ∷ codes "rows" ∷ decimal (summed rows_in answers) ∷ codes "overlap" ∷ decimal (summed overlap_in answers) ∷ [])
+    ∷ spaced (codes "reads" ∷ decimal (summed reads_in answers) ∷ codes "probes" ∷ decimal (summed probes_in answers) ∷ [])
     ∷ []
 
 abbrev pub summary : RunRecord → Text

@@ -3,6 +3,7 @@ pub mod Commands
 pub mod Saying
 pub mod Reading
 pub mod Script
+pub mod Work
 pub mod Replies
 pub mod Answered
 pub mod Record

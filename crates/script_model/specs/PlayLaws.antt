@@ -1,11 +1,12 @@
 -- The laws of play.
-use Rattle.std.specs.Prelude.{ℕ, ◌+◌, ◌≡◌, Bool, List, [], ◌∷◌, ◌++◌, get_or, length, sum_by}
+use Rattle.std.specs.Prelude.{ℕ, ◌+◌, ◌==◌, ◌≡◌, Bool, false, List, [], ◌∷◌, ◌++◌, get_or, length, sum_by}
 use Rattle.std.specs.List.{AllByRecursion}
 use Rattle.lake_model.specs.declared.Counts.{Counts}
+use Rattle.lake_model.specs.Journal.{Entry}
 use Rattle.script_model.specs.Commands.{Command, Batch}
 use Rattle.script_model.specs.Record.{Options, RunRecord}
-use Rattle.script_model.specs.Play.{IsPlayed, batch_after, merger_commands, played_from, updates}
-use Rattle.script_model.specs.Right.{IsRecordRight}
+use Rattle.script_model.specs.Play.{Done, IsPlayed, batch_after, merger_commands, played_from, updates}
+use Rattle.script_model.specs.Right.{IsRecordRight, IsRight}
 use Rattle.script_model.specs.InTurn.{after_command, in_turn, with_sync, IsOneLane}
 use Rattle.script_model.specs.Lanes.{IsOfLanes}
 
@@ -30,3 +31,13 @@ BatchesGoOn = (limits : Counts) (lanes : ℕ) (merge : Bool) (next : ℕ) (batch
     → length denials ≡ length batches
     → played_from limits lanes merge next (batches ++ batch ∷ []) pieces (denials ++ turns ∷ []) before
     ≡ batch_after limits lanes batch (merger_commands merge (next + sum_by updates batches) batch) (get_or pieces (length batches) []) turns (played_from limits lanes merge next batches pieces denials before)
+
+-- Answers of a lane that are right stay right when entries of other callers come behind.
+abbrev pub AnswersStayRight : Type 0
+AnswersStayRight = (limits : Counts) (lane : ℕ) (before behind more : List Entry) (done : List Done) → AllByRecursion (λ e. (e.who.caller == lane) ≡ false) more
+    → IsRight limits lane before behind done → IsRight limits lane before (behind ++ more) done
+
+-- Two lists of a lane's answers, the one right up to a journal and the other from it on, are right in a row.
+abbrev pub AnswersGoOn : Type 0
+AnswersGoOn = (limits : Counts) (lane : ℕ) (before behind more : List Entry) (done later : List Done) → IsRight limits lane before behind done
+    → IsRight limits lane (before ++ behind) more later → IsRight limits lane before (behind ++ more) (done ++ later)

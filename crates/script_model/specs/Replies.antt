@@ -17,12 +17,13 @@ use Rattle.lake_model.specs.Limits.{Bounded, is_passed, load_bounds, drop_bounds
 use Rattle.lake_model.specs.Layout.{Part, Shown, layout, shown_layout, unmarked_of}
 use Rattle.lake_model.specs.Plan.{planned_parts}
 use Rattle.layout_laws.specs.Steps.{has_part}
+use Rattle.script_model.specs.Work.{lists_read, sets_probed}
 
 pub data Reply : Type 0 where
   Loaded : (name : Text) (columns members at : ℕ) → Reply
   Dropped : (name : Text) (at : ℕ) → Reply
   Listed : (tables : List Line) (at : ℕ) → Reply
-  Found : (query : ℕ) (rows : List Row) (layout : Shown) → Reply
+  Found : (query : ℕ) (rows : List Row) (reads probes : ℕ) (layout : Shown) → Reply
   Merged : (layout : Shown) (parts tables at : ℕ) → Reply
   Repeated : (name : Text) (at : ℕ) → Reply
   Unknown : (name : Text) (at : ℕ) → Reply
@@ -98,7 +99,9 @@ abbrev pub tables_reply : List Entry → Reply
 tables_reply journal = Listed (map line_of (live journal)) (length journal)
 
 abbrev pub search_reply : Query → List Entry → Reply
-search_reply query journal = Found (length query.keys) (answer (live journal) query.keys query.k query.except) (shown_layout journal)
+search_reply query journal =
+    let parts = layout journal in
+    Found (length query.keys) (answer (live journal) query.keys query.k query.except) (lists_read query parts) (sets_probed query parts) (shown_layout journal)
 
 abbrev pub excepting : Text → ℕ → List Text → Query
 excepting name k keys = record { keys = keys; k = k; except = Some name }

@@ -1,13 +1,13 @@
 -- The table of statuses: what holds behind a run of each status, of the bytes that the source gave, of what it has left where that is told,
 -- of the outcomes of the fetches, of the bytes that the sink took, and of the record. `came` says of paths that these outcomes came of them.
-use Rattle.std.specs.Prelude.{ℕ, ◌-◌, ◌≡◌, ◌⊎◌, ⊤, Bool, true, false, if◌then◌else◌, List, [], ◌∷◌, ◌++◌, ◌+◌, length, take, sum_by, Option, Some, None}
+use Rattle.std.specs.Prelude.{ℕ, ◌-◌, ◌≡◌, ◌≤◌, ◌⊎◌, ⊤, Bool, true, false, if◌then◌else◌, List, [], ◌∷◌, ◌++◌, ◌+◌, length, take, count_by, sum_by, Option, Some, None, MatchOption}
 use Rattle.std.specs.Io.KnownBytes.{IsAtEnd}
 use Rattle.lake_model.specs.declared.Counts.{Counts}
 use Rattle.lake_model.specs.Texts.{Text, lines_of}
 use Rattle.script_model.specs.declared.Status.{Status}
 use Rattle.script_model.specs.declared.Status.TheVariants.{Done, Script, Usage, ReadFault, WriteFault, NoMemory}
 use Rattle.script_model.specs.declared.Reason.{Reason}
-use Rattle.script_model.specs.Commands.{Batch, File}
+use Rattle.script_model.specs.Commands.{Batch, File, Task, Load, LoadFile, DropTable, Tables, Search, Like, Merge}
 use Rattle.script_model.specs.Reading.{Reached, Stands, AtFault, LinesRead, read, read_with}
 use Rattle.script_model.specs.Script.{Commands, Whole, FaultAt, commands, grammar_of, standard, start}
 use Rattle.script_model.specs.Record.{Options, RunRecord, plain, empty}
@@ -29,11 +29,15 @@ left_of (Some bytes) = bytes
 abbrev pub script_of : Options → List File → List ℕ → Option (List ℕ) → Commands
 script_of options outcomes given left = commands standard options.lanes (given ++ left_of left) outcomes
 
--- The record has these options, is right for these batches, and was played of them.
+-- an order is stated
+abbrev pub IsStated : Options → Type 0
+IsStated options = MatchOption options.order ⊥ (λ order. ⊤)
+
+-- The record has these options and is right for these batches. Where an order is stated, it was played of them in that order.
 pub record IsRecordOf (limits : Counts) (options : Options) (batches : List Batch) (made : RunRecord) : Type 0 where
   pub options_are : made.options ≡ options
   pub right : IsRecordRight limits options.lanes options.merge batches made
-  pub played : IsPlayed limits options batches made
+  pub played : IsStated options → IsPlayed limits options batches made
 
 -- nothing was written, and the record is empty
 abbrev pub NothingDone : List ℕ → RunRecord → Type 0
@@ -80,11 +84,25 @@ pub record IsBrokenOff (limits : Counts) (options : Options) (came : List Text �
 abbrev pub answer_count : Bool → List Batch → ℕ
 answer_count merge batches = sum_by (λ batch. length batch + (if merge then updates batch else 0)) batches
 
--- The first batches, so many of them, were answered. What was written is the beginning of the record's text, and has the text of these
--- batches but the last.
+abbrev pub is_fetch : Task → Bool
+is_fetch (Load name body) = false
+is_fetch (LoadFile name file) = true
+is_fetch (DropTable name) = false
+is_fetch Tables = false
+is_fetch (Search k body) = false
+is_fetch (Like k name place) = false
+is_fetch (Merge all) = false
+
+-- how many files a batch asks for
+abbrev pub fetches : Batch → ℕ
+fetches batch = count_by (λ command. is_fetch command.task) batch
+
+-- The first batches, so many of them, were answered, and each file that they ask for has its outcome. What was written is the beginning
+-- of the record's text, and has the text of these batches but the last.
 pub record IsCutOff (limits : Counts) (options : Options) (outcomes : List File) (came : List Text → Type 0) (script : Commands) (left : Option (List ℕ)) (taken : List ℕ) (made : RunRecord) : Type 0 where
   pub count : ℕ
   pub fetched : came (take (length outcomes) script.asked)
+  pub asked : sum_by fetches (take count script.batches) ≤ length outcomes
   pub record_of : IsRecordOf limits options (take count script.batches) made
   pub ended : made.ended ≡ true → IsAtEnd left × (script.end ≡ Whole) × (take count script.batches ≡ script.batches)
   pub beginning : IsPrefix taken (text made)

@@ -77,7 +77,7 @@ abbrev pub reply_words : Reply → List Text
 reply_words (Loaded name columns members at) = codes "loaded" ∷ name ∷ codes "columns" ∷ decimal columns ∷ codes "members" ∷ decimal members ∷ at_words at
 reply_words (Dropped name at) = codes "dropped" ∷ name ∷ at_words at
 reply_words (Listed tables at) = codes "tables" ∷ decimal (length tables) ∷ at_words at
-reply_words (Found query rows layout) = codes "answer" ∷ decimal (length rows) ∷ codes "of" ∷ decimal query ∷ at_words layout.at
+reply_words (Found query rows reads probes layout) = codes "answer" ∷ decimal (length rows) ∷ codes "of" ∷ decimal query ∷ at_words layout.at
 reply_words (Merged layout parts tables at) = codes "merged" ∷ decimal parts ∷ codes "parts" ∷ codes "into" ∷ decimal tables ∷ codes "tables" ∷ at_words at
 reply_words (Repeated name at) = refused (codes "repeated" ∷ name ∷ at_words at)
 reply_words (Unknown name at) = refused (codes "unknown" ∷ name ∷ at_words at)
@@ -106,12 +106,15 @@ row_line row = codes "  " ++ spaced (decimal row.overlap ∷ row.table ∷ decim
 -- the lines behind the first
 abbrev pub more_lines : Reply → List Text
 more_lines (Listed tables at) = map table_line tables
-more_lines (Found query rows layout) = map row_line rows
+more_lines (Found query rows reads probes layout) = map row_line rows
 more_lines reply = []
+
+abbrev pub work_line : ℕ → ℕ → Text
+work_line reads probes = codes "  work reads " ++ spaced (decimal reads ∷ codes "probes" ∷ decimal probes ∷ [])
 
 -- the lines that a trace puts behind a reply
 abbrev pub trace_lines : Reply → List Text
-trace_lines (Found query rows layout) = layout_line layout ∷ []
+trace_lines (Found query rows reads probes layout) = work_line reads probes ∷ layout_line layout ∷ []
 trace_lines (Merged layout parts tables at) = layout_line layout ∷ []
 trace_lines (NothingToMerge layout) = layout_line layout ∷ []
 trace_lines (Stale layout gone at) = layout_line layout ∷ []

@@ -1,6 +1,6 @@
 //! The laws of play: each is the contract of a function that does nothing.
 
-ghost use Rattle.script_model.specs.PlayLaws.{BatchIsPlayed, BatchesGoOn, GoesOnInTurn, PlayedIsRight};
+ghost use Rattle.script_model.specs.PlayLaws.{AnswersGoOn, AnswersStayRight, BatchIsPlayed, BatchesGoOn, GoesOnInTurn, PlayedIsRight};
 
 use layout_laws::plans_law;
 
@@ -25,4 +25,11 @@ pub fn in_turn_law()
 /// others.
 pub fn batches_law()
     ensures { BatchesGoOn }
+{}
+
+/// A lane's answers that are right stay right when other callers' entries come behind; and two lists of a lane's answers in a row, each right
+/// where it stands, are right together.
+pub fn right_lanes_law()
+    ensures stay { AnswersStayRight }
+    ensures go_on { AnswersGoOn }
 {}

@@ -8,7 +8,7 @@ ghost use Rattle.script_model.specs.Script.{standard};
 
 mod laws;
 
-pub use laws::{batches_law, in_turn_law, played_is_right_law};
+pub use laws::{batches_law, in_turn_law, played_is_right_law, right_lanes_law};
 
 /// Why a line of a script is refused.
 #[derive(Clone, Copy, Debug, PartialEq, Eq)]

@@ -1,11 +1,10 @@
 -- How far a call of a gatherer has come: by the bytes given, the paths asked for, and the lines read.
-use Rattle.std.proofs.Common.{◌≡◌, refl, ap, sym, ◌∙◌, subst, ℕ, ◌+◌, ◌≤◌, List, [], ◌∷◌, ◌++◌, cond, length, take, drop, arith, append_assoc, append-nil}
-use Rattle.std.specs.Prelude.{count_by, Option, None, Ok}
+use Rattle.std.proofs.Common.{◌≡◌, refl, ap, sym, ◌∙◌, subst, ℕ, ◌+◌, ◌≤◌, List, [], ◌∷◌, ◌++◌, length, take, drop, arith, append_assoc, append-nil}
+use Rattle.std.specs.Prelude.{Option, None, Result, Ok, Err}
 use Rattle.std.specs.Io.KnownBytes.{Consumes}
 use Rattle.std.specs.List.{AllByRecursion}
 use Rattle.std.proofs.KnownBytes.{Consumes-nil, Consumes-trans}
 use Rattle.std.proofs.lemmas.List.{length-take-le}
-use Rattle.std.proofs.lemmas.List.Sums.{sum_by-append}
 use Rattle.lake_io.specs.Files as shelf
 use Rattle.lake_model.specs.Texts.{Text}
 use Rattle.script_model.specs.Commands.{Batch, File}
@@ -17,7 +16,9 @@ use Rattle.script_model.proofs.LinesLemmas.{commands_lines}
 use Rattle.script_model.proofs.ScriptLemmas.{commands_line, read_on}
 use Rattle.script_text.specs.Gathering.{grammar, lines_text, reading_at}
 use Rattle.script_text.specs.Inputs.{Came, EndsLine}
-use Rattle.script_text.specs.Outcomes.{AreFetched, AreOutcomes, RoseBy, is_failed}
+use Rattle.script_text.specs.declared.refused.ScriptEnd.{ScriptEnd}
+use Rattle.script_text.specs.declared.refused.ScriptEnd.TheVariants.{NoMemory, ReadFault, Script}
+use Rattle.script_text.specs.Outcomes.{AreFetched, AreFetchedSoFar, FetchedBy}
 use Rattle.script_text.specs.Readings.{Turns}
 use Rattle.script_text.specs.Runs.{LeadsOn}
 
@@ -45,27 +46,39 @@ pub record Progress (from : Grammar) (before : Reading) (held_before : List ℕ)
 
 -- ---- small laws
 
-outcomes_join : (files : Option (List shelf.File)) (asked more_asked : List Text) (outcomes more : List File) → AreOutcomes files asked outcomes → AreOutcomes files more_asked more
-    → AreOutcomes files (asked ++ more_asked) (outcomes ++ more)
-outcomes_join files [] more_asked [] more h k = k
-outcomes_join files [] more_asked (outcome ∷ outcomes) more h k = absurd h
-outcomes_join files (path ∷ asked) more_asked [] more h k = absurd h
-outcomes_join files (path ∷ asked) more_asked (outcome ∷ outcomes) more h k = (h.0, outcomes_join files asked more_asked outcomes more h.1 k)
-
-rose_join : (a b first second third : ℕ) → RoseBy a first second → RoseBy b second third → RoseBy (a + b) first third
-rose_join a b first second third h k = omega (arith, h, k)
-
 pub fetched_join : (files : Option (List shelf.File)) (first second third : ℕ) (asked more_asked : List Text) (outcomes more : List File)
     → AreFetched files first second asked outcomes → AreFetched files second third more_asked more → AreFetched files first third (asked ++ more_asked) (outcomes ++ more)
-fetched_join files first second third asked more_asked outcomes more h k = record {
-  each = outcomes_join files asked more_asked outcomes more h.each k.each;
-  failed = subst (λ (n : ℕ). RoseBy n first third) (sym (sum_by-append (λ (file : File). cond (is_failed file) 1 0) outcomes more)) (rose_join (count_by is_failed outcomes) (count_by is_failed more) first second third h.failed k.failed);
+fetched_join files first second third [] more_asked [] more h k = subst (λ (n : ℕ). AreFetched files n third more_asked more) h k
+fetched_join files first second third [] more_asked (outcome ∷ outcomes) more h k = absurd h
+fetched_join files first second third (path ∷ asked) more_asked [] more h k = absurd h
+fetched_join files first second third (path ∷ asked) more_asked (outcome ∷ outcomes) more (between, came, others) k =
+    (between, came, fetched_join files between second third asked more_asked outcomes more others k)
+
+-- fetches, and behind them those of a call
+pub fetched_by_join : (result : Result (Option Batch) ScriptEnd) (files : Option (List shelf.File)) (first second third : ℕ) (asked more_asked : List Text) (outcomes more : List File)
+    → AreFetched files first second asked outcomes → FetchedBy result files second third more_asked more → FetchedBy result files first third (asked ++ more_asked) (outcomes ++ more)
+fetched_by_join (Ok found) files first second third asked more_asked outcomes more h k = fetched_join files first second third asked more_asked outcomes more h k
+fetched_by_join (Err (Script line why)) files first second third asked more_asked outcomes more h k = fetched_join files first second third asked more_asked outcomes more h k
+fetched_by_join (Err ReadFault) files first second third asked more_asked outcomes more h k = fetched_join files first second third asked more_asked outcomes more h k
+fetched_by_join (Err NoMemory) files first second third asked more_asked outcomes more h k = record {
+  between = k.between;
+  fetched = fetched_join files first second k.between asked more_asked outcomes more h k.fetched;
+  later = k.later;
 }
 
-pub none_fetched : (files : Option (List shelf.File)) (first second : ℕ) → first ≤ second → AreFetched files first second [] []
-none_fetched files first second h = record { each = tt; failed = omega (arith, h) }
+-- such fetches, and no other
+pub fetched_by : (result : Result (Option Batch) ScriptEnd) (files : Option (List shelf.File)) (first second : ℕ) (asked : List Text) (outcomes : List File)
+    → AreFetched files first second asked outcomes → FetchedBy result files first second asked outcomes
+fetched_by (Ok found) files first second asked outcomes h = h
+fetched_by (Err (Script line why)) files first second asked outcomes h = h
+fetched_by (Err ReadFault) files first second asked outcomes h = h
+fetched_by (Err NoMemory) files first second asked outcomes h = record { between = second; fetched = h; later = omega arith }
 
-text_push : (lines : List Text) (line : Text) (rest : List ℕ) → lines_text (lines ++ line ∷ []) ++ rest ≡ lines_text lines ++ (line ++ 0x0A ∷ rest)
+-- nothing that has an outcome was fetched
+pub none_so_far : (files : Option (List shelf.File)) (first second : ℕ) → first ≤ second → AreFetchedSoFar files first second [] []
+none_so_far files first second h = record { between = first; fetched = refl; later = h }
+
+pub text_push : (lines : List Text) (line : Text) (rest : List ℕ) → lines_text (lines ++ line ∷ []) ++ rest ≡ lines_text lines ++ (line ++ 0x0A ∷ rest)
 text_push [] line rest = ap (λ (xs : List ℕ). xs ++ rest) (append-nil (line ++ 0x0A ∷ [])) ∙ append_assoc line (0x0A ∷ []) rest
 text_push (first ∷ lines) line rest =
     append_assoc (line_text first) (lines_text (lines ++ line ∷ [])) rest ∙ ap (λ (xs : List ℕ). line_text first ++ xs) (text_push lines line rest)
@@ -75,19 +88,19 @@ pub whole_push : (lines : List Text) (line : Text) → AllByRecursion NoFeed lin
 whole_push [] line h k = (k, tt)
 whole_push (first ∷ lines) line h k = (h.0, whole_push lines line h.1 k)
 
-text_join : (lines more : List Text) (rest : List ℕ) → lines_text (lines ++ more) ++ rest ≡ lines_text lines ++ (lines_text more ++ rest)
+pub text_join : (lines more : List Text) (rest : List ℕ) → lines_text (lines ++ more) ++ rest ≡ lines_text lines ++ (lines_text more ++ rest)
 text_join [] more rest = refl
 text_join (first ∷ lines) more rest =
     append_assoc (line_text first) (lines_text (lines ++ more)) rest ∙ ap (λ (xs : List ℕ). line_text first ++ xs) (text_join lines more rest)
     ∙ sym (append_assoc (line_text first) (lines_text lines) (lines_text more ++ rest))
 
-whole_join : (lines more : List Text) → AllByRecursion NoFeed lines → AllByRecursion NoFeed more → AllByRecursion NoFeed (lines ++ more)
+pub whole_join : (lines more : List Text) → AllByRecursion NoFeed lines → AllByRecursion NoFeed more → AllByRecursion NoFeed (lines ++ more)
 whole_join [] more h k = k
 whole_join (first ∷ lines) more h k = (h.0, whole_join lines more h.1 k)
 
 -- ---- the beginning, and a read
 
-pub begins : (from : Grammar) (before : Reading) (held : List ℕ) (left : Option (List ℕ)) (files : Option (List shelf.File)) (faults : ℕ)
+unfoldable pub begins : (from : Grammar) (before : Reading) (held : List ℕ) (left : Option (List ℕ)) (files : Option (List shelf.File)) (faults : ℕ)
     → Progress from before held left left files faults faults before held
 unfolding read
 begins from before held left files faults = record {
@@ -96,7 +109,7 @@ begins from before held left files faults = record {
   outcomes = [];
   lines = [];
   gave = Consumes-nil left;
-  fetched = none_fetched files faults faults (omega arith);
+  fetched = refl;
   whole = tt;
   cut = append-nil held;
   reads = λ later. refl;
@@ -104,7 +117,7 @@ begins from before held left files faults = record {
 }
 
 module _ (from : Grammar) (before : Reading) (held_before : List ℕ) (left_before : Option (List ℕ)) (files : Option (List shelf.File)) (faults_before : ℕ) where
-  pub reads_more : (left_now left_next : Option (List ℕ)) (faults : ℕ) (now next : Reading) (held held_next : List ℕ) (count : ℕ) → next ≡ now
+  unfoldable pub reads_more : (left_now left_next : Option (List ℕ)) (faults : ℕ) (now next : Reading) (held held_next : List ℕ) (count : ℕ) → next ≡ now
       → Progress from before held_before left_before left_now files faults_before faults now held → Came left_now left_next held held_next count
       → Progress from before held_before left_before left_next files faults_before faults next held_next
   reads_more left_now left_next faults now next held held_next count same p came = record {
@@ -152,7 +165,7 @@ module _ (from : Grammar) (before : Reading) (held_before : List ℕ) (left_befo
   size_of_line now held at line fits = subst (λ (n : ℕ). now.used + (n + 1) ≤ from.input) (sym (length-take-le at held (omega (arith, line.within)))) fits
 
   -- The line does nothing more than to go on.
-  pub line_goes : (left : Option (List ℕ)) (faults faults_next : ℕ) (now next : Reading) (held held_next : List ℕ) (at : ℕ)
+  unfoldable pub line_goes : (left : Option (List ℕ)) (faults faults_next : ℕ) (now next : Reading) (held held_next : List ℕ) (at : ℕ)
       → Progress from before held_before left_before left files faults_before faults now held → EndsLine held at → now.used + (at + 1) ≤ from.input
       → Turns (turn_of from (take at held)) (Ok None) (now.lines + 1) now next files faults faults_next → held_next ≡ drop (at + 1) held
       → Progress from before held_before left_before left files faults_before faults_next next held_next
@@ -173,7 +186,7 @@ module _ (from : Grammar) (before : Reading) (held_before : List ℕ) (left_befo
   }
 
   -- Lines that are held lead on.
-  pub lines_lead : (left : Option (List ℕ)) (faults : ℕ) (now next : Reading) (held held_next : List ℕ) → Progress from before held_before left_before left files faults_before faults now held
+  unfoldable pub lines_lead : (left : Option (List ℕ)) (faults : ℕ) (now next : Reading) (held held_next : List ℕ) → Progress from before held_before left_before left files faults_before faults now held
       → LeadsOn from now next held held_next → next.used ≤ from.input → Progress from before held_before left_before left files faults_before faults next held_next
   lines_lead left faults now next held held_next p on within = record {
     given = p.given;

@@ -1,6 +1,6 @@
 -- What a line does, and what is fetched in it.
 use Rattle.std.proofs.Common.{◌≡◌, refl, ap, sym, ◌∙◌, subst, ℕ, ◌+◌, ◌<◌, ◌≤◌, List, [], ◌∷◌, ◌++◌, true, false, length, append-nil, arith}
-use Rattle.std.specs.Prelude.{◌==◌, count_by, Option, Some, None, IfSome, IsSome, is_some, Result, Ok, Err}
+use Rattle.std.specs.Prelude.{◌==◌, Option, Some, None, IfSome, IsSome, is_some, Result, Ok, Err}
 use Rattle.std.proofs.lemmas.Bool.{both_ways, eqb-true, cond-false, cond-true, le-leb, le-ltb, lt-leb, lt-ltb}
 use Rattle.lake_io.specs.Files as shelf
 use Rattle.lake_model.specs.Texts.{Text}
@@ -16,23 +16,23 @@ use Rattle.script_text.specs.declared.refused.ScriptEnd.{ScriptEnd}
 use Rattle.script_text.specs.declared.refused.ScriptEnd.TheVariants.{NoMemory, ReadFault, Script}
 use Rattle.script_text.specs.Endings.{Ends, EndsAs}
 use Rattle.script_text.specs.Gathering.{reading_at}
-use Rattle.script_text.specs.Outcomes.{MayCome, RoseBy, is_failed}
+use Rattle.script_text.specs.Outcomes.{CameOf}
 use Rattle.script_text.specs.Readings.{GoesOn, Turned, Turns, added, batches_of}
-use Rattle.script_text.proofs.ProgressLemmas.{none_fetched}
+use Rattle.script_text.proofs.ProgressLemmas.{fetched_by, none_so_far}
 
 -- A turn in which nothing is fetched.
-pub unfetched : (step : Reading → Turn) (result : Result (Option Batch) ScriptEnd) (line : ℕ) (before after : Reading) (files : Option (List shelf.File)) (first second : ℕ) → first ≤ second
-    → ((paths : List Text) (later : List File) → Turned result line after paths later (step (reading_at before paths later))) → Turns step result line before after files first second
-unfetched step result line before after files first second h turned = record {
+pub unfetched : (step : Reading → Turn) (result : Result (Option Batch) ScriptEnd) (line : ℕ) (before after : Reading) (files : Option (List shelf.File)) (faults : ℕ)
+    → ((paths : List Text) (later : List File) → Turned result line after paths later (step (reading_at before paths later))) → Turns step result line before after files faults faults
+unfetched step result line before after files faults turned = record {
   asked = [];
   outcomes = [];
-  fetched = none_fetched files first second h;
+  fetched = fetched_by result files faults faults [] [] refl;
   turned = λ paths later. subst (λ (ps : List Text). Turned result line after ps later (step (reading_at before paths later))) (sym (append-nil paths)) (turned paths later);
 }
 
 -- Where memory was wanting, nothing is said.
 pub no_memory : (step : Reading → Turn) (line : ℕ) (before after : Reading) (files : Option (List shelf.File)) (first second : ℕ) → first ≤ second → Turns step (Err NoMemory) line before after files first second
-no_memory step line before after files first second h = unfetched step (Err NoMemory) line before after files first second h (λ paths later. tt)
+no_memory step line before after files first second h = record { asked = []; outcomes = []; fetched = none_so_far files first second h; turned = λ paths later. tt }
 
 -- ---- a file
 
@@ -53,13 +53,13 @@ module _ (limits : ScriptLimits) (lanes lane : ℕ) (name path : Text) (reading 
 
   -- A turn in which one file is fetched.
   pub fetched_one : (result : Result (Option Batch) ScriptEnd) (line : ℕ) (after : Reading) (files : Option (List shelf.File)) (first second : ℕ) (file : File)
-      → MayCome files path file → RoseBy (count_by is_failed (file ∷ [])) first second
+      → CameOf files first second path file
       → ((paths : List Text) (later : List File) → Turned result line after (paths ++ path ∷ []) later (does (grammar_of limits lanes) (Fetches lane name path) (reading_at reading paths (file ∷ later))))
       → Turns (does (grammar_of limits lanes) (Fetches lane name path)) result line reading after files first second
-  fetched_one result line after files first second file came failed turned = record {
+  fetched_one result line after files first second file came turned = record {
     asked = path ∷ [];
     outcomes = file ∷ [];
-    fetched = record { each = (came, tt); failed = failed };
+    fetched = fetched_by result files first second (path ∷ []) (file ∷ []) (second, came, refl);
     turned = turned;
   }
 
@@ -152,7 +152,7 @@ module _ (grammar : Grammar) (rest : Text) (before : Reading) (files : Option (L
   ends_by after last result none turns ends = record {
     asked = turns.asked;
     outcomes = turns.outcomes;
-    fetched = turns.fetched;
+    fetched = fetched_by result files first second turns.asked turns.outcomes turns.fetched;
     ended = λ paths later. subst (EndsAs result (paths ++ turns.asked))
         (sym (ended_by grammar rest (reading_at before paths (turns.outcomes ++ later)) none ∙ end_by last (before.lines + 1) after (paths ++ turns.asked) later (last_turn grammar before.block rest (reading_at before paths (turns.outcomes ++ later))) (turns.turned paths later)))
         (ends (paths ++ turns.asked) later);
@@ -174,11 +174,11 @@ module _ (grammar : Grammar) (rest : Text) (before : Reading) (files : Option (L
   ends_fail after NoMemory none turns = record { asked = turns.asked; outcomes = turns.outcomes; fetched = turns.fetched; ended = λ paths later. tt }
 
   -- It is at fault by its size.
-  pub ends_begun : (why : Reason) → first ≤ second → begun_fault grammar before.block before.bytes rest ≡ Some why → Ends the_end (Err (Script (before.lines + 1) why)) before files first second
-  ends_begun why h fault = record {
+  pub ends_begun : (why : Reason) → second ≡ first → begun_fault grammar before.block before.bytes rest ≡ Some why → Ends the_end (Err (Script (before.lines + 1) why)) before files first second
+  ends_begun why same fault = record {
     asked = [];
     outcomes = [];
-    fetched = none_fetched files first second h;
+    fetched = same;
     ended = λ paths later. ap (λ (f : Option Reason). unless_begun_fault f [] (reading_at before paths later) (end_turned [] (before.lines + 1) (last_turn grammar before.block rest (reading_at before paths later)))) fault
         ∙ ap (commands_with [] (FaultAt (before.lines + 1) why)) (sym (append-nil paths));
   }

@@ -8,7 +8,7 @@ use Rattle.script_model.specs.Script.{Commands, Whole, FaultAt, commands_with}
 use Rattle.script_text.specs.declared.refused.ScriptEnd.{ScriptEnd}
 use Rattle.script_text.specs.declared.refused.ScriptEnd.TheVariants.{Script, ReadFault, NoMemory}
 use Rattle.script_text.specs.Gathering.{reading_at}
-use Rattle.script_text.specs.Outcomes.{AreFetched}
+use Rattle.script_text.specs.Outcomes.{FetchedBy}
 
 -- what the end gives by the answer of the code: the last batch, no further one, or a fault
 abbrev pub EndsAs : Result (Option Batch) ScriptEnd → List Text → Commands → Type 0
@@ -22,7 +22,7 @@ EndsAs (Err NoMemory) asked commands = ⊤
 pub record Ends (end : Reading → Commands) (result : Result (Option Batch) ScriptEnd) (before : Reading) (files : Option (List shelf.File)) (faults_before faults_now : ℕ) : Type 0 where
   pub asked : List Text
   pub outcomes : List File
-  pub fetched : AreFetched files faults_before faults_now asked outcomes
+  pub fetched : FetchedBy result files faults_before faults_now asked outcomes
   pub ended : (paths : List Text) (later : List File) → EndsAs result (paths ++ asked) (end (reading_at before paths (outcomes ++ later)))
 
 -- a batch that a last line gave leaves no command and no open block

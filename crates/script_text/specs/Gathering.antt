@@ -1,5 +1,5 @@
 -- How far a gatherer is, and what each of its batches comes from.
-use Rattle.std.specs.Prelude.{ℕ, ◌≡◌, Bool, true, false, List, [], ◌∷◌, ◌++◌, flat_map, Option}
+use Rattle.std.specs.Prelude.{ℕ, ◌≡◌, ◌≤◌, Bool, true, false, List, [], ◌∷◌, ◌++◌, flat_map, length, Option}
 use Rattle.std.specs.List.{AllByRecursion}
 use Rattle.std.specs.Io.KnownBytes.{IsAtEnd}
 use Rattle.lake_model.specs.Texts.{Text}
@@ -62,3 +62,16 @@ pub record IsUnfinished (before : Gathering) (given : List ℕ) (asked : List Te
   pub held : List ℕ
   pub lines_read : ReadsOn (grammar before) before.reading (before.held ++ given) outcomes [] reading held asked
   pub rest : NoFeed held
+
+-- The source gave no further bytes while a whole batch was at hand: the lines that came whole with all of these bytes but the last, of at most 65,536
+-- bytes, have no fault and no `sync`.
+pub record IsLate (before : Gathering) (given : List ℕ) (outcomes : List File) : Type 0 where
+  pub first : List ℕ
+  pub last : List ℕ
+  pub asked : List Text
+  pub came : List File
+  pub later : List File
+  pub given_is : given ≡ first ++ last
+  pub few : length last ≤ 65536
+  pub outcomes_are : outcomes ≡ came ++ later
+  pub unfinished : IsUnfinished before first asked came

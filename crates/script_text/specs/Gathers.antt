@@ -6,16 +6,16 @@ use Rattle.lake_model.specs.Texts.{Text}
 use Rattle.script_model.specs.Commands.{File, Batch}
 use Rattle.script_text.specs.declared.refused.ScriptEnd.{ScriptEnd}
 use Rattle.script_text.specs.declared.refused.ScriptEnd.TheVariants.{Script, ReadFault, NoMemory}
-use Rattle.script_text.specs.Outcomes.{AreFetched}
+use Rattle.script_text.specs.Outcomes.{FetchedBy}
 use Rattle.script_text.specs.Gathering.{Gathering, IsSynced, IsWhole, IsFaulty, IsUnfinished}
 
--- what the source gave in a call, and what was fetched
-pub record Taken (left_before left_now : Option (List ℕ)) (files : Option (List shelf.File)) (faults_before faults_now : ℕ) : Type 0 where
+-- what the source gave in a call of this answer, and what was fetched
+pub record Taken (result : Result (Option Batch) ScriptEnd) (left_before left_now : Option (List ℕ)) (files : Option (List shelf.File)) (faults_before faults_now : ℕ) : Type 0 where
   pub given : List ℕ
   pub asked : List Text
   pub outcomes : List File
   pub gave : Consumes left_before left_now given
-  pub fetched : AreFetched files faults_before faults_now asked outcomes
+  pub fetched : FetchedBy result files faults_before faults_now asked outcomes
 
 -- An answer, by what was given and fetched: a batch comes by its `sync` or by the end of the input, and none where the input ends without a further
 -- command; a fault of the script is the first one; and where the source failed, nothing that came whole is left unsaid.

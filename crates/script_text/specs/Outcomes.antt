@@ -1,35 +1,37 @@
 -- What comes of the fetches of files.
-use Rattle.std.specs.Prelude.{ℕ, ◌+◌, ◌-◌, ◌^◌, ◌≤◌, ⊤, Bool, true, false, List, [], ◌∷◌, count_by, length, min, Option}
+use Rattle.std.specs.Prelude.{ℕ, ◌≡◌, ◌≤◌, List, [], ◌∷◌, length, Option, Result, Ok, Err}
+use Rattle.lake_io.specs.Causes.{Rose}
 use Rattle.lake_io.specs.Files as shelf
 use Rattle.lake_io.specs.Files.{HasFile, LacksFile, HasLongFile}
 use Rattle.lake_model.specs.Texts.{Text}
-use Rattle.script_model.specs.Commands.{File, Bytes, Failed, Missing, TooLong}
+use Rattle.script_model.specs.Commands.{Batch, File, Bytes, Failed, Missing, TooLong}
+use Rattle.script_text.specs.declared.refused.ScriptEnd.{ScriptEnd}
+use Rattle.script_text.specs.declared.refused.ScriptEnd.TheVariants.{Script, ReadFault, NoMemory}
 
--- what may come of the fetch of a path, of at most 67,108,864 bytes, from these files where they are told
-abbrev pub MayCome : Option (List shelf.File) → Text → File → Type 0
-MayCome files path (Bytes bytes) = HasFile files path bytes × (length bytes ≤ 67108864)
-MayCome files path Failed = ⊤
-MayCome files path Missing = LacksFile files path
-MayCome files path TooLong = HasLongFile files path 67108864
+-- what may come of the fetch of a path, of at most 67,108,864 bytes, from these files where they are told, by the shelf's count of faults
+-- before the fetch and behind it
+abbrev pub CameOf : Option (List shelf.File) → ℕ → ℕ → Text → File → Type 0
+CameOf files before now path (Bytes bytes) = HasFile files path bytes × (length bytes ≤ 67108864) × (before ≤ now)
+CameOf files before now path Failed = Rose before now
+CameOf files before now path Missing = (now ≡ before) × LacksFile files path
+CameOf files before now path TooLong = (now ≡ before) × HasLongFile files path 67108864
 
--- one outcome for each path that was asked for
-abbrev pub AreOutcomes : Option (List shelf.File) → List Text → List File → Type 0
-AreOutcomes files [] [] = ⊤
-AreOutcomes files [] (outcome ∷ outcomes) = ⊥
-AreOutcomes files (path ∷ asked) [] = ⊥
-AreOutcomes files (path ∷ asked) (outcome ∷ outcomes) = MayCome files path outcome × AreOutcomes files asked outcomes
+-- these outcomes came of the fetches of these paths, one fetch behind another and none beside them
+abbrev pub AreFetched : Option (List shelf.File) → ℕ → ℕ → List Text → List File → Type 0
+AreFetched files before now [] [] = now ≡ before
+AreFetched files before now [] (outcome ∷ outcomes) = ⊥
+AreFetched files before now (path ∷ asked) [] = ⊥
+AreFetched files before now (path ∷ asked) (outcome ∷ outcomes) = (between : ℕ) × CameOf files before between path outcome × AreFetched files between now asked outcomes
 
-abbrev pub is_failed : File → Bool
-is_failed (Bytes bytes) = false
-is_failed Failed = true
-is_failed Missing = false
-is_failed TooLong = false
+-- The same, where a fetch behind them may have ended in want of memory: it has no outcome, but may be counted.
+pub record AreFetchedSoFar (files : Option (List shelf.File)) (before now : ℕ) (asked : List Text) (outcomes : List File) : Type 0 where
+  pub between : ℕ
+  pub fetched : AreFetched files before between asked outcomes
+  pub later : between ≤ now
 
--- a count of faults rose by so many; it stops at 2 ^ 64 - 1, and is then said to have risen as far as anyone asks
-abbrev pub RoseBy : ℕ → ℕ → ℕ → Type 0
-RoseBy many before now = min (before + many) (2 ^ 64 - 1) ≤ now
-
--- These outcomes came of the fetches of these paths, in this order, while the shelf's faults rose by at least the failed ones.
-pub record AreFetched (files : Option (List shelf.File)) (before now : ℕ) (asked : List Text) (outcomes : List File) : Type 0 where
-  pub each : AreOutcomes files asked outcomes
-  pub failed : RoseBy (count_by is_failed outcomes) before now
+-- what came of the fetches of a call, by its answer
+abbrev pub FetchedBy : Result (Option Batch) ScriptEnd → Option (List shelf.File) → ℕ → ℕ → List Text → List File → Type 0
+FetchedBy (Ok found) files before now asked outcomes = AreFetched files before now asked outcomes
+FetchedBy (Err (Script line reason)) files before now asked outcomes = AreFetched files before now asked outcomes
+FetchedBy (Err ReadFault) files before now asked outcomes = AreFetched files before now asked outcomes
+FetchedBy (Err NoMemory) files before now asked outcomes = AreFetchedSoFar files before now asked outcomes

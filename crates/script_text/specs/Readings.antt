@@ -14,7 +14,7 @@ use Rattle.script_text.specs.declared.refused.ScriptEnd.{ScriptEnd}
 use Rattle.script_text.specs.declared.refused.ScriptEnd.TheVariants.{Script, ReadFault, NoMemory}
 use Rattle.script_text.specs.declared.rules.Rules.{Rules}
 use Rattle.script_text.specs.Gathering.{reading_at}
-use Rattle.script_text.specs.Outcomes.{AreFetched}
+use Rattle.script_text.specs.Outcomes.{FetchedBy}
 
 -- the bytes of the body of a task
 abbrev pub body_size : Task → ℕ
@@ -83,7 +83,7 @@ Turned (Err NoMemory) line reading asked later turned = ⊤
 pub record Turns (step : Reading → Turn) (result : Result (Option Batch) ScriptEnd) (line : ℕ) (before after : Reading) (files : Option (List shelf.File)) (faults_before faults_now : ℕ) : Type 0 where
   pub asked : List Text
   pub outcomes : List File
-  pub fetched : AreFetched files faults_before faults_now asked outcomes
+  pub fetched : FetchedBy result files faults_before faults_now asked outcomes
   pub turned : (paths : List Text) (later : List File) → Turned result line after (paths ++ asked) later (step (reading_at before paths (outcomes ++ later)))
 
 -- the commands of a batch that was given or goes on are at most one more than before

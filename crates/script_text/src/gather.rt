@@ -1,5 +1,5 @@
 //! The batches of a script, gathered from a source in pieces of any size.
-ghost use Rattle.std.specs.Prelude.{◌≡◌, ◌≢◌, ◌<◌, ◌≤◌, ◌+◌, ◌-◌, [], Err, false, true, drop, length, take, IfErr, IfNone, IfOk, IfSome, IsErrOf, OnErr, OnOk};
+ghost use Rattle.std.specs.Prelude.{◌≡◌, ◌≢◌, ◌<◌, ◌≤◌, ◌+◌, ◌-◌, ◌⊎◌, [], Err, false, true, drop, length, take, IfErr, IfNone, IfOk, IfSome, IsErrOf, OnErr, OnOk};
 ghost use Rattle.std.specs.Io.KnownBytes.{Keeps};
 ghost use Rattle.lake_io.specs.Causes.{Rose};
 ghost use Rattle.script_model.specs.Lanes.{IsOfLanes};
@@ -7,7 +7,7 @@ ghost use Rattle.script_model.specs.Reading.{Stands, turn_of};
 ghost use Rattle.script_model.specs.Script.{ended, start};
 ghost use Rattle.script_model.specs.Words.{NoFeed};
 ghost use Rattle.script_text.specs.Endings.{Ends};
-ghost use Rattle.script_text.specs.Gathering.{gathering_with, grammar};
+ghost use Rattle.script_text.specs.Gathering.{IsLate, gathering_with, grammar};
 ghost use Rattle.script_text.specs.Gathers.{Gathers, Taken};
 ghost use Rattle.script_text.specs.Inputs.{Came, EndsLine};
 ghost use Rattle.script_text.specs.Parts.{HasSameRules, IsHeldFault};
@@ -87,9 +87,10 @@ impl Gather {
         shelf: &mut F,
     ) -> Result<Option<Batch>, ScriptEnd>
         requires { self.old.ended ≡ false }
-        // what was read
-        ensures gathered { (taken : Taken (S.left source.old) (S.left source.new) (F.files shelf.old) (F.faults shelf.old) (F.faults shelf.new))
-            × Gathers result self.old self.new (S.left source.new) taken.given taken.asked taken.outcomes }
+        // what was read, and no more than the batch needs
+        ensures gathered { (taken : Taken result (S.left source.old) (S.left source.new) (F.files shelf.old) (F.faults shelf.old) (F.faults shelf.new))
+            × Gathers result self.old self.new (S.left source.new) taken.given taken.asked taken.outcomes
+            × OnOk result (((source.new ≡ source.old) × (taken.given ≡ [])) ⊎ IsLate self.old taken.given taken.outcomes) }
         ensures ended { OnErr result (self.new.ended ≡ true) }
         ensures limits { self.new.limits ≡ self.old.limits }
         ensures same_lanes { self.new.lanes ≡ self.old.lanes }
@@ -179,6 +180,7 @@ impl Gather {
         requires line { NoFeed (take (self.old.limits.input - self.old.reading.used) self.old.held) }
         ensures came { IfOk result (λ count. Came (S.left source.old) (S.left source.new) self.old.held self.new.held count) }
         ensures fits { IfOk result (λ count. (self.old.reading.used + length self.old.held ≤ self.old.limits.input) × (self.old.reading.used + length self.old.held + count ≤ self.old.limits.input + 1)) }
+        ensures few { IfOk result (λ count. count ≤ 65536) }
         ensures kept { OnErr result (Keeps (S.left source.old) (S.left source.new) × (self.new.held ≡ self.old.held)) }
         ensures reading { self.new.reading ≡ self.old.reading }
         ensures same { HasSameRules self.old self.new }

@@ -1,5 +1,5 @@
 //! How far a script was read, and what each line does.
-ghost use Rattle.std.specs.Prelude.{◌<◌, ◌≡◌, ◌≢◌, ◌+◌, ◌-◌, ◌++◌, ◌∷◌, ◌≤◌, ℕ, IfErr, IfOk, IfSome, IsSome, List, None, OnOk, Some, [], count_by, drop, false, length};
+ghost use Rattle.std.specs.Prelude.{◌<◌, ◌≡◌, ◌≢◌, ◌+◌, ◌-◌, ◌++◌, ◌∷◌, ◌≤◌, ℕ, IfErr, IfOk, IfSome, IsSome, List, None, OnOk, Some, [], drop, false, length};
 ghost use Rattle.lake_io.specs.Refusals.{Refuses};
 ghost use Rattle.lake_model.specs.Texts.{Text, lines_of};
 ghost use Rattle.script_model.specs.Commands.{File};
@@ -11,7 +11,7 @@ ghost use Rattle.script_model.specs.Script.{at_end, begun_fault, ended, last_tur
 ghost use Rattle.script_text.specs.Endings.{Ends, EndsAs, IsGiven, IsLast};
 ghost use Rattle.script_text.specs.Fronts.{IsFrontInRange, IsLane, IsSaidInRange, front_of, said_of};
 ghost use Rattle.script_text.specs.Gathering.{reading_at};
-ghost use Rattle.script_text.specs.Outcomes.{MayCome, RoseBy, is_failed};
+ghost use Rattle.script_text.specs.Outcomes.{CameOf};
 ghost use Rattle.script_text.specs.Readings.{AreRules, GoesOn, GrowsAtEnd, GrowsByOne, Turns, added, batches_of, body_size, grammar_by, none_given, open_with, state_with, too_long};
 ghost use Rattle.script_text.specs.Runs.{HasRoom, IsRun, Leads, LeadsOn};
 ghost use Rattle.script_text.specs.Tasks.{IsTaskInRange, file_of, task_of};
@@ -668,8 +668,7 @@ fn size_fault(rules: &Rules, bytes: u64, size: u64) -> Option<Reason>
 
 // What comes of the fetch of the path.
 fn fetch_file<F: Shelf>(alloc: Global, shelf: &mut F, path: &str) -> Result<FileBody, ScriptEnd>
-    ensures came { IfOk result (λ file. MayCome (F.files shelf.old) path.now (file_of file)) }
-    ensures failed { IfOk result (λ file. RoseBy (count_by is_failed (file_of file ∷ [])) (F.faults shelf.old) (F.faults shelf.new)) }
+    ensures came { IfOk result (λ file. CameOf (F.files shelf.old) (F.faults shelf.old) (F.faults shelf.new) path.now (file_of file)) }
     ensures refused { IfErr result (λ e. e ≡ ScriptEnd.NoMemory) }
     ensures later { F.faults shelf.old ≤ F.faults shelf.new }
     ensures files { F.files shelf.new ≡ F.files shelf.old }

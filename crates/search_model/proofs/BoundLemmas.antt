@@ -7,10 +7,10 @@ use Rattle.search_model.specs.Segment.{rank}
 use Rattle.search_model.specs.Looks.{hits}
 use Rattle.lake_model.specs.Layout.{is_among}
 
-abbrev one : Bool → ℕ
+abbrev pub one : Bool → ℕ
 one b = cond b 1 0
 
-count-cons : (p : ℕ → Bool) (x : ℕ) (xs : List ℕ) → count_by p (x ∷ xs) ≡ one (p x) + count_by p xs
+pub count-cons : (p : ℕ → Bool) (x : ℕ) (xs : List ℕ) → count_by p (x ∷ xs) ≡ one (p x) + count_by p xs
 count-cons p x xs = sum_by-cons (λ y. one (p y)) x xs
 
 abbrev pub Distinct : List ℕ → Type 0
@@ -18,7 +18,7 @@ Distinct [] = Unit {0}
 Distinct (x ∷ xs) = (is_among xs x ≡ false) × Distinct xs
 
 -- what is among a list counts at least once there
-among_counts : (d : ℕ) (set : List ℕ) → is_among set d ≡ true → 1 ≤ count_by (nat_eq d) set
+pub among_counts : (d : ℕ) (set : List ℕ) → is_among set d ≡ true → 1 ≤ count_by (nat_eq d) set
 among_counts d [] h = absurd (let f : false ≡ true = h in cc)
 among_counts d (s ∷ set) h = elim (nat_eq d s) as (λ b. nat_eq d s ≡ b → (b || is_among set d) ≡ true → 1 ≤ count_by (nat_eq d) (s ∷ set)) [
   | true ↦ λ e k. omega (arith, count-cons (nat_eq d) s set, ap one e)
@@ -52,7 +52,7 @@ hits_le_count (d ∷ ds) set h = by (hits_le_count ds set h.1) (is_among set d) 
     by less false e = omega (arith, count-cons (is_among set) d ds, ap one e, count_apart d ds set h.0)
 
 -- a weaker test counts as many or more
-count_weaker : (p q : ℕ → Bool) → ((x : ℕ) → p x ≡ true → q x ≡ true) → (xs : List ℕ) → count_by p xs ≤ count_by q xs
+pub count_weaker : (p q : ℕ → Bool) → ((x : ℕ) → p x ≡ true → q x ≡ true) → (xs : List ℕ) → count_by p xs ≤ count_by q xs
 count_weaker p q w [] = omega arith
 count_weaker p q w (x ∷ xs) = by (count_weaker p q w xs) (p x) refl
   where
@@ -61,7 +61,7 @@ count_weaker p q w (x ∷ xs) = by (count_weaker p q w xs) (p x) refl
     by less false e = omega (arith, count-cons p x xs, count-cons q x xs, ap one e)
 
 -- below, at and above a token
-three_parts : (l : ℕ) (set : List ℕ) → rank set l + count_by (nat_eq l) set + count_by (nat_lt l) set ≡ length set
+pub three_parts : (l : ℕ) (set : List ℕ) → rank set l + count_by (nat_eq l) set + count_by (nat_lt l) set ≡ length set
 three_parts l [] = refl
 three_parts l (s ∷ set) =
     let here : one (nat_lt s l) + one (nat_eq l s) + one (nat_lt l s) ≡ 1 = grind (arith, nat_tests) in

@@ -13,11 +13,11 @@ use Rattle.lake_model.specs.Texts.{Text}
 use Rattle.lake_model.specs.Tables.{has_key, overlap}
 use Rattle.lake_model.specs.Layout.{is_among}
 
-abbrev Rising : List ℕ → Type 0
+abbrev pub Rising : List ℕ → Type 0
 Rising [] = Unit {0}
 Rising (x ∷ xs) = AllByRecursion (λ y. x < y) xs × Rising xs
 
-lower : (m n : ℕ) (xs : List ℕ) → m ≤ n → AllByRecursion (λ y. n ≤ y) xs → AllByRecursion (λ y. m ≤ y) xs
+pub lower : (m n : ℕ) (xs : List ℕ) → m ≤ n → AllByRecursion (λ y. n ≤ y) xs → AllByRecursion (λ y. m ≤ y) xs
 lower m n [] h a = tt
 lower m n (x ∷ xs) h a = ((let f = a.0 in omega arith), lower m n xs h a.1)
 
@@ -45,12 +45,12 @@ right_part : (P : ℕ → Type 0) (xs ys : List ℕ) → AllByRecursion P (xs ++
 right_part P [] ys h = h
 right_part P (x ∷ xs) ys h = right_part P xs ys h.1
 
-rising_right : (xs ys : List ℕ) → Rising (xs ++ ys) → Rising ys
+pub rising_right : (xs ys : List ℕ) → Rising (xs ++ ys) → Rising ys
 rising_right [] ys h = h
 rising_right (x ∷ xs) ys h = rising_right xs ys h.1
 
 -- what is among the first part is below all of the second
-after_all : (xs ys : List ℕ) (l : ℕ) → Rising (xs ++ ys) → is_among xs l ≡ true → AllByRecursion (λ t. l < t) ys
+pub after_all : (xs ys : List ℕ) (l : ℕ) → Rising (xs ++ ys) → is_among xs l ≡ true → AllByRecursion (λ t. l < t) ys
 after_all [] ys l h e = absurd (let f : false ≡ true = e in cc)
 after_all (x ∷ xs) ys l h e = elim (nat_eq l x) as (λ b. nat_eq l x ≡ b → (b || is_among xs l) ≡ true → AllByRecursion (λ t. l < t) ys) [
   | true ↦ λ t k. let at : x ≡ l = grind (arith, nat_tests) in subst (λ (m : ℕ). AllByRecursion (λ t. m < t) ys) at (right_part (λ t. x < t) xs ys h.0)
@@ -72,14 +72,14 @@ or_true false b e = e
 same : (a : ℕ) → nat_eq a a ≡ true
 same a = grind (arith, nat_tests)
 
-abbrev IsHit : (ℕ → Bool) → List ℕ → ℕ → Type 0
+abbrev pub IsHit : (ℕ → Bool) → List ℕ → ℕ → Type 0
 IsHit p xs y = (p y ≡ true) × (is_among xs y ≡ true)
 
 further : (p : ℕ → Bool) (x : ℕ) (xs ys : List ℕ) → AllByRecursion (IsHit p xs) ys → AllByRecursion (IsHit p (x ∷ xs)) ys
 further p x xs [] h = tt
 further p x xs (y ∷ ys) h = ((h.0.0, or_true (nat_eq y x) (is_among xs y) h.0.1), further p x xs ys h.1)
 
-all_hits : (p : ℕ → Bool) (xs : List ℕ) → AllByRecursion (IsHit p xs) (filter p xs)
+pub all_hits : (p : ℕ → Bool) (xs : List ℕ) → AllByRecursion (IsHit p xs) (filter p xs)
 all_hits p [] = tt
 all_hits p (x ∷ xs) = by (further p x xs (filter p xs) (all_hits p xs)) (p x) refl
   where
@@ -87,7 +87,7 @@ all_hits p (x ∷ xs) = by (further p x xs (filter p xs) (all_hits p xs)) (p x) 
     by h true e = ((e, ap (λ b. b || is_among xs x) (same x)), h)
     by h false e = h
 
-hits-append : (set xs ys : List ℕ) → hits set (xs ++ ys) ≡ hits set xs ++ hits set ys
+pub hits-append : (set xs ys : List ℕ) → hits set (xs ++ ys) ≡ hits set xs ++ hits set ys
 hits-append set [] ys = refl
 hits-append set (x ∷ xs) ys = ap (λ us. cond (is_among set x) (x ∷ us) us) (hits-append set xs ys) ∙ by (is_among set x)
   where

@@ -102,7 +102,7 @@ all_counted : (columns : List Titled) → AllByRecursion (IsCounted columns) (to
 unfolding tokens_of
 all_counted columns = all_in_order token_cmp_total (IsCounted columns) _ (each_counted columns (distinct (flat_map (λ c. c.column.keys) columns)))
 
-frequency_at : (columns : List Titled) (m : ℕ) (d : Token) → m < length (tokens_of columns) → length (postings_of (sets_for (tokens_of columns) columns) m) ≡ (get_or (tokens_of columns) m d).frequency
+pub frequency_at : (columns : List Titled) (m : ℕ) (d : Token) → m < length (tokens_of columns) → length (postings_of (sets_for (tokens_of columns) columns) m) ≡ (get_or (tokens_of columns) m d).frequency
 frequency_at columns m d h =
     let tokens = tokens_of columns in
     let set : Titled → List ℕ = λ c. tokens_in tokens c.column.keys in

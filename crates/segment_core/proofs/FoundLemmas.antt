@@ -17,8 +17,8 @@ use Rattle.std.proofs.lemmas.Map.Lookups.{exact_unsigned}
 use Rattle.std.proofs.lemmas.Slice.Eq.{bytes_eq-Decides}
 use Rattle.lake_model.specs.Texts.{Text}
 use Rattle.lake_model.specs.Tables.{Table, has_key, distinct}
-use Rattle.lake_model.specs.Sorting.{in_order, put_in_order}
-use Rattle.lake_model.proofs.SortingLemmas.{in_order-IsPermutation, sorted_is}
+use Rattle.lake_model.specs.Sorting.{in_order}
+use Rattle.lake_model.proofs.SortingLemmas.{in_order-IsPermutation, in_order_moves, sorted_is}
 use Rattle.search_model.specs.Segment.{Titled, Token, columns_of, segment, token_cmp, token_of, tokens_in, tokens_of}
 use Rattle.search_model.specs.Arrays.{IsToken, key_of}
 use Rattle.search_model.proofs.FilterLemmas.{rising}
@@ -135,20 +135,6 @@ one_more tokens keys i found h d is =
 
 -- ---- the keys of the tokens differ
 
-put-IsPermutation : (t : Token) (ts : List Token) → IsPermutation (t ∷ ts) (put_in_order token_cmp t ts)
-unfolding put_in_order
-put-IsPermutation t [] = IsPermutation-refl (t ∷ [])
-put-IsPermutation t (u ∷ ts) = by (is_lt (token_cmp u t)) (put-IsPermutation t ts)
-  where
-    by : (b : Bool) → IsPermutation (t ∷ ts) (put_in_order token_cmp t ts) → IsPermutation (t ∷ u ∷ ts) (cond b (u ∷ put_in_order token_cmp t ts) (t ∷ u ∷ ts))
-    by true h = IsPermutation-trans _ _ _ (IsPermutation-sym _ _ (IsPermutation-middle (u ∷ []) t ts)) (IsPermutation-cons u _ _ h)
-    by false h = IsPermutation-refl (t ∷ u ∷ ts)
-
-ordered-IsPermutation : (ts : List Token) → IsPermutation ts (in_order token_cmp ts)
-unfolding in_order
-ordered-IsPermutation [] = IsPermutation-refl []
-ordered-IsPermutation (t ∷ ts) = IsPermutation-trans _ _ _ (IsPermutation-cons t _ _ (ordered-IsPermutation ts)) (put-IsPermutation t (in_order token_cmp ts))
-
 keys_back : (columns : List Titled) (keys : List Text) → map (λ t. t.key) (map (token_of columns) keys) ≡ keys
 keys_back columns [] = refl
 keys_back columns (key ∷ keys) = ap (λ (ks : List Text). key ∷ ks) (keys_back columns keys)
@@ -160,7 +146,7 @@ tokens_differ tables =
     let keys = distinct (flat_map (λ (c : Titled). c.column.keys) columns) in
     let made = map (token_of columns) keys in
     let key : Token → Text = λ t. t.key in
-    IsDistinct-IsPermutation bytes_eq flips _ _ (IsPermutation-map key _ _ (ordered-IsPermutation made)) (subst (IsDistinct bytes_eq) (sym (keys_back columns keys)) (distinct_differs (flat_map (λ (c : Titled). c.column.keys) columns)))
+    IsDistinct-IsPermutation bytes_eq flips _ _ (IsPermutation-map key _ _ (in_order_moves token_cmp made)) (subst (IsDistinct bytes_eq) (sym (keys_back columns keys)) (distinct_differs (flat_map (λ (c : Titled). c.column.keys) columns)))
 
 -- ---- sorted
 

@@ -1,13 +1,13 @@
-use Rattle.std.proofs.Common.{◌≡◌, ◌∙◌, ap}
+use Rattle.std.proofs.Common.{◌∙◌, ap}
 use Rattle.segment_core.specs.Versions.{part_at, VersionOf}
-use Rattle.josie_search.specs.Reads.{asked_in}
+use Rattle.josie_search.specs.Room.{asked_in}
 use Rattle.josie_search.proofs.RunLemmas.{tokens_within}
 use Rattle.josie_search.proofs.search.ask_parts.Goals as goal
 
-pub most_rows-requires-clause-tokens : goal.most_rows-requires-clause-tokens
-most_rows-requires-clause-tokens c =
+pub most_probes-probes-requires-clause-tokens : goal.most_probes-probes-requires-clause-tokens
+most_probes-probes-requires-clause-tokens c =
     let keys = c.args.query.now in
     let version = c.args.looks.now.version in
     let part = c.loop-part.part in
     let asked = c.deref.ensures.value ∙ c.in_ok-tokens.ensures ∙ ap (λ (v : VersionOf). asked_in keys (part_at v.parts part)) c.loop-part.invariant.version in
-    tokens_within c.reserve_log.new.self.version version keys part _ (c.in_ok-reserve_log.ensures.version ∙ c.loop-part.invariant.version) asked
+    tokens_within c.loop-part.looks.version version keys part _ c.loop-part.invariant.version asked

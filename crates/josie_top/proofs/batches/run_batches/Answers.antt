@@ -44,7 +44,7 @@ batch-requires g c = let (way, on, journal, limits, sources, sinks, shelves, fil
 pub returns-in-Ok-None-clause-table : goal.returns-in-Ok-None-clause-table
 returns-in-Ok-None-clause-table g c =
     let (way, on, journal, limits, sources, sinks, shelves, files) = c.loop-number.invariant in
-    let (taken, gathers) = c.in-Ok-None.ensures.gathered in
+    let (taken, gathers, late) = c.in-Ok-None.ensures.gathered in
     let whole : IsWhole c.loop-number.gather c.batch.new.self (g.S.Source.left c.batch.new.source) taken.given taken.asked taken.outcomes [] =
     subst (λ (found : Option (List _)). Gathers (Ok found) c.loop-number.gather c.batch.new.self (g.S.Source.left c.batch.new.source) taken.given taken.asked taken.outcomes) c.in-Ok-None.field-0-is gathers in
     let written = subst (λ (trace : Bool). IsWritten c.finish.result (g.K.Sink.written c.loop-number.sink) (g.K.Sink.written c.finish.new.sink) (text_behind trace (length c.loop-number.out.made.answers) (with_end true c.loop-number.out.made))) c.requires.trace c.finish.ensures.written in
@@ -66,7 +66,7 @@ returns-in-Ok-None-clause-files g c = let (way, on, journal, limits, sources, si
 pub returns-in-Err-clause-table : goal.returns-in-Err-clause-table
 returns-in-Err-clause-table g c =
     let (way, on, journal, limits, sources, sinks, shelves, files) = c.loop-number.invariant in
-    let (taken, gathers) = c.in-Err.ensures.gathered in
+    let (taken, gathers, none) = c.in-Err.ensures.gathered in
     let (gave, fetched) = c.in-Err.ensures.later in
     subst (λ (s : Status). Meets standard_limits c.args.out.now.made.options s (g.S.Source.left c.args.source.now) (g.S.Source.left c.batch.new.source) (g.K.Sink.written c.args.sink.now) (g.K.Sink.written c.loop-number.sink) (g.F.Shelf.files c.args.shelf.now) (g.F.Shelf.faults c.args.shelf.now) (g.F.Shelf.faults c.batch.new.shelf) c.loop-number.out.made) (sym c.status_of_end.ensures)
     (subst (λ (fs : Option (List shelf.File)). Meets standard_limits c.args.out.now.made.options (status_of_end c.in-Err.end) (g.S.Source.left c.args.source.now) (g.S.Source.left c.batch.new.source) (g.K.Sink.written c.args.sink.now) (g.K.Sink.written c.loop-number.sink) fs (g.F.Shelf.faults c.args.shelf.now) (g.F.Shelf.faults c.batch.new.shelf) c.loop-number.out.made) files
@@ -119,7 +119,7 @@ overflow_add-next g c =
 pub returns-in_default-clause-table : goal.returns-in_default-clause-table
 returns-in_default-clause-table g c =
     let (way, on, journal, limits, sources, sinks, shelves, files) = c.loop-number.invariant in
-    let (taken, gathers) = c.in-Ok-Some.ensures.gathered in
+    let (taken, gathers, late) = c.in-Ok-Some.ensures.gathered in
     let (gave, fetched) = c.in-Ok-Some.ensures.later in
     subst (λ (fs : Option (List shelf.File)). Meets standard_limits c.args.out.now.made.options status.NoMemory (g.S.Source.left c.args.source.now) (g.S.Source.left c.batch.new.source) (g.K.Sink.written c.args.sink.now) (g.K.Sink.written c.loop-number.sink) fs (g.F.Shelf.faults c.args.shelf.now) (g.F.Shelf.faults c.batch.new.shelf) c.loop-number.out.made) files
     (ends_between standard_limits c.args.out.now.made.options _ _ _ _ _ _ _ _ _ c.loop-number.gather c.loop-number.out.made taken.given way taken.gave fetched)
@@ -135,7 +135,7 @@ returns-in_default-clause-files g c = let (way, on, journal, limits, sources, si
 pub returns-then-is_err-clause-table : goal.returns-then-is_err-clause-table
 returns-then-is_err-clause-table g c =
     let (way, on, journal, limits, sources, sinks, shelves, files) = c.loop-number.invariant in
-    let (taken, gathers) = c.in-Ok-Some.ensures.gathered in
+    let (taken, gathers, late) = c.in-Ok-Some.ensures.gathered in
     let (gave, fetched) = c.in-Ok-Some.ensures.later in
     let stands : c.drive.new.out.made ≡ c.loop-number.out.made = search rules in
     subst (Meets standard_limits c.args.out.now.made.options status.NoMemory (g.S.Source.left c.args.source.now) (g.S.Source.left c.batch.new.source) (g.K.Sink.written c.args.sink.now) (g.K.Sink.written c.loop-number.sink) (g.F.Shelf.files c.args.shelf.now) (g.F.Shelf.faults c.args.shelf.now) (g.F.Shelf.faults c.batch.new.shelf)) (sym stands)
@@ -153,7 +153,7 @@ returns-then-is_err-clause-files g c = let (way, on, journal, limits, sources, s
 pub returns-in-Err-write_record-clause-table : goal.returns-in-Err-write_record-clause-table
 returns-in-Err-write_record-clause-table g c =
     let (way, on, journal, limits, sources, sinks, shelves, files) = c.loop-number.invariant in
-    let (taken, gathers) = c.in-Ok-Some.ensures.gathered in
+    let (taken, gathers, late) = c.in-Ok-Some.ensures.gathered in
     let gathered : IsSynced c.loop-number.gather c.batch.new.self taken.given taken.asked taken.outcomes c.in-Ok-Some.batch ⊎ IsWhole c.loop-number.gather c.batch.new.self (g.S.Source.left c.batch.new.source) taken.given taken.asked taken.outcomes (c.in-Ok-Some.batch ∷ []) =
     subst (λ found. Gathers (Ok found) c.loop-number.gather c.batch.new.self (g.S.Source.left c.batch.new.source) taken.given taken.asked taken.outcomes) c.in-Ok-Some.field-0-is gathers in
     let lanes : IsOfLanes c.args.lanes c.in-Ok-Some.batch = subst (λ (n : ℕ). IsOfLanes n c.in-Ok-Some.batch) (way.goes.lanes_are ∙ sym c.requires.lanes) (subst (λ found. IfSome found (IsOfLanes c.loop-number.gather.lanes)) c.in-Ok-Some.field-0-is c.in-Ok-Some.ensures.lanes) in
@@ -174,8 +174,8 @@ returns-in-Err-write_record-clause-table g c =
     let (part, beginning, wrote) = c.in-Err-write_record.ensures.part in
     subst (λ (s : Status). Meets standard_limits c.args.out.now.made.options s (g.S.Source.left c.args.source.now) (g.S.Source.left c.batch.new.source) (g.K.Sink.written c.args.sink.now) (g.K.Sink.written c.write_record.new.sink) (g.F.Shelf.files c.args.shelf.now) (g.F.Shelf.faults c.args.shelf.now) (g.F.Shelf.faults c.batch.new.shelf) c.drive.new.out.made) (sym c.status_of_stop.ensures)
     (subst (λ (fs : Option (List shelf.File)). Meets standard_limits c.args.out.now.made.options (status_of_stop c.in-Err-write_record.stop) (g.S.Source.left c.args.source.now) (g.S.Source.left c.batch.new.source) (g.K.Sink.written c.args.sink.now) (g.K.Sink.written c.write_record.new.sink) fs (g.F.Shelf.faults c.args.shelf.now) (g.F.Shelf.faults c.batch.new.shelf) c.drive.new.out.made) files
-    (ends_writing standard_limits c.args.out.now.made.options c.in-Err-write_record.stop _ _ _ _ _ _ _ _ _ _ c.loop-number.gather c.batch.new.self c.loop-number.out.made c.drive.new.out.made c.in-Ok-Some.batch adds.new part
-    way taken c.in-Ok-Some.ensures.limits c.in-Ok-Some.ensures.same_lanes c.in-Ok-Some.ensures.within gathered is adds.are (subst (IsPrefix part) first beginning) wrote))
+    (ends_writing standard_limits c.args.out.now.made.options c.in-Err-write_record.stop _ _ _ _ _ _ _ _ _ _ c.loop-number.gather c.batch.new.self c.loop-number.out.made c.drive.new.out.made c.in-Ok-Some.batch adds.new part _
+    way taken late c.in-Ok-Some.ensures.limits c.in-Ok-Some.ensures.same_lanes c.in-Ok-Some.ensures.within gathered is adds.are (subst (IsPrefix part) first beginning) wrote))
 
 pub returns-in-Err-write_record-clause-write_fault : goal.returns-in-Err-write_record-clause-write_fault
 returns-in-Err-write_record-clause-write_fault g c = λ (is : c.status_of_stop.result ≡ status.WriteFault).
@@ -193,7 +193,7 @@ returns-in-Err-write_record-clause-files g c = let (way, on, journal, limits, so
 pub returns-then-ended-clause-table : goal.returns-then-ended-clause-table
 returns-then-ended-clause-table g c =
     let (way, on, journal, limits, sources, sinks, shelves, files) = c.loop-number.invariant in
-    let (taken, gathers) = c.in-Ok-Some.ensures.gathered in
+    let (taken, gathers, late) = c.in-Ok-Some.ensures.gathered in
     let gathered : IsSynced c.loop-number.gather c.batch.new.self taken.given taken.asked taken.outcomes c.in-Ok-Some.batch ⊎ IsWhole c.loop-number.gather c.batch.new.self (g.S.Source.left c.batch.new.source) taken.given taken.asked taken.outcomes (c.in-Ok-Some.batch ∷ []) =
     subst (λ found. Gathers (Ok found) c.loop-number.gather c.batch.new.self (g.S.Source.left c.batch.new.source) taken.given taken.asked taken.outcomes) c.in-Ok-Some.field-0-is gathers in
     let lanes : IsOfLanes c.args.lanes c.in-Ok-Some.batch = subst (λ (n : ℕ). IsOfLanes n c.in-Ok-Some.batch) (way.goes.lanes_are ∙ sym c.requires.lanes) (subst (λ found. IfSome found (IsOfLanes c.loop-number.gather.lanes)) c.in-Ok-Some.field-0-is c.in-Ok-Some.ensures.lanes) in
@@ -236,7 +236,7 @@ returns-then-ended-clause-files g c = let (way, on, journal, limits, sources, si
 pub loop-number-preserved : goal.loop-number-preserved
 loop-number-preserved g c =
     let (way, on, journal, limits, sources, sinks, shelves, files) = c.loop-number.invariant in
-    let (taken, gathers) = c.in-Ok-Some.ensures.gathered in
+    let (taken, gathers, late) = c.in-Ok-Some.ensures.gathered in
     let gathered : IsSynced c.loop-number.gather c.batch.new.self taken.given taken.asked taken.outcomes c.in-Ok-Some.batch ⊎ IsWhole c.loop-number.gather c.batch.new.self (g.S.Source.left c.batch.new.source) taken.given taken.asked taken.outcomes (c.in-Ok-Some.batch ∷ []) =
     subst (λ found. Gathers (Ok found) c.loop-number.gather c.batch.new.self (g.S.Source.left c.batch.new.source) taken.given taken.asked taken.outcomes) c.in-Ok-Some.field-0-is gathers in
     let lanes : IsOfLanes c.args.lanes c.in-Ok-Some.batch = subst (λ (n : ℕ). IsOfLanes n c.in-Ok-Some.batch) (way.goes.lanes_are ∙ sym c.requires.lanes) (subst (λ found. IfSome found (IsOfLanes c.loop-number.gather.lanes)) c.in-Ok-Some.field-0-is c.in-Ok-Some.ensures.lanes) in
@@ -260,7 +260,7 @@ loop-number-preserved g c =
     let (gave, fetched) = c.in-Ok-Some.ensures.later in
     let grows : c.loop-number.gather.reading.used + length c.in-Ok-Some.batch ≤ c.batch.new.self.reading.used =
     (subst (λ found. IfSome found (λ (b : Batch). (c.loop-number.gather.reading.used < c.batch.new.self.reading.used) × (c.loop-number.gather.reading.used + length b ≤ c.batch.new.self.reading.used))) c.in-Ok-Some.field-0-is c.in-Ok-Some.ensures.used).1 in
-    let now = one_more standard_limits c.args.out.now.made.options _ _ _ _ _ _ _ _ _ _ c.loop-number.gather c.batch.new.self c.loop-number.out.made c.drive.new.out.made c.in-Ok-Some.batch adds.new way taken goes gathered
+    let now = one_more standard_limits c.args.out.now.made.options _ _ _ _ _ _ _ _ _ _ c.loop-number.gather c.batch.new.self c.loop-number.out.made c.drive.new.out.made c.in-Ok-Some.batch adds.new _ way taken late goes gathered
     c.in-Ok-Some.ensures.limits c.in-Ok-Some.ensures.same_lanes c.in-Ok-Some.ensures.within is adds.are (subst (Appends (g.K.Sink.written c.loop-number.sink) (g.K.Sink.written c.write_record.new.sink)) first wrote) grows in (
       subst (λ (n : ℕ). IsUnderWay standard_limits c.args.out.now.made.options (g.S.Source.left c.args.source.now) (g.S.Source.left c.batch.new.source) (g.K.Sink.written c.args.sink.now) (g.K.Sink.written c.write_record.new.sink) (g.F.Shelf.files c.batch.new.shelf) (g.F.Shelf.faults c.args.shelf.now) (g.F.Shelf.faults c.batch.new.shelf) c.batch.new.self c.drive.new.out.made (c.loop-number.number + 1) (c.loop-number.next + n)) (sym c.updates-next.ensures)
           (subst (λ (fs : Option (List shelf.File)). IsUnderWay standard_limits c.args.out.now.made.options (g.S.Source.left c.args.source.now) (g.S.Source.left c.batch.new.source) (g.K.Sink.written c.args.sink.now) (g.K.Sink.written c.write_record.new.sink) fs (g.F.Shelf.faults c.args.shelf.now) (g.F.Shelf.faults c.batch.new.shelf) c.batch.new.self c.drive.new.out.made (c.loop-number.number + 1) (c.loop-number.next + updates c.in-Ok-Some.batch)) (sym c.in-Ok-Some.ensures.files) now),

@@ -2,9 +2,10 @@ use Rattle.std.proofs.Common.{◌≡◌, ◌++◌, ap, sym, subst, ◌∙◌, le
 use Rattle.script_model.specs.Commands.{Batch}
 use Rattle.script_model.specs.Play.{merges_of}
 use Rattle.lake_core.specs.Lanes.{AreShared}
-use Rattle.lake_core.specs.Works.{works_of}
+use Rattle.batch_work.specs.Works.{works_of}
 use Rattle.lake_core.proofs.BatchLemmas.{batch_played, ready_shared}
-use Rattle.lake_core.proofs.WorkLemmas.{within_lanes, works_long}
+use Rattle.batch_work.proofs.WorkLemmas.{works_long}
+use Rattle.lake_core.proofs.WorkLemmas.{within_lanes}
 use Rattle.lake_core.proofs.driving.drive.Goals as goal
 
 pub share_out-requires : goal.share_out-requires

@@ -1,4 +1,4 @@
-use Rattle.lake_core.specs.Works.{works_of}
+use Rattle.batch_work.specs.Works.{works_of}
 use Rattle.lake_core.proofs.GatherLemmas.{Gathers}
 use Rattle.lake_core.proofs.driving.gather.Given as goal
 

@@ -1,5 +1,5 @@
 use Rattle.std.proofs.Common.{length}
-use Rattle.lake_core.specs.Works.{works_of}
+use Rattle.batch_work.specs.Works.{works_of}
 use Rattle.lake_core.proofs.BatchLemmas.{batch_made}
 use Rattle.lake_core.proofs.driving.play.Goals as goal
 

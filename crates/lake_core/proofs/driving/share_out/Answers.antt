@@ -1,7 +1,7 @@
 use Rattle.std.proofs.Common.{◌<◌, length, refl, arith}
-use Rattle.lake_core.specs.Works.{work_of, works_of}
+use Rattle.batch_work.specs.Works.{work_of, works_of}
 use Rattle.lake_core.proofs.ShareLemmas.{lane_within, new_here, shared_more}
-use Rattle.lake_core.proofs.WorkLemmas.{work_at, works_long}
+use Rattle.batch_work.proofs.WorkLemmas.{work_at, works_long}
 use Rattle.lake_core.proofs.driving.share_out.Goals as goal
 
 pub index_mut-requires : goal.index_mut-requires

@@ -1,5 +1,5 @@
 use Rattle.std.proofs.Common.{take}
-use Rattle.lake_core.specs.Works.{works_of}
+use Rattle.batch_work.specs.Works.{works_of}
 use Rattle.lake_core.specs.Lanes.{AreShared}
 use Rattle.lake_core.proofs.driving.share_out.Given as goal
 

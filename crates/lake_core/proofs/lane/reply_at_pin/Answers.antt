@@ -1,7 +1,7 @@
 use Rattle.std.proofs.Common.{ap, sym, ◌∙◌}
 use Rattle.script_model.specs.Answered.{answer_to}
 use Rattle.script_model.specs.Play.{reply_or_denied}
-use Rattle.lake_core.specs.Works.{work_of}
+use Rattle.batch_work.specs.Works.{work_of}
 use Rattle.lake_core.proofs.lane.reply_at_pin.Goals as goal
 
 pub returns : goal.returns

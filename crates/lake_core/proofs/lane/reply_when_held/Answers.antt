@@ -4,7 +4,7 @@ use Rattle.reply_text.specs.Replies.{reply_of}
 use Rattle.lake_core.specs.Lanes.{IsHeldAt, position_of}
 use Rattle.lake_core.specs.Loads.{with_added}
 use Rattle.lake_core.specs.Merging.{swapped_by}
-use Rattle.lake_core.specs.Works.{merge_policy, work_of}
+use Rattle.batch_work.specs.Works.{merge_policy, work_of}
 use Rattle.lake_core.proofs.LoadLemmas.{Answers}
 use Rattle.lake_core.proofs.LaneLemmas.{held_adds, held_answer, held_swap}
 use Rattle.lake_core.proofs.lane.reply_when_held.Goals as goal

@@ -1,109 +1,127 @@
-use Rattle.std.proofs.Common.{◌≡◌, ◌∙◌, sym, ap, subst, ℕ, ◌≤◌, ◌++◌, [], List, length, map, take, sum_by, vec_capacity, arith, rules}
+use Rattle.std.proofs.Common.{◌≡◌, ◌∙◌, sym, ap, subst, ◌<◌, ◌≤◌, ◌++◌, [], length, map, get_or, arith}
 use Rattle.std.specs.Prelude.{bytes_eq}
 use Rattle.std.specs.List.{IsDistinct}
-use Rattle.std.specs.List.Sorted.{IsPermutation}
-use Rattle.std.proofs.lemmas.List.{take_all}
-use Rattle.std.proofs.lemmas.List.Sorted.{IsPermutation-refl}
-use Rattle.lake_model.specs.Answer.{Row, all_rows, row_cmp}
-use Rattle.lake_model.specs.Sorting.{in_order}
-use Rattle.lake_model.proofs.AnswerLemmas.{row_cmp_exact, row_cmp_total}
-use Rattle.lake_model.proofs.SortingLemmas.{in_order-IsPermutation}
-use Rattle.segment_core.specs.Versions.{live_of, part_at, segment_at, VersionOf}
-use Rattle.josie_search.specs.Reads.{all_lists, reads_of}
+use Rattle.lake_model.specs.Answer.{row_cmp}
+use Rattle.search_laws.proofs.AnswerOfLog.{known_answer}
+use Rattle.search_laws.specs.Select.{best}
+use Rattle.search_model.specs.Looks.{known_rows, log, run, searched, start}
+use Rattle.segment_core.specs.Versions.{part_at, part_with, VersionOf}
+use Rattle.topk_heap.specs.First.{FirstRows}
 use Rattle.josie_search.specs.Ready.{IsReady}
-use Rattle.josie_search.specs.Room.{rows_bound}
+use Rattle.josie_search.specs.Room.{asked_in, looks_bound}
 use Rattle.josie_search.specs.Search.{SearchOf}
-use Rattle.josie_search.proofs.ReadLemmas.{lists_more}
-use Rattle.josie_search.proofs.RunLemmas.{asked_there, counts_small, room_here, rows_more_read, tokens_within}
-use Rattle.josie_search.proofs.RaisedLemmas.{space_here}
-use Rattle.josie_search.proofs.SortLemmas.{sorted_rows}
+use Rattle.josie_search.proofs.PartsLemmas.{rows_kept, through_log, through_more, through_none, through_rows}
+use Rattle.josie_search.proofs.RunLemmas.{asked_there, few_tokens, length-searched, room_here, searched_at}
 use Rattle.josie_search.proofs.search.Prepared.run.Goals as goal
 
-pub search_part-requires-clause-part : goal.search_part-requires-clause-part
-search_part-requires-clause-part c = omega (arith, c.loop-part-test.true, c.loop-part.invariant.end, ap (λ (v : VersionOf). length v.parts) c.loop-part.invariant.version)
-
-pub search_part-requires-clause-tokens : goal.search_part-requires-clause-tokens
-search_part-requires-clause-tokens c =
-    let kept = c.loop-part.invariant in
-    let asked = asked_there c.args.self.query.keys c.args.self.version.parts _ c.loop-part.part _ _ kept.asked (omega (arith, c.loop-part-test.true, kept.end)) c.index-tokens.ensures c.deref.ensures.value in
-    tokens_within _ c.args.self.version c.args.self.query.keys c.loop-part.part _ kept.version asked
-
-pub search_part-requires-clause-room : goal.search_part-requires-clause-room
-search_part-requires-clause-room c =
-    let kept = c.loop-part.invariant in
-    let asked = asked_there c.args.self.query.keys c.args.self.version.parts _ c.loop-part.part _ _ kept.asked (omega (arith, c.loop-part-test.true, kept.end)) c.index-tokens.ensures c.deref.ensures.value in
-    omega (arith, room_here c.args.self.query.keys c.args.self.version.parts c.loop-part.part _ c.loop-part.looks.spare (omega (arith, c.loop-part-test.true, kept.end)) asked kept.room)
-
-pub search_part-requires-clause-wide : goal.search_part-requires-clause-wide
-search_part-requires-clause-wide c =
-    let kept = c.loop-part.invariant in
-    omega (arith, kept.wide c.loop-part.part (omega (arith, c.loop-part-test.true, kept.end)), ap (λ (v : VersionOf). length (segment_at v.parts c.loop-part.part).sets) kept.version)
-
-pub search_part-requires-clause-small : goal.search_part-requires-clause-small
-search_part-requires-clause-small c =
-    let kept = c.loop-part.invariant in
-    let asked = asked_there c.args.self.query.keys c.args.self.version.parts _ c.loop-part.part _ _ kept.asked (omega (arith, c.loop-part-test.true, kept.end)) c.index-tokens.ensures c.deref.ensures.value in
-    let keys = ap (λ (s : SearchOf). s.query.keys) c.self.view_is in
-    counts_small _ c.args.self.version c.args.self.query.keys c.loop-part.part _ _ kept.version asked (subst (IsDistinct bytes_eq) keys c.self.invariant.2.different) (omega (arith, ap length keys, c.self.invariant.2.few))
-
-pub search_part-requires-clause-zeros : goal.search_part-requires-clause-zeros
-search_part-requires-clause-zeros c = c.loop-part.invariant.zeros
-
-pub search_part-requires-clause-space : goal.search_part-requires-clause-space
-search_part-requires-clause-space c =
-    let kept = c.loop-part.invariant in
-    let asked = asked_there c.args.self.query.keys c.args.self.version.parts _ c.loop-part.part _ _ kept.asked (omega (arith, c.loop-part-test.true, kept.end)) c.index-tokens.ensures c.deref.ensures.value in
-    omega (arith, kept.space, ap (λ (v : VersionOf). rows_bound (part_at v.parts c.loop-part.part) c.deref.result.now) kept.version, space_here c.args.self.query.keys c.args.self.version.parts c.loop-part.part _ (omega (arith, c.loop-part-test.true, kept.end)) asked)
-
 pub loop-part-init : goal.loop-part-init
-loop-part-init c =
-    let ready : IsReady c.args.self.version.parts c.args.self.query.keys c.self.inside.looks.spare (map (λ v. v.items) c.self.inside.asked.items) c.self.inside.counters (vec_capacity c.self.inside.rows) =
-    subst (λ (s : SearchOf). IsReady s.version.parts s.query.keys c.self.inside.looks.spare (map (λ v. v.items) c.self.inside.asked.items) c.self.inside.counters (vec_capacity c.self.inside.rows)) c.self.view_is c.self.invariant.2 in
+loop-part-init g c =
+    let query = c.args.self.query in
+    let parts = c.args.self.version.parts in
+    let ready : IsReady parts query c.self.inside.looks.spare (map (λ v. v.items) c.self.inside.tokens.items) c.self.inside.columns c.self.inside.top =
+    subst (λ (s : SearchOf). IsReady s.version.parts s.query c.self.inside.looks.spare (map (λ v. v.items) c.self.inside.tokens.items) c.self.inside.columns c.self.inside.top) c.self.view_is c.self.invariant.1 in
     record {
       end = c.parts-part-end.ensures ∙ ap (λ (s : SearchOf). length s.version.parts) c.self.view_is;
       version = ap (λ (s : SearchOf). s.version) c.self.view_is;
-      asked = ready.asked;
-      log = c.self.invariant.0;
-      room = subst (λ (lists : List (List ℕ)). sum_by length lists ≤ c.self.inside.looks.spare) ready.asked ready.room;
+      through = through_none (g.C.Chooser.says c.args.chooser.now) query ready.some (map (searched query) parts) c.self.inside.looks.log c.self.inside.top.rows c.self.invariant.0 (ap (λ (t : FirstRows). t.rows) ready.first);
+      k = ap (λ (t : FirstRows). t.k) ready.first;
       wide = ready.wide;
-      space = omega (arith, ready.space, ap length c.self.invariant.1, c.self.inside.rows.ok.0);
-      zeros = ready.zeros;
-      rows = subst (λ (rows : List Row). IsPermutation [] rows) (sym c.self.invariant.1) (IsPermutation-refl []);
+      room = ready.room;
     }
 
+pub search_part-requires-clause-few : goal.search_part-requires-clause-few
+search_part-requires-clause-few g c =
+    let kept = c.loop-part.invariant in
+    let ready = c.self.invariant.1 in
+    let query = c.self.inside.query in
+    let parts = c.self.inside.looks.version.parts in
+    let same = ap (λ (s : SearchOf). length s.version.parts) c.self.view_is in
+    let asked = asked_there query.keys parts c.self.inside.tokens.items c.loop-part.part _ _ ready.asked (omega (arith, c.loop-part-test.true, kept.end, same)) c.index-asked.ensures c.deref.ensures.value in
+    omega (arith, few_tokens query (part_at parts c.loop-part.part) _ ready.different asked, ready.few)
+
+pub search_part-requires-clause-tokens : goal.search_part-requires-clause-tokens
+search_part-requires-clause-tokens g c =
+    let kept = c.loop-part.invariant in
+    let ready = c.self.invariant.1 in
+    let query = c.self.inside.query in
+    let parts = c.self.inside.looks.version.parts in
+    let same = ap (λ (s : SearchOf). length s.version.parts) c.self.view_is in
+    let asked = asked_there query.keys parts c.self.inside.tokens.items c.loop-part.part _ _ ready.asked (omega (arith, c.loop-part-test.true, kept.end, same)) c.index-asked.ensures c.deref.ensures.value in
+    let back : c.self.inside.looks.version ≡ c.loop-part.looks.version = ap (λ (s : SearchOf). s.version) c.self.view_is ∙ sym kept.version in
+    asked ∙ ap (λ (v : VersionOf). asked_in query.keys (part_at v.parts c.loop-part.part)) back
+
+pub search_part-requires-clause-room : goal.search_part-requires-clause-room
+search_part-requires-clause-room g c =
+    let kept = c.loop-part.invariant in
+    let ready = c.self.invariant.1 in
+    let query = c.args.self.query in
+    let parts = c.args.self.version.parts in
+    let lists = subst (λ (s : SearchOf). map (λ v. v.items) c.self.inside.tokens.items ≡ map (asked_in s.query.keys) s.version.parts) c.self.view_is ready.asked in
+    let asked = asked_there query.keys parts c.self.inside.tokens.items c.loop-part.part _ _ lists (omega (arith, c.loop-part-test.true, kept.end)) c.index-asked.ensures c.deref.ensures.value in
+    omega (
+      arith,
+      room_here query.keys parts c.loop-part.part _ c.loop-part.looks.spare (omega (arith, c.loop-part-test.true, kept.end)) asked kept.room,
+      ap (λ (v : VersionOf). looks_bound (part_at v.parts c.loop-part.part) c.deref.result.now) kept.version,
+    )
+
+pub search_part-requires-clause-rows : goal.search_part-requires-clause-rows
+search_part-requires-clause-rows g c =
+    let kept = c.loop-part.invariant in
+    let query = c.args.self.query in
+    let some = subst (λ (s : SearchOf). 0 < s.query.k) c.self.view_is c.self.invariant.1.some in
+    rows_kept (g.C.Chooser.says c.args.chooser.now) query some (map (searched query) c.args.self.version.parts) c.loop-part.part c.loop-part.looks.log c.loop-part.top.rows kept.through
+    ∙ ap (λ (s : SearchOf). best row_cmp s.query.k c.loop-part.top.rows) (sym c.self.view_is)
+
 pub loop-part-preserved : goal.loop-part-preserved
-loop-part-preserved c =
+loop-part-preserved g c =
+    let says = g.C.Chooser.says c.args.chooser.now in
     let kept = c.loop-part.invariant in
     let done = c.search_part.ensures in
-    let part = c.loop-part.part in
-    let parts = c.args.self.version.parts in
     let query = c.args.self.query in
-    let asked = asked_there query.keys parts _ part _ _ kept.asked (omega (arith, c.loop-part-test.true, kept.end)) c.index-tokens.ensures c.deref.ensures.value in
+    let parts = c.args.self.version.parts in
+    let part = c.loop-part.part in
+    let within : part < length parts = omega (arith, c.loop-part-test.true, kept.end) in
+    let some = subst (λ (s : SearchOf). 0 < s.query.k) c.self.view_is c.self.invariant.1.some in
+    let lists = subst (λ (s : SearchOf). map (λ v. v.items) c.self.inside.tokens.items ≡ map (asked_in s.query.keys) s.version.parts) c.self.view_is c.self.invariant.1.asked in
+    let asked = asked_there query.keys parts c.self.inside.tokens.items part _ _ lists within c.index-asked.ensures c.deref.ensures.value in
+    let same : c.self.inside.query ≡ query = ap (λ (s : SearchOf). s.query) c.self.view_is in
+    let here : searched c.self.inside.query (part_at c.loop-part.looks.version.parts part) ≡ get_or (map (searched query) parts) part (searched query (part_with 0 [])) =
+    (λ i. searched (same i) (part_at (kept.version i).parts part)) ∙ sym (searched_at query parts part within) in
     record {
       end = kept.end;
       version = done.version ∙ kept.version;
-      asked = kept.asked;
-      log = lists_more query parts part c.loop-part.looks.log _ (omega (arith, c.loop-part-test.true, kept.end)) kept.log (done.log ∙ (λ i. c.loop-part.looks.log ++ reads_of (part_at (kept.version i).parts part).number (asked i)));
-      room = omega (arith, done.room, room_here query.keys parts part _ c.loop-part.looks.spare (omega (arith, c.loop-part-test.true, kept.end)) asked kept.room);
-      wide = λ i b. omega (arith, done.wide, kept.wide i b);
-      space = omega (arith, done.space, done.few, kept.space, ap (λ (v : VersionOf). rows_bound (part_at v.parts part) c.deref.result.now) kept.version, space_here query.keys parts part _ (omega (arith, c.loop-part-test.true, kept.end)) asked);
-      zeros = done.zeros;
-      rows =
-          rows_more_read _ c.args.self.version query _ part _ c.loop-part.rows.items _ kept.version (ap (λ (s : SearchOf). s.query.except) c.self.view_is) asked (omega (arith, c.loop-part-test.true, kept.end))
-          (subst (IsDistinct bytes_eq) (ap (λ (s : SearchOf). s.query.keys) c.self.view_is) c.self.invariant.2.different) kept.rows done.rows;
+      through = through_more says query some (map (searched query) parts) part (searched query (part_with 0 [])) c.loop-part.looks.log _ c.loop-part.top.rows _ (omega (arith, within, length-searched query parts)) kept.through
+          (done.log ∙ (λ i. c.loop-part.looks.log ++ (run says (same i) c.loop-part.top.rows (here i) start).0))
+          (done.rows ∙ (λ i. best row_cmp (same i).k (c.loop-part.top.rows ++ known_rows (same i) (here i) (run says (same i) c.loop-part.top.rows (here i) start).1)));
+      k = done.k ∙ kept.k;
+      wide = λ i h. (let w = kept.wide i h in omega (arith, w, done.wide, c.clear.ensures.wide));
+      room = omega (
+        arith,
+        done.spare,
+        room_here query.keys parts part _ c.loop-part.looks.spare within asked kept.room,
+        ap (λ (v : VersionOf). looks_bound (part_at v.parts part) c.deref.result.now) kept.version,
+      );
     }
 
-pub returns : goal.returns
-returns c =
+pub returns-clause-rows : goal.returns-clause-rows
+returns-clause-rows g c =
+    let says = g.C.Chooser.says c.args.chooser.now in
     let kept = c.loop-part.invariant in
     let query = c.args.self.query in
-    let all = take_all c.loop-part.part c.args.self.version.parts (omega (arith, c.loop-part-test.false, kept.end)) in
-    let k : c.self.inside.k ≡ query.k = ap (λ (s : SearchOf). s.query.k) c.self.view_is in
-    let sorted = sorted_rows c.loop-part.rows.items _ c.sort_unstable_by.ensures.sorted c.sort_unstable_by.ensures.permutation (λ a r f' k. search rules) in
-    record {
-      rows =
-          c.new.ensures ∙ c.truncate.ensures.items ∙ ap (take c.self.inside.k) (sorted ∙ in_order-IsPermutation row_cmp_total row_cmp_exact _ _ kept.rows)
-          ∙ (λ i. take (k i) (in_order row_cmp (all_rows (live_of (all i)) query.keys query.except)));
-      log = kept.log ∙ ap (all_lists query) all;
-      version = kept.version;
-    }
+    let parts = c.args.self.version.parts in
+    let some = subst (λ (s : SearchOf). 0 < s.query.k) c.self.view_is c.self.invariant.1.some in
+    let different = subst (λ (s : SearchOf). IsDistinct bytes_eq s.query.keys) c.self.view_is c.self.invariant.1.different in
+    let all : length (map (searched query) parts) ≤ c.loop-part.part = omega (arith, c.loop-part-test.false, kept.end, length-searched query parts) in
+    c.into_rows.ensures
+    ∙ through_rows says query some (map (searched query) parts) c.loop-part.part c.loop-part.looks.log c.loop-part.top.rows all kept.through
+    ∙ known_answer says query parts different some
+
+pub returns-clause-log : goal.returns-clause-log
+unfolding log
+returns-clause-log g c =
+    let kept = c.loop-part.invariant in
+    let query = c.args.self.query in
+    let parts = c.args.self.version.parts in
+    let some = subst (λ (s : SearchOf). 0 < s.query.k) c.self.view_is c.self.invariant.1.some in
+    let all : length (map (searched query) parts) ≤ c.loop-part.part = omega (arith, c.loop-part-test.false, kept.end, length-searched query parts) in
+    through_log (g.C.Chooser.says c.args.chooser.now) query some (map (searched query) parts) c.loop-part.part c.loop-part.looks.log c.loop-part.top.rows all kept.through

@@ -5,7 +5,7 @@ use Rattle.script_model.specs.Play.{Done, done_with, entries_of, who_of}
 use Rattle.script_model.specs.Record.{RunRecord}
 use Rattle.reply_text.specs.Replies.{reply_of}
 use Rattle.lake_core.specs.Lanes.{LaneOf, lane_from, IsHeld, position_of}
-use Rattle.lake_core.specs.Works.{work_of}
+use Rattle.batch_work.specs.Works.{work_of}
 use Rattle.lake_core.proofs.LaneLemmas.{answered_now, answered_then, one_less}
 use Rattle.lake_core.proofs.lane.Lane.step.Goals as goal
 

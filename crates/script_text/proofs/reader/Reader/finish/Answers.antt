@@ -1,4 +1,4 @@
-use Rattle.std.proofs.Common.{◌∙◌, arith, ap, sym}
+use Rattle.std.proofs.Common.{◌∙◌, ap, refl, sym}
 use Rattle.std.proofs.lemmas.Result.{err_from_is_err_and}
 use Rattle.script_text.specs.Readings.{ReaderState, grammar_by}
 use Rattle.script_text.proofs.TurnLemmas.{ends_begun, ends_by}
@@ -7,7 +7,7 @@ use Rattle.script_text.proofs.reader.Reader.finish.Goals as goal
 pub returns-in-Some-clause-ends : goal.returns-in-Some-clause-ends
 returns-in-Some-clause-ends g c =
     let lines = ap (λ (s : ReaderState). s.reading.lines) c.self.view_is in
-    rw lines (ends_begun (grammar_by c.args.self.now.rules) c.args.rest.now c.args.self.now.reading _ _ _ c.in-Some.reason (omega arith) (sym c.in-Some.ensures))
+    rw lines (ends_begun (grammar_by c.args.self.now.rules) c.args.rest.now c.args.self.now.reading _ _ _ c.in-Some.reason refl (sym c.in-Some.ensures))
 
 pub returns-in_err-batch-clause-ends : goal.returns-in_err-batch-clause-ends
 returns-in_err-batch-clause-ends g c =

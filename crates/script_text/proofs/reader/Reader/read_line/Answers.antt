@@ -1,4 +1,4 @@
-use Rattle.std.proofs.Common.{◌+◌, arith, subst}
+use Rattle.std.proofs.Common.{◌+◌, subst}
 use Rattle.std.specs.Prelude.{Err, None, Ok}
 use Rattle.std.proofs.lemmas.Result.{err_from_is_err_and}
 use Rattle.script_model.specs.Reading.{turn_of}
@@ -11,9 +11,9 @@ returns-in_err-read_block_line-clause-turn g c =
     let p = err_from_is_err_and c.from_residual.result c.from_residual.ensures.1 in
     rw (p.1, p.2)
     (subst (λ (s : ReaderState). Turns (turn_of (grammar_by s.rules) c.args.line.now) (Err c.in_err-read_block_line.field-0.0) (s.reading.lines + 1) s.reading c.read_block_line.new.self.reading (g.F.Shelf.files c.args.shelf.now) (g.F.Shelf.faults c.args.shelf.now) (g.F.Shelf.faults c.args.shelf.now))
-    c.self.view_is (unfetched _ _ _ _ _ _ _ _ (omega arith) c.in_err-read_block_line.ensures.turn))
+    c.self.view_is (unfetched _ _ _ _ _ _ _ c.in_err-read_block_line.ensures.turn))
 
 pub returns-clause-turn : goal.returns-clause-turn
 returns-clause-turn g c =
     subst (λ (s : ReaderState). Turns (turn_of (grammar_by s.rules) c.args.line.now) (Ok None) (s.reading.lines + 1) s.reading c.read_block_line.new.self.reading (g.F.Shelf.files c.args.shelf.now) (g.F.Shelf.faults c.args.shelf.now) (g.F.Shelf.faults c.args.shelf.now))
-    c.self.view_is (unfetched _ _ _ _ _ _ _ _ (omega arith) c.in_ok-read_block_line.ensures.turn)
+    c.self.view_is (unfetched _ _ _ _ _ _ _ c.in_ok-read_block_line.ensures.turn)

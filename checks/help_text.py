@@ -1,0 +1,58 @@
+#!/usr/bin/env python3
+"""What `docs/FORMATS.md` says of words and commands stands in `--help` and in the manual page too, and the usage line is the program's.
+
+    checks/help_text.py [JOSIE]
+
+`docs/FORMATS.md` is where the words and the commands are told in full. Each of the first columns of its tables of words and of lines has to stand in the other
+two texts, and the line on standard error that it quotes for words that are refused has to be the one that the program writes.
+"""
+import os
+import re
+import subprocess
+
+from check import HERE, Wrong, main
+
+DOCS = os.path.join(HERE, "..", "docs")
+
+
+def text_of(name):
+    with open(os.path.join(DOCS, name), encoding="utf-8") as file:
+        return file.read()
+
+
+def first_column(text, header):
+    """The code in the first column of the table with this header."""
+    table = text.split(header, 1)[1].split("\n\n", 1)[0]
+    return re.findall(r"^\| `([^`]+)` \|", table, re.MULTILINE)
+
+
+def manual_text():
+    """The manual page without its marks: the words of each request as one line."""
+    lines = []
+    for line in text_of("josie.1").splitlines():
+        if line.startswith("."):
+            line = line.partition(" ")[2].replace('" ', " ").replace(' "', " ").replace('"', "")
+        lines.append(line.replace("\\-", "-"))
+    return " ".join(" ".join(lines).split())
+
+
+def run(josie, *words):
+    ended = subprocess.run([josie, *words], stdin=subprocess.DEVNULL, capture_output=True, timeout=20)
+    return ended.stdout.decode(), ended.stderr.decode()
+
+
+def check(josie, _words):
+    formats = text_of("FORMATS.md")
+    told = first_column(formats, "| Words | Meaning | Example |") + first_column(formats, "| Line | Meaning | Example |")
+    texts = {"--help": " ".join(run(josie, "--help")[0].split()), "docs/josie.1": manual_text()}
+    missing = [f"{name} lacks `{words}`" for name, text in texts.items() for words in told if words not in text]
+    usage = run(josie)[1].strip()
+    if f"`{usage}`" not in formats:
+        missing.append(f"docs/FORMATS.md lacks `{usage}`")
+    if missing:
+        raise Wrong("; ".join(missing))
+    return f"{len(told)} words and commands of docs/FORMATS.md stand in --help and the manual page"
+
+
+if __name__ == "__main__":
+    main("help text", check)

@@ -1,0 +1,133 @@
+"""What the program replies."""
+
+from __future__ import annotations
+
+import re
+from dataclasses import dataclass, field
+from typing import Dict, Iterator, List, Tuple
+
+from .errors import JosieError, refusal
+
+
+@dataclass(frozen=True)
+class Loaded:
+    """A table was loaded, with so many columns and distinct values over all of them, at this position of the history."""
+
+    name: str
+    columns: int
+    members: int
+    position: int
+
+
+@dataclass(frozen=True)
+class Dropped:
+    """A table was dropped, at this position of the history."""
+
+    name: str
+    position: int
+
+
+@dataclass(frozen=True)
+class Table:
+    """A live table."""
+
+    name: str
+    columns: int
+    members: int
+
+
+@dataclass(frozen=True)
+class Merged:
+    """So many parts of the index became one of so many tables, at this position of the history."""
+
+    parts: int
+    tables: int
+    position: int
+
+
+@dataclass(frozen=True)
+class Match:
+    """A column that shares `overlap` distinct values with the query. `place` counts from 1."""
+
+    overlap: int
+    table: str
+    place: int
+    column: str
+
+
+@dataclass(frozen=True)
+class Answer:
+    """The columns that share most with a query of `values` distinct values, over the tables live at this position."""
+
+    values: int
+    position: int
+    matches: Tuple[Match, ...]
+
+    def __iter__(self) -> Iterator[Match]:
+        return iter(self.matches)
+
+    def __len__(self) -> int:
+        return len(self.matches)
+
+    def share(self, match: Match) -> float:
+        """Which share of the query's values the column has, from 0 to 1."""
+        return match.overlap / self.values if self.values else 0.0
+
+    def to_frame(self):
+        """The matches as a DataFrame, with their share of the query's values. It needs pandas."""
+        import pandas
+
+        rows = [(m.overlap, self.share(m), m.table, m.place, m.column) for m in self.matches]
+        return pandas.DataFrame(rows, columns=["overlap", "share", "table", "place", "column"])
+
+
+@dataclass(frozen=True)
+class FolderLoad:
+    """What came of a folder: the tables that were loaded, and why each other file was refused, by its path."""
+
+    loaded: List[Loaded] = field(default_factory=list)
+    refused: Dict[str, JosieError] = field(default_factory=dict)
+
+
+_ROW = re.compile(rb'  (\d+) (\S+) (\d+) "((?:[^"\\]|\\.)*)"', re.DOTALL)
+_TABLE = re.compile(rb"  (\S+) columns (\d+) members (\d+)")
+_ESCAPES = {b"n": b"\n", b"r": b"\r", b"t": b"\t", b'"': b'"', b"\\": b"\\"}
+
+
+def _unquoted(name: bytes) -> str:
+    def byte(found: "re.Match[bytes]") -> bytes:
+        mark = found.group(1)
+        return bytes([int(mark[1:], 16)]) if mark.startswith(b"x") else _ESCAPES[mark]
+
+    return re.sub(rb'\\(x[0-9a-f]{2}|[nrt"\\])', byte, name).decode("utf-8")
+
+
+def further_lines(first: bytes) -> int:
+    """How many lines follow the first line of a reply."""
+    words = first.split(b" ")
+    if words[1] in (b"answer", b"tables"):
+        return int(words[2])
+    return 0
+
+
+def parsed(first: bytes, further: List[bytes]):
+    """A reply, from its lines; a refusal is returned as its exception, not raised."""
+    words = first.split(b" ")
+    kind = words[1]
+    if kind == b"loaded":
+        return Loaded(words[2].decode(), int(words[4]), int(words[6]), int(words[8]))
+    if kind == b"dropped":
+        return Dropped(words[2].decode(), int(words[4]))
+    if kind == b"tables":
+        return [Table(m.group(1).decode(), int(m.group(2)), int(m.group(3))) for m in map(_TABLE.fullmatch, further)]
+    if kind == b"answer":
+        matches = tuple(
+            Match(int(m.group(1)), m.group(2).decode(), int(m.group(3)), _unquoted(m.group(4)))
+            for m in map(_ROW.fullmatch, further)
+        )
+        return Answer(int(words[4]), int(words[6]), matches)
+    if kind == b"merged":
+        return Merged(int(words[2]), int(words[5]), int(words[8]))
+    if kind == b"refused" or first.endswith(b" no memory"):
+        return refusal(first.split(b" ", 1)[1].decode())
+    raise JosieError(f"josie wrote an unknown reply: {first!r}")

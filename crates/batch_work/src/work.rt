@@ -1,0 +1,153 @@
+//! What the lanes of a batch have to do: its commands, and the merges of the merger.
+ghost use Rattle.std.specs.Prelude.{◌≡◌, ◌<◌, ◌+◌, ◌^◌, ◌++◌, ⊤, false, map, IfOk, MatchOption, OnOk};
+ghost use Rattle.std.specs.List.{range_with_len};
+ghost use Rattle.script_model.specs.Answered.{has_pin};
+ghost use Rattle.script_model.specs.Commands.{command_with, Merge};
+ghost use Rattle.script_model.specs.Play.{merges_of, updates, who_of};
+ghost use Rattle.script_text.specs.Tasks.{task_of};
+ghost use Rattle.reply_text.specs.Callers.{who_by};
+ghost use Rattle.batch_work.specs.Works.{merge_policy, work_of, works_of};
+
+use catalogue::Who;
+use lake_model::Policy;
+use no_memory::NoMemory;
+use reply_text::By;
+use script_text::{Batch, Command, Task};
+use std::alloc::Global;
+
+/// What a lane has to do.
+#[derive(Clone, Copy)]
+pub enum Work<'a> {
+    /// A command of the batch.
+    Given(&'a Command),
+    /// A merge by tiers, of the merger, which counts its commands for itself.
+    Merge { number: u64 },
+}
+
+impl<'a> Work<'a> {
+    /// The lane, which is 0 for the merger.
+    pub fn lane(&self) -> u32
+        ensures { result ≡ (work_of self.now).lane }
+    {
+        match self {
+            Work::Given(command) => command.lane(),
+            Work::Merge { .. } => 0,
+        }
+    }
+
+    /// Who makes the entries that it adds.
+    pub fn who(&self) -> Who
+        ensures { result ≡ who_of (work_of self.now) }
+    {
+        match self {
+            Work::Given(command) => Who {
+                caller: command.lane(),
+                command: command.number(),
+            },
+            Work::Merge { number } => Who {
+                caller: 0,
+                command: *number,
+            },
+        }
+    }
+
+    /// Who is answered.
+    pub fn by(&self) -> By
+        ensures { who_by result ≡ who_of (work_of self.now) }
+    {
+        match self {
+            Work::Given(command) => By::Command {
+                number: command.number(),
+                lane: command.lane(),
+            },
+            Work::Merge { number } => By::Merger { number: *number },
+        }
+    }
+
+    /// Whether it has a pin of its own, which is its first step.
+    pub fn has_pin(&self) -> bool
+        ensures { result ≡ has_pin (work_of self.now).task }
+    {
+        match self {
+            Work::Given(command) => has_pin(command.task()),
+            Work::Merge { .. } => true,
+        }
+    }
+
+    /// The policy, where it is a merge.
+    pub fn policy(&self) -> Option<Policy>
+        ensures { result ≡ merge_policy (work_of self.now).task }
+    {
+        match self {
+            Work::Given(command) => merge_policy(command.task()),
+            Work::Merge { .. } => Some(Policy::Tier),
+        }
+    }
+}
+
+// Whether a task has a pin of its own.
+fn has_pin(task: &Task) -> bool
+    ensures { result ≡ has_pin (task_of task.now) }
+{
+    match task {
+        Task::Search { .. } | Task::Like { .. } | Task::Merge { .. } => true,
+        Task::Load { .. } | Task::LoadFile { .. } | Task::Drop { .. } | Task::Tables => false,
+    }
+}
+
+// The policy of a merge.
+fn merge_policy(task: &Task) -> Option<Policy>
+    ensures { result ≡ merge_policy (task_of task.now) }
+{
+    match task {
+        Task::Merge { all: true } => Some(Policy::All),
+        Task::Merge { all: false } => Some(Policy::Tier),
+        Task::Load { .. }
+        | Task::LoadFile { .. }
+        | Task::Drop { .. }
+        | Task::Tables
+        | Task::Search { .. }
+        | Task::Like { .. } => None,
+    }
+}
+
+/// The commands of a batch, and then those of the merger, where there is one: a merge for each load and drop of the batch, numbered
+/// from `merger` on.
+pub fn works_of(
+    alloc: Global,
+    batch: &Batch,
+    merger: Option<u64>,
+) -> Result<Vec<Work<'_>>, NoMemory>
+    requires { MatchOption merger ⊤ (λ first. first + updates batch.now < 2 ^ 64) }
+    ensures { IfOk result (λ works. works_of works.items ≡ batch.now ++ merges_of merger batch.now) }
+{
+    let mut works = given(alloc, batch.commands())?;
+    if let Some(first) = merger {
+        add_merges(first, batch.updates(), &mut works)?;
+    }
+    Ok(works)
+}
+
+// The commands, as work.
+fn given(alloc: Global, commands: &[Command]) -> Result<Vec<Work<'_>>, NoMemory>
+    ensures { IfOk result (λ works. works_of works.items ≡ commands.now) }
+{
+    let mut works = Vec::with_capacity(alloc, commands.len())?;
+    for command in commands {
+        works.push(Work::Given(command))?;
+    }
+    Ok(works)
+}
+
+// So many merges of the merger, behind other work.
+fn add_merges(first: u64, count: u64, works: &mut Vec<Work<'_>>) -> Result<(), NoMemory>
+    requires { first + count < 2 ^ 64 }
+    ensures { OnOk result (works_of works.new.items ≡ works_of works.old.items ++ map (λ n. command_with n 0 (Merge false)) (range_with_len first count)) }
+{
+    for added in 0..count {
+        works.push(Work::Merge {
+            number: first + added,
+        })?;
+    }
+    Ok(())
+}

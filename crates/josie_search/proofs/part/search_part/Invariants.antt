@@ -1,0 +1,23 @@
+use Rattle.std.proofs.Common.{◌≡◌, ◌≤◌, ◌+◌, ◌-◌, ℕ, length}
+use Rattle.search_model.specs.Looks.{searched}
+use Rattle.segment_core.specs.Versions.{part_at, segment_at}
+use Rattle.josie_search.specs.Room.{looks_bound, unprobed}
+use Rattle.josie_search.specs.Tallies.{tally_at}
+use Rattle.josie_search.proofs.GoingLemmas.{Going}
+use Rattle.josie_search.proofs.part.search_part.Given as goal
+
+abbrev pub invariant-loop-read : goal.invariant-loop-read
+invariant-loop-read g l = record {
+  lists : l.lists ≡ length l.tokens;
+  version : l.looks.version ≡ l.fn.looks.version;
+  going : Going (g.C.Chooser.says l.chooser) l.query (searched l.query (part_at l.fn.looks.version.parts l.part)) l.fn.top.rows l.fn.looks.log l.looks.log l.read l.columns.tallies l.columns.known l.top.rows;
+  k : l.top.k ≡ l.fn.top.k;
+  most : (column : ℕ) → (tally_at l.columns.tallies column).count ≤ l.most;
+  wide : length l.columns.tallies ≡ length l.fn.columns.tallies;
+  within : l.read ≤ length l.tokens;
+  room : (length l.tokens - l.read) + unprobed (segment_at l.fn.looks.version.parts l.part).sets l.tokens l.columns.known ≤ l.looks.spare;
+  spent : l.fn.looks.spare + ((length l.tokens - l.read) + unprobed (segment_at l.fn.looks.version.parts l.part).sets l.tokens l.columns.known) ≤ l.looks.spare + looks_bound (part_at l.fn.looks.version.parts l.part) l.tokens;
+}
+
+abbrev pub decreases-loop-read : goal.decreases-loop-read
+decreases-loop-read g l = (length l.tokens - l.read) + unprobed (segment_at l.fn.looks.version.parts l.part).sets l.tokens l.columns.known

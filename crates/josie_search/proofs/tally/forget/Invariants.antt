@@ -1,0 +1,10 @@
+use Rattle.std.proofs.Common.{◌≡◌, length}
+use Rattle.josie_search.proofs.TouchedLemmas.{ForgottenFrom}
+use Rattle.josie_search.proofs.tally.forget.Given as goal
+
+abbrev pub invariant-loop-column : goal.invariant-loop-column
+invariant-loop-column l = record {
+  wide : length l.tallies ≡ length l.fn.tallies;
+  marks : length l.known ≡ length l.fn.tallies;
+  forgotten : ForgottenFrom l.touched l.column-index l.tallies l.known;
+}

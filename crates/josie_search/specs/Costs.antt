@@ -1,0 +1,37 @@
+-- What a chooser is told, from what the code keeps.
+use Rattle.std.specs.Prelude.{ℕ, ◌-◌, ◌&&◌, List, get_or, length, map, nat_le, nat_lt, if◌then◌else◌, Option, None, Some, slice_index}
+use Rattle.search_model.specs.declared.Summary.{Summary}
+use Rattle.search_model.specs.Choosers.{read_cost}
+use Rattle.search_model.specs.Looks.{estimate, spared}
+use Rattle.search_model.specs.Segment.{Segment}
+use Rattle.josie_search.specs.declared.tally.Tally.{Tally}
+use Rattle.josie_search.specs.Rows.{most_of, rest_of}
+
+-- how long the lists of these tokens are
+abbrev pub lengths_of : Segment → List ℕ → List ℕ
+lengths_of segment tokens = map (λ token. get_or (map (λ t. t.frequency) segment.tokens) token 0) tokens
+
+-- what a list costs where it would be spared
+abbrev pub spared_cost : ℕ → ℕ → ℕ → ℕ → ℕ
+spared_cost length left threshold est = if nat_le threshold left && nat_lt left est then read_cost length else 0
+
+abbrev pub threshold_of : Option ℕ → ℕ
+threshold_of None = 1
+threshold_of (Some worst) = worst
+
+abbrev pub gain_of : Option ℕ → List ℕ → ℕ → ℕ → ℕ
+gain_of None lengths i est = 0
+gain_of (Some worst) lengths i est = if nat_le est worst then 0 else spared lengths i worst est
+
+abbrev pub summary_of : List ℕ → ℕ → Tally → Option ℕ → Summary
+summary_of lengths read tally worst =
+    let left = length lengths - read in
+    record {
+      next_len = slice_index lengths read;
+      left = left;
+      c = tally.count;
+      u = most_of left tally;
+      rest = rest_of tally;
+      t = threshold_of worst;
+      gain = gain_of worst lengths read (estimate tally.count (most_of left tally) (length lengths) read);
+    }

@@ -1,0 +1,141 @@
+//! What a search does next in a part.
+ghost use Rattle.search_model.specs.declared.Look.TheVariants.{Probe, Read};
+ghost use Rattle.std.specs.Prelude.{true, Some, ◌≡◌, ◌<◌, ◌≤◌, ◌+◌, ◌++◌, ◌^◌, ℕ, get_or, length, List, option_map, slice_get, ◌-◌};
+ghost use Rattle.std.specs.List.{All};
+ghost use Rattle.lake_model.specs.Answer.{Row as RowOf, row_cmp};
+ghost use Rattle.search_laws.specs.Select.{best};
+ghost use Rattle.search_model.specs.Looks.{beats, known_rows, next_look, Progress, searched};
+ghost use Rattle.segment_core.specs.Versions.{part_at, segment_at};
+ghost use Rattle.josie_search.specs.Costs.{threshold_of};
+ghost use Rattle.josie_search.specs.Open.{overlap_of, taken};
+ghost use Rattle.josie_search.specs.Rows.{leads};
+ghost use Rattle.josie_search.specs.State.{IsAt};
+ghost use Rattle.josie_search.specs.Tallies.{tally_at};
+
+use crate::columns::Columns;
+use crate::cost::summarize;
+use crate::first::first_lead;
+use crate::query::Asked;
+use crate::sure::surely_reads;
+use column_set::Row;
+use cost_model::Chooser;
+use search_bounds::unseen_open;
+use segment_core::{Look, Looks};
+use topk_heap::TopK;
+
+/// The next look of a search in a part, of which the first lists were read; `None` where the part is done. No column has a greater
+/// count than `most`. It leaves the best column that it found as the witness of later reads.
+pub(crate) fn next_look<C: Chooser>(
+    looks: &Looks<'_>,
+    part: u32,
+    query: &Asked<'_>,
+    tokens: &[u32],
+    read: u32,
+    columns: &Columns,
+    top: &TopK<'_>,
+    chooser: &C,
+    most: u32,
+    witness: &mut Option<u32>,
+) -> Option<Look>
+    requires most { (column : ℕ) → (tally_at columns.now.tallies column).count ≤ most }
+    requires part { part < length looks.now.version.parts }
+    requires few { length tokens.now ≤ 4194304 }
+    requires tokens { tokens.now ≡ (searched query.now (part_at looks.now.version.parts part)).query }
+    requires some { 0 < query.now.k }
+    requires read { read < length tokens.now }
+    requires wide { length (segment_at looks.now.version.parts part).sets ≤ length columns.now.tallies }
+    requires seen { (column : ℕ) → 0 < (tally_at columns.now.tallies column).count → column < length (segment_at looks.now.version.parts part).sets }
+    requires small { (column : ℕ) → (tally_at columns.now.tallies column).count ≤ read }
+    requires k { top.now.k ≡ query.now.k }
+    ensures next { (before : List RowOf) (progress : Progress) → IsAt (searched query.now (part_at looks.now.version.parts part)) progress columns.now.tallies columns.now.known → progress.read ≡ read → top.now.rows ≡ best row_cmp query.now.k (before ++ known_rows query.now (searched query.now (part_at looks.now.version.parts part)) progress) → result ≡ next_look (C.says chooser.now) query.now before (searched query.now (part_at looks.now.version.parts part)) progress }
+    ensures probed { (n x after : ℕ) → result ≡ Some (Probe n x after) → (n ≡ (part_at looks.now.version.parts part).number) × (x < length (segment_at looks.now.version.parts part).sets) × (leads query.now (searched query.now (part_at looks.now.version.parts part)) columns.now.tallies columns.now.known x ≡ true) × (after ≡ (tally_at columns.now.tallies x).position) }
+    ensures listed { (n t : ℕ) → result ≡ Some (Read n t) → (n ≡ (part_at looks.now.version.parts part).number) × (t ≡ get_or tokens.now read 0) }
+{
+    let left = tokens.len() as u32 - read;
+    let number = looks.number(part);
+    let token = tokens[read as usize];
+    if surely_reads(
+        looks, part, query, tokens, read, columns, top, chooser, *witness, most,
+    ) {
+        return Some(Look::Read {
+            part: number,
+            token,
+        });
+    }
+    let found = first_lead(looks, part, query, columns, left);
+    *witness = column_of(&found);
+    let worst = worst_overlap(top.worst());
+    match take_better(top.worst(), found) {
+        Some(column) => {
+            let tally = columns.tally(column);
+            let summary = summarize(looks, part, tokens, read, tally, worst);
+            if chooser.probe(&summary) {
+                Some(Look::Probe {
+                    part: number,
+                    set: column,
+                    after: tally.position,
+                })
+            } else {
+                Some(Look::Read {
+                    part: number,
+                    token,
+                })
+            }
+        }
+        None => {
+            if unseen_open(left, threshold(worst)) {
+                Some(Look::Read {
+                    part: number,
+                    token,
+                })
+            } else {
+                None
+            }
+        }
+    }
+}
+
+// The column that was found, if any.
+fn column_of(found: &Option<(u32, Row<'_>)>) -> Option<u32> {
+    match found {
+        None => None,
+        Some((column, _)) => Some(*column),
+    }
+}
+
+// How many keys a column has to share at least, where the k-th row that is known has this overlap.
+fn threshold(worst: Option<u32>) -> u32
+    ensures { result ≡ threshold_of worst }
+{
+    match worst {
+        None => 1,
+        Some(overlap) => overlap,
+    }
+}
+
+// The overlap of a row, if there is one.
+fn worst_overlap(worst: Option<&Row<'_>>) -> Option<u32>
+    ensures { result ≡ overlap_of (option_map (λ row. row.now) worst.entry) }
+{
+    match worst {
+        None => None,
+        Some(row) => Some(row.overlap),
+    }
+}
+
+// The column that was found, where its row beats the last.
+fn take_better<'a>(worst: Option<&Row<'_>>, found: Option<(u32, Row<'a>)>) -> Option<u32>
+    ensures { result ≡ taken (option_map (λ row. row.now) worst.entry) found.entry }
+{
+    let (column, row) = found?;
+    match worst {
+        None => Some(column),
+        Some(worst) => {
+            if row.order(worst).is_lt() {
+                Some(column)
+            } else {
+                None
+            }
+        }
+    }
+}

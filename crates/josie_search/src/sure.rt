@@ -1,0 +1,59 @@
+//! When the next list is surely read, whichever column is the best.
+ghost use Rattle.std.specs.Prelude.{true, Some, ◌≡◌, ◌<◌, ◌≤◌, ◌+◌, ◌++◌, ◌^◌, ℕ, length, List};
+ghost use Rattle.lake_model.specs.Answer.{Row as RowOf, row_cmp};
+ghost use Rattle.search_laws.specs.Select.{best};
+ghost use Rattle.search_model.specs.Looks.{known_rows, next_look, Progress, read_next, searched};
+ghost use Rattle.segment_core.specs.Versions.{part_at, segment_at};
+ghost use Rattle.josie_search.specs.State.{IsAt};
+ghost use Rattle.josie_search.specs.Tallies.{tally_at};
+
+use crate::columns::Columns;
+use crate::cost::length_of;
+use crate::query::Asked;
+use crate::row::lead_of;
+use cost_model::Chooser;
+use segment_core::Looks;
+use topk_heap::TopK;
+
+/// Whether this column, the witness, shows that the next list is read: fewer than k rows are known, so that a probe gains nothing, and
+/// the witness may share so much more with the query than any count so far that the best column, which may share as much, has too
+/// many tokens left for a probe. It saves the look for the best column, and costs the same however many columns were seen.
+pub(crate) fn surely_reads<C: Chooser>(
+    looks: &Looks<'_>,
+    part: u32,
+    query: &Asked<'_>,
+    tokens: &[u32],
+    read: u32,
+    columns: &Columns,
+    top: &TopK<'_>,
+    chooser: &C,
+    witness: Option<u32>,
+    most: u32,
+) -> bool
+    requires part { part < length looks.now.version.parts }
+    requires few { length tokens.now ≤ 4194304 }
+    requires tokens { tokens.now ≡ (searched query.now (part_at looks.now.version.parts part)).query }
+    requires some { 0 < query.now.k }
+    requires read { read < length tokens.now }
+    requires wide { length (segment_at looks.now.version.parts part).sets ≤ length columns.now.tallies }
+    requires seen { (column : ℕ) → 0 < (tally_at columns.now.tallies column).count → column < length (segment_at looks.now.version.parts part).sets }
+    requires small { (column : ℕ) → (tally_at columns.now.tallies column).count ≤ read }
+    requires most { (column : ℕ) → (tally_at columns.now.tallies column).count ≤ most }
+    requires k { top.now.k ≡ query.now.k }
+    ensures { (before : List RowOf) (progress : Progress) → IsAt (searched query.now (part_at looks.now.version.parts part)) progress columns.now.tallies columns.now.known → progress.read ≡ read → top.now.rows ≡ best row_cmp query.now.k (before ++ known_rows query.now (searched query.now (part_at looks.now.version.parts part)) progress) → result ≡ true → next_look (C.says chooser.now) query.now before (searched query.now (part_at looks.now.version.parts part)) progress ≡ Some (read_next (searched query.now (part_at looks.now.version.parts part)) progress) }
+{
+    let Some(column) = witness else {
+        return false;
+    };
+    if top.full() || column >= looks.sets(part) {
+        return false;
+    }
+    let left = tokens.len() as u32 - read;
+    let Some(lead) = lead_of(looks, part, query, columns, left, column) else {
+        return false;
+    };
+    match chooser.reads_beyond(length_of(looks, part, tokens[read as usize])) {
+        None => false,
+        Some(rest) => rest < u64::from(lead.overlap.saturating_sub(most)),
+    }
+}

@@ -1,0 +1,348 @@
+//! Random lakes: for each chooser the log and the rows of a search are those of the plain model.
+ghost use Rattle.std.specs.Prelude.{◌≤◌};
+
+use super::lakes::{Tables, table};
+use super::model::{Column, Counted, Part, search};
+use crate::prepare;
+use column_set::{Name, QuerySet, Row, SharedTable};
+use cost_model::{AlwaysProbe, AlwaysRead, Chooser, Listed, Profile};
+use segment_core::{Pin, Version};
+use std::alloc::Global;
+use std::sync::Arc;
+use std::test::Fail;
+
+const NAMES: [&str; 4] = ["t", "u", "v", "w"];
+
+// The last is no key.
+const VALUES: [&str; 13] = [
+    "ash", "beech", "cedar", "elm", "fir", "hazel", "larch", "maple", "oak", "pine", "rowan",
+    "yew", " ",
+];
+
+const TITLES: [&str; 2] = ["p", "q"];
+
+// A table by the chances of its cells: which of the names it has, and how many columns and records.
+#[derive(Clone, Copy)]
+struct Plain {
+    name: usize,
+    chances: u64,
+    columns: u64,
+    records: u64,
+}
+
+// A number below 2^32, by two steps of a linear congruential generator (D. E. Knuth, The Art of Computer Programming, volume 2, section
+// 3.3.4: the multiplier of the 64 bit generator MMIX) from a seed.
+fn chance(seed: u64) -> u64 {
+    let state = seed
+        .wrapping_mul(6_364_136_223_846_793_005)
+        .wrapping_add(1_442_695_040_888_963_407)
+        .wrapping_mul(6_364_136_223_846_793_005)
+        .wrapping_add(1_442_695_040_888_963_407);
+    state / 4_294_967_296
+}
+
+impl Plain {
+    // The table of this name by these chances: of one to four columns, and of up to nine records.
+    fn new(name: usize, chances: u64) -> Plain {
+        let number = chance(chances);
+        Plain {
+            name,
+            chances,
+            columns: number / 8 % 4 + 1,
+            records: number / 32 % 10,
+        }
+    }
+
+    // What stands in a record of a column.
+    fn value(&self, column: u64, record: u64) -> usize {
+        let seed = self.chances.wrapping_add(column.wrapping_mul(1_000));
+        (chance(seed.wrapping_add(record).wrapping_add(1)) % 13) as usize
+    }
+
+    // Which of the titles a column has.
+    fn title(&self, column: u64) -> usize {
+        (chance(self.chances.wrapping_add(column.wrapping_mul(7_000))) % 2) as usize
+    }
+
+    // Whether a column has the value.
+    fn has(&self, column: u64, value: usize) -> bool {
+        for record in 0..self.records {
+            if self.value(column, record) == value {
+                return true;
+            }
+        }
+        false
+    }
+
+    // A line of the table's CSV bytes.
+    fn write_record(&self, text: &mut String, record: u64) -> Result<(), Fail> {
+        for column in 0..self.columns {
+            if column > 0 {
+                text.push_str(",")?;
+            }
+            text.push_str(VALUES[self.value(column, record) % 13])?;
+        }
+        text.push_str("\n")?;
+        Ok(())
+    }
+
+    // The line of its header.
+    fn write_header(&self, text: &mut String) -> Result<(), Fail> {
+        for column in 0..self.columns {
+            if column > 0 {
+                text.push_str(",")?;
+            }
+            text.push_str(TITLES[self.title(column) % 2])?;
+        }
+        text.push_str("\n")?;
+        Ok(())
+    }
+
+    // The table, by way of its CSV bytes.
+    fn table(&self, alloc: Global) -> Result<SharedTable, Fail> {
+        let mut text = String::new(alloc);
+        self.write_header(&mut text)?;
+        for record in 0..self.records {
+            self.write_record(&mut text, record)?;
+        }
+        table(alloc, NAMES[self.name % 4], text.as_str())
+    }
+
+    // The values of a column.
+    fn values(&self, alloc: Global, column: u64) -> Result<Vec<usize>, Fail> {
+        let mut values = Vec::new(alloc);
+        for value in 0..12usize {
+            if self.has(column, value) {
+                values.push(value)?;
+            }
+        }
+        Ok(values)
+    }
+
+    // Adds its columns.
+    fn add_columns(
+        &self,
+        alloc: Global,
+        columns: &mut Vec<Column>,
+        eligible: bool,
+    ) -> Result<(), Fail> {
+        for column in 0..self.columns {
+            columns.push(Column {
+                table: self.name,
+                title: self.title(column),
+                place: (column % 4) as u32 + 1,
+                eligible,
+                values: self.values(alloc, column)?,
+            })?;
+        }
+        Ok(())
+    }
+}
+
+// Four tables, which of them are marked, in how many parts they stand, and which name is excepted.
+#[derive(Clone, Copy)]
+struct Lake {
+    plains: [Plain; 4],
+    marked: [bool; 4],
+    parts: u64,
+    except: Option<usize>,
+}
+
+impl Lake {
+    // The lake of these chances. The names come in another order than the tables.
+    fn new(seed: u64) -> Lake {
+        let number = chance(seed);
+        let start = (number % 4) as usize;
+        let step = (number / 4 % 2) as usize * 2 + 1;
+        let plain = |place: usize| Plain::new(
+            (start + place % 4 * step) % 4,
+            number.wrapping_add(place as u64),
+        );
+        let marked = |place: u64| chance(number.wrapping_add(place)) % 4 == 0;
+        Lake {
+            plains: [plain(0), plain(1), plain(2), plain(3)],
+            marked: [marked(10), marked(11), marked(12), marked(13)],
+            parts: number / 8 % 3,
+            except: if number / 32 % 2 == 0 {
+                Some((number / 64 % 4) as usize)
+            } else {
+                None
+            },
+        }
+    }
+
+    fn version(&self, alloc: Global) -> Result<Arc<Version>, Fail> {
+        let tables = Tables {
+            first: self.plains[0].table(alloc)?,
+            second: self.plains[1].table(alloc)?,
+            third: self.plains[2].table(alloc)?,
+            fourth: self.plains[3].table(alloc)?,
+            marked: self.marked,
+        };
+        match self.parts {
+            0 => tables.one_part(alloc),
+            1 => tables.two_parts(alloc),
+            _ => tables.three_parts(alloc),
+        }
+    }
+
+    // The part of the tables from a place up to another.
+    fn part(&self, alloc: Global, number: u64, from: usize, to: usize) -> Result<Part, Fail> {
+        let mut columns = Vec::new(alloc);
+        for place in from..to {
+            let plain = self.plains[place % 4];
+            let eligible = !self.marked[place % 4] && self.except != Some(plain.name);
+            plain.add_columns(alloc, &mut columns, eligible)?;
+        }
+        Part::new(alloc, number, columns, 12)
+    }
+
+    // The parts of the plain model.
+    fn parts(&self, alloc: Global) -> Result<Vec<Part>, Fail> {
+        let mut parts = Vec::new(alloc);
+        match self.parts {
+            0 => parts.push(self.part(alloc, 5, 0, 4)?)?,
+            1 => {
+                parts.push(self.part(alloc, 5, 0, 2)?)?;
+                parts.push(self.part(alloc, 6, 2, 4)?)?;
+            }
+            _ => {
+                parts.push(self.part(alloc, 5, 0, 1)?)?;
+                parts.push(self.part(alloc, 6, 1, 3)?)?;
+                parts.push(self.part(alloc, 7, 3, 4)?)?;
+            }
+        }
+        Ok(parts)
+    }
+}
+
+// The values that are asked for by chance.
+fn asked_by(alloc: Global, number: u64) -> Result<Vec<usize>, Fail> {
+    let mut asked = Vec::new(alloc);
+    for value in 0..12usize {
+        if chance(number.wrapping_add(value as u64)) % 4 > 0 {
+            asked.push(value)?;
+        }
+    }
+    Ok(asked)
+}
+
+fn query(alloc: Global, asked: &[usize]) -> Result<QuerySet, Fail> {
+    let mut body = String::new(alloc);
+    for value in asked {
+        body.push_str(VALUES[*value % 13])?;
+        body.push_str("\n")?;
+    }
+    Ok(QuerySet::read(alloc, body.as_str().as_bytes())?)
+}
+
+// Whether a row is the one of the plain model.
+fn is_counted(row: &Row<'_>, counted: Counted) -> bool {
+    let (left, name, title, place) = counted;
+    row.overlap.saturating_add(left) == 100
+        && row.table().text() == NAMES[name % 4]
+        && row.column() == TITLES[title % 2]
+        && row.place == place
+}
+
+// A search of a lake: its pin and its plain parts, what is asked, and how many rows.
+#[derive(Drop)]
+struct Asked<'l> {
+    pin: &'l Pin,
+    parts: &'l [Part],
+    values: &'l [usize],
+    query: &'l QuerySet,
+    except: Option<&'l Name>,
+    k: u32,
+    ghost low: { 1 ≤ k },
+    ghost high: { k ≤ 10000 },
+}
+
+impl Asked<'_> {
+    // Compares the log and the rows with those of the plain model.
+    fn compare<C: Chooser>(&self, alloc: Global, chooser: &C) -> Result<(), Fail> {
+        let answer = prepare(
+            alloc,
+            self.pin.looks(alloc),
+            self.query,
+            self.k,
+            self.except,
+        )?
+        .run(chooser);
+        let (known, log) = search(alloc, self.parts, self.values, self.k as usize, chooser)?;
+        if answer.looks.log() != log.as_slice() {
+            return Err(Fail::from("other looks"));
+        }
+        let rows = answer.rows.list();
+        if rows.len() != known.len() {
+            return Err(Fail::from("another number of rows"));
+        }
+        for (row, counted) in rows.iter().zip(known.iter()) {
+            if !is_counted(row, *counted) {
+                return Err(Fail::from("another row"));
+            }
+        }
+        Ok(())
+    }
+
+    // The same, by a list of answers.
+    fn compare_listed(&self, alloc: Global, answers: [bool; 5]) -> Result<(), Fail> {
+        self.compare(alloc, &Listed::new(alloc, answers.as_slice())?)
+    }
+
+    // The same, by all choosers.
+    fn compare_all(&self, alloc: Global) -> Result<(), Fail> {
+        self.compare(alloc, &Profile)?;
+        self.compare(alloc, &AlwaysRead)?;
+        self.compare(alloc, &AlwaysProbe)?;
+        self.compare(alloc, &Listed::new(alloc, &[false])?)?;
+        self.compare(alloc, &Listed::new(alloc, &[true, false])?)?;
+        self.compare(alloc, &Listed::new(alloc, &[false, true])?)?;
+        self.compare(alloc, &Listed::new(alloc, &[true, false, false])?)?;
+        self.compare_listed(alloc, [true, false, false, true, true])?;
+        self.compare_listed(alloc, [false, true, false, false, true])?;
+        self.compare_listed(alloc, [false, false, true, true, false])?;
+        self.compare_listed(alloc, [true, true, true, false, false])?;
+        self.compare_listed(alloc, [false, false, false, false, true])
+    }
+}
+
+// A search of a random lake.
+fn one_lake(alloc: Global, seed: u64) -> Result<(), Fail> {
+    let lake = Lake::new(seed);
+    let pin = Pin::new(lake.version(alloc)?);
+    let parts = lake.parts(alloc)?;
+    let values = asked_by(alloc, chance(seed.wrapping_add(77)))?;
+    let query = query(alloc, &values)?;
+    let name = match lake.except {
+        Some(number) => Name::read(NAMES[number % 4].as_bytes()),
+        None => None,
+    };
+    let except = name.as_ref();
+    let asked = Asked {
+        pin: &pin,
+        parts: &parts,
+        values: &values,
+        query: &query,
+        except,
+        k: (chance(seed) / 1024 % 5) as u32 + 1,
+    };
+    asked.compare_all(alloc)
+}
+
+fn lakes(alloc: Global, from: u64, to: u64) -> Result<(), Fail> {
+    for seed in from..to {
+        one_lake(alloc, seed)?;
+    }
+    Ok(())
+}
+
+#[test]
+fn first_lakes(rt: HostRuntime) -> Result<(), Fail> {
+    lakes(rt.alloc(), 0, 50)
+}
+
+#[test]
+fn more_lakes(rt: HostRuntime) -> Result<(), Fail> {
+    lakes(rt.alloc(), 1000, 1050)
+}

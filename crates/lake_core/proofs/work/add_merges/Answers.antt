@@ -1,6 +1,0 @@
-use Rattle.lake_core.specs.Works.{works_of}
-use Rattle.lake_core.proofs.WorkLemmas.{merge_more}
-use Rattle.lake_core.proofs.work.add_merges.Goals as goal
-
-pub loop-added-preserved : goal.loop-added-preserved
-loop-added-preserved c = merge_more c.args.first c.loop-added.added (works_of c.args.works.now.items) c.loop-added.works.items c.push.new.self.items c.loop-added.invariant c.in_ok-push.ensures.items

@@ -1,6 +1,0 @@
-use Rattle.std.proofs.Common.{◌≡◌, take}
-use Rattle.lake_core.specs.Works.{works_of}
-use Rattle.lake_core.proofs.work.given.Given as goal
-
-abbrev pub invariant-loop-command : goal.invariant-loop-command
-invariant-loop-command l = works_of l.works.items ≡ take l.command-index l.commands

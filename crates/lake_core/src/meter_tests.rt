@@ -1,0 +1,124 @@
+//! How much is looked at in the segments of a lake: what the reply of each search tells, one column for each like, and nothing besides.
+ghost use Rattle.std.specs.Prelude.{◌≡◌, ◌≤◌, IfOk};
+ghost use Rattle.script_model.specs.Lanes.{IsOfLanes};
+
+use super::drive;
+use crate::tests::{body, command, name};
+use catalogue::{Catalogue, Limits};
+use reply_text::{Reply, RunRecord};
+use script_text::{Batch, Command, Task};
+use std::alloc::Global;
+use std::test::Fail;
+
+// Three tables of weather stations, of the weather and of a census.
+const STATIONS: &str =
+    "\u{feff}station_id,city,country\r\n1,\"São Paulo, SP\",Brazil\r\n2,Zürich,Switzerland\r\n3,\"New\nYork\",USA\r\n";
+
+const WEATHER: &str = "place,temp\nZÜRICH,12\n\"São Paulo, SP\",25\nLima,18\n";
+
+const CENSUS: &str =
+    "City,Country,Pop\nzürich,switzerland,400000\nOslo,Norway,700000\n\"são paulo, sp\",Brazil,12000000\n";
+
+// The load of a table of this text.
+fn load(alloc: Global, number: u64, table: &str, text: &str) -> Result<Command, Fail>
+    ensures { IfOk result (λ command. command.lane ≡ 1) }
+{
+    let task = Task::Load {
+        name: name(table)?,
+        body: body(alloc, text)?,
+    };
+    Ok(command(number, 1, task))
+}
+
+// The search for the columns that are most like the one at a place of a table.
+fn like(number: u64, table: &str, place: u32) -> Result<Command, Fail>
+    requires { 1 ≤ place }
+    ensures { IfOk result (λ command. command.lane ≡ 1) }
+{
+    let task = Task::Like {
+        k: 10,
+        name: name(table)?,
+        place,
+    };
+    Ok(command(number, 1, task))
+}
+
+// Three tables that are merged, and a search that is decided by the rarest of four keys.
+fn one_list_decides(alloc: Global) -> Result<Batch, Fail>
+    ensures { IfOk result (λ batch. IsOfLanes 1 batch) }
+{
+    let search = Task::Search {
+        k: 1,
+        body: body(alloc, "a\nb\nc\nd\n")?,
+    };
+    let commands = [
+        load(alloc, 1, "t1", "c\na\nb\nc\nd\n")?,
+        load(alloc, 2, "t2", "c\nd\n")?,
+        load(alloc, 3, "t3", "c\nc\nd\n")?,
+        command(4, 1, Task::Merge { all: true }),
+        command(5, 1, search),
+    ];
+    Ok(Batch::new(Vec::from_array(alloc, commands)?))
+}
+
+// Three tables, and a search by each of two columns of the first.
+fn likes(alloc: Global) -> Result<Batch, Fail>
+    ensures { IfOk result (λ batch. IsOfLanes 1 batch) }
+{
+    let commands = [
+        load(alloc, 1, "stations", STATIONS)?,
+        load(alloc, 2, "weather", WEATHER)?,
+        load(alloc, 3, "census", CENSUS)?,
+        like(4, "stations", 2)?,
+        like(5, "stations", 3)?,
+    ];
+    Ok(Batch::new(Vec::from_array(alloc, commands)?))
+}
+
+// What the meters of all segments say.
+fn meters(catalogue: &Catalogue) -> Result<u64, Fail> {
+    let pin = catalogue.pin()?;
+    let mut sum = 0u64;
+    for part in 0..pin.parts() {
+        sum = sum.saturating_add(pin.meter(part));
+    }
+    Ok(sum)
+}
+
+// How many reads, and how many probes, the replies tell.
+fn told(record: &RunRecord) -> (u64, u64) {
+    let mut sums = (0u64, 0u64);
+    for answered in record.answers() {
+        if let Reply::Found { reads, probes, .. } = &answered.reply {
+            sums = (
+                sums.0.saturating_add(*reads),
+                sums.1.saturating_add(*probes),
+            );
+        }
+    }
+    sums
+}
+
+// What the meters of a lake say behind a batch of one lane; and what the replies tell.
+fn metered(alloc: Global, batch: &Batch) -> Result<(u64, (u64, u64)), Fail>
+    requires { IsOfLanes 1 batch.now }
+{
+    let mut catalogue = Catalogue::new(alloc, Limits::standard())?;
+    let mut record = RunRecord::new(alloc);
+    drive(alloc, &mut catalogue, batch, &[], 1, None, &mut record)?;
+    Ok((meters(&catalogue)?, told(&record)))
+}
+
+#[test]
+fn one_list_and_one_set(rt: HostRuntime) -> Result<(), Fail> {
+    let alloc = rt.alloc();
+    assert_eq!(rt; metered(alloc, &one_list_decides(alloc)?)?, (2, (1, 1)));
+    Ok(())
+}
+
+#[test]
+fn twelve_lists_three_sets_and_two_columns(rt: HostRuntime) -> Result<(), Fail> {
+    let alloc = rt.alloc();
+    assert_eq!(rt; metered(alloc, &likes(alloc)?)?, (17, (12, 3)));
+    Ok(())
+}

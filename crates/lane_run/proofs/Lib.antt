@@ -1,0 +1,4 @@
+mod NumberedLemmas
+pub mod Serving
+mod Gathering
+mod Served

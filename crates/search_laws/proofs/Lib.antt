@@ -1,0 +1,4 @@
+pub mod SelectLemmas
+pub mod PartLemmas
+pub mod TableLemmas
+pub mod AnswerOfLog
