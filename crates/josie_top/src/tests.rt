@@ -232,7 +232,7 @@ fn loads_from_files(rt: HostRuntime) -> Result<(), Fail> {
 fn traces_a_run(rt: HostRuntime) -> Result<(), Fail> {
     let script = "load a\nc\nx\n.\ndrop a\nload b\nc\nx\n.\nsearch 1\nx\n.\n";
     let written =
-        "1 loaded a columns 1 members 1 at 1\n2 dropped a at 2\n3 loaded b columns 1 members 1 at 3\n4 answer 1 of 1 at 3\n  1 b 1 \"c\"\n  layout at 3 parts 1:1- 3:3\njournal 3\n  1 load lane 1 command 1 a\n  2 drop lane 1 command 2 a\n  3 load lane 1 command 3 b\n";
+        "1 loaded a columns 1 members 1 at 1\n2 dropped a at 2\n3 loaded b columns 1 members 1 at 3\n4 answer 1 of 1 at 3\n  1 b 1 \"c\"\n  work reads 2 probes 0\n  layout at 3 parts 1:1- 3:3\njournal 3\n  1 load lane 1 command 1 a\n  2 drop lane 1 command 2 a\n  3 load lane 1 command 3 b\n";
     let (status, same) = ends_with(
         &rt,
         rt.alloc(),
@@ -273,7 +273,7 @@ fn runs_lanes_in_a_stated_order(rt: HostRuntime) -> Result<(), Fail> {
 // The first read would fail.
 #[test]
 fn makes_a_lake_without_reading(rt: HostRuntime) -> Result<(), Fail> {
-    let written = "tables 1\nmembers 6\nmerges 0\nanswers 50 rows 0 overlap 0\n";
+    let written = "tables 1\nmembers 6\nmerges 0\nanswers 50 rows 0 overlap 0\nreads 100 probes 0\n";
     let (status, same) = ends_with(
         &rt,
         rt.alloc(),
