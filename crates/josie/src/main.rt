@@ -26,8 +26,8 @@ const HELP: &str = "josie run [--lanes N] [--order LIST] [--merge] [--trace]
     sync                ends a batch: its replies are written before more is read
     @L ...              is a command of lane L, where there are more lanes than one
     # ...               is a comment, and an empty line is skipped
-    --lanes N           there are N lanes, 1 to 16; the lanes of a batch run one after another where no order is stated
-    --order LIST        the lanes take their steps in this order: lane numbers with commas between, one such piece a batch, pieces with / between
+    --lanes N           there are N lanes, 1 to 16; the lanes of a batch run at the same time, each on a thread, where no order is stated
+    --order LIST        the lanes take turns in this order, on one thread: lane numbers with commas between, one such piece a batch, pieces with / between
     --merge             a merger, which is lane 0, merges beside the lanes: once for each load and drop of a batch
     --trace             writes what was read behind each answer, the layout of the lake behind each answer and merge, and the journal at the end
 josie make SEED TABLES ROWS

@@ -1,6 +1,7 @@
 mod StreamFacts
 mod ReadFacts
 mod MadeFacts
+mod LaneFacts
 mod TextFacts
 mod RowFacts
 mod RunFacts

@@ -1,6 +1,7 @@
 -- The record of batches that were played one behind another.
+use Rattle.std.specs.List.{AllByRecursion}
 use Rattle.std.proofs.Common.{◌≡◌, refl, ap, sym, ◌∙◌, subst, ℕ, suc, ◌+◌, List, [], ◌∷◌, ◌++◌, Bool, true, false, length, map, take, drop, get_or, sum_by, arith, length-append}
-use Rattle.std.specs.Prelude.{if◌then◌else◌}
+use Rattle.std.specs.Prelude.{if◌then◌else◌, Option}
 use Rattle.std.proofs.lemmas.List.{length-map, take-append-drop}
 use Rattle.std.proofs.lemmas.List.FromFn.{length-map-range_with_len}
 use Rattle.std.proofs.lemmas.List.Sums.{sum_by-cons}
@@ -9,15 +10,15 @@ use Rattle.lake_model.specs.declared.Who.{Who}
 use Rattle.lake_model.specs.Journal.{Entry}
 use Rattle.script_model.specs.Commands.{Command, command_with, Merge, Batch}
 use Rattle.script_model.specs.Record.{Options, Answered, RunRecord, empty, with_end}
-use Rattle.script_model.specs.Play.{batch_after, merger_commands, played_from, pieces_of, updates, head_or_empty, who_of}
+use Rattle.script_model.specs.Play.{batch_after, merger_commands, merges_of, played_from, pieces_of, updates, head_or_empty, played, who_of}
 use Rattle.script_model.specs.Right.{AreBatchesRight}
 use Rattle.script_model.specs.Lanes.{IsOfLanes}
-use Rattle.script_model.specs.Statuses.{IsRecordOf, answer_count}
+use Rattle.script_model.specs.Statuses.{IsRecordOf, IsStated, answer_count}
 use Rattle.layout_laws.proofs.LawLemmas.{plans_stay}
 use Rattle.script_model.proofs.RightLemmas.{all_append}
 use Rattle.script_model.proofs.PlayedLemmas.{batches_go_on}
 use Rattle.script_model.proofs.LegalLemmas.{record_right}
-use Rattle.josie_top.specs.Progress.{IsMade}
+use Rattle.josie_top.specs.Progress.{HasOneMore, IsMade, IsPlayedSoFar}
 
 -- ---- what stays
 
@@ -37,51 +38,67 @@ ended_played limits lanes merge next (batch ∷ batches) pieces denials before =
     ended_played limits lanes merge (next + updates batch) batches (drop 1 pieces) (drop 1 denials)
     (batch_after limits lanes batch (merger_commands merge next batch) (head_or_empty pieces) (head_or_empty denials) before)
 
-pub made_options : (limits : Counts) (options : Options) (batches : List Batch) (made : RunRecord) → IsMade limits options batches made → made.options ≡ options
-made_options limits options batches made is =
-    ap (λ (m : RunRecord). m.options) is.played ∙ options_played limits options.lanes options.merge 1 batches (pieces_of options.order) is.denials (empty options)
+same_record : (made : RunRecord) → made.ended ≡ false → with_end false made ≡ made
+same_record made not_ended = ap (λ (b : Bool). with_end b made) (sym not_ended)
 
-pub made_unended : (limits : Counts) (options : Options) (batches : List Batch) (made : RunRecord) → IsMade limits options batches made → made.ended ≡ false
-made_unended limits options batches made is =
-    ap (λ (m : RunRecord). m.ended) is.played ∙ ended_played limits options.lanes options.merge 1 batches (pieces_of options.order) is.denials (empty options)
+-- what was played makes a record
+made_by_play : (limits : Counts) (options : Options) (batches : List Batch) (made : RunRecord) → AllByRecursion (IsOfLanes options.lanes) batches → IsPlayedSoFar limits options batches made → IsMade limits options batches made
+made_by_play limits options batches made lanes is =
+    let ended : made.ended ≡ false =
+    ap (λ (m : RunRecord). m.ended) is.played ∙ ended_played limits options.lanes options.merge 1 batches (pieces_of options.order) is.denials (empty options) in
+    record {
+      options_are = ap (λ (m : RunRecord). m.options) is.played ∙ options_played limits options.lanes options.merge 1 batches (pieces_of options.order) is.denials (empty options);
+      unended = ended;
+      right = record_right plans_stay limits options batches made lanes (is.denials, sym (same_record made ended) ∙ ap (with_end false) is.played ∙ ap (λ (b : Bool). with_end b (played limits options batches is.denials)) (sym ended));
+      played = λ stated. is;
+      lanes = lanes;
+    }
 
 -- ---- one batch after another
 
 pub made_start : (limits : Counts) (options : Options) → IsMade limits options [] (empty options)
 unfolding played_from
-made_start limits options = record { denials = []; size = refl; played = refl; lanes = tt }
+made_start limits options = made_by_play limits options [] (empty options) tt (record { denials = []; size = refl; played = refl })
 
+-- One batch more was played in the stated order.
 pub made_more : (limits : Counts) (options : Options) (batches : List Batch) (before now : RunRecord) (batch : Batch) (merges : List Command) (piece : List ℕ) (turns : List Bool)
-    → IsMade limits options batches before → now ≡ batch_after limits options.lanes batch merges piece turns before
+    → IsStated options → IsMade limits options batches before → now ≡ batch_after limits options.lanes batch merges piece turns before
     → merges ≡ merger_commands options.merge (1 + sum_by updates batches) batch → piece ≡ get_or (pieces_of options.order) (length batches) []
     → IsOfLanes options.lanes batch → IsMade limits options (batches ++ batch ∷ []) now
-made_more limits options batches before now batch merges piece turns is after merges_are piece_is lanes = record {
-  denials = is.denials ++ turns ∷ [];
-  size = omega (arith, is.size, length-append is.denials (turns ∷ []), length-append batches (batch ∷ []));
-  played = after
-      ∙ ap (λ (m : List Command). batch_after limits options.lanes batch m piece turns before) merges_are
-      ∙ ap (λ (p : List ℕ). batch_after limits options.lanes batch (merger_commands options.merge (1 + sum_by updates batches) batch) p turns before) piece_is
-      ∙ ap (batch_after limits options.lanes batch (merger_commands options.merge (1 + sum_by updates batches) batch) (get_or (pieces_of options.order) (length batches) []) turns) is.played
-      ∙ sym (batches_go_on limits options.lanes options.merge 1 batches batch (pieces_of options.order) is.denials turns (empty options) is.size);
-  lanes = all_append (IsOfLanes options.lanes) batches (batch ∷ []) is.lanes (lanes, tt);
-}
+made_more limits options batches before now batch merges piece turns stated is after merges_are piece_is lanes =
+    let so_far = is.played stated in
+    made_by_play limits options (batches ++ batch ∷ []) now (all_append (IsOfLanes options.lanes) batches (batch ∷ []) is.lanes (lanes, tt)) (record {
+      denials = so_far.denials ++ turns ∷ [];
+      size = omega (arith, so_far.size, length-append so_far.denials (turns ∷ []), length-append batches (batch ∷ []));
+      played = after
+          ∙ ap (λ (m : List Command). batch_after limits options.lanes batch m piece turns before) merges_are
+          ∙ ap (λ (p : List ℕ). batch_after limits options.lanes batch (merger_commands options.merge (1 + sum_by updates batches) batch) p turns before) piece_is
+          ∙ ap (batch_after limits options.lanes batch (merger_commands options.merge (1 + sum_by updates batches) batch) (get_or (pieces_of options.order) (length batches) []) turns) so_far.played
+          ∙ sym (batches_go_on limits options.lanes options.merge 1 batches batch (pieces_of options.order) so_far.denials turns (empty options) so_far.size);
+    })
+
+-- One batch more was played in the stated order, whatever came before.
+pub ordered_more : (limits at : Counts) (lanes number : ℕ) (merger : Option ℕ) (batch : Batch) (piece : List ℕ) (before now : RunRecord) → IsStated before.options → IsOfLanes before.options.lanes batch
+    → at ≡ limits → lanes ≡ before.options.lanes → piece ≡ get_or (pieces_of before.options.order) number []
+    → (turns : List Bool) × (now ≡ batch_after at lanes batch (merges_of merger batch) piece turns before) → HasOneMore limits number merger batch before now
+ordered_more limits at lanes number merger batch piece before now stated of_lanes at_is lanes_are piece_is (turns, after) = λ batches count merges is.
+    made_more limits before.options batches before now batch (merges_of merger batch) piece turns stated is
+    (after ∙ ap (λ (l : Counts). batch_after l lanes batch (merges_of merger batch) piece turns before) at_is ∙ ap (λ (n : ℕ). batch_after limits n batch (merges_of merger batch) piece turns before) lanes_are)
+    merges (piece_is ∙ ap (λ (n : ℕ). get_or (pieces_of before.options.order) n []) (sym count)) of_lanes
 
 -- ---- the record is right
 
 pub made_record : (limits : Counts) (options : Options) (batches : List Batch) (made : RunRecord) (ended : Bool) → IsMade limits options batches made
     → IsRecordOf limits options batches (with_end ended made)
 made_record limits options batches made ended is = record {
-  options_are = made_options limits options batches made is;
-  right = record_right plans_stay limits options batches (with_end ended made) is.lanes (is.denials, ap (with_end ended) is.played);
-  played = λ stated. (is.denials, ap (with_end ended) is.played);
+  options_are = is.options_are;
+  right = record { legal = is.right.legal; callers = is.right.callers; each = is.right.each };
+  played = λ stated. ((is.played stated).denials, ap (with_end ended) (is.played stated).played);
 }
-
-same_record : (made : RunRecord) → made.ended ≡ false → with_end false made ≡ made
-same_record made not_ended = ap (λ (b : Bool). with_end b made) (sym not_ended)
 
 pub made_record_now : (limits : Counts) (options : Options) (batches : List Batch) (made : RunRecord) → IsMade limits options batches made → IsRecordOf limits options batches made
 made_record_now limits options batches made is =
-    subst (IsRecordOf limits options batches) (same_record made (made_unended limits options batches made is)) (made_record limits options batches made false is)
+    subst (IsRecordOf limits options batches) (same_record made is.unended) (made_record limits options batches made false is)
 
 -- ---- how many answers there are
 

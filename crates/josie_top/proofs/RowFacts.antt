@@ -28,7 +28,7 @@ use Rattle.josie_top.specs.Meets.{IsReadLate, Meets}
 use Rattle.josie_top.specs.Progress.{AreRead, AreWritten, IsGoingOn, IsLateSoFar, IsMade}
 use Rattle.script_laws.proofs.FetchFacts.{reads_fetches}
 use Rattle.josie_top.proofs.ReadFacts.{given_before, reads_more, reads_commands, outcomes_size, fetched_so_far}
-use Rattle.josie_top.proofs.MadeFacts.{made_options, made_unended, made_record, made_record_now, record_count}
+use Rattle.josie_top.proofs.MadeFacts.{made_record, made_record_now, record_count}
 use Rattle.josie_top.proofs.TextFacts.{text_unended, text_more, text_ended, whole_prefix, prefix_more, prefix_behind, answers_prefix}
 
 -- ---- the script
@@ -82,11 +82,11 @@ pub meets_between : (limits : Counts) (options : Options) (left0 left1 left2 wri
     → (been : AreRead options left0 left1 files f0 f1 gathering batches) → IsGoingOn options gathering → IsMade limits options batches made → (writ : AreWritten options written0 written1 made)
     → Consumes left1 left2 more → f1 ≤ f2 → Meets limits options status.NoMemory left0 left2 written0 written1 files f0 f2 made
 meets_between limits options left0 left1 left2 written0 written1 files f0 f1 f2 gathering batches made more been goes is writ gave later =
-    let not_ended = made_unended limits options batches made is in
+    let not_ended = is.unended in
     let front = script_front options left0 left1 left2 files f0 f1 gathering batches been goes more [] in
     let same : been.outcomes ++ [] ≡ been.outcomes = append-nil been.outcomes in
     let script : script_of options been.outcomes (been.given ++ more) left2 ≡ given_before batches been.asked _ = ap (λ (o : List File). script_of options o (been.given ++ more) left2) (sym same) ∙ front in
-    let all : writ.taken ≡ text made = writ.text_is ∙ sym (text_unended options made (made_options limits options batches made is) not_ended) in
+    let all : writ.taken ≡ text made = writ.text_is ∙ sym (text_unended options made is.options_are not_ended) in
     let row : IsCutOff limits options been.outcomes (λ asked. AreFetchedSoFar files f0 f2 asked been.outcomes) (script_of options been.outcomes (been.given ++ more) left2) left2 writ.taken made =
     cut limits options been.outcomes (λ asked. AreFetchedSoFar files f0 f2 asked been.outcomes) _ _ left2 writ.taken made batches been.asked script (outcomes_size files f0 f1 been.asked been.outcomes been.fetched)
     (reads_fetches standard options.lanes gathering.reading been.given gathering.held been.outcomes batches been.asked been.lines_read)
@@ -128,9 +128,9 @@ pub cut_within : (limits : Counts) (options : Options) (outcomes : List File) (c
     → taken ≡ answers_text options.trace before.answers → IsPrefix part (text_behind options.trace (length before.answers) now)
     → IsCutOff limits options outcomes came script left (taken ++ part) now
 cut_within limits options outcomes came script rest left before now new batches batch asked taken part is size few fetched made_before made_now are taken_is beginning =
-    let not_ended = made_unended limits options (batches ++ batch ∷ []) now made_now in
+    let not_ended = made_now.unended in
     let whole : text now ≡ taken ++ text_behind options.trace (length before.answers) now =
-    batch_text options before now new (made_options limits options (batches ++ batch ∷ []) now made_now) are not_ended ∙ ap (λ (t : List ℕ). t ++ text_behind options.trace (length before.answers) now) (sym taken_is) in
+    batch_text options before now new made_now.options_are are not_ended ∙ ap (λ (t : List ℕ). t ++ text_behind options.trace (length before.answers) now) (sym taken_is) in
     let count : length before.answers ≡ answer_count options.merge batches = record_count limits options batches before (made_record_now limits options batches before made_before) in
     let first : answers_text options.trace (take (answer_count options.merge (take (length (batches ++ batch ∷ []) - 1) script.batches)) now.answers) ≡ taken =
     ap (answers_text options.trace) (first_answers options script rest batches batch asked before now new is count are) ∙ sym taken_is in
@@ -170,7 +170,7 @@ done limits options came script left batches asked made taken is fetched at_end 
   fetched = subst came (sym (ap (λ (s : Commands). s.asked) is)) fetched;
   ended = refl;
   record_of = subst (λ (b : List Batch). IsRecordOf limits options b (with_end true made)) (sym (ap (λ (s : Commands). s.batches) is)) (made_record limits options batches made true is_made);
-  written = ap (λ (t : List ℕ). t ++ text_behind options.trace (length made.answers) (with_end true made)) taken_is ∙ sym (text_ended options made (made_options limits options batches made is_made));
+  written = ap (λ (t : List ℕ). t ++ text_behind options.trace (length made.answers) (with_end true made)) taken_is ∙ sym (text_ended options made is_made.options_are);
 }
 
 -- All batches were answered, and their text was written, but of the journal's only a part.
@@ -182,7 +182,7 @@ cut_at_end limits options outcomes came script left batches asked made taken par
     let front = whole_front script batches asked is in
     let all : take (length batches) script.batches ≡ script.batches = front_batches script (commands_with [] Whole []) batches asked front ∙ sym (ap (λ (s : Commands). s.batches) is) in
     let whole : text (with_end true made) ≡ taken ++ text_behind options.trace (length made.answers) (with_end true made) =
-    text_ended options made (made_options limits options batches made is_made) ∙ ap (λ (t : List ℕ). t ++ text_behind options.trace (length made.answers) (with_end true made)) (sym taken_is) in
+    text_ended options made is_made.options_are ∙ ap (λ (t : List ℕ). t ++ text_behind options.trace (length made.answers) (with_end true made)) (sym taken_is) in
     record {
       count = length batches;
       fetched = subst came (sym (front_asked script (commands_with [] Whole []) batches asked outcomes front size)) fetched;
@@ -206,13 +206,13 @@ refused limits options left0 left1 left2 files f0 f1 f2 gathering batches made t
     let script : script_of options (been.outcomes ++ others) (been.given ++ more) left2 ≡ commands_with (batches ++ []) (FaultAt line why) (been.asked ++ paths) =
     script_front options left0 left1 left2 files f0 f1 gathering batches been goes more others ∙ ap (given_before batches been.asked) here in
     let same : (script_of options (been.outcomes ++ others) (been.given ++ more) left2).batches ≡ batches = ap (λ (s : Commands). s.batches) script ∙ append-nil batches in
-    let not_ended = made_unended limits options batches made is in
+    let not_ended = is.unended in
     record {
       fault = ap (λ (s : Commands). s.end) script;
       fetched = subst (λ (asked : List Text). AreFetched files f0 f2 asked (been.outcomes ++ others)) (sym (ap (λ (s : Commands). s.asked) script)) (fetched_join files f0 f1 f2 been.asked paths been.outcomes others been.fetched fetched);
       ended = not_ended;
       record_of = subst (λ (b : List Batch). IsRecordOf limits options b made) (sym same) (made_record_now limits options batches made is);
-      written = taken_is ∙ sym (text_unended options made (made_options limits options batches made is) not_ended);
+      written = taken_is ∙ sym (text_unended options made is.options_are not_ended);
     }
 
 -- what was begun, where these lines came whole
@@ -237,14 +237,14 @@ broken_off limits options left0 left1 files f0 f1 f2 gathering batches made take
     let begun_here : begun options (been.outcomes ++ others) (been.given ++ more) ≡ read_with (batches ++ []) (Stands (reading_at unfinished.reading (been.asked ++ paths) [])) =
     ap (λ (o : List File). begun options o (been.given ++ more)) (sym (append-nil (been.outcomes ++ others)))
     ∙ begun_is options (been.outcomes ++ others) (been.given ++ more) unfinished.held (batches ++ []) unfinished.reading (been.asked ++ paths) all unfinished.rest [] in
-    let not_ended = made_unended limits options batches made is in
+    let not_ended = is.unended in
     let row : IsBrokenOff limits options (λ asked. AreFetched files f0 f2 asked (been.outcomes ++ others)) (read_with (batches ++ []) (Stands (reading_at unfinished.reading (been.asked ++ paths) []))) taken made =
     record {
       no_fault = tt;
       fetched = fetched_join files f0 f1 f2 been.asked paths been.outcomes others been.fetched fetched;
       ended = not_ended;
       record_of = subst (λ (b : List Batch). IsRecordOf limits options b made) (sym (append-nil batches)) (made_record_now limits options batches made is);
-      written = taken_is ∙ sym (text_unended options made (made_options limits options batches made is) not_ended);
+      written = taken_is ∙ sym (text_unended options made is.options_are not_ended);
     } in
     subst (λ (b : LinesRead). IsBrokenOff limits options (λ asked. AreFetched files f0 f2 asked (been.outcomes ++ others)) b taken made) (sym begun_here) row
 

@@ -1,10 +1,12 @@
 -- The ends of a run, and one batch more.
 use Rattle.std.proofs.Common.{◌≡◌, refl, ap, sym, ◌∙◌, subst, ℕ, ◌+◌, ◌-◌, ◌^◌, ◌<◌, ◌≤◌, ◌⊎◌, inl, inr, List, [], ◌∷◌, ◌++◌, Bool, true, false, length, arith, sum_by, map, get_or, length-append}
 use Rattle.std.specs.Prelude.{Option, Some, None, Ok, Err, if◌then◌else◌, ⊤, MatchOption}
+use Rattle.std.specs.Option.{IfSome}
 use Rattle.std.specs.Io.KnownBytes.{Consumes, Appends, IsAtEnd}
 use Rattle.std.proofs.KnownBytes.{Consumes-nil, Consumes-trans, Appends-nil, Appends-trans}
 use Rattle.std.proofs.lemmas.List.{append-nil}
 use Rattle.std.proofs.lemmas.List.Sums.{count_by-le-length, sum_by_push}
+use Rattle.lake_io.specs.Causes.{Rose}
 use Rattle.lake_io.specs.Files as shelf
 use Rattle.lake_model.specs.declared.Counts.{Counts}
 use Rattle.lake_model.specs.Texts.{Text}
@@ -37,10 +39,11 @@ use Rattle.josie_top.specs.Ends.{IsWritten, status_of_end, status_of_refused, st
 use Rattle.script_text.proofs.BatchLemmas.{ReadsLate}
 use Rattle.script_text.proofs.ProgressLemmas.{fetched_join}
 use Rattle.josie_top.specs.Meets.{HasNoFault, IsReadLate, IsSaid, Meets, MeetsMode}
-use Rattle.josie_top.specs.Progress.{AreCounted, AreWritten, IsGoingOn, IsLateSoFar, IsMade, IsUnderWay}
+use Rattle.josie_top.specs.Progress.{AddsAnswers, AreCounted, HasCauses, HasMoved, HasOneMore, IsAnswered, IsBegun, AreWritten, IsGoingOn, IsLateSoFar, IsMade, IsUnderWay}
 use Rattle.script_laws.proofs.FetchFacts.{reads_fetches, script_fetches}
 use Rattle.josie_top.proofs.ReadFacts.{given_before, outcomes_size, fetched_so_far}
-use Rattle.josie_top.proofs.MadeFacts.{made_start, made_more, made_unended, made_record_now, record_syncs}
+use Rattle.josie_top.proofs.StreamFacts.{rose_since}
+use Rattle.josie_top.proofs.MadeFacts.{made_start, made_more, made_record_now, record_syncs}
 use Rattle.josie_top.proofs.TextFacts.{text_more}
 use Rattle.josie_top.proofs.RowFacts.{script_front, script_whole, whole_front, meets_between, cut_within, done, cut_at_end, refused, broken_off, read_synced, late_start, late_more, late_within}
 
@@ -123,30 +126,21 @@ ends_without limits options ends left0 left1 left2 written0 written1 written2 fi
 
 -- ---- one batch more
 
--- a batch adds answers behind those that were there
-pub record Adds (before now : RunRecord) : Type 0 where
-  pub new : List Answered
-  pub are : now.answers ≡ before.answers ++ new
-
-pub batch_adds : (limits : Counts) (lanes : ℕ) (batch : Batch) (merges : List Command) (piece : List ℕ) (turns : List Bool) (before now : RunRecord) → now ≡ batch_after limits lanes batch merges piece turns before → Adds before now
-batch_adds limits lanes batch merges piece turns before now is = record {
-  new = answers_of (gathered (batch ++ merges) (map (λ (lane : Lane). lane.done) (play_batch limits lanes batch merges piece turns before.journal).lanes));
-  are = ap (λ (m : RunRecord). m.answers) is;
-}
-
 -- the merger's commands in a batch, where these are its numbers
 pub merger_made : (merge : Bool) (merger : Option ℕ) (next : ℕ) (batch : Batch) → merger ≡ (if merge then Some next else None) → merges_of merger batch ≡ merger_commands merge next batch
 merger_made true merger next batch is = ap (λ (m : Option ℕ). merges_of m batch) is
 merger_made false merger next batch is = ap (λ (m : Option ℕ). merges_of m batch) is
 
--- the record of one batch more
-pub batch_made : (limits : Counts) (options : Options) (batches : List Batch) (used number next : ℕ) (before now : RunRecord) (batch : Batch) (lanes : ℕ) (merger : Option ℕ) (piece : List ℕ) (turns : List Bool) → lanes ≡ options.lanes
-    → AreCounted batches used number next → merger ≡ (if options.merge then Some next else None) → piece ≡ get_or (pieces_of options.order) number []
-    → IsMade limits options batches before → IsOfLanes lanes batch → now ≡ batch_after limits lanes batch (merges_of merger batch) piece turns before → IsMade limits options (batches ++ batch ∷ []) now
-batch_made limits options batches used number next before now batch lanes merger piece turns are counted merger_is piece_is is of_lanes after =
-    made_more limits options batches before now batch (merges_of merger batch) piece turns is (after ∙ ap (λ (l : ℕ). batch_after limits l batch (merges_of merger batch) piece turns before) are)
-    (merger_made options.merge merger next batch merger_is ∙ ap (λ (n : ℕ). merger_commands options.merge n batch) counted.next_is)
-    (piece_is ∙ ap (λ (n : ℕ). get_or (pieces_of options.order) n []) (sym counted.number_is)) (subst (λ (l : ℕ). IsOfLanes l batch) are of_lanes)
+-- A driver made a batch of the record that is under way.
+pub batch_made : {used number next : ℕ} (limits : Counts) (options : Options) (batches : List Batch) (before now : RunRecord) (batch : Batch) (merge : Bool) (merger : Option ℕ)
+    → merge ≡ options.merge → merger ≡ (if merge then Some next else None) → AreCounted batches used number next
+    → HasOneMore limits number merger batch before now → IsMade limits options batches before → IsMade limits options (batches ++ batch ∷ []) now
+batch_made {next = next} limits options batches before now batch merge merger same merger_is counted more is =
+    let merges : merges_of merger batch ≡ merger_commands before.options.merge (1 + sum_by updates batches) batch =
+    merger_made merge merger next batch merger_is ∙ ap (λ (n : ℕ). merger_commands merge n batch) counted.next_is
+    ∙ ap (λ (b : Bool). merger_commands b (1 + sum_by updates batches) batch) (same ∙ sym (ap (λ (o : Options). o.merge) is.options_are)) in
+    subst (λ (o : Options). IsMade limits o (batches ++ batch ∷ []) now) is.options_are
+    (more batches counted.number_is merges (subst (λ (o : Options). IsMade limits o batches before) (sym is.options_are) is))
 
 pub batch_written : (limits : Counts) (options : Options) (written0 written1 written2 : Option (List ℕ)) (batches : List Batch) (before now : RunRecord) (new : List Answered) → AreWritten options written0 written1 before → IsMade limits options batches now
     → now.answers ≡ before.answers ++ new → Appends written1 written2 (text_behind options.trace (length before.answers) now) → AreWritten options written0 written2 now
@@ -155,7 +149,7 @@ batch_written limits options written0 written1 written2 batches before now new w
     record {
       taken = writ.taken ++ text;
       took = Appends-trans written0 written1 written2 writ.taken text writ.took took;
-      text_is = ap (λ (t : List ℕ). t ++ text) writ.text_is ∙ sym (text_more options.trace before now new are (made_unended limits options batches now is));
+      text_is = ap (λ (t : List ℕ). t ++ text) writ.text_is ∙ sym (text_more options.trace before now new are (is.unended));
     }
 
 goes_on : (options : Options) (before now : Gathering) → IsGoingOn options before → now.limits ≡ before.limits → now.lanes ≡ before.lanes → now.reading.used ≤ now.limits.input → IsGoingOn options now
@@ -304,6 +298,106 @@ ends_writing limits options why left0 left1 left2 written0 written1 written2 fil
     (late_more options left0 left1 files f0 f1 before way.batches Idle took.given took.outcomes way.been way.goes way.late late)
     (omega (arith, record_syncs limits options (way.batches ++ batch ∷ []) now (made_record_now limits options (way.batches ++ batch ∷ []) now is), length-append way.batches (batch ∷ []))))
 
+-- ---- a batch that was gathered
+
+begun_with : {Idle : Type 0} (left1 left2 : Option (List ℕ)) (files : Option (List shelf.File)) (f1 f2 : ℕ) (before after : Gathering) (batch : Batch)
+    → (took : Taken (Ok (Some batch)) left1 left2 files f1 f2) → Gathers (Ok (Some batch)) before after left2 took.given took.asked took.outcomes → ReadsLate Idle before took.given took.outcomes
+    → after.limits ≡ before.limits → after.lanes ≡ before.lanes → IsOfLanes before.lanes batch → after.reading.used ≤ after.limits.input
+    → (before.reading.used < after.reading.used) × (before.reading.used + length batch ≤ after.reading.used) → IsBegun left1 left2 files f1 f2 before after batch
+begun_with left1 left2 files f1 f2 before after batch took gathers late limits_are lanes_are of_lanes within grows = record {
+  taken = took;
+  gathered = gathers;
+  late = idle late;
+  limits_are = limits_are;
+  lanes_are = lanes_are;
+  of_lanes = of_lanes;
+  within = within;
+  grows = grows.1;
+}
+  where
+    idle : {Idle Late : Type 0} {Nothing : Type 0} → (Idle × Nothing) ⊎ Late → Nothing ⊎ Late
+    idle (inl (still, nothing)) = inl nothing
+    idle (inr late) = inr late
+
+pub begun : {Idle : Type 0} (left1 left2 : Option (List ℕ)) (files : Option (List shelf.File)) (f1 f2 : ℕ) (before after : Gathering) (found : Option Batch) (batch : Batch) → found ≡ Some batch
+    → (took : Taken (Ok found) left1 left2 files f1 f2) → Gathers (Ok found) before after left2 took.given took.asked took.outcomes → ReadsLate Idle before took.given took.outcomes
+    → after.limits ≡ before.limits → after.lanes ≡ before.lanes → IfSome found (IsOfLanes before.lanes) → after.reading.used ≤ after.limits.input
+    → IfSome found (λ (b : Batch). (before.reading.used < after.reading.used) × (before.reading.used + length b ≤ after.reading.used)) → IsBegun left1 left2 files f1 f2 before after batch
+begun {Idle = Idle} left1 left2 files f1 f2 before after found batch is =
+    subst (λ (found : Option Batch). (took : Taken (Ok found) left1 left2 files f1 f2) → Gathers (Ok found) before after left2 took.given took.asked took.outcomes → ReadsLate Idle before took.given took.outcomes
+    → after.limits ≡ before.limits → after.lanes ≡ before.lanes → IfSome found (IsOfLanes before.lanes) → after.reading.used ≤ after.limits.input
+    → IfSome found (λ (b : Batch). (before.reading.used < after.reading.used) × (before.reading.used + length b ≤ after.reading.used)) → IsBegun left1 left2 files f1 f2 before after batch)
+    (sym is) (begun_with left1 left2 files f1 f2 before after batch)
+
+-- A run that stands where it stood.
+pub stands_still : {number next : ℕ} (limits : Counts) (options : Options) (left0 left1 written0 written1 written2 : Option (List ℕ)) (files : Option (List shelf.File)) (f0 f1 : ℕ) (before : Gathering) (made now : RunRecord)
+    → IsUnderWay limits options left0 left1 written0 written1 files f0 f1 before made number next → (now ≡ made) × (written2 ≡ written1) → IsUnderWay limits options left0 left1 written0 written2 files f0 f1 before now number next
+stands_still {number = number} {next = next} limits options left0 left1 written0 written1 written2 files f0 f1 before made now way (same, nothing) =
+    subst (λ (w : Option (List ℕ)). IsUnderWay limits options left0 left1 written0 w files f0 f1 before now number next) (sym nothing)
+    (subst (λ (m : RunRecord). IsUnderWay limits options left0 left1 written0 written1 files f0 f1 before m number next) (sym same) way)
+
+-- The batch that was gathered was answered too.
+pub is_answered : {number next : ℕ} (limits : Counts) (options : Options) (left0 left1 left2 written0 written1 : Option (List ℕ)) (files : Option (List shelf.File)) (f0 f1 f2 : ℕ) (before after : Gathering) (made now : RunRecord) (first : ℕ) (batch : Batch) (merge : Bool) (merger : Option ℕ)
+    → IsUnderWay limits options left0 left1 written0 written1 files f0 f1 before made number next → IsBegun left1 left2 files f1 f2 before after batch
+    → first ≡ length made.answers → merge ≡ made.options.merge → merger ≡ (if merge then Some next else None) → HasOneMore limits number merger batch made now → AddsAnswers made now
+    → IsAnswered limits options left0 left2 written0 written1 files f0 f2 after now first (number + 1) (next + updates batch)
+is_answered {number = number} {next = next} limits options left0 left1 left2 written0 written1 files f0 f1 f2 before after made now first batch merge merger way has first_is same merger_is more adds = record {
+  left = left1;
+  faults = f1;
+  before = before;
+  record_before = made;
+  number_before = number;
+  next_before = next;
+  batch = batch;
+  way = way;
+  begun = has;
+  is_made = batch_made limits options way.batches made now batch merge merger (same ∙ ap (λ (o : Options). o.merge) way.is_made.options_are) merger_is way.counted more way.is_made;
+  adds = adds;
+  first_is = first_is;
+  number_is = refl;
+  next_is = refl;
+}
+
+-- the source was read late, or not at all
+once : {Nothing Late : Type 0} → Nothing ⊎ Late → (⊤ × Nothing) ⊎ Late
+once (inl nothing) = inl (tt, nothing)
+once (inr late) = inr late
+
+-- the text of the answers of a batch
+answers_behind : (limits : Counts) (options : Options) (batches : List Batch) (made now : RunRecord) (first : ℕ) → IsMade limits options batches now → first ≡ length made.answers
+    → text_behind now.options.trace first now ≡ text_behind options.trace (length made.answers) now
+answers_behind limits options batches made now first is first_is =
+    ap (λ (o : Options). text_behind o.trace first now) is.options_are ∙ ap (λ (n : ℕ). text_behind options.trace n now) first_is
+
+-- It was written, and the gatherer goes on.
+pub answered_goes : {first number next : ℕ} (limits : Counts) (options : Options) (left0 left2 written0 written1 written2 : Option (List ℕ)) (files : Option (List shelf.File)) (f0 f2 : ℕ) (after : Gathering) (now : RunRecord)
+    → IsAnswered limits options left0 left2 written0 written1 files f0 f2 after now first number next → after.ended ≡ false → Appends written1 written2 (text_behind now.options.trace first now)
+    → IsUnderWay limits options left0 left2 written0 written2 files f0 f2 after now number next
+answered_goes {first = first} {number = number} {next = next} limits options left0 left2 written0 written1 written2 files f0 f2 after now is on took =
+    let took_all = subst (Appends written1 written2) (answers_behind limits options (is.way.batches ++ is.batch ∷ []) is.record_before now first is.is_made is.first_is) took in
+    subst (λ (n : ℕ). IsUnderWay limits options left0 left2 written0 written2 files f0 f2 after now n next) (sym is.number_is)
+    (subst (λ (n : ℕ). IsUnderWay limits options left0 left2 written0 written2 files f0 f2 after now (is.number_before + 1) n) (sym is.next_is)
+    (one_more limits options left0 is.left left2 written0 written1 written2 files f0 is.faults f2 is.before after is.record_before now is.batch is.adds.new ⊤ is.way is.begun.taken (once is.begun.late) on is.begun.gathered
+    is.begun.limits_are is.begun.lanes_are is.begun.within is.is_made is.adds.are took_all is.begun.grows))
+
+-- It was written, and was the last one.
+pub answered_ends : {first number next : ℕ} (limits : Counts) (options : Options) (ends : Status) (left0 left2 written0 written1 written2 written3 : Option (List ℕ)) (files : Option (List shelf.File)) (f0 f2 : ℕ) (after : Gathering) (mid now : RunRecord)
+    → IsAnswered limits options left0 left2 written0 written1 files f0 f2 after mid first number next → after.ended ≡ true → Appends written1 written2 (text_behind mid.options.trace first mid)
+    → now ≡ with_end true mid → IsWritten ends written2 written3 (text_behind mid.options.trace (length mid.answers) (with_end true mid)) → Meets limits options ends left0 left2 written0 written3 files f0 f2 now
+answered_ends {first = first} limits options ends left0 left2 written0 written1 written2 written3 files f0 f2 after mid now is over took closed rest =
+    let took_all = subst (Appends written1 written2) (answers_behind limits options (is.way.batches ++ is.batch ∷ []) is.record_before mid first is.is_made is.first_is) took in
+    ends_with limits options ends left0 is.left left2 written0 written1 written2 written3 files f0 is.faults f2 is.before after is.record_before mid now is.batch is.adds.new is.way is.begun.taken over is.begun.gathered is.is_made is.adds.are took_all closed
+    (subst (λ (o : Options). IsWritten ends written2 written3 (text_behind o.trace (length mid.answers) (with_end true mid))) is.is_made.options_are rest)
+
+-- It was not written whole.
+pub answered_stops : {first number next : ℕ} (limits : Counts) (options : Options) (why : WriteStop) (left0 left2 written0 written1 written2 : Option (List ℕ)) (files : Option (List shelf.File)) (f0 f2 : ℕ) (after : Gathering) (now : RunRecord)
+    → IsAnswered limits options left0 left2 written0 written1 files f0 f2 after now first number next → (part : List ℕ) → IsPrefix part (text_behind now.options.trace first now) → Appends written1 written2 part
+    → Meets limits options (status_of_stop why) left0 left2 written0 written2 files f0 f2 now
+answered_stops {first = first} limits options why left0 left2 written0 written1 written2 files f0 f2 after now is part beginning took =
+    let begins_all = subst (IsPrefix part) (answers_behind limits options (is.way.batches ++ is.batch ∷ []) is.record_before now first is.is_made is.first_is) beginning in
+    ends_writing limits options why left0 is.left left2 written0 written1 written2 files f0 is.faults f2 is.before after is.record_before now is.batch is.adds.new part ⊤ is.way is.begun.taken (once is.begun.late)
+    is.begun.limits_are is.begun.lanes_are is.begun.within is.begun.gathered is.is_made is.adds.are begins_all took
+
 -- Memory was wanting between two batches.
 pub ends_between : {number next : ℕ} (limits : Counts) (options : Options) (left0 left1 left2 written0 written1 : Option (List ℕ)) (files : Option (List shelf.File)) (f0 f1 f2 : ℕ) (before : Gathering) (made : RunRecord) (given : List ℕ)
     → IsUnderWay limits options left0 left1 written0 written1 files f0 f1 before made number next → Consumes left1 left2 given → f1 ≤ f2
@@ -356,6 +450,38 @@ not_refused limits options line why left0 left1 written0 written1 files f0 f1 ma
     let no : FaultAt line why ≡ Whole = sym met.row.fault ∙ ap (λ (bytes : List ℕ). (commands standard options.lanes bytes met.outcomes).end) (sym input) ∙ whole met.outcomes fetched in cc
 
 -- ---- which end gives which status
+
+-- Only a source that failed ends a run so, and none for its words.
+pub end_causes : {reads0 reads1 writes0 writes1 : ℕ} (why : ScriptEnd) → (why ≡ end.ReadFault → Rose reads0 reads1) → HasCauses (status_of_end why) reads0 reads1 writes0 writes1
+end_causes (end.Script line reason) read = record { usage = λ no. absurd (let e : status.Script line reason ≡ status.Usage = no in cc); read_fault = λ no. absurd (let e : status.Script line reason ≡ status.ReadFault = no in cc); write_fault = λ no. absurd (let e : status.Script line reason ≡ status.WriteFault = no in cc) }
+end_causes end.ReadFault read = record { usage = λ no. absurd (let e : status.ReadFault ≡ status.Usage = no in cc); read_fault = λ is. read refl; write_fault = λ no. absurd (let e : status.ReadFault ≡ status.WriteFault = no in cc) }
+end_causes end.NoMemory read = record { usage = λ no. absurd (let e : status.NoMemory ≡ status.Usage = no in cc); read_fault = λ no. absurd (let e : status.NoMemory ≡ status.ReadFault = no in cc); write_fault = λ no. absurd (let e : status.NoMemory ≡ status.WriteFault = no in cc) }
+
+-- Only a sink that failed ends a run so.
+pub stop_causes : {reads0 reads1 writes0 writes1 : ℕ} (why : WriteStop) → (why ≡ stop.Failed → Rose writes0 writes1) → HasCauses (status_of_stop why) reads0 reads1 writes0 writes1
+stop_causes stop.Failed wrote = record { usage = λ no. absurd (let e : status.WriteFault ≡ status.Usage = no in cc); read_fault = λ no. absurd (let e : status.WriteFault ≡ status.ReadFault = no in cc); write_fault = λ is. wrote refl }
+stop_causes stop.NoMemory wrote = record { usage = λ no. absurd (let e : status.NoMemory ≡ status.Usage = no in cc); read_fault = λ no. absurd (let e : status.NoMemory ≡ status.ReadFault = no in cc); write_fault = λ no. absurd (let e : status.NoMemory ≡ status.WriteFault = no in cc) }
+
+-- Want of memory has no other cause.
+pub memory_causes : {reads0 reads1 writes0 writes1 : ℕ} → HasCauses status.NoMemory reads0 reads1 writes0 writes1
+memory_causes = stop_causes stop.NoMemory (λ no. absurd (let e : stop.NoMemory ≡ stop.Failed = no in cc))
+
+-- Causes that came later.
+pub causes_since : {reads0 reads1 reads2 writes0 writes1 writes2 : ℕ} (result : Status) → reads0 ≤ reads1 → writes0 ≤ writes1 → HasCauses result reads1 reads2 writes1 writes2 → HasCauses result reads0 reads2 writes0 writes2
+causes_since result reads writes has = record {
+  usage = has.usage;
+  read_fault = λ is. rose_since _ _ _ reads (has.read_fault is);
+  write_fault = λ is. rose_since _ _ _ writes (has.write_fault is);
+}
+
+-- What moved in two steps.
+pub moved_on : {files0 files1 files2 : Option (List shelf.File)} {r0 r1 r2 w0 w1 w2 f0 f1 f2 : ℕ} → HasMoved files0 files1 r0 r1 w0 w1 f0 f1 → HasMoved files1 files2 r1 r2 w1 w2 f1 f2 → HasMoved files0 files2 r0 r2 w0 w2 f0 f2
+moved_on first second = record {
+  files = second.files ∙ first.files;
+  reads = omega (arith, first.reads, second.reads);
+  writes = omega (arith, first.writes, second.writes);
+  fetches = omega (arith, first.fetches, second.fetches);
+}
 
 pub end_read : (why : ScriptEnd) → status_of_end why ≡ status.ReadFault → why ≡ end.ReadFault
 end_read (end.Script line reason) is = absurd (let no : status.Script line reason ≡ status.ReadFault = is in cc)

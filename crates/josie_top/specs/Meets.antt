@@ -10,7 +10,7 @@ use Rattle.script_model.specs.Commands.{File}
 use Rattle.script_model.specs.Plain.{Mode, Run, Make}
 use Rattle.script_model.specs.Script.{Commands, Whole, commands, standard}
 use Rattle.script_model.specs.Record.{Options, RunRecord}
-use Rattle.script_model.specs.Statuses.{MakeRow, Row, begun}
+use Rattle.script_model.specs.Statuses.{IsStated, MakeRow, Row, begun}
 use Rattle.script_text.specs.Outcomes.{AreFetched, AreFetchedSoFar}
 
 -- what came of the fetches of a run, by its status
@@ -77,3 +77,8 @@ HasNoFault options script files before now = (outcomes : List File) → let made
 abbrev pub IsMaking : Mode → Type 0
 IsMaking (Run options) = ⊥
 IsMaking (Make seed tables rows) = ⊤
+
+-- a script is run in a stated order, or a lake is made
+abbrev pub IsOrdered : Mode → Type 0
+IsOrdered (Run options) = IsStated options
+IsOrdered (Make seed tables rows) = ⊤

@@ -1,26 +1,39 @@
 -- How far a run is: what it has read, answered and written between two batches.
-use Rattle.std.specs.Prelude.{ℕ, ◌+◌, ◌-◌, ◌≡◌, ◌≤◌, Bool, List, [], ◌++◌, length, sum_by, Option}
+use Rattle.std.specs.Prelude.{ℕ, ◌+◌, ◌-◌, ◌≡◌, ◌≤◌, ◌⊎◌, Bool, false, List, [], ◌∷◌, ◌++◌, length, sum_by, Option, Some, Ok}
 use Rattle.std.specs.List.{AllByRecursion}
 use Rattle.std.specs.Io.KnownBytes.{Consumes, Appends}
+use Rattle.lake_io.specs.Causes.{Rose}
 use Rattle.lake_io.specs.Files as shelf
 use Rattle.lake_model.specs.declared.Counts.{Counts}
 use Rattle.lake_model.specs.Texts.{Text}
 use Rattle.script_model.specs.Commands.{File, Batch}
 use Rattle.script_model.specs.Reading.{Reading}
 use Rattle.script_model.specs.Script.{grammar_of, standard, start}
-use Rattle.script_model.specs.Record.{Options, RunRecord, empty}
-use Rattle.script_model.specs.Play.{played_from, pieces_of, updates}
+use Rattle.script_model.specs.declared.Status.{Status}
+use Rattle.script_model.specs.declared.Status.TheVariants as status
+use Rattle.script_model.specs.Record.{Answered, Options, RunRecord, empty}
+use Rattle.script_model.specs.Play.{merger_commands, merges_of, played_from, pieces_of, updates}
 use Rattle.script_model.specs.Lanes.{IsOfLanes}
+use Rattle.script_model.specs.Right.{IsRecordRight}
+use Rattle.script_model.specs.Statuses.{IsStated}
 use Rattle.script_model.specs.Texts.{answers_text}
 use Rattle.script_model.specs.Words.{NoFeed}
 use Rattle.script_text.specs.Outcomes.{AreFetched}
-use Rattle.script_text.specs.Gathering.{Gathering, ReadsOn}
+use Rattle.script_text.specs.Gathering.{Gathering, IsLate, IsSynced, IsWhole, ReadsOn}
+use Rattle.script_text.specs.Gathers.{Taken}
 
--- The record was made of these batches, one played behind another, and the source is not at its end.
-pub record IsMade (limits : Counts) (options : Options) (batches : List Batch) (made : RunRecord) : Type 0 where
+-- The record is that of these batches, played one after another in the stated order; at each turn of each, memory sufficed or did not.
+pub record IsPlayedSoFar (limits : Counts) (options : Options) (batches : List Batch) (made : RunRecord) : Type 0 where
   pub denials : List (List Bool)
   pub size : length denials ≡ length batches
   pub played : made ≡ played_from limits options.lanes options.merge 1 batches (pieces_of options.order) denials (empty options)
+
+-- The record has these options and is right for these batches, and the source is not at its end. Where an order is stated, the batches were played in it.
+pub record IsMade (limits : Counts) (options : Options) (batches : List Batch) (made : RunRecord) : Type 0 where
+  pub options_are : made.options ≡ options
+  pub unended : made.ended ≡ false
+  pub right : IsRecordRight limits options.lanes options.merge batches made
+  pub played : IsStated options → IsPlayedSoFar limits options batches made
   pub lanes : AllByRecursion (IsOfLanes options.lanes) batches
 
 -- The gatherer is of these options, and goes on.
@@ -77,3 +90,56 @@ pub record IsUnderWay (limits : Counts) (options : Options) (left_before left_no
   pub writ : AreWritten options written_before written_now made
   pub counted : AreCounted batches gathering.reading.used number next
   pub late : IsLateSoFar options been.given been.outcomes (length batches - 1)
+
+-- Answers follow those that were there.
+pub record AddsAnswers (before now : RunRecord) : Type 0 where
+  pub new : List Answered
+  pub are : now.answers ≡ before.answers ++ new
+
+-- Whatever batches the record was made of, so many in number, it is now made of these and of one batch more, where the merger's commands are numbered as
+-- they have to be behind them.
+abbrev pub HasOneMore : Counts → ℕ → Option ℕ → Batch → RunRecord → RunRecord → Type 0
+HasOneMore limits number merger batch before now = (batches : List Batch) → length batches ≡ number
+    → merges_of merger batch ≡ merger_commands before.options.merge (1 + sum_by updates batches) batch
+    → IsMade limits before.options batches before → IsMade limits before.options (batches ++ batch ∷ []) now
+
+-- A batch was gathered: what the source gave for it, what was fetched, and where the gatherer is.
+pub record IsBegun (left_before left_now : Option (List ℕ)) (files : Option (List shelf.File)) (faults_before faults_now : ℕ) (before now : Gathering) (batch : Batch) : Type 0 where
+  pub taken : Taken (Ok (Some batch)) left_before left_now files faults_before faults_now
+  pub gathered : IsSynced before now taken.given taken.asked taken.outcomes batch ⊎ IsWhole before now left_now taken.given taken.asked taken.outcomes (batch ∷ [])
+  pub late : (taken.given ≡ []) ⊎ IsLate before taken.given taken.outcomes
+  pub limits_are : now.limits ≡ before.limits
+  pub lanes_are : now.lanes ≡ before.lanes
+  pub of_lanes : IsOfLanes before.lanes batch
+  pub within : now.reading.used ≤ now.limits.input
+  pub grows : before.reading.used + length batch ≤ now.reading.used
+
+-- A run behind a batch that was gathered and answered, but not written: its answers follow the first ones, so many in number.
+pub record IsAnswered (limits : Counts) (options : Options) (left_before left_now written_before written_now : Option (List ℕ)) (files : Option (List shelf.File)) (faults_before faults_now : ℕ) (gathering : Gathering) (made : RunRecord) (first number next : ℕ) : Type 0 where
+  pub left : Option (List ℕ)
+  pub faults : ℕ
+  pub before : Gathering
+  pub record_before : RunRecord
+  pub number_before : ℕ
+  pub next_before : ℕ
+  pub batch : Batch
+  pub way : IsUnderWay limits options left_before left written_before written_now files faults_before faults before record_before number_before next_before
+  pub begun : IsBegun left left_now files faults faults_now before gathering batch
+  pub is_made : IsMade limits options (way.batches ++ batch ∷ []) made
+  pub adds : AddsAnswers record_before made
+  pub first_is : first ≡ length record_before.answers
+  pub number_is : number ≡ number_before + 1
+  pub next_is : next ≡ next_before + updates batch
+
+-- No count of faults fell, and the files are the same.
+pub record HasMoved (files_before files_now : Option (List shelf.File)) (reads_before reads_now writes_before writes_now fetches_before fetches_now : ℕ) : Type 0 where
+  pub files : files_now ≡ files_before
+  pub reads : reads_before ≤ reads_now
+  pub writes : writes_before ≤ writes_now
+  pub fetches : fetches_before ≤ fetches_now
+
+-- A run of a script does not end for its words, and where it ends for a read or a write, that failed.
+pub record HasCauses (result : Status) (reads_before reads_now writes_before writes_now : ℕ) : Type 0 where
+  pub usage : result ≡ status.Usage → ⊥
+  pub read_fault : result ≡ status.ReadFault → Rose reads_before reads_now
+  pub write_fault : result ≡ status.WriteFault → Rose writes_before writes_now

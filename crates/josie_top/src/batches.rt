@@ -1,24 +1,19 @@
 //! The batches of a script, one after another: each is gathered, answered and written before the next is gathered.
-ghost use Rattle.std.specs.Prelude.{◌≡◌, ◌≤◌, [], false, get_or, if◌then◌else◌, length, true, IfOk, None, Some};
+ghost use Rattle.std.specs.Prelude.{◌≡◌, ◌≤◌, ℕ, List, Option, [], false, if◌then◌else◌, length, true, None, Some, IfErr, IfOk, IfSome, MatchOption, OnOk};
 ghost use Rattle.lake_io.specs.Causes.{Rose};
+ghost use Rattle.lake_io.specs.Files.{File as Told};
 ghost use Rattle.lake_model.specs.Journal.{standard_limits};
-ghost use Rattle.catalogue.specs.Kept.{catalogue_with};
-ghost use Rattle.script_model.specs.Play.{pieces_of};
-ghost use Rattle.script_model.specs.Record.{empty, with_end};
-ghost use Rattle.script_model.specs.Script.{standard, start};
+ghost use Rattle.script_model.specs.Record.{Options as OptionsOf, with_end};
 ghost use Rattle.script_model.specs.Texts.{text_behind};
-ghost use Rattle.script_text.specs.Gathering.{gathering_with};
 ghost use Rattle.josie_top.specs.Ends.{IsWritten, status_of_end, status_of_stop};
 ghost use Rattle.josie_top.specs.Meets.{Meets};
+ghost use Rattle.josie_top.specs.Progress.{HasCauses, HasMoved, IsAnswered, IsBegun, IsUnderWay};
 
 use crate::writing::{WriteStop, write_record};
-use catalogue::Catalogue;
-use lake_core::drive;
 use lake_io::{Shelf, Sink, Source};
-use no_memory::NoMemory;
 use reply_text::RunRecord;
 use script_model::Status;
-use script_text::{Gather, Options, ScriptEnd};
+use script_text::{Batch, Gather, Options, ScriptEnd};
 use std::alloc::Global;
 
 /// The status of a run whose gatherer gives no batch.
@@ -43,89 +38,76 @@ pub(crate) fn status_of_stop(stop: WriteStop) -> Status
 }
 
 /// Closes the record, whose source was read to its end, and writes what is still due of its text.
-fn finish<K: Sink>(alloc: Global, trace: bool, out: &mut RunRecord, sink: &mut K) -> Status
+fn finish<K: Sink>(alloc: Global, out: &mut RunRecord, sink: &mut K) -> Status
     ensures closed { out.new.made ≡ with_end true out.old.made }
-    ensures written { IsWritten result (K.written sink.old) (K.written sink.new) (text_behind trace (length out.old.made.answers) (with_end true out.old.made)) }
+    ensures written { IsWritten result (K.written sink.old) (K.written sink.new) (text_behind out.old.made.options.trace (length out.old.made.answers) (with_end true out.old.made)) }
     ensures write_fault { result ≡ Status.WriteFault → Rose (K.faults sink.old) (K.faults sink.new) }
     ensures later { K.faults sink.old ≤ K.faults sink.new }
 {
     let first = out.answers().len();
     out.close();
-    match write_record(alloc, out, first, trace, sink) {
+    match write_record(alloc, out, first, sink) {
         Ok(()) => Status::Done,
         Err(stop) => status_of_stop(stop),
     }
 }
 
-/// The piece of the stated order for the batch of a number, which counts from 0: empty where the order has none.
-fn piece_of(alloc: Global, options: &Options, number: u64) -> Result<Vec<u32>, NoMemory>
-    ensures { IfOk result (λ piece. piece.items ≡ get_or (pieces_of options.now.order) number []) }
-{
-    let Some(order) = &options.order else {
-        return Ok(Vec::new(alloc));
-    };
-    let Some(piece) = order.list().get(number as usize) else {
-        return Ok(Vec::new(alloc));
-    };
-    Ok(piece.list().to_vec(alloc)?)
-}
-
 /// The number of the merger's first command in a batch, where there is a merger.
-fn merger_from(merge: bool, next: u64) -> Option<u64>
-    ensures { result ≡ (if merge then Some next else None) }
+pub(crate) fn merger_from(options: &Options, next: u64) -> Option<u64>
+    ensures { result ≡ (if options.now.merge then Some next else None) }
 {
-    merge.then_some(next)
+    options.merge.then_some(next)
 }
 
-/// Runs the batches of a script over an empty lake, in an empty record with these options, until the script ends, is refused or breaks
-/// off, or the text cannot be written.
-pub fn run_batches<S: Source, K: Sink, F: Shelf>(
+/// Gathers the next batch. Where there is none, it answers the status that the run ends with, and at the end of the script it has closed
+/// the record and written the rest of its text.
+pub(crate) fn begin_batch<S: Source, K: Sink, F: Shelf>(
     alloc: Global,
-    lanes: u32,
-    merge: bool,
-    trace: bool,
     gather: &mut Gather,
-    catalogue: &mut Catalogue,
     source: &mut S,
     sink: &mut K,
     shelf: &mut F,
     out: &mut RunRecord,
-) -> Status
-    requires start { gather.old ≡ gathering_with (start []) [] false standard lanes }
-    requires lake { catalogue.old ≡ catalogue_with standard_limits [] }
-    requires empty { out.old.made ≡ empty out.old.made.options }
-    requires lanes { lanes ≡ out.old.made.options.lanes }
-    requires merge { merge ≡ out.old.made.options.merge }
-    requires trace { trace ≡ out.old.made.options.trace }
-    ensures table { Meets standard_limits out.old.made.options result (S.left source.old) (S.left source.new) (K.written sink.old) (K.written sink.new) (F.files shelf.old) (F.faults shelf.old) (F.faults shelf.new) out.new.made }
-    ensures usage { ¬ (result ≡ Status.Usage) }
-    ensures read_fault { result ≡ Status.ReadFault → Rose (S.faults source.old) (S.faults source.new) }
-    ensures write_fault { result ≡ Status.WriteFault → Rose (K.faults sink.old) (K.faults sink.new) }
-    ensures later { (S.faults source.old ≤ S.faults source.new) × (K.faults sink.old ≤ K.faults sink.new) × (F.faults shelf.old ≤ F.faults shelf.new) }
-    ensures files { F.files shelf.new ≡ F.files shelf.old }
+) -> Result<Batch, Status>
+    requires { gather.old.ended ≡ false }
+    ensures begun { IfOk result (IsBegun (S.left source.old) (S.left source.new) (F.files shelf.old) (F.faults shelf.old) (F.faults shelf.new) gather.old gather.new) }
+    ensures stands { OnOk result ((out.new.made ≡ out.old.made) × (K.written sink.new ≡ K.written sink.old)) }
+    ensures ends { IfErr result (λ status. (options : OptionsOf) (left written : Option (List ℕ)) (faults number next : ℕ)
+        → IsUnderWay standard_limits options left (S.left source.old) written (K.written sink.old) (F.files shelf.old) faults (F.faults shelf.old) gather.old out.old.made number next
+        → Meets standard_limits options status left (S.left source.new) written (K.written sink.new) (F.files shelf.old) faults (F.faults shelf.new) out.new.made) }
+    ensures causes { IfErr result (λ status. HasCauses status (S.faults source.old) (S.faults source.new) (K.faults sink.old) (K.faults sink.new)) }
+    ensures moved { HasMoved (F.files shelf.old) (F.files shelf.new) (S.faults source.old) (S.faults source.new) (K.faults sink.old) (K.faults sink.new) (F.faults shelf.old) (F.faults shelf.new) }
 {
-    let mut next = 1;
-    for number in 0..u64::MAX {
-        let batch = match gather.batch(source, shelf) {
-            Ok(Some(batch)) => batch,
-            Ok(None) => return finish(alloc, trace, out, sink),
-            Err(end) => return status_of_end(end),
-        };
-        let first = out.answers().len();
-        let Ok(piece) = piece_of(alloc, out.options(), number) else {
-            return Status::NoMemory;
-        };
-        let merger = merger_from(merge, next);
-        if drive(alloc, catalogue, &batch, &piece, lanes, merger, out).is_err() {
-            return Status::NoMemory;
-        }
-        next += batch.updates();
-        if let Err(stop) = write_record(alloc, out, first, trace, sink) {
-            return status_of_stop(stop);
-        }
-        if gather.ended() {
-            return finish(alloc, trace, out, sink);
-        }
+    match gather.batch(source, shelf) {
+        Ok(Some(batch)) => Ok(batch),
+        Ok(None) => Err(finish(alloc, out, sink)),
+        Err(end) => Err(status_of_end(end)),
     }
-    Status::NoMemory
+}
+
+/// Writes the replies to a batch, which begin at this answer of the record. Where the run ends with it, it answers the status, and at the
+/// end of the script it has closed the record and written the rest of its text.
+pub(crate) fn end_batch<K: Sink>(
+    alloc: Global,
+    gather: &Gather,
+    first: usize,
+    sink: &mut K,
+    out: &mut RunRecord,
+) -> Option<Status>
+    ensures goes { result ≡ None → (out.new.made ≡ out.old.made) × (gather.now.ended ≡ false) }
+    ensures answered { (options : OptionsOf) (left_before left_now written : Option (List ℕ)) (files : Option (List Told)) (faults_before faults_now number next : ℕ)
+        → IsAnswered standard_limits options left_before left_now written (K.written sink.old) files faults_before faults_now gather.now out.old.made first number next
+        → MatchOption result
+        (IsUnderWay standard_limits options left_before left_now written (K.written sink.new) files faults_before faults_now gather.now out.new.made number next)
+        (λ status. Meets standard_limits options status left_before left_now written (K.written sink.new) files faults_before faults_now out.new.made) }
+    ensures causes { IfSome result (λ status. HasCauses status 0 0 (K.faults sink.old) (K.faults sink.new)) }
+    ensures later { K.faults sink.old ≤ K.faults sink.new }
+{
+    if let Err(stop) = write_record(alloc, out, first, sink) {
+        return Some(status_of_stop(stop));
+    }
+    if gather.ended() {
+        return Some(finish(alloc, out, sink));
+    }
+    None
 }

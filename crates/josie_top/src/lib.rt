@@ -9,10 +9,11 @@ ghost use Rattle.script_model.specs.Plain as said;
 ghost use Rattle.script_model.specs.Record.{Options, empty, plain};
 ghost use Rattle.script_text.specs.Words.{mode_of, mode_read, IsModeInRange};
 ghost use Rattle.josie_top.specs.Ends.{status_of_refused};
-ghost use Rattle.josie_top.specs.Meets.{HasNoFault, IsMaking, IsSaid, MeetsMode};
+ghost use Rattle.josie_top.specs.Meets.{HasNoFault, IsMaking, IsOrdered, IsSaid, MeetsMode};
 
 use lake_io::{Gate, Shelf, Sink, Source};
 use making::make_lake;
+use ordered::run_in_order;
 pub use reply_text::RunRecord;
 use script::run_script;
 pub use script_model::{Reason, Status};
@@ -22,20 +23,59 @@ use std::sync::Wait;
 use std::thread::Threads;
 
 mod batches;
+mod lanes;
 mod making;
+mod ordered;
 mod script;
 mod writing;
 
-/// Runs a script, or makes a lake, as the mode says. Of a script it reads batch by batch from the source, answers the commands of each in
-/// the record, and writes the replies to the sink before the next batch is read; of a lake that is made it writes the summary. The
-/// statuses and what holds behind each are the table of statuses, for the bytes that the source gave, what came of the fetches, and
-/// the bytes that the sink took.
+/// Runs a script whose lanes take turns in a stated order, or makes a lake, as the mode says, on one thread. Of a script it reads batch
+/// by batch from the source, answers the commands of each in the record, and writes the replies to the sink before the next batch is
+/// read; of a lake that is made it writes the summary. The statuses and what follows from each are the table of statuses, for the
+/// bytes that the source gave, the results of the fetches, and the bytes that the sink took.
 pub fn run_ordered<S: Source, K: Sink, F: Shelf>(
     alloc: Global,
     mode: Mode,
     source: &mut S,
     sink: &mut K,
     shelf: &mut F,
+    out: &mut RunRecord,
+) -> Status
+    requires empty { out.old.made ≡ empty plain }
+    requires mode { IsModeInRange (mode_of mode) }
+    requires order { IsOrdered (mode_of mode) }
+    // what was read, recorded and written
+    ensures table { MeetsMode standard_limits (mode_of mode) result (S.left source.old) (S.left source.new) (K.written sink.old) (K.written sink.new) (F.files shelf.old) (F.faults shelf.old) (F.faults shelf.new) out.new.made }
+    // when each status comes
+    ensures usage { ¬ (result ≡ Status.Usage) }
+    ensures read_fault { result ≡ Status.ReadFault → Rose (S.faults source.old) (S.faults source.new) }
+    ensures write_fault { result ≡ Status.WriteFault → Rose (K.faults sink.old) (K.faults sink.new) }
+    ensures later { (S.faults source.old ≤ S.faults source.new) × (K.faults sink.old ≤ K.faults sink.new) × (F.faults shelf.old ≤ F.faults shelf.new) }
+    ensures files { F.files shelf.new ≡ F.files shelf.old }
+    // where a lake is made, nothing is read and no file is fetched
+    ensures making { IsMaking (mode_of mode) → (source.new ≡ source.old) × (shelf.new ≡ shelf.old) }
+    // nothing else comes but want of memory
+    ensures complete { (script : List ℕ) (options : Options) → mode_of mode ≡ said.Run options → S.left source.old ≡ Some script
+        → HasNoFault options script (F.files shelf.old) (F.faults shelf.old) (F.faults shelf.new)
+        → ¬ Rose (S.faults source.old) (S.faults source.new) → ¬ Rose (K.faults sink.old) (K.faults sink.new)
+        → (result ≡ Status.Done) ⊎ (result ≡ Status.NoMemory) }
+    ensures makes { IsMaking (mode_of mode) → ¬ Rose (K.faults sink.old) (K.faults sink.new) → (result ≡ Status.Done) ⊎ (result ≡ Status.NoMemory) }
+{
+    match mode {
+        Mode::Run(options) => run_in_order(alloc, options, source, sink, shelf, out),
+        Mode::Make { seed, tables, rows } => make_lake(alloc, seed, tables, rows, sink, out),
+    }
+}
+
+/// Runs a script, or makes a lake, as the mode says; a script without a stated order on threads.
+fn run_mode<R: Threads + Wait + Sync, S: Source, K: Sink, F: Shelf, G: Gate + Sync>(
+    rt: &R,
+    alloc: Global,
+    mode: Mode,
+    source: &mut S,
+    sink: &mut K,
+    shelf: &mut F,
+    gate: &G,
     out: &mut RunRecord,
 ) -> Status
     requires empty { out.old.made ≡ empty plain }
@@ -58,7 +98,7 @@ pub fn run_ordered<S: Source, K: Sink, F: Shelf>(
     ensures makes { IsMaking (mode_of mode) → ¬ Rose (K.faults sink.old) (K.faults sink.new) → (result ≡ Status.Done) ⊎ (result ≡ Status.NoMemory) }
 {
     match mode {
-        Mode::Run(options) => run_script(alloc, options, source, sink, shelf, out),
+        Mode::Run(options) => run_script(rt, alloc, options, source, sink, shelf, gate, out),
         Mode::Make { seed, tables, rows } => make_lake(alloc, seed, tables, rows, sink, out),
     }
 }
@@ -73,16 +113,17 @@ fn status_of_refused(refused: WordsRefused) -> Status
     }
 }
 
-/// The program's one call: the words behind the program's name, the streams, the files, what is told of each moment, and an empty
-/// record. Of the runtime and the gate it touches nothing yet.
+/// The program's one call: the runtime, the words after the program's name, the streams, the files, the gate that is told of each
+/// command's moments, and an empty record. Where no order is stated, the lanes of a batch run at the same time, each on a thread, and
+/// the merger beside them; what one lane does alone, or where no thread can be made, is done on the caller's thread.
 pub fn run<R: Threads + Wait + Sync, S: Source, K: Sink, F: Shelf, G: Gate + Sync>(
-    _rt: &R,
+    rt: &R,
     alloc: Global,
     words: &[String],
     source: &mut S,
     sink: &mut K,
     shelf: &mut F,
-    _gate: &G,
+    gate: &G,
     out: &mut RunRecord,
 ) -> Status
     requires empty { out.old.made ≡ empty plain }
@@ -110,7 +151,7 @@ pub fn run<R: Threads + Wait + Sync, S: Source, K: Sink, F: Shelf, G: Gate + Syn
         → ¬ Rose (K.faults sink.old) (K.faults sink.new) → (result ≡ Status.Done) ⊎ (result ≡ Status.NoMemory) }
 {
     match read_words(alloc, words) {
-        Ok(mode) => run_ordered(alloc, mode, source, sink, shelf, out),
+        Ok(mode) => run_mode(rt, alloc, mode, source, sink, shelf, gate, out),
         Err(refused) => status_of_refused(refused),
     }
 }

@@ -273,7 +273,8 @@ fn runs_lanes_in_a_stated_order(rt: HostRuntime) -> Result<(), Fail> {
 // The first read would fail.
 #[test]
 fn makes_a_lake_without_reading(rt: HostRuntime) -> Result<(), Fail> {
-    let written = "tables 1\nmembers 6\nmerges 0\nanswers 50 rows 0 overlap 0\nreads 100 probes 0\n";
+    let written =
+        "tables 1\nmembers 6\nmerges 0\nanswers 50 rows 0 overlap 0\nreads 100 probes 0\n";
     let (status, same) = ends_with(
         &rt,
         rt.alloc(),

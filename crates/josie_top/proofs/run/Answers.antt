@@ -17,4 +17,4 @@ pub returns-in-Ok-clause-complete : goal.returns-in-Ok-clause-complete
 returns-in-Ok-clause-complete g c = λ script options is told whole quiet still.
     let both : Some (mode_of c.in-Ok.mode) ≡ Some (said.Run options) = sym c.in-Ok.ensures.read ∙ is in
     let same : mode_of c.in-Ok.mode ≡ said.Run options = cc both in
-    c.run_ordered.ensures.complete script options same told whole quiet still
+    c.run_mode.ensures.complete script options same told whole quiet still

@@ -8,5 +8,5 @@ pub returns-clause-part : goal.returns-clause-part
 returns-clause-part g c =
     let (count, below, wrote) = c.in-Err.ensures.part in
     let all : c.new-text.result.items ≡ [] = search rules in
-    let text : c.as_slice.result.now ≡ text_behind c.args.trace c.args.first c.args.made.now.made = search rules in
+    let text : c.as_slice.result.now ≡ text_behind c.args.made.now.made.options.trace c.args.first c.args.made.now.made = search rules in
     (take count c.as_slice.result.now, subst (IsPrefix (take count c.as_slice.result.now)) text (prefix_take count c.as_slice.result.now), wrote)

@@ -1,0 +1,110 @@
+//! The run of a script whose lanes run at the same time.
+ghost use Rattle.std.specs.Prelude.{◌≡◌, ◌≤◌, ◌⊎◌, ℕ, [], false, List, Some};
+ghost use Rattle.lake_io.specs.Causes.{Rose};
+ghost use Rattle.lake_model.specs.Journal.{standard_limits};
+ghost use Rattle.script_model.specs.Record.{empty, plain};
+ghost use Rattle.script_model.specs.Script.{standard, start};
+ghost use Rattle.script_model.specs.Statuses.{IsStated};
+ghost use Rattle.script_text.specs.Gathering.{gathering_with};
+ghost use Rattle.lake_desk.specs.Together.{AreTogether};
+ghost use Rattle.josie_top.specs.Meets.{HasNoFault, Meets};
+ghost use Rattle.josie_top.specs.Progress.{HasCauses, HasMoved};
+
+use crate::batches::{begin_batch, end_batch, merger_from};
+use catalogue::Limits;
+use lake::Lake;
+use lake_desk::{LakeDesk, Standard, answer_batch, open_desks};
+use lake_io::{Gate, Shelf, Sink, Source};
+use reply_text::RunRecord;
+use script_model::Status;
+use script_text::{Gather, Options, ScriptLimits};
+use std::alloc::Global;
+use std::sync::Wait;
+use std::thread::Threads;
+
+/// Runs the batches of a script, in an empty record with the run's options, until the script ends, is refused or breaks off, or the text
+/// cannot be written. The lanes of a batch run at the same time, and the merger beside them.
+fn run_batches<'a, R: Threads + Wait + Sync, S: Source, K: Sink, F: Shelf, G: Gate + Sync>(
+    rt: &R,
+    alloc: Global,
+    gather: &mut Gather,
+    desks: &mut Vec<LakeDesk<'a, Standard>>,
+    source: &mut S,
+    sink: &mut K,
+    shelf: &mut F,
+    gate: &G,
+    out: &mut RunRecord,
+) -> Status
+    requires start { gather.old ≡ gathering_with (start []) [] false standard out.old.made.options.lanes }
+    requires desks { AreTogether out.old.made.options.lanes [] desks.old.items }
+    requires empty { out.old.made ≡ empty out.old.made.options }
+    requires order { IsStated out.old.made.options → ⊥ }
+    ensures table { Meets standard_limits out.old.made.options result (S.left source.old) (S.left source.new) (K.written sink.old) (K.written sink.new) (F.files shelf.old) (F.faults shelf.old) (F.faults shelf.new) out.new.made }
+    ensures causes { HasCauses result (S.faults source.old) (S.faults source.new) (K.faults sink.old) (K.faults sink.new) }
+    ensures moved { HasMoved (F.files shelf.old) (F.files shelf.new) (S.faults source.old) (S.faults source.new) (K.faults sink.old) (K.faults sink.new) (F.faults shelf.old) (F.faults shelf.new) }
+{
+    let mut next = 1;
+    for number in 0..u64::MAX {
+        let batch = match begin_batch(alloc, gather, source, sink, shelf, out) {
+            Ok(batch) => batch,
+            Err(status) => return status,
+        };
+        let first = out.answers().len();
+        let merger = merger_from(out.options(), next);
+        if answer_batch(rt, alloc, desks, &batch, merger, gate, out).is_err() {
+            return Status::NoMemory;
+        }
+        next += batch.updates();
+        if let Some(status) = end_batch(alloc, gather, first, sink, out) {
+            return status;
+        }
+    }
+    Status::NoMemory
+}
+
+/// Runs a script over an empty lake, with these options, which state no order, into an empty record. The lanes of a batch run at the
+/// same time, and the merger beside them.
+pub(crate) fn run_lanes<R: Threads + Wait + Sync, S: Source, K: Sink, F: Shelf, G: Gate + Sync>(
+    rt: &R,
+    alloc: Global,
+    options: Options,
+    source: &mut S,
+    sink: &mut K,
+    shelf: &mut F,
+    gate: &G,
+    out: &mut RunRecord,
+) -> Status
+    requires empty { out.old.made ≡ empty plain }
+    requires lanes { 1 ≤ options.lanes }
+    requires few { options.lanes ≤ 16 }
+    requires order { IsStated options → ⊥ }
+    ensures table { Meets standard_limits options result (S.left source.old) (S.left source.new) (K.written sink.old) (K.written sink.new) (F.files shelf.old) (F.faults shelf.old) (F.faults shelf.new) out.new.made }
+    ensures causes { HasCauses result (S.faults source.old) (S.faults source.new) (K.faults sink.old) (K.faults sink.new) }
+    ensures moved { HasMoved (F.files shelf.old) (F.files shelf.new) (S.faults source.old) (S.faults source.new) (K.faults sink.old) (K.faults sink.new) (F.faults shelf.old) (F.faults shelf.new) }
+    ensures complete { (script : List ℕ) → S.left source.old ≡ Some script → HasNoFault options script (F.files shelf.old) (F.faults shelf.old) (F.faults shelf.new)
+        → ¬ Rose (S.faults source.old) (S.faults source.new) → ¬ Rose (K.faults sink.old) (K.faults sink.new)
+        → (result ≡ Status.Done) ⊎ (result ≡ Status.NoMemory) }
+{
+    let lanes = options.lanes;
+    let Ok(mut gather) = Gather::new(alloc, lanes, ScriptLimits::standard()) else {
+        return Status::NoMemory;
+    };
+    let Ok((lake, opening)) = Lake::new(alloc, Limits::standard(), lanes + 1) else {
+        return Status::NoMemory;
+    };
+    let Ok(mut desks) = open_desks(alloc, &lake, opening, lanes) else {
+        return Status::NoMemory;
+    };
+    out.set_options(options);
+    run_batches(
+        rt,
+        alloc,
+        &mut gather,
+        &mut desks,
+        source,
+        sink,
+        shelf,
+        gate,
+        out,
+    )
+}

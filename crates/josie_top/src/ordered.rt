@@ -1,0 +1,128 @@
+//! The run of a script whose lanes take turns in a stated order, on one thread.
+ghost use Rattle.std.specs.Prelude.{◌≡◌, ◌≤◌, ◌<◌, ◌+◌, ◌^◌, ◌⊎◌, ⊤, ℕ, [], false, get_or, List, IfOk, MatchOption, OnErr, OnOk, Some};
+ghost use Rattle.lake_io.specs.Causes.{Rose};
+ghost use Rattle.lake_model.specs.Journal.{standard_limits};
+ghost use Rattle.catalogue.specs.Kept.{catalogue_with};
+ghost use Rattle.script_model.specs.Lanes.{IsOfLanes};
+ghost use Rattle.script_model.specs.Play.{pieces_of, updates};
+ghost use Rattle.script_model.specs.Record.{empty, plain};
+ghost use Rattle.script_model.specs.Script.{standard, start};
+ghost use Rattle.script_model.specs.Statuses.{IsStated};
+ghost use Rattle.script_text.specs.Gathering.{gathering_with};
+ghost use Rattle.josie_top.specs.Meets.{HasNoFault, Meets};
+ghost use Rattle.josie_top.specs.Progress.{AddsAnswers, HasCauses, HasMoved, HasOneMore};
+
+use crate::batches::{begin_batch, end_batch, merger_from};
+use catalogue::{Catalogue, Limits};
+use lake_core::drive;
+use lake_io::{Shelf, Sink, Source};
+use no_memory::NoMemory;
+use reply_text::RunRecord;
+use script_model::Status;
+use script_text::{Batch, Gather, Options, ScriptLimits};
+use std::alloc::Global;
+
+/// The piece of the stated order for the batch of a number, which counts from 0: empty where the order has none.
+fn piece_of(alloc: Global, options: &Options, number: u64) -> Result<Vec<u32>, NoMemory>
+    ensures { IfOk result (λ piece. piece.items ≡ get_or (pieces_of options.now.order) number []) }
+{
+    let Some(order) = &options.order else {
+        return Ok(Vec::new(alloc));
+    };
+    let Some(piece) = order.list().get(number as usize) else {
+        return Ok(Vec::new(alloc));
+    };
+    Ok(piece.list().to_vec(alloc)?)
+}
+
+/// Answers a batch, whose number counts from 0, in the order that is stated for it.
+fn answer_in_order(
+    alloc: Global,
+    catalogue: &mut Catalogue,
+    batch: &Batch,
+    number: u64,
+    merger: Option<u64>,
+    out: &mut RunRecord,
+) -> Result<(), NoMemory>
+    requires journal { out.old.made.journal ≡ catalogue.old.journal }
+    requires limits { catalogue.old.limits ≡ standard_limits }
+    requires order { IsStated out.old.made.options }
+    requires lanes { IsOfLanes out.old.made.options.lanes batch.now }
+    requires numbers { MatchOption merger ⊤ (λ first. first + updates batch.now < 2 ^ 64) }
+    ensures journal { OnOk result (out.new.made.journal ≡ catalogue.new.journal) }
+    ensures limits { catalogue.new.limits ≡ catalogue.old.limits }
+    ensures more { OnOk result (HasOneMore standard_limits number merger batch.now out.old.made out.new.made) }
+    ensures answers { OnOk result (AddsAnswers out.old.made out.new.made) }
+    ensures err { OnErr result (out.new.made ≡ out.old.made) }
+{
+    let lanes = out.options().lanes;
+    let piece = piece_of(alloc, out.options(), number)?;
+    drive(alloc, catalogue, batch, &piece, lanes, merger, out)
+}
+
+/// Runs the batches of a script, in an empty record with the run's options, until the script ends, is refused or breaks off, or the text
+/// cannot be written.
+fn run_batches<S: Source, K: Sink, F: Shelf>(
+    alloc: Global,
+    gather: &mut Gather,
+    catalogue: &mut Catalogue,
+    source: &mut S,
+    sink: &mut K,
+    shelf: &mut F,
+    out: &mut RunRecord,
+) -> Status
+    requires start { gather.old ≡ gathering_with (start []) [] false standard out.old.made.options.lanes }
+    requires lake { catalogue.old ≡ catalogue_with standard_limits [] }
+    requires empty { out.old.made ≡ empty out.old.made.options }
+    requires order { IsStated out.old.made.options }
+    ensures table { Meets standard_limits out.old.made.options result (S.left source.old) (S.left source.new) (K.written sink.old) (K.written sink.new) (F.files shelf.old) (F.faults shelf.old) (F.faults shelf.new) out.new.made }
+    ensures causes { HasCauses result (S.faults source.old) (S.faults source.new) (K.faults sink.old) (K.faults sink.new) }
+    ensures moved { HasMoved (F.files shelf.old) (F.files shelf.new) (S.faults source.old) (S.faults source.new) (K.faults sink.old) (K.faults sink.new) (F.faults shelf.old) (F.faults shelf.new) }
+{
+    let mut next = 1;
+    for number in 0..u64::MAX {
+        let batch = match begin_batch(alloc, gather, source, sink, shelf, out) {
+            Ok(batch) => batch,
+            Err(status) => return status,
+        };
+        let first = out.answers().len();
+        let merger = merger_from(out.options(), next);
+        if answer_in_order(alloc, catalogue, &batch, number, merger, out).is_err() {
+            return Status::NoMemory;
+        }
+        next += batch.updates();
+        if let Some(status) = end_batch(alloc, gather, first, sink, out) {
+            return status;
+        }
+    }
+    Status::NoMemory
+}
+
+/// Runs a script over an empty lake, with these options, which state an order, into an empty record.
+pub(crate) fn run_in_order<S: Source, K: Sink, F: Shelf>(
+    alloc: Global,
+    options: Options,
+    source: &mut S,
+    sink: &mut K,
+    shelf: &mut F,
+    out: &mut RunRecord,
+) -> Status
+    requires empty { out.old.made ≡ empty plain }
+    requires lanes { 1 ≤ options.lanes }
+    requires order { IsStated options }
+    ensures table { Meets standard_limits options result (S.left source.old) (S.left source.new) (K.written sink.old) (K.written sink.new) (F.files shelf.old) (F.faults shelf.old) (F.faults shelf.new) out.new.made }
+    ensures causes { HasCauses result (S.faults source.old) (S.faults source.new) (K.faults sink.old) (K.faults sink.new) }
+    ensures moved { HasMoved (F.files shelf.old) (F.files shelf.new) (S.faults source.old) (S.faults source.new) (K.faults sink.old) (K.faults sink.new) (F.faults shelf.old) (F.faults shelf.new) }
+    ensures complete { (script : List ℕ) → S.left source.old ≡ Some script → HasNoFault options script (F.files shelf.old) (F.faults shelf.old) (F.faults shelf.new)
+        → ¬ Rose (S.faults source.old) (S.faults source.new) → ¬ Rose (K.faults sink.old) (K.faults sink.new)
+        → (result ≡ Status.Done) ⊎ (result ≡ Status.NoMemory) }
+{
+    let Ok(mut gather) = Gather::new(alloc, options.lanes, ScriptLimits::standard()) else {
+        return Status::NoMemory;
+    };
+    let Ok(mut catalogue) = Catalogue::new(alloc, Limits::standard()) else {
+        return Status::NoMemory;
+    };
+    out.set_options(options);
+    run_batches(alloc, &mut gather, &mut catalogue, source, sink, shelf, out)
+}
