@@ -12,3 +12,6 @@ mod opening;
 pub use batch::answer_batch;
 pub use desk::LakeDesk;
 pub use opening::{Standard, open_desks};
+
+#[cfg(test)]
+mod tests;
