@@ -1,0 +1,228 @@
+-- From what was made to what was answered, and from there to a step.
+use Rattle.std.proofs.Common.{◌≡◌, refl, ap, sym, ◌∙◌, subst, ℕ, ◌≤◌, List, [], ◌∷◌, ◌++◌, append-nil, append_assoc, length, length-append, Bool, true, false, cond, map, inl, inr, Option, None, Some, arith, take}
+use Rattle.std.proofs.lemmas.List.{take_all, take-append-le}
+use Rattle.std.specs.Prelude.{IfOk, Ok, Err, option_map}
+use Rattle.std.specs.declared.result.Result.{Result}
+use Rattle.lake_model.specs.declared.Counts.{Counts}
+use Rattle.lake_model.specs.declared.Policy.{Policy}
+use Rattle.lake_model.specs.Texts.{Text}
+use Rattle.lake_model.specs.Tables.{Table}
+use Rattle.lake_model.specs.Journal.{Entry, What, entry_with, who_with}
+use Rattle.turn_lock.specs.History.{Grows}
+use Rattle.turn_lock.specs.Passes.{Known, after_seeing, callers_of}
+use Rattle.turn_lock.proofs.Histories.{grows_self, grows_trans}
+use Rattle.lake.specs.Lawful.{caller_of}
+use Rattle.script_model.specs.Commands.{Command, Task, command_with, Load, LoadFile, DropTable, Tables, Search, Like, Merge, File}
+use Rattle.script_model.specs.Replies.{Reply, NoMemory, load_reply}
+use Rattle.script_model.specs.Answered.{TableRead, IsTable, answer_to, adds, is_accepted, standing, load_answer, loads, table_read, file_read, change_of, policy_of}
+use Rattle.script_model.specs.Play.{done_with, entries_of, reply_or_denied, who_of}
+use Rattle.script_model.specs.Right.{IsRight}
+use Rattle.script_model.proofs.RightLemmas.{right_stays}
+use Rattle.script_model.proofs.PlayLemmas.{reply_fits, right_step, Fits}
+use Rattle.script_model.specs.Replies.{NothingToMerge, merge_reply}
+use Rattle.script_model.specs.Answered.{is_update_task, swaps}
+use Rattle.script_model.proofs.PlayLemmas.{fault_nowhere}
+use Rattle.lake_model.specs.Layout.{layout, is_legal, shown, shown_with}
+use Rattle.lake_model.specs.Plan.{plan}
+use Rattle.segment_core.specs.Plans.{MergedOf}
+use Rattle.segment_core.specs.Versions.{VersionOf, version_with}
+use Rattle.segment_merge.specs.Planned.{plan_at}
+use Rattle.batch_work.specs.Works.{merge_policy}
+use Rattle.lake_core.specs.Loads.{IsRefusal, loaded_by}
+use Rattle.lake_core.proofs.LoadLemmas.{Answers, refused_answer, either_none}
+use Rattle.lake_core.proofs.MergeLemmas.{planned_later, planned_now, planned_reply, planned_change}
+use Rattle.lake_core.specs.Merging.{IsPlanned, merge_of, swap_reply, swapped_by}
+use Rattle.lake_core.specs.declared.merging.Planned.{Planned}
+use Rattle.lake_desk.proofs.Lanes.{none_right, not_own}
+use Rattle.lake_desk.specs.Answering.{IsMade, IsAnswered, IsStep}
+
+self_prefix : (now : List Entry) → (length now ≤ length now) × (take (length now) now ≡ now)
+self_prefix now = (omega arith, take_all (length now) now (omega arith))
+
+-- a pass that holds no turn, and has seen nothing more
+pub same_pass : (pass : Known Entry) → pass.holds ≡ false → pass ≡ after_seeing pass pass.seen false
+same_pass pass free = ap (λ (b : Bool). after_seeing pass pass.seen b) free
+
+-- what came behind
+behind_of : (limits : Counts) (command : Command) (before : Known Entry) (reply : Reply) (after : List Entry) → (a : IsAnswered limits command before reply after) → before.seen ++ (a.grows.rest ++ entries_of a.pinned command reply) ≡ after
+behind_of limits command before reply after a =
+    sym (append_assoc before.seen a.grows.rest (entries_of a.pinned command reply)) ∙ ap (λ (j : List Entry). j ++ entries_of a.pinned command reply) a.grows.begins ∙ sym a.added
+
+-- The one answer is right between what was seen before and after.
+answered_right : (limits : Counts) (command : Command) (before : Known Entry) (reply : Reply) (after : List Entry) → (a : IsAnswered limits command before reply after) → command.lane ≡ before.caller
+    → IsRight limits before.caller before.seen (a.grows.rest ++ entries_of a.pinned command reply) (done_with command reply ∷ [])
+answered_right limits command before reply after a mine =
+    let found : before.seen ++ a.grows.rest ≡ a.found = a.grows.begins in
+    let others = not_own before.caller (callers_of before) a.grows.rest (inl refl) a.grows.others in
+    let none : IsRight limits before.caller before.seen a.grows.rest [] = right_stays limits before.caller before.seen [] a.grows.rest [] others (none_right limits before.caller before.seen) in
+    let fits : Fits limits command a.pinned a.found (reply_or_denied a.denied (answer_to limits command.task a.pinned a.found)) = reply_fits limits a.denied command a.pinned a.found a.begins a.same in
+    let here : Fits limits command a.pinned (before.seen ++ a.grows.rest) reply =
+    subst (λ (j : List Entry). Fits limits command a.pinned j reply) (sym found) (subst (λ (r : Reply). Fits limits command a.pinned a.found r) (sym a.is) fits) in
+    right_step limits before.caller before.seen a.grows.rest [] command a.pinned reply mine none a.late here
+
+pub answered_step : (limits : Counts) (command : Command) (before : Known Entry) (reply : Reply) (after : Known Entry) → IsAnswered limits command before reply after.seen → after ≡ after_seeing before after.seen before.holds
+    → IsStep limits before command reply after
+answered_step limits command before reply after a same = record {
+  behind = a.grows.rest ++ entries_of a.pinned command reply;
+  sees = same ∙ ap (λ (j : List Entry). after_seeing before j before.holds) (sym (behind_of limits command before reply after.seen a));
+  right = answered_right limits command before reply after.seen a;
+}
+
+-- the same for a command that is the pass's own where its lane is
+pub answered_by : (limits : Counts) (command own : Command) (before : Known Entry) (reply : Reply) (after : Known Entry) → (command.lane ≡ before.caller → own ≡ command) → own.lane ≡ before.caller
+    → IsAnswered limits own before reply after.seen → after ≡ after_seeing before after.seen before.holds → IsStep limits before command reply after
+answered_by limits command own before reply after is mine a same =
+    let step = answered_step limits own before reply after a same in
+    record {
+      behind = step.behind;
+      sees = step.sees;
+      right = λ lane. subst (λ (c : Command). IsRight limits before.caller before.seen step.behind (done_with c reply ∷ [])) (is lane) (step.right mine);
+    }
+
+-- ---- commands without a pin
+
+-- what was made of a command without a pin
+pub made_answered : (limits : Counts) (number : ℕ) (task : Task) (answer : List Entry → Reply) (whats : Reply → List What) (before : Known Entry) (reply : Reply) (after : List Entry)
+    → ((found : List Entry) → answer found ≡ answer_to limits task found found) → ((found : List Entry) → whats reply ≡ adds task found reply)
+    → IsMade answer whats number before reply after → IsAnswered limits (command_with number before.caller task) before reply after
+made_answered limits number task answer whats before reply after answers does made = record {
+  found = made.found;
+  pinned = made.found;
+  denied = made.denied;
+  grows = made.grows;
+  begins = self_prefix made.found;
+  late = omega (arith, ap (λ (j : List Entry). length j) made.grows.begins, length-append before.seen made.grows.rest);
+  same = λ _. refl;
+  is = made.is ∙ ap (reply_or_denied made.denied) (answers made.found);
+  added = made.added ∙ ap (λ (ws : List What). made.found ++ map (entry_with (who_with before.caller number)) ws) (does made.found);
+}
+
+grown_late : (callers : List ℕ) (before after : List Entry) → Grows caller_of callers before after → length before ≤ length after
+grown_late callers before after grows = omega (arith, ap (λ (j : List Entry). length j) grows.begins, length-append before grows.rest)
+
+-- ---- loads
+
+pub load_answered : (limits : Counts) (number : ℕ) (name : Text) (bytes : List ℕ) (table : Table) (before : Known Entry) (reply : Reply) (after : List Entry) → table_read name bytes ≡ IsTable table
+    → IsMade (load_reply limits table) (loaded_by table) number before reply after → IsAnswered limits (command_with number before.caller (Load name bytes)) before reply after
+load_answered limits number name bytes table before reply after is made =
+    made_answered limits number (Load name bytes) (load_reply limits table) (loaded_by table) before reply after
+    (λ found. ap (λ (r : TableRead). load_answer limits r found) (sym is)) (λ found. ap (λ (r : TableRead). cond (is_accepted (standing reply)) (loads r) []) (sym is)) made
+
+pub file_answered : (limits : Counts) (number : ℕ) (name : Text) (file : File) (table : Table) (before : Known Entry) (reply : Reply) (after : List Entry) → file_read name file ≡ IsTable table
+    → IsMade (load_reply limits table) (loaded_by table) number before reply after → IsAnswered limits (command_with number before.caller (LoadFile name file)) before reply after
+file_answered limits number name file table before reply after is made =
+    made_answered limits number (LoadFile name file) (load_reply limits table) (loaded_by table) before reply after
+    (λ found. ap (λ (r : TableRead). load_answer limits r found) (sym is)) (λ found. ap (λ (r : TableRead). cond (is_accepted (standing reply)) (loads r) []) (sym is)) made
+
+refused_nowhere : (read : TableRead) (reply : Reply) → IsRefusal read reply → is_accepted (standing reply) ≡ false
+refused_nowhere read reply (inl none) = ap (λ (r : Reply). is_accepted (standing r)) none
+refused_nowhere read reply (inr (fault, is, said)) = ap (λ (r : Reply). is_accepted (standing r)) said ∙ ap is_accepted (fault_nowhere fault)
+
+-- a reply that adds nothing, at what the pass had seen
+unmoved : (limits : Counts) (command : Command) (before : Known Entry) (reply : Reply) → Answers reply (answer_to limits command.task before.seen before.seen) → is_accepted (standing reply) ≡ false
+    → IsAnswered limits command before reply before.seen
+unmoved limits command before reply (denied, said) nothing = record {
+  found = before.seen;
+  pinned = before.seen;
+  denied = denied;
+  grows = grows_self caller_of (callers_of before) before.seen;
+  begins = self_prefix before.seen;
+  late = omega arith;
+  same = λ _. refl;
+  is = said;
+  added = sym (append-nil before.seen) ∙ ap (λ (b : Bool). before.seen ++ map (entry_with (who_of command)) (cond b (change_of command.task before.seen) [])) (sym nothing);
+}
+
+pub load_refused : (limits : Counts) (number : ℕ) (name : Text) (bytes : List ℕ) (before : Known Entry) (reply : Reply) → IsRefusal (table_read name bytes) reply
+    → IsAnswered limits (command_with number before.caller (Load name bytes)) before reply before.seen
+load_refused limits number name bytes before reply why = unmoved limits (command_with number before.caller (Load name bytes)) before reply (refused_answer limits before.seen (table_read name bytes) reply why) (refused_nowhere (table_read name bytes) reply why)
+
+pub file_refused : (limits : Counts) (number : ℕ) (name : Text) (file : File) (before : Known Entry) (reply : Reply) → IsRefusal (file_read name file) reply
+    → IsAnswered limits (command_with number before.caller (LoadFile name file)) before reply before.seen
+file_refused limits number name file before reply why = unmoved limits (command_with number before.caller (LoadFile name file)) before reply (refused_answer limits before.seen (file_read name file) reply why) (refused_nowhere (file_read name file) reply why)
+
+-- ---- what is asked
+
+asks_nothing : (task : Task) → is_update_task task ≡ false → merge_policy task ≡ None → (pinned : List Entry) → change_of task pinned ≡ []
+asks_nothing (Load name body) u m pinned = absurd (let f : true ≡ false = u in cc)
+asks_nothing (LoadFile name file) u m pinned = absurd (let f : true ≡ false = u in cc)
+asks_nothing (DropTable name) u m pinned = absurd (let f : true ≡ false = u in cc)
+asks_nothing Tables u m pinned = refl
+asks_nothing (Search k body) u m pinned = refl
+asks_nothing (Like k name place) u m pinned = refl
+asks_nothing (Merge all) u m pinned = absurd (let f : Some (policy_of all) ≡ None = m in cc)
+
+pub asked : (limits : Counts) (number : ℕ) (task : Task) (before : Known Entry) (reply : Reply) (after : List Entry) → is_update_task task ≡ false → merge_policy task ≡ None
+    → Grows caller_of (callers_of before) before.seen after → Answers reply (answer_to limits task after after) → IsAnswered limits (command_with number before.caller task) before reply after
+asked limits number task before reply after u m grows (denied, said) =
+    let none : change_of task after ≡ [] = asks_nothing task u m after in
+    record {
+      found = after;
+      pinned = after;
+      denied = denied;
+      grows = grows;
+      begins = self_prefix after;
+      late = grown_late (callers_of before) before.seen after grows;
+      same = λ _. refl;
+      is = said;
+      added = sym (append-nil after) ∙ ap (λ (ws : List What). after ++ map (entry_with (who_with before.caller number)) ws) (sym (either_none (is_accepted (standing reply))) ∙ ap (λ (ws : List What). cond (is_accepted (standing reply)) ws []) (sym none));
+    }
+
+-- ---- merges
+
+pub merged_answered : (limits : Counts) (number : ℕ) (all : Bool) (before between : Known Entry) (planned : Planned) (reply : Reply) (after : List Entry)
+    → Grows caller_of (callers_of before) before.seen between.seen → between ≡ after_seeing before between.seen false → IsPlanned (policy_of all) between.seen planned → planned.layout.at ≡ length between.seen
+    → IsMade (swap_reply planned.layout planned.merged) (swapped_by planned.merged) number between reply after
+    → IsAnswered limits (command_with number before.caller (Merge all)) before reply after
+merged_answered limits number all before between planned reply after grows same plans newest made =
+    let callers : callers_of between ≡ callers_of before = ap callers_of same in
+    let on : Grows caller_of (callers_of before) between.seen made.found = subst (λ (cs : List ℕ). Grows caller_of cs between.seen made.found) callers made.grows in
+    let later : IsPlanned (policy_of all) made.found planned = subst (λ (j : List Entry). IsPlanned (policy_of all) j planned) on.begins (planned_later (policy_of all) between.seen on.rest planned plans) in
+    let pinned : take planned.layout.at made.found ≡ between.seen =
+    ap (λ (j : List Entry). take planned.layout.at j) (sym on.begins) ∙ ap (λ (n : ℕ). take n (between.seen ++ on.rest)) newest
+    ∙ take-append-le (length between.seen) between.seen on.rest (omega arith) ∙ take_all (length between.seen) between.seen (omega arith) in
+    let mine : between.caller ≡ before.caller = ap (λ (p : Known Entry). p.caller) same in
+    record {
+      found = made.found;
+      pinned = between.seen;
+      denied = made.denied;
+      grows = grows_trans caller_of grows on;
+      begins = (grown_late (callers_of before) between.seen made.found on, ap (λ (n : ℕ). take n made.found) (sym newest) ∙ pinned);
+      late = grown_late (callers_of before) before.seen between.seen grows;
+      same = λ no. absurd (let f : true ≡ false = no in cc);
+      is = made.is ∙ ap (reply_or_denied made.denied) (planned_reply (policy_of all) made.found planned later ∙ ap (λ (j : List Entry). merge_reply (policy_of all) j made.found) pinned);
+      added = made.added
+          ∙ ap (λ (n : ℕ). made.found ++ map (entry_with (who_with n number)) (swapped_by planned.merged reply)) mine
+          ∙ ap (λ (ws : List What). made.found ++ map (entry_with (who_with before.caller number)) (cond (is_accepted (standing reply)) ws []))
+          (planned_change (policy_of all) made.found planned later ∙ ap (λ (j : List Entry). swaps (plan (policy_of all) j)) pinned);
+    }
+
+pub nothing_made : (number : ℕ) (before : Known Entry) (planned : Planned) → planned.merged ≡ None
+    → IsMade (swap_reply planned.layout planned.merged) (swapped_by planned.merged) number before (NothingToMerge planned.layout) before.seen
+nothing_made number before planned none = record {
+  found = before.seen;
+  denied = false;
+  grows = grows_self caller_of (callers_of before) before.seen;
+  is = ap (λ (m : Option MergedOf). swap_reply planned.layout m before.seen) (sym none);
+  added = sym (append-nil before.seen);
+}
+
+pub plans_on_ok : {F : Type 0} (policy : Policy) (journal : List Entry) (version : VersionOf) (made : Result Planned F) → is_legal journal ≡ true → version ≡ version_with (length journal) (layout journal)
+    → IfOk made (λ planned. planned.layout ≡ shown_with version.at (shown version.parts)) → IfOk made (λ planned. planned.merged ≡ option_map merge_of (plan_at policy version)) → IfOk made (λ planned. IsPlanned policy journal planned)
+plans_on_ok policy journal version (Ok planned) legal current shows plans = (planned_now policy journal version planned legal current shows plans).0
+plans_on_ok policy journal version (Err e) legal current shows plans = tt
+
+-- memory was wanting for the pin of a merge
+pub merge_denied : (limits : Counts) (number : ℕ) (all : Bool) (before : Known Entry) (after : List Entry) → Grows caller_of (callers_of before) before.seen after
+    → IsAnswered limits (command_with number before.caller (Merge all)) before NoMemory after
+merge_denied limits number all before after grows = record {
+  found = after;
+  pinned = after;
+  denied = true;
+  grows = grows;
+  begins = self_prefix after;
+  late = grown_late (callers_of before) before.seen after grows;
+  same = λ _. refl;
+  is = refl;
+  added = sym (append-nil after);
+}

@@ -1,0 +1,33 @@
+-- The entries and the answers of one lane.
+use Rattle.std.proofs.Common.{◌≡◌, refl, ap, subst, sym, ℕ, List, [], ◌∷◌, length, append-nil, arith, Bool, true, false, cond}
+use Rattle.std.specs.Prelude.{◌==◌, filter}
+use Rattle.std.specs.List.{AllByRecursion}
+use Rattle.std.proofs.lemmas.Bool.Decides.{nat_tests}
+use Rattle.lake_model.specs.declared.Counts.{Counts}
+use Rattle.lake_model.specs.Journal.{Entry}
+use Rattle.turn_lock.specs.History.{Has, IsOfOthers}
+use Rattle.lake.specs.Lawful.{caller_of}
+use Rattle.script_model.specs.Play.{Done}
+use Rattle.script_model.specs.Right.{IsRight}
+
+-- entries of callers other than these are none of a lane's own, where the lane is one of them
+pub not_own : (lane : ℕ) (callers : List ℕ) (entries : List Entry) → Has callers lane → IsOfOthers caller_of callers entries → AllByRecursion (λ e. (e.who.caller == lane) ≡ false) entries
+not_own lane callers [] has others = tt
+not_own lane callers (e ∷ entries) has others =
+    let apart : ¬ (e.who.caller ≡ lane) = λ same. others.0 (subst (Has callers) (sym same) has) in (
+      (let is : (e.who.caller == lane) ≡ false = grind (arith, nat_tests, apart) in is),
+      not_own lane callers entries has others.1,
+    )
+
+-- what is kept for a lane is of the lane
+pub kept_own : (lane : ℕ) (done : List Done) → AllByRecursion (λ d. d.command.lane ≡ lane) (filter (λ (d : Done). d.command.lane == lane) done)
+kept_own lane [] = tt
+kept_own lane (d ∷ done) = by (d.command.lane == lane) refl (kept_own lane done)
+  where
+    by : (b : Bool) → (d.command.lane == lane) ≡ b → AllByRecursion (λ d. d.command.lane ≡ lane) (filter (λ (d : Done). d.command.lane == lane) done) → AllByRecursion (λ d. d.command.lane ≡ lane) (cond b (d ∷ filter (λ (d : Done). d.command.lane == lane) done) (filter (λ (d : Done). d.command.lane == lane) done))
+    by true is rest = ((let e : d.command.lane ≡ lane = grind (arith, nat_tests, is) in e), rest)
+    by false is rest = rest
+
+-- no answers are right where nothing has come
+pub none_right : (limits : Counts) (lane : ℕ) (before : List Entry) → IsRight limits lane before [] []
+none_right limits lane before = record { entries = refl; placed = tt; positions = omega (arith, ap (λ (j : List Entry). length j) (append-nil before)); unplaced = tt }

@@ -1,0 +1,10 @@
+pub mod Making
+pub mod Lanes
+pub mod Places
+pub mod Answering
+pub mod Chains
+pub mod Gathers
+pub mod Hands
+pub mod Settles
+pub mod Batches
+pub mod Opens

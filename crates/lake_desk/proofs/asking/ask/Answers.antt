@@ -1,0 +1,11 @@
+use Rattle.lake_core.specs.Searches.{IsPinOf}
+use Rattle.script_text.specs.Tasks.{task_of}
+use Rattle.reply_text.specs.Replies.{reply_of}
+use Rattle.lake_desk.proofs.Answering.{asked}
+use Rattle.lake_desk.proofs.asking.ask.Goals as goal
+
+pub returns-clause-answered : goal.returns-clause-answered
+returns-clause-answered g c =
+    let seen = c.pin-pinned.new.pass.seen in
+    let is : IsPinOf seen c.in-Ok.pin = record { current = c.in-Ok.ensures.version; searched = c.in-Ok.ensures.live } in
+    asked g.B.Bounds.limits c.args.number (task_of c.args.task.now) c.args.pass.now (reply_of c.finish.result) seen c.requires.asks c.requires.merges c.pin-pinned.ensures.grows (c.finish.ensures g.B.Bounds.limits seen is)

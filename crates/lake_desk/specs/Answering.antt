@@ -1,0 +1,45 @@
+-- What an answer at a lake is.
+use Rattle.std.specs.Prelude.{ℕ, ◌≡◌, ◌≤◌, Bool, false, List, [], ◌∷◌, ◌++◌, length, take, map, if◌then◌else◌}
+use Rattle.lake_model.specs.declared.Counts.{Counts}
+use Rattle.lake_model.specs.Texts.{Text}
+use Rattle.lake_model.specs.Journal.{Entry, What, Dropped, entry_with, who_with}
+use Rattle.turn_lock.specs.History.{Grows}
+use Rattle.turn_lock.specs.Passes.{Known, after_seeing, callers_of}
+use Rattle.lake.specs.Lawful.{caller_of}
+use Rattle.script_model.specs.Commands.{Command}
+use Rattle.script_model.specs.Replies.{Reply}
+use Rattle.script_model.specs.Answered.{answer_to, has_pin, is_accepted, standing}
+use Rattle.script_model.specs.Play.{done_with, entries_of, reply_or_denied}
+use Rattle.script_model.specs.Right.{IsRight}
+
+-- The pass saw entries of others, and then what the reply adds, under its caller and this number. The reply is what this function says of
+-- what was seen just before, or memory was wanting.
+pub record IsMade (answer : List Entry → Reply) (adds : Reply → List What) (number : ℕ) (before : Known Entry) (reply : Reply) (after : List Entry) : Type 0 where
+  pub found : List Entry
+  pub denied : Bool
+  pub grows : Grows caller_of (callers_of before) before.seen found
+  pub is : reply ≡ reply_or_denied denied (answer found)
+  pub added : after ≡ found ++ map (entry_with (who_with before.caller number)) (adds reply)
+
+-- what a drop adds, where its reply accepts it
+abbrev pub dropped_by : Text → Reply → List What
+dropped_by name reply = if is_accepted (standing reply) then Dropped name ∷ [] else []
+
+-- A command was answered: at what was seen when it was pinned, which for one without a pin is what was seen just before the reply.
+pub record IsAnswered (limits : Counts) (command : Command) (before : Known Entry) (reply : Reply) (after : List Entry) : Type 0 where
+  pub found : List Entry
+  pub pinned : List Entry
+  pub denied : Bool
+  pub grows : Grows caller_of (callers_of before) before.seen found
+  pub begins : (length pinned ≤ length found) × (take (length pinned) found ≡ pinned)
+  pub late : length before.seen ≤ length pinned
+  pub same : has_pin command.task ≡ false → pinned ≡ found
+  pub is : reply ≡ reply_or_denied denied (answer_to limits command.task pinned found)
+  pub added : after ≡ found ++ entries_of pinned command reply
+
+-- A command with its reply takes a pass from what it has seen to what it sees then: nothing else of it changes, and where the command is of the
+-- pass's own lane, the one answer is right between the two.
+pub record IsStep (limits : Counts) (before : Known Entry) (command : Command) (reply : Reply) (after : Known Entry) : Type 0 where
+  pub behind : List Entry
+  pub sees : after ≡ after_seeing before (before.seen ++ behind) before.holds
+  pub right : command.lane ≡ before.caller → IsRight limits before.caller before.seen behind (done_with command reply ∷ [])

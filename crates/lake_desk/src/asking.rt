@@ -1,0 +1,103 @@
+//! Loads of what was read, and what is asked of the lake at a pin.
+ghost use Rattle.std.specs.Prelude.{◌≡◌, false, None};
+ghost use Rattle.turn_lock.specs.Passes.{after_seeing};
+ghost use Rattle.script_model.specs.Answered.{is_update_task};
+ghost use Rattle.script_model.specs.Commands.{command_with, Load, LoadFile, DropTable};
+ghost use Rattle.reply_text.specs.Replies.{reply_of};
+ghost use Rattle.script_text.specs.Tasks.{file_of, task_of, IsTaskInRange};
+ghost use Rattle.batch_work.specs.Works.{merge_policy};
+ghost use Rattle.lake_desk.specs.Answering.{IsAnswered};
+
+use crate::changing::{drop_table, load};
+use column_set::Name;
+use lake::{Bounds, Lake, Pass};
+use lake_core::{Loadable, finish, make_table, make_table_of_file};
+use lake_io::{Gate, Point};
+use reply_text::Reply;
+use script_text::{Body, FileBody, Task};
+use std::alloc::Global;
+use std::sync::Wait;
+
+/// Answers a load of a block. The lock is free while the table is made.
+pub(crate) fn load_block<B: Bounds, R: Wait>(
+    rt: &R,
+    alloc: Global,
+    lake: &Lake<B>,
+    pass: &mut Pass<B>,
+    number: u64,
+    name: &Name,
+    body: &Body,
+) -> Reply
+    requires lock { pass.old.lock ≡ lake.now }
+    requires free { pass.old.holds ≡ false }
+    ensures pass { pass.new ≡ after_seeing pass.old pass.new.seen false }
+    ensures answered { IsAnswered B.limits (command_with number pass.old.caller (Load name.now body.now)) pass.old (reply_of result) pass.new.seen }
+{
+    match make_table(alloc, name, body) {
+        Ok(Loadable { table, segment }) => load(rt, lake, pass, number, table, segment),
+        Err(reply) => reply,
+    }
+}
+
+/// Answers a load of a file. The lock is free while the table is made.
+pub(crate) fn load_file<B: Bounds, R: Wait>(
+    rt: &R,
+    alloc: Global,
+    lake: &Lake<B>,
+    pass: &mut Pass<B>,
+    number: u64,
+    name: &Name,
+    file: &FileBody,
+) -> Reply
+    requires lock { pass.old.lock ≡ lake.now }
+    requires free { pass.old.holds ≡ false }
+    ensures pass { pass.new ≡ after_seeing pass.old pass.new.seen false }
+    ensures answered { IsAnswered B.limits (command_with number pass.old.caller (LoadFile name.now (file_of file.now))) pass.old (reply_of result) pass.new.seen }
+{
+    match make_table_of_file(alloc, name, file) {
+        Ok(Loadable { table, segment }) => load(rt, lake, pass, number, table, segment),
+        Err(reply) => reply,
+    }
+}
+
+/// Answers a drop.
+pub(crate) fn drop_named<B: Bounds, R: Wait>(
+    rt: &R,
+    lake: &Lake<B>,
+    pass: &mut Pass<B>,
+    number: u64,
+    name: &Name,
+) -> Reply
+    requires lock { pass.old.lock ≡ lake.now }
+    requires free { pass.old.holds ≡ false }
+    ensures pass { pass.new ≡ after_seeing pass.old pass.new.seen false }
+    ensures answered { IsAnswered B.limits (command_with number pass.old.caller (DropTable name.now)) pass.old (reply_of result) pass.new.seen }
+{
+    drop_table(rt, lake, pass, number, name)
+}
+
+/// Answers a search, a like or a request for the live tables at a pin of the newest version. The lock is free from the pin on.
+pub(crate) fn ask<B: Bounds, R: Wait, G: Gate>(
+    rt: &R,
+    alloc: Global,
+    lake: &Lake<B>,
+    pass: &mut Pass<B>,
+    number: u64,
+    task: &Task,
+    gate: &G,
+) -> Reply
+    requires lock { pass.old.lock ≡ lake.now }
+    requires free { pass.old.holds ≡ false }
+    requires asks { is_update_task (task_of task.now) ≡ false }
+    requires merges { merge_policy (task_of task.now) ≡ None }
+    requires in_range { IsTaskInRange task.now }
+    ensures pass { pass.new ≡ after_seeing pass.old pass.new.seen false }
+    ensures answered { IsAnswered B.limits (command_with number pass.old.caller (task_of task.now)) pass.old (reply_of result) pass.new.seen }
+{
+    let pinned = lake.pin(rt, pass);
+    let Ok(pin) = pinned else {
+        return Reply::NoMemory;
+    };
+    gate.at(pass.caller(), number, Point::Pinned);
+    finish(alloc, pin, task)
+}

@@ -1,0 +1,64 @@
+//! Loads and drops at a lake.
+ghost use Rattle.std.specs.Prelude.{◌≡◌, ◌∷◌, [], false};
+ghost use Rattle.turn_lock.specs.Passes.{after_seeing};
+ghost use Rattle.script_model.specs.Replies.{drop_reply, load_reply};
+ghost use Rattle.reply_text.specs.Replies.{reply_of};
+ghost use Rattle.lake_core.specs.Loads.{loaded_by};
+ghost use Rattle.lake_desk.specs.Answering.{dropped_by, IsMade};
+
+use column_set::{Name, SharedTable};
+use lake::{Bounds, Lake, Pass};
+use lake_core::{reply_to_drop, reply_to_load};
+use reply_text::Reply;
+use segment_core::Segment;
+use std::sync::{Arc, Wait};
+
+/// Loads a table, with the segment of this table alone, and answers the command of this number. What the reply keeps of the table is
+/// made first, so that nothing is refused behind the entry.
+pub(crate) fn load<B: Bounds, R: Wait>(
+    rt: &R,
+    lake: &Lake<B>,
+    pass: &mut Pass<B>,
+    number: u64,
+    table: SharedTable,
+    segment: Arc<Segment>,
+) -> Reply
+    requires lock { pass.old.lock ≡ lake.now }
+    requires segment { segment.value ≡ table ∷ [] }
+    ensures pass { pass.new ≡ after_seeing pass.old pass.new.seen false }
+    ensures made { IsMade (load_reply B.limits table) (loaded_by table) number pass.old (reply_of result) pass.new.seen }
+{
+    let name = table.table().name().copy();
+    let columns = table.table().columns();
+    let members = table.table().members();
+    match lake.load(rt, pass, number, table, segment) {
+        Ok(at) => Reply::Loaded {
+            name,
+            columns,
+            members,
+            at,
+        },
+        Err(refused) => reply_to_load(refused, name),
+    }
+}
+
+/// Drops the live table of a name, and answers the command of this number.
+pub(crate) fn drop_table<B: Bounds, R: Wait>(
+    rt: &R,
+    lake: &Lake<B>,
+    pass: &mut Pass<B>,
+    number: u64,
+    name: &Name,
+) -> Reply
+    requires lock { pass.old.lock ≡ lake.now }
+    ensures pass { pass.new ≡ after_seeing pass.old pass.new.seen false }
+    ensures made { IsMade (drop_reply B.limits name.now) (dropped_by name.now) number pass.old (reply_of result) pass.new.seen }
+{
+    match lake.drop_table(rt, pass, number, name) {
+        Ok(at) => Reply::Dropped {
+            name: name.copy(),
+            at,
+        },
+        Err(refused) => reply_to_drop(refused, name.copy()),
+    }
+}

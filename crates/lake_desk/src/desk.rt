@@ -1,0 +1,168 @@
+//! The desk of one caller of a lake.
+ghost use Rattle.std.specs.Prelude.{◌≡◌, ◌≤◌, ◌⊎◌, ℕ, drop, false, length, IfOk, Some};
+ghost use mathlib.Core.List.{IsPrefix};
+ghost use Rattle.lake_model.specs.Journal.{standard_limits};
+ghost use Rattle.turn_lock.specs.History.{longer, Grows, IsOfGiven};
+ghost use Rattle.turn_lock.specs.Passes.{after_seeing, callers_of, noted};
+ghost use Rattle.lake.specs.Lawful.{caller_of, IsLawful};
+ghost use Rattle.catalogue.specs.Kept.{IsWithin};
+ghost use Rattle.script_model.specs.Commands.{command_with};
+ghost use Rattle.reply_text.specs.Replies.{reply_of};
+ghost use Rattle.script_text.specs.Tasks.{task_of, IsTaskInRange};
+ghost use Rattle.lake_desk.specs.Answering.{IsAnswered, IsStep};
+
+use crate::asking::{ask, drop_named, load_block, load_file};
+use crate::merging::merge_parts;
+use catalogue::Entry;
+use lake::{Bounds, Lake, Note, Pass};
+use lake_io::{Gate, Point};
+use lane_run::Desk;
+use no_memory::NoMemory;
+use reply_text::{By, Reply};
+use script_text::Task;
+use std::alloc::Global;
+use std::marker::Model;
+use std::sync::Wait;
+use std::thread::Threads;
+
+/// A desk at which one caller of a lake answers commands. Contracts see it as the caller's pass, which holds no turn.
+#[derive(Drop)]
+pub struct LakeDesk<'a, B: Bounds> {
+    alloc: Global,
+    lake: &'a Lake<B>,
+    pass: Pass<B>,
+}
+
+impl<'a, B: Bounds> Model for LakeDesk<'a, B> {
+    ghost use Rattle.std.specs.Prelude.{◌≡◌, false};
+    ghost use Rattle.turn_lock.specs.Passes.{Known};
+    ghost use Rattle.lake_model.specs.Journal.{Entry, standard_limits};
+    ghost use Rattle.catalogue.specs.Kept.{IsWithin};
+
+    ghost Value = { Known Entry };
+
+    ghost view = { λ d. d.pass };
+
+    ghost invariant = { λ d. (d.pass.lock ≡ d.lake.now) × (d.pass.holds ≡ false) × IsWithin standard_limits B.limits };
+}
+
+impl<'a, B: Bounds> LakeDesk<'a, B> {
+    /// The desk of this pass of the lake.
+    pub fn new(alloc: Global, lake: &'a Lake<B>, pass: Pass<B>) -> LakeDesk<'a, B>
+        requires lock { pass.lock ≡ lake.now }
+        requires free { pass.holds ≡ false }
+        requires standard { IsWithin standard_limits B.limits }
+        ensures { result ≡ pass }
+    {
+        LakeDesk { alloc, lake, pass }
+    }
+
+    /// The pass of the desk, with all that it has seen.
+    pub fn into_pass(self) -> Pass<B>
+        ensures { result ≡ self.entry }
+    {
+        self.pass
+    }
+
+    /// A note of what the desk has seen.
+    pub fn note(&mut self) -> Note<B>
+        ensures desk { self.new ≡ self.old }
+        ensures note { result ≡ noted self.old.lock self.old.seen }
+    {
+        self.lake.note(&mut self.pass)
+    }
+
+    /// Sees what the note has, if that is more.
+    pub fn meet(&mut self, note: Note<B>)
+        requires { note.lock ≡ self.old.lock }
+        ensures longer { self.new ≡ after_seeing self.old (longer self.old.seen note.seen) false }
+        ensures others { Grows caller_of (callers_of self.old) self.old.seen self.new.seen }
+        ensures begins { IsPrefix note.seen self.new.seen }
+        ensures one { IsPrefix self.old.seen note.seen ⊎ IsPrefix note.seen self.old.seen }
+        ensures lawful { IsLawful B.limits self.new.seen }
+    {
+        self.lake.meet(&mut self.pass, note);
+    }
+
+    /// The entries of the lake's journal from a position on that the desk has seen. The desk has then seen the whole journal.
+    pub fn journal<R: Wait>(&mut self, rt: &R, after: u64) -> Result<Vec<Entry>, NoMemory>
+        requires seen { after ≤ length self.old.seen }
+        ensures desk { self.new ≡ after_seeing self.old self.new.seen false }
+        ensures grows { Grows caller_of (callers_of self.old) self.old.seen self.new.seen }
+        ensures lawful { IsLawful B.limits self.new.seen }
+        ensures entries { IfOk result (λ entries. entries.items ≡ drop after self.new.seen) }
+    {
+        let lake = self.lake;
+        lake.journal(rt, self.alloc, &mut self.pass, after)
+    }
+
+    /// How many caller numbers the desk's pass has left to give. All that the pass of caller 0 has seen is of callers that have a number.
+    pub fn numbers(&self) -> u32
+        ensures left { result ≡ self.now.left }
+        ensures given { (count : ℕ) → self.now.given ≡ Some count → IsOfGiven caller_of count self.now.seen }
+        ensures lawful { IsLawful B.limits self.now.seen }
+    {
+        self.lake.left(&self.pass)
+    }
+
+    // The reply to the command of this number.
+    fn reply<R: Wait, G: Gate>(&mut self, rt: &R, number: u64, task: &Task, gate: &G) -> Reply
+        requires { IsTaskInRange task.now }
+        ensures free { self.old.holds ≡ false }
+        ensures pass { self.new ≡ after_seeing self.old self.new.seen false }
+        ensures answered { IsAnswered B.limits (command_with number self.old.caller (task_of task.now)) self.old (reply_of result) self.new.seen }
+    {
+        let (alloc, lake) = (self.alloc, self.lake);
+        match task {
+            Task::Load { name, body } => load_block(
+                rt,
+                alloc,
+                lake,
+                &mut self.pass,
+                number,
+                name,
+                body,
+            ),
+            Task::LoadFile { name, file } => load_file(
+                rt,
+                alloc,
+                lake,
+                &mut self.pass,
+                number,
+                name,
+                file,
+            ),
+            Task::Drop { name } => drop_named(rt, lake, &mut self.pass, number, name),
+            Task::Tables | Task::Search { .. } | Task::Like { .. } => ask(
+                rt,
+                alloc,
+                lake,
+                &mut self.pass,
+                number,
+                task,
+                gate,
+            ),
+            Task::Merge { all } => merge_parts(rt, alloc, lake, &mut self.pass, number, *all, gate),
+        }
+    }
+}
+
+impl<'a, B: Bounds> Desk for LakeDesk<'a, B> {
+    ghost use Rattle.lake_desk.specs.Answering.{IsStep};
+
+    ghost step = { IsStep B.limits };
+
+    fn answer<R: Threads + Wait + Sync, G: Gate + Sync>(
+        &mut self,
+        rt: &R,
+        by: By,
+        task: &Task,
+        gate: &G,
+    ) -> Reply {
+        let (lane, number) = (by.caller(), by.number());
+        gate.at(lane, number, Point::Begin);
+        let reply = self.reply(rt, number, task, gate);
+        gate.at(lane, number, Point::Ended);
+        reply
+    }
+}

@@ -1,0 +1,31 @@
+//! What the desks of a batch have seen, brought together when all lanes are done.
+ghost use Rattle.std.specs.Prelude.{◌<◌, length};
+ghost use Rattle.lake_desk.specs.Gathered.{AreFree, AreHandedOut, AreOfOneLock, IsBehindAll, IsGathered};
+
+use crate::desk::LakeDesk;
+use lake::Bounds;
+
+/// The first desk sees, one after another, what each of the others has seen.
+pub(crate) fn gather<'a, B: Bounds>(desks: &mut [LakeDesk<'a, B>])
+    requires some { 0 < length desks.old }
+    requires lock { AreOfOneLock desks.old }
+    requires free { AreFree desks.old }
+    ensures { IsGathered desks.old desks.new }
+{
+    for lane in 1..desks.len() {
+        let note = desks[lane].note();
+        desks[0].meet(note);
+    }
+}
+
+/// Each of the other desks sees all that the first has seen, and so that what follows its own list is of other callers.
+pub(crate) fn hand_out<'a, B: Bounds>(desks: &mut [LakeDesk<'a, B>])
+    requires lock { AreOfOneLock desks.old }
+    requires behind { IsBehindAll desks.old }
+    ensures { AreHandedOut desks.old desks.new }
+{
+    for lane in 1..desks.len() {
+        let note = desks[0].note();
+        desks[lane].meet(note);
+    }
+}

@@ -1,0 +1,17 @@
+//! Commands answered at a lake that many threads change at once, each by a desk of its own, and the batches of a run over all desks.
+#![tactic(auto)]
+
+mod asking;
+mod batch;
+mod changing;
+mod desk;
+mod gathering;
+mod merging;
+mod opening;
+
+pub use batch::answer_batch;
+pub use desk::LakeDesk;
+pub use opening::{Standard, open_desks};
+
+#[cfg(test)]
+mod tests;

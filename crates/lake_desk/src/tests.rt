@@ -1,0 +1,236 @@
+//! Two lanes that must overlap, on threads of their own, and batches one after another. No clause says that a thread runs, nor that memory is there.
+ghost use Rattle.std.specs.Prelude.{◌≡◌, ◌≤◌, false, true, IfOk, None};
+ghost use Rattle.script_model.specs.Lanes.{IsOfLanes};
+ghost use Rattle.script_model.specs.Record.{empty, options_with};
+ghost use Rattle.script_text.specs.Tasks.{IsTaskInRange};
+
+use crate::{Standard, answer_batch, open_desks};
+use catalogue::Limits;
+use column_set::Name;
+use lake::Lake;
+use lake_io::{Gate, NoGate, Point};
+use reply_text::{Reply, RunRecord};
+use script_text::{Batch, Body, Command, FileBody, Options, Task};
+use std::alloc::Global;
+use std::sync::Wait;
+use std::sync::atomic::{AtomicBool, Ordering};
+use std::test::Fail;
+use std::thread;
+use std::thread::Threads;
+
+// A gate that holds lane 1 at its pin until a command of lane 2 has ended, and lane 2 at the beginning of one until lane 1 has its pin. It
+// holds nobody for ever: then it is late.
+#[derive(Drop)]
+struct Crossing {
+    pinned: AtomicBool,
+    ended: AtomicBool,
+    late: AtomicBool,
+}
+
+impl Crossing {
+    // Lets other threads run until the flag is set, or so many times.
+    fn wait_for(&self, flag: &AtomicBool) {
+        for _ in 0..10_000_000 {
+            if flag.load(Ordering::SeqCst) {
+                return;
+            }
+            thread::yield_now();
+        }
+        self.late.store(true, Ordering::SeqCst);
+    }
+}
+
+impl Gate for Crossing {
+    fn at(&self, lane: u32, _command: u64, point: Point) {
+        match (lane, point) {
+            (1, Point::Pinned) => {
+                self.pinned.store(true, Ordering::SeqCst);
+                self.wait_for(&self.ended);
+            }
+            (2, Point::Begin) => self.wait_for(&self.pinned),
+            (2, Point::Ended) => self.ended.store(true, Ordering::SeqCst),
+            _ => (),
+        }
+    }
+}
+
+// The name that a text is.
+fn name(text: &str) -> Result<Name, Fail> {
+    Ok(Name::read(text.as_bytes()).ok_or("no name")?)
+}
+
+// A body of these bytes.
+fn body(alloc: Global, text: &str) -> Result<Body, Fail> {
+    Ok(Body::new(Vec::from_slice(alloc, text.as_bytes())?).ok_or("no body")?)
+}
+
+// A command.
+fn command(number: u64, lane: u32, task: Task) -> Command
+    requires lane { 1 ≤ lane }
+    requires task { IsTaskInRange task }
+    ensures { result.lane ≡ lane }
+{
+    Command { number, lane, task }
+}
+
+// The load of a table of one column with one key.
+fn load(alloc: Global, number: u64, lane: u32, table: &str) -> Result<Command, Fail>
+    requires { 1 ≤ lane }
+    ensures { IfOk result (λ command. command.lane ≡ lane) }
+{
+    let task = Task::Load {
+        name: name(table)?,
+        body: body(alloc, "c\nx\n")?,
+    };
+    Ok(command(number, lane, task))
+}
+
+// Lane 1 searches for a key, and lane 2 loads a table that has it.
+fn search_and_load(alloc: Global) -> Result<Batch, Fail>
+    ensures { IfOk result (λ batch. IsOfLanes 2 batch) }
+{
+    let search = Task::Search {
+        k: 1,
+        body: body(alloc, "x\n")?,
+    };
+    let commands = [command(1, 1, search), load(alloc, 2, 2, "t")?];
+    Ok(Batch::new(Vec::from_array(alloc, commands)?))
+}
+
+// Lane 1 loads two tables, asks for the live ones and for columns like one of them, drops a table that there is not, loads a file that there is
+// not, and merges.
+fn one_of_each(alloc: Global) -> Result<Batch, Fail>
+    ensures { IfOk result (λ batch. IsOfLanes 2 batch) }
+{
+    let like = Task::Like {
+        k: 1,
+        name: name("a")?,
+        place: 1,
+    };
+    let missing = Task::LoadFile {
+        name: name("d")?,
+        file: FileBody::Missing,
+    };
+    let commands = [
+        load(alloc, 1, 1, "a")?,
+        load(alloc, 2, 1, "b")?,
+        command(3, 1, Task::Tables),
+        command(4, 1, like),
+        command(5, 1, Task::Drop { name: name("c")? }),
+        command(6, 1, missing),
+        command(7, 1, Task::Merge { all: true }),
+    ];
+    Ok(Batch::new(Vec::from_array(alloc, commands)?))
+}
+
+// The record of a run with two lanes and a merger that has done nothing.
+fn record_of_two_lanes(alloc: Global) -> RunRecord
+    ensures { result.made ≡ empty (options_with 2 None true false) }
+{
+    let mut record = RunRecord::new(alloc);
+    record.set_options(Options {
+        lanes: 2,
+        order: None,
+        merge: true,
+        trace: false,
+    });
+    record
+}
+
+// The record of this batch answered twice over a new lake, with a merger.
+fn answered_twice<R: Threads + Wait + Sync, G: Gate + Sync>(
+    rt: &R,
+    alloc: Global,
+    batch: &Batch,
+    gate: &G,
+) -> Result<RunRecord, Fail>
+    requires { IsOfLanes 2 batch.now }
+{
+    let updates = batch.updates();
+    if updates > 100 {
+        return Err("too many".into());
+    }
+    let mut record = record_of_two_lanes(alloc);
+    let (lake, opening) = Lake::<Standard>::new(alloc, Limits::standard(), 3)?;
+    let mut desks = open_desks(alloc, &lake, opening, 2)?;
+    answer_batch(rt, alloc, &mut desks, batch, Some(1), gate, &mut record)?;
+    answer_batch(
+        rt,
+        alloc,
+        &mut desks,
+        batch,
+        Some(1 + updates),
+        gate,
+        &mut record,
+    )?;
+    Ok(record)
+}
+
+// The position that a reply was made at, where it is one of those that the tests meet.
+fn position(reply: &Reply) -> Option<u64> {
+    match reply {
+        Reply::Found { layout, .. } | Reply::NothingToMerge { layout } => Some(layout.at()),
+        Reply::Loaded { at, .. }
+        | Reply::Repeated { at, .. }
+        | Reply::Unknown { at, .. }
+        | Reply::Listed { at, .. }
+        | Reply::Merged { at, .. } => Some(*at),
+        _ => None,
+    }
+}
+
+// The positions of the record's replies.
+fn positions(alloc: Global, record: &RunRecord) -> Result<Vec<Option<u64>>, Fail> {
+    let mut positions = Vec::new(alloc);
+    for answered in record.answers() {
+        positions.push(position(&answered.reply))?;
+    }
+    Ok(positions)
+}
+
+// Lane 1 is answered at the empty lake that it pinned, although lane 2 has loaded a table meanwhile. In the second batch the gate holds nobody.
+#[test]
+fn a_search_at_its_pin_holds_up_no_load(rt: HostRuntime) -> Result<(), Fail> {
+    let gate = Crossing {
+        pinned: AtomicBool::new(false),
+        ended: AtomicBool::new(false),
+        late: AtomicBool::new(false),
+    };
+    let batch = search_and_load(rt.alloc())?;
+    let record = answered_twice(&rt, rt.alloc(), &batch, &gate)?;
+    assert!(rt; !gate.late.load(Ordering::SeqCst));
+    assert_eq!(rt; record.syncs(), [1, 1].as_slice());
+    assert_eq!(rt; record.journal().len(), 1);
+    let positions = positions(rt.alloc(), &record)?;
+    let [search, load, _merger, later @ ..] = positions.as_slice() else {
+        return Err("too few answers".into());
+    };
+    assert_eq!(rt; (*search, *load), (Some(0), Some(1)));
+    assert_eq!(rt; later, [Some(1), Some(1), Some(1)].as_slice());
+    Ok(())
+}
+
+// The merger has a merge for each load and drop, and finds nothing to merge. In the second batch the names are there already.
+#[test]
+fn one_lane_answers_in_its_order(rt: HostRuntime) -> Result<(), Fail> {
+    let batch = one_of_each(rt.alloc())?;
+    let record = answered_twice(&rt, rt.alloc(), &batch, &NoGate)?;
+    assert_eq!(rt; record.syncs(), [3, 3].as_slice());
+    assert_eq!(rt; record.journal().len(), 3);
+    let positions = positions(rt.alloc(), &record)?;
+    if positions.len() != 22 {
+        return Err("not so many answers".into());
+    }
+    let two = Some(2);
+    let three = Some(3);
+    assert_eq!(rt;
+        &positions[..7],
+        [Some(1), two, two, two, two, None, three].as_slice()
+    );
+    assert_eq!(rt;
+        &positions[11..18],
+        [three, three, three, three, three, None, three].as_slice()
+    );
+    assert_eq!(rt; &positions[18..], [three, three, three, three].as_slice());
+    Ok(())
+}
