@@ -353,13 +353,13 @@ class _NoBar:
         pass
 
 
-def progress(total: int) -> AbstractContextManager[Bar]:
-    """A bar for so many files on a terminal, where tqdm is installed; else something that shows nothing."""
+def progress(total: int, unit: str = "file") -> AbstractContextManager[Bar]:
+    """A bar for so many files, or other things, on a terminal, where tqdm is installed; else something that shows nothing."""
     if sys.stderr.isatty():
         try:
             from tqdm import tqdm
         except ImportError:
             return nullcontext(_NoBar())
-        bar: AbstractContextManager[Bar] = tqdm(total=total, unit="file", leave=False)
+        bar: AbstractContextManager[Bar] = tqdm(total=total, unit=unit, leave=False)
         return bar
     return nullcontext(_NoBar())

@@ -10,11 +10,14 @@ from typing import IO, TYPE_CHECKING
 
 from .errors import ColumnUnknown
 from .findings import Findings, checked_k
-from .lake import Lake
+from .lake import Lake, progress
 from .replies import FolderLoad
 
 if TYPE_CHECKING:
     import pandas
+
+#: So many columns are asked about at once, few enough that a bar can show how far it is.
+_ASKED_AT_ONCE = 256
 
 
 @dataclass(frozen=True)
@@ -123,7 +126,12 @@ def joinable(folder: str | os.PathLike[str], k: int = 5, program: str | None = N
 def _asked(lake: Lake, load: FolderLoad, k: int, numbers: bool) -> Iterator[Asked]:
     columns = [(table.name, place) for table in load.loaded for place in range(1, table.columns + 1)]
     asked = [column for column in columns if numbers or not lake.is_numbers(*column)]
-    findings = dict(zip(asked, lake.find_likes(asked, k, numbers=numbers)))
+    findings: dict[tuple[str, int], Findings] = {}
+    with progress(len(asked), "column") as bar:
+        for first in range(0, len(asked), _ASKED_AT_ONCE):
+            some = asked[first : first + _ASKED_AT_ONCE]
+            findings.update(zip(some, lake.find_likes(some, k, numbers=numbers)))
+            bar.update(len(some))
     for (table, place), size in zip(columns, lake.sizes(columns)):
         yield Asked(table, place, _column_name(lake, table, place), size, lake.is_numbers(table, place), findings.get((table, place)))
 

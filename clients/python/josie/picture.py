@@ -16,6 +16,8 @@ _LABEL = 24
 _LABEL_WIDTH = 170
 _STEP = 22
 _WIDTH = 1_200
+#: In a group of more tables than this their names stand along the rays of the circle, where they cannot overlap.
+_LEVEL = 8
 
 
 @dataclass(frozen=True)
@@ -74,11 +76,12 @@ def svg(drawn: Sequence[Line]) -> str:
 
 @dataclass(frozen=True)
 class _Spot:
-    """Where a table stands, and where on its circle, as an angle from the right, clockwise."""
+    """Where a table stands, and where on its circle, as an angle from the right, clockwise; and whether its name is level."""
 
     x: float
     y: float
     angle: float
+    is_level: bool
 
 
 def _placed(all_groups: Sequence[Sequence[str]]) -> tuple[dict[str, _Spot], float, float]:
@@ -87,7 +90,7 @@ def _placed(all_groups: Sequence[Sequence[str]]) -> tuple[dict[str, _Spot], floa
     left = top = row_height = width = 0.0
     for group in all_groups:
         radius = max(60.0, len(group) * _STEP / (2 * math.pi))
-        size_x, size_y = 2 * (radius + _LABEL_WIDTH), 2 * (radius + 30)
+        size_x, size_y = 2 * (radius + _LABEL_WIDTH), 2 * (radius + (30 if len(group) <= _LEVEL else _LABEL_WIDTH))
         if left and left + size_x > _WIDTH:
             left, top, row_height = 0.0, top + row_height, 0.0
         places.update(_circle(group, left + size_x / 2, top + size_y / 2, radius))
@@ -99,7 +102,7 @@ def _placed(all_groups: Sequence[Sequence[str]]) -> tuple[dict[str, _Spot], floa
 def _circle(group: Sequence[str], x: float, y: float, radius: float) -> Iterator[tuple[str, _Spot]]:
     for number, table in enumerate(group):
         angle = 2 * math.pi * number / len(group)
-        yield table, _Spot(x + radius * math.cos(angle), y + radius * math.sin(angle), angle)
+        yield table, _Spot(x + radius * math.cos(angle), y + radius * math.sin(angle), angle, len(group) <= _LEVEL)
 
 
 def _line(line: Line, places: Mapping[str, _Spot]) -> str:
@@ -111,9 +114,11 @@ def _line(line: Line, places: Mapping[str, _Spot]) -> str:
 
 
 def _node(table: str, spot: _Spot) -> str:
-    turned = math.cos(spot.angle) < -1e-6
+    is_left = math.cos(spot.angle) < -1e-6
     label = table if len(table) <= _LABEL else table[: _LABEL - 1] + "…"
-    anchor, shift = ("end", -9) if turned else ("start", 9)
-    text = f'<text x="{spot.x + shift:.1f}" y="{spot.y + 4:.1f}" text-anchor="{anchor}">{escaped(label)}</text>'
+    anchor, shift = ("end", -9) if is_left else ("start", 9)
+    degrees = math.degrees(spot.angle) + (180 if is_left else 0)
+    turn = "" if spot.is_level else f' transform="rotate({degrees:.1f} {spot.x:.1f} {spot.y:.1f})"'
+    text = f'<text x="{spot.x + shift:.1f}" y="{spot.y + 4:.1f}" text-anchor="{anchor}"{turn}>{escaped(label)}</text>'
     dot = f'<circle cx="{spot.x:.1f}" cy="{spot.y:.1f}" r="5"></circle>'
     return f'<g data-table="{escaped(table)}"><title>{escaped(table)}</title>{dot}{text}</g>'

@@ -116,14 +116,15 @@ class ShardedLake:
     """
 
     def __init__(self, client: Client, shards: int | None = None, program: str | None = None) -> None:
-        workers = sorted(client.scheduler_info()["workers"])
+        self._client: Any = client
+        workers = sorted(self._client.nthreads())
         count = len(workers) if shards is None else shards
         if not workers or count < 1:
             raise JosieError(f"there are {len(workers)} workers, and {count} shards are asked for")
         self._failed: ShardFailed | None = None
         self._is_closed = False
         self._workers = [workers[number % len(workers)] for number in range(count)]
-        self._futures = [client.submit(Shard, program, actor=True, workers=[worker], pure=False) for worker in self._workers]
+        self._futures = [self._client.submit(Shard, program, actor=True, workers=[worker], pure=False) for worker in self._workers]
         self._shards: list[Any] = []
         self._shards = self._wait([(number, future) for number, future in enumerate(self._futures)])
 
@@ -233,7 +234,7 @@ class ShardedLake:
             except TimeoutError as late:
                 if future.done():
                     raise self._fail(number, late) from late
-                if self._futures[number].status not in ("pending", "finished"):
+                if not self._is_there(number):
                     raise self._fail(number, None) from None
             except LakeEnded as ended:
                 raise self._fail(number, ended) from ended
@@ -242,6 +243,13 @@ class ShardedLake:
                 return refused
             except Exception as lost:
                 raise self._fail(number, lost) from lost
+
+    def _is_there(self, number: int) -> bool:
+        """Whether the worker of a shard is one of the cluster's, and has not lost the shard."""
+        try:
+            return self._workers[number] in self._client.nthreads() and self._futures[number].status in ("pending", "finished")
+        except Exception:
+            return False
 
     def _fail(self, number: int, why: BaseException | None) -> ShardFailed:
         self._failed = ShardFailed(number, self._workers[number], str(why) if why else "its worker is gone")

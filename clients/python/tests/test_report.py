@@ -89,7 +89,7 @@ class InAPage(InAFolder):
             "heights.csv": b"metres\n23\n161\n8\n",
             "lonely.csv": b"word\nalone\n",
             "ragged <b>.csv": b"a,b\n1\n",
-            "<img src=x onerror=alert(1)>.csv": f'"{quoted}",2024\nOslo,"{quoted}"\n'.encode(),
+            "\"><img src=x onerror=alert(1)>.csv": f'"{quoted}",2024\nOslo,"{quoted}"\nLima,x\n'.encode(),
         }
         for name, data in files.items():
             with open(os.path.join(cls.made.name, name), "wb") as file:
@@ -128,6 +128,7 @@ class Contents(InAPage):
         self.assertEqual(read.lines, [(line.first, line.second) for line in drawn])
         self.assertEqual(sorted(read.nodes), sorted(table for group in groups(drawn) for table in group))
         self.assertIn(("rivers", "stations"), read.lines)
+        self.assertIn('"><img%20src=x%20onerror=alert(1)>', read.nodes)
         self.assertNotIn("lonely", read.nodes)
         self.assertNotIn("heights", read.nodes)
 
