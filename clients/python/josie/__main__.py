@@ -11,8 +11,8 @@ import sys
 from typing import TextIO
 
 from .errors import JosieError
-from .partners import Partner, survey, write_csv
-from .replies import FolderLoad
+from .findings import MOST_ROWS
+from .partners import Partner, Survey, survey, write_csv
 from .reports import page
 
 
@@ -20,7 +20,7 @@ def main() -> int:
     words = _words()
     try:
         made = survey(words.folder, words.k, numbers=words.numbers)
-        _tell(made.load, sys.stderr)
+        _tell(made, sys.stderr)
         text = page(made, os.path.basename(os.path.abspath(words.folder))) if words.command == "report" else _table(made.partners)
         _write(text, words.out)
     except (JosieError, OSError) as error:
@@ -44,13 +44,16 @@ def _words() -> argparse.Namespace:
     return parser.parse_args()
 
 
-def _tell(load: FolderLoad, to: TextIO) -> None:
-    """The files that were refused, and what looks wrong with those that were not."""
-    for path, why in load.refused.items():
+def _tell(made: Survey, to: TextIO) -> None:
+    """The files that were refused, what looks wrong with those that were not, and the columns of which not all could be told."""
+    for path, why in made.load.refused.items():
         print(f"josie: {path}: refused: {why}", file=to)
-    for path, warnings in load.warnings.items():
+    for path, warnings in made.load.warnings.items():
         for warning in warnings:
             print(f"josie: {path}: {warning}", file=to)
+    for column in made.columns:
+        if column.findings is not None and not column.findings.complete:
+            print(f"josie: {column.table} {column.place}: {MOST_ROWS:,} rows did not tell all partners or ties of this column", file=to)
 
 
 def _table(partners: list[Partner]) -> str:

@@ -61,7 +61,9 @@ class Asked:
 
     def partners(self) -> Iterator[Partner]:
         """A row for each partner, with ratios of four digits."""
-        for row in self.findings.rows if self.findings else ():
+        if self.findings is None:
+            return
+        for row in self.findings:
             yield Partner(
                 table=self.table,
                 place=self.place,
@@ -76,8 +78,8 @@ class Asked:
                 jaccard=round(row.jaccard, 4),
                 numbers=self.numbers,
                 partner_numbers=row.numbers,
-                ties=self.findings.ties if self.findings else 0,
-                complete=self.findings.complete if self.findings else True,
+                ties=self.findings.ties,
+                complete=self.findings.complete,
             )
 
 

@@ -6,7 +6,8 @@ import os
 from collections.abc import Iterable, Iterator, Sequence
 from importlib.resources import files
 
-from .partners import Partner, Survey, survey
+from .findings import MOST_ROWS
+from .partners import Asked, Partner, Survey, survey
 from .picture import MOST_LINES, lines, svg
 from .text import escaped
 
@@ -106,10 +107,15 @@ def _table_rows(made: Survey) -> Iterator[str]:
 
 def _column_rows(made: Survey) -> Iterator[str]:
     for column in made.columns:
-        count = len(column.findings) if column.findings else 0
-        ties = column.findings.ties if column.findings else 0
-        left_out = "left out" if column.findings is None else ""
-        yield f"<tr>{_cells((column.table, column.place, column.column, column.values, column.numbers, count, ties, left_out))}</tr>"
+        count = len(column.findings) if column.findings is not None else 0
+        ties = column.findings.ties if column.findings is not None else 0
+        yield f"<tr>{_cells((column.table, column.place, column.column, column.values, column.numbers, count, ties, _remark(column)))}</tr>"
+
+
+def _remark(column: Asked) -> str:
+    if column.findings is None:
+        return "left out"
+    return "" if column.findings.complete else f"{MOST_ROWS:,} rows did not tell all"
 
 
 def _refused(made: Survey) -> str:

@@ -145,6 +145,8 @@ class ShardedLake:
         try:
             if self._failed is None:
                 self._wait_for_all(lambda shard: shard.close())
+        except ShardFailed:
+            pass  # what is gone needs no end
         finally:
             self._is_closed = True
             self._shards = []

@@ -23,6 +23,7 @@ from unittest import mock
 import josie
 from josie import Dropped, Lake, Loaded, Match, Merged, Table
 from josie.errors import refusal
+from josie.names import is_name
 from josie.program import find_program
 from josie.replies import parsed
 from support import RIVERS, STATIONS, InALake, expected, random_table
@@ -246,6 +247,15 @@ class Folders(InALake):
         })
         self.assertEqual([match.table for match in self.lake.search(["rome"])], ["%FF", "n" * 251, "rivers", "stations"])
 
+    def test_no_two_files_have_one_table(self):
+        draw = random.Random(4)
+        pieces = [b".csv", b".CSV", b"%", b"%25", b"25", b"a", b" ", b"\xc3\xa9", b"\xff", b"\n", b"."]
+        files = {b"".join(draw.choices(pieces, k=draw.randrange(1, 6))) for _ in range(20_000)}
+        names = {josie.table_name(os.fsdecode(b"folder/" + file)) for file in files}
+        self.assertEqual(len(names), len(files))
+        self.assertGreater(len(files), 5_000)
+        self.assertTrue(all(is_name(name.encode()) for name in names - {""}))
+
     def test_more_files_than_a_batch_has_commands(self):
         folder = self.folder(**{f"f{number:04}": b"name\n%d\n" % number for number in range(4_100)})
         load = self.lake.load_folder(folder)
@@ -267,6 +277,15 @@ class Folders(InALake):
             "rivers,2,mouth,3,stations,2,city,2,0.6667,3,0.5,false,false,0,true",
             "stations,2,city,3,rivers,2,mouth,2,0.6667,3,0.5,false,false,0,true",
         ])
+
+    def test_columns_of_which_not_all_is_told_are_named(self):
+        wide = (",".join(["c"] * 1000) + "\n" + ",".join(["7"] * 1000) + "\n").encode()
+        folder = self.folder(a=b"c\n7\nx\n", **{f"w{number:02}": wide for number in range(11)})
+        made = josie.survey(folder, k=1, numbers=False)
+        (asked,) = [column for column in made.columns if column.findings is not None]
+        self.assertEqual((asked.table, len(asked.findings), asked.findings.complete), ("a", 0, False))
+        ended = self.run_client("joinable", folder, "--no-numbers")
+        self.assertEqual(ended.stderr, "josie: a 1: 10,000 rows did not tell all partners or ties of this column\n")
 
     def test_a_command_that_is_refused_leaves_what_was_there(self):
         folder = self.folder(stations=STATIONS)

@@ -136,7 +136,8 @@ class OnACluster(InAFolder):
         with self.assertRaises(josie.JosieError):
             ShardedLake(self.client, shards=0)
 
-    def test_z_a_worker_that_dies_is_named(self):
+    def test_a_worker_that_dies_is_named(self):
+        self.addCleanup(self.client.wait_for_workers, 4)  # a new one comes for it
         lake = self.lake()
         for number in range(20):
             lake.load(f"t{number}", b"c\nx\n")
