@@ -30,8 +30,8 @@ class Lake:
     `program` is the path of the program; without it, the one is run that the variable JOSIE names, or that was built in this repository, or
     that is on the path. Where it cannot be started, or has ended, a call raises `LakeEnded`.
 
-    With `profiles`, each table that is loaded is read by Python too, for the marks on its columns and for warnings (`profile`); without only its
-    header is, which makes long loads shorter.
+    With `profiles`, each table that is loaded is read by Python too, for the marks on its columns and for warnings (`profile`); else only its header is
+    read, which makes long loads shorter.
 
     >>> with Lake() as lake:
     ...     _ = lake.load("stations", b"id,city\\n1,Oslo\\n2,Lima\\n")

@@ -6,7 +6,7 @@ import csv
 import io
 import os
 import re
-from collections.abc import Iterable, Iterator
+from collections.abc import Iterable, Iterator, Sequence
 from dataclasses import dataclass
 from itertools import islice
 from typing import IO
@@ -87,23 +87,21 @@ def _profile(records: Iterator[list[str]]) -> Profile:
     sample = list(islice(records, _SAMPLE))
     may_be = {place: False for place in range(len(names))}
     _strike(may_be, sample)
-    for record in records:
-        if not may_be:
-            break
-        _strike(may_be, [record])
+    while may_be and (some := list(islice(records, _SAMPLE))):
+        _strike(may_be, some)
     numbers = tuple(may_be.get(place, False) for place in range(len(names)))
     return Profile(names, numbers, tuple(_warnings(names, sample)))
 
 
-def _strike(may_be: dict[int, bool], records: Iterable[list[str]]) -> None:
+def _strike(may_be: dict[int, bool], records: Sequence[list[str]]) -> None:
     """Takes the columns out that have a value which is no number. What is left says whether a number was seen."""
-    for record in records:
-        for place, seen in list(may_be.items()):
-            value = record[place].strip()
-            if is_number(value):
-                may_be[place] = True
-            elif value.casefold() not in _MISSING:
-                del may_be[place]
+    for place in list(may_be):
+        values = {record[place].strip() for record in records}
+        others = {value for value in values if not is_number(value)}
+        if any(value.casefold() not in _MISSING for value in others):
+            del may_be[place]
+        elif len(others) < len(values):
+            may_be[place] = True
 
 
 def _warnings(names: tuple[str, ...], sample: list[list[str]]) -> Iterator[str]:
