@@ -3,7 +3,6 @@
 from __future__ import annotations
 
 import heapq
-import os
 from collections.abc import Callable, Iterable, Iterator, Sequence
 from dataclasses import dataclass
 from hashlib import blake2b
@@ -11,7 +10,7 @@ from itertools import islice
 from types import TracebackType
 from typing import TYPE_CHECKING, Any
 
-from .errors import JosieError, LakeEnded, NameInvalid, ShardFailed, TooLong, ValueInvalid
+from .errors import JosieError, LakeEnded, NameInvalid, ShardFailed, TooLong
 from .findings import checked_k
 from .lake import Lake, Path, folder_files, progress, table_bytes
 from .names import checked, table_name
