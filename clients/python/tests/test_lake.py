@@ -281,10 +281,8 @@ class Folders(InALake):
     def test_columns_of_which_not_all_is_told_are_named(self):
         wide = (",".join(["c"] * 1000) + "\n" + ",".join(["7"] * 1000) + "\n").encode()
         folder = self.folder(a=b"c\n7\nx\n", **{f"w{number:02}": wide for number in range(11)})
-        made = josie.survey(folder, k=1, numbers=False)
-        (asked,) = [column for column in made.columns if column.findings is not None]
-        self.assertEqual((asked.table, len(asked.findings), asked.findings.complete), ("a", 0, False))
         ended = self.run_client("joinable", folder, "--no-numbers")
+        self.assertEqual(len(ended.stdout.splitlines()), 1)
         self.assertEqual(ended.stderr, "josie: a 1: 10,000 rows did not tell all partners or ties of this column\n")
 
     def test_a_command_that_is_refused_leaves_what_was_there(self):
