@@ -13,6 +13,7 @@ The program runs as a co-process for as long as the `with` block does, and holds
 
 from .errors import (
     ColumnUnknown,
+    CountInvalid,
     FileRefused,
     FolderEmpty,
     JosieError,
@@ -23,23 +24,32 @@ from .errors import (
     OutOfMemory,
     QueryRefused,
     Refused,
+    ShardFailed,
     TableRefused,
     TableUnknown,
     TooLong,
     ValueInvalid,
 )
+from .findings import Findings, Found
 from .lake import Lake
 from .names import table_name
-from .partners import Partner, joinable
+from .partners import Asked, Partner, Survey, joinable, survey
+from .profiles import Profile, profile
 from .replies import Answer, Dropped, FolderLoad, Loaded, Match, Merged, Table
+from .reports import report
+from .sharded import Shard, ShardedAnswer, ShardedLake
 
 __all__ = [
     "Answer",
+    "Asked",
     "ColumnUnknown",
+    "CountInvalid",
     "Dropped",
     "FileRefused",
+    "Findings",
     "FolderEmpty",
     "FolderLoad",
+    "Found",
     "joinable",
     "JosieError",
     "Lake",
@@ -52,8 +62,17 @@ __all__ = [
     "NameTaken",
     "OutOfMemory",
     "Partner",
+    "profile",
+    "Profile",
     "QueryRefused",
     "Refused",
+    "report",
+    "Shard",
+    "ShardedAnswer",
+    "ShardedLake",
+    "ShardFailed",
+    "Survey",
+    "survey",
     "Table",
     "table_name",
     "TableRefused",

@@ -2,11 +2,21 @@
 
 from __future__ import annotations
 
-from typing import Optional
+from typing import Any
+
+
+def _again(kind: type[BaseException], args: tuple[Any, ...], fields: dict[str, Any]) -> BaseException:
+    error = kind.__new__(kind, *args)
+    error.args = args
+    error.__dict__.update(fields)
+    return error
 
 
 class JosieError(Exception):
-    """Whatever this package raises."""
+    """Whatever this package raises. It can be pickled, so it comes whole out of another process."""
+
+    def __reduce__(self) -> tuple[Any, ...]:
+        return _again, (type(self), self.args, self.__dict__)
 
 
 class NameInvalid(JosieError, ValueError):
@@ -15,6 +25,14 @@ class NameInvalid(JosieError, ValueError):
 
 class TooLong(JosieError, ValueError):
     """A table or a query that is sent has more than 67,108,864 bytes. Nothing was sent."""
+
+
+class ValueInvalid(JosieError, ValueError):
+    """A value cannot be asked for: it has a line feed, or is no text. Nothing was sent."""
+
+
+class CountInvalid(JosieError, ValueError):
+    """The number of rows that is asked for, `k`, is not 1 to 10,000. Nothing was sent."""
 
 
 class FolderEmpty(JosieError):
@@ -33,19 +51,23 @@ class LakeEnded(JosieError):
         5: "it ran out of memory",
     }
 
-    def __init__(self, status: Optional[int], told: str = "") -> None:
+    def __init__(self, status: int | None, told: str = "") -> None:
         self.status = status
-        meaning = told if status is None else self.MEANINGS.get(status, f"it ended with exit code {status}")
-        more = f" ({told})" if told and status is not None else ""
+        if status is None:
+            meaning, more = told, ""
+        else:
+            other = f"signal {-status} ended it" if status < 0 else f"it ended with exit code {status}"
+            meaning, more = self.MEANINGS.get(status, other), f" ({told})" if told else ""
         super().__init__(f"josie is not running: {meaning}{more}")
 
 
 class Refused(JosieError):
-    """A command was refused, and changed nothing. `reply` is the program's own line, without the command's number, or words of this package."""
+    """A command was refused, and changed nothing. `reply` is the program's own line, without the command's number, or words of this package; as a
+    text the exception says the reason in words."""
 
-    def __init__(self, reply: str) -> None:
+    def __init__(self, reply: str, words: str | None = None) -> None:
         self.reply = reply
-        super().__init__(reply)
+        super().__init__(words or reply)
 
 
 class OutOfMemory(Refused):
@@ -64,16 +86,12 @@ class ColumnUnknown(Refused):
     """The table has no column at this place, or of this name, or several of this name."""
 
 
-class ValueInvalid(JosieError, ValueError):
-    """A value cannot be asked for: it has a line feed, or is no text. Nothing was sent."""
-
-
 class LakeFull(Refused):
-    """The lake would have more tables, updates, members or key bytes than it may."""
+    """The lake would have more tables, updates, members or key bytes than it may: it has `count` of `what`, and `more` were to come."""
 
-    def __init__(self, reply: str, what: str, count: int, more: int) -> None:
+    def __init__(self, reply: str, words: str | None, what: str, count: int, more: int) -> None:
         self.what, self.count, self.more = what, count, more
-        super().__init__(reply)
+        super().__init__(reply, words)
 
 
 class TableRefused(Refused):
@@ -82,9 +100,9 @@ class TableRefused(Refused):
     `record` and `field` count from 1, the header being record 1; they are `None` where the refusal names none.
     """
 
-    def __init__(self, reply: str, record: Optional[int] = None, field: Optional[int] = None) -> None:
+    def __init__(self, reply: str, words: str | None = None, record: int | None = None, field: int | None = None) -> None:
         self.record, self.field = record, field
-        super().__init__(reply)
+        super().__init__(reply, words)
 
 
 class FileRefused(Refused):
@@ -95,28 +113,64 @@ class QueryRefused(Refused):
     """The values are no query: not UTF-8, or more than 4,194,304 of them."""
 
 
+class ShardFailed(JosieError):
+    """A shard of a `ShardedLake` gave no answer, so there is none: `shard` is its number, from 0, and `worker` the address of its worker. What went
+    wrong there is the cause."""
+
+    def __init__(self, shard: int, worker: str, why: str) -> None:
+        self.shard, self.worker = shard, worker
+        super().__init__(f"shard {shard} at {worker}: {why}")
+
+
+_FILES = {
+    "failed": "the file cannot be read",
+    "missing": "there is no such file",
+    "longer": "the file has more than 67,108,864 bytes",
+}
+_FULL = {"tables": "live tables", "updates": "loads, drops and merges", "members": "distinct values", "key-bytes": "bytes of distinct values"}
+
+
 def refusal(reply: str) -> Refused:
-    """The exception of a reply, given without its command's number: `refused ...` or `no memory`."""
-    words = reply.split(" ")
+    """The exception of a reply, given without its command's number: `refused ...` or `no memory`.
+
+    >>> print(refusal("refused csv record 3 want 2 got 1"))
+    record 3 has 1 field, and the header has 2
+    """
     if reply == "no memory":
-        return OutOfMemory(reply)
-    kind = words[1] if len(words) > 1 else ""
-    if kind == "repeated":
-        return NameTaken(reply)
-    if kind == "unknown":
-        return TableUnknown(reply)
-    if kind == "column":
-        return ColumnUnknown(reply)
-    if kind == "full":
-        return LakeFull(reply, words[2], int(words[3]), int(words[5]))
-    if kind == "csv":
-        record = int(words[3]) if words[2] == "record" else None
-        field = int(words[5]) if record is not None and words[4] == "field" else None
-        return TableRefused(reply, record, field)
-    if kind == "values":
-        return TableRefused(reply)
-    if kind == "file":
-        return FileRefused(reply)
-    if kind == "query":
-        return QueryRefused(reply)
+        return OutOfMemory(reply, "the program ran out of memory for this command")
+    match reply.split(" ")[1:]:
+        case ["repeated", name, *_]:
+            return NameTaken(reply, f"a table named {name} is live")
+        case ["unknown", name, *_]:
+            return TableUnknown(reply, f"no table named {name} is live")
+        case ["column", name, place, *_]:
+            return ColumnUnknown(reply, f"the table {name} has no column {place}")
+        case ["full", what, count, "more", more, *_]:
+            words = f"the lake has {int(count):,} {_FULL.get(what, what)}, and {int(more):,} more are too many"
+            return LakeFull(reply, words, what, int(count), int(more))
+        case ["csv", *words]:
+            return _table_refused(reply, words)
+        case ["values", "column", place]:
+            return TableRefused(reply, f"column {place} has more than 4,194,304 distinct values")
+        case ["file", why]:
+            return FileRefused(reply, _FILES.get(why))
+        case ["query", "line", line, *_]:
+            return QueryRefused(reply, f"value {line} is not UTF-8")
+        case ["query", "values"]:
+            return QueryRefused(reply, "there are more than 4,194,304 distinct values")
     return Refused(reply)
+
+
+def _table_refused(reply: str, words: list[str]) -> TableRefused:
+    """The exception of a reply `refused csv ..`, from the words behind `csv`."""
+    match words:
+        case ["no-header"]:
+            return TableRefused(reply, "it has no header")
+        case ["columns", count]:
+            return TableRefused(reply, f"its header has {int(count):,} columns, and at most 1,024 may be")
+        case ["record", record, "want", want, "got", got]:
+            fields = "field" if got == "1" else "fields"
+            return TableRefused(reply, f"record {record} has {got} {fields}, and the header has {want}", int(record))
+        case ["record", record, "field", field, *_]:
+            return TableRefused(reply, f"field {field} of record {record} is not UTF-8; the file may have another encoding", int(record), int(field))
+    return TableRefused(reply)

@@ -2,21 +2,26 @@
 
 from __future__ import annotations
 
-import csv
-import io
 import os
 import sys
-from typing import Any, Dict, Iterable, Iterator, List, Optional, Sequence, Tuple, Union
+from collections.abc import Iterable, Iterator, Sequence
+from contextlib import AbstractContextManager, nullcontext
+from dataclasses import dataclass
+from types import TracebackType
+from typing import Any, Protocol, TypeAlias
 
-from .errors import ColumnUnknown, FolderEmpty, JosieError, NameInvalid, Refused, TooLong, ValueInvalid
+from .errors import ColumnUnknown, FolderEmpty, JosieError, NameInvalid, Refused, TableUnknown, TooLong, ValueInvalid
+from .findings import Findings, checked_k, cuts, found
 from .names import checked, table_name
-from .program import BATCH_BYTES, BATCH_COMMANDS, BLOCK_BYTES, Program, block
-from .replies import Answer, Dropped, FolderLoad, Loaded, Merged, Table
+from .profiles import HEADER_BYTES, Profile, header, profile
+from .program import BATCH_COMMANDS, BLOCK_BYTES, Program, block
+from .replies import Answer, Dropped, FolderLoad, Loaded, Match, Merged, Table
 
-Path = Union[str, "os.PathLike[str]"]
+Path: TypeAlias = "str | os.PathLike[str]"
 
-#: So many bytes at the beginning of a table are read for the names of its columns.
-_HEADER_BYTES = 1 << 20
+#: A folder is loaded in batches of so many files and so many bytes, few enough that a bar can show how far it is.
+_FOLDER_COMMANDS = 64
+_FOLDER_BYTES = 33_554_432
 
 
 class Lake:
@@ -24,16 +29,27 @@ class Lake:
 
     `program` is the path of the program; without it, the one is run that the variable JOSIE names, or that was built in this repository, or
     that is on the path. Where it cannot be started, or has ended, a call raises `LakeEnded`.
+
+    With `profiles`, each table that is loaded is read by Python too, for the marks on its columns and for warnings (`profile`); else only its header is
+    read, which makes long loads shorter.
+
+    >>> with Lake() as lake:
+    ...     _ = lake.load("stations", b"id,city\\n1,Oslo\\n2,Lima\\n")
+    ...     _ = lake.load("rivers", b"river,mouth\\nTiber,Rome\\nRimac,LIMA\\n")
+    ...     lake.like("stations", "city").matches
+    (Match(overlap=1, table='rivers', place=2, column='mouth'),)
     """
 
-    def __init__(self, program: Optional[str] = None) -> None:
+    def __init__(self, program: str | None = None, *, profiles: bool = True) -> None:
         self._program = Program(program)
-        self._columns: Dict[str, Tuple[str, ...]] = {}
+        self._reads_tables = profiles
+        self._profiles: dict[str, Profile | None] = {}
+        self._sizes: dict[tuple[str, int], int] = {}
 
-    def __enter__(self) -> "Lake":
+    def __enter__(self) -> Lake:
         return self
 
-    def __exit__(self, *_: Any) -> None:
+    def __exit__(self, kind: type[BaseException] | None, error: BaseException | None, trace: TracebackType | None) -> None:
         self.close()
 
     def close(self) -> None:
@@ -46,9 +62,9 @@ class Lake:
         Raises `NameInvalid` or `TooLong` before anything is sent, and `NameTaken`, `TableRefused`, `FileRefused` or `LakeFull`, behind which
         the lake is as before.
         """
-        command, head = _load_command(name, table)
-        loaded = self._ask(command)
-        self._remember(loaded, head)
+        source = _source(name, table)
+        loaded: Loaded = self._ask(source.command)
+        self._remember(loaded, source)
         return loaded
 
     def load_folder(self, folder: Path, suffix: str = ".csv") -> FolderLoad:
@@ -57,59 +73,102 @@ class Lake:
         A file that is no table is listed with what it was refused for, and the others are loaded. On a terminal a bar shows how far it is,
         where tqdm is installed. Raises `FolderEmpty`.
         """
-        paths = sorted(entry.path for entry in os.scandir(folder) if entry.is_file() and entry.name.lower().endswith(suffix.lower()))
-        if not paths:
-            raise FolderEmpty(f"{os.fspath(folder)} has no file whose name ends in {suffix}")
+        paths = folder_files(folder, suffix)
         done = FolderLoad()
-        for batch in _batches(_progress(paths), done):
-            for (path, _, head), reply in zip(batch, self._program.ask([command for _, command, _ in batch])):
-                if isinstance(reply, Refused):
-                    done.refused[path] = reply
-                else:
+        with progress(len(paths)) as bar:
+            for batch in _batches(paths, done):
+                for (path, source), reply in zip(batch, self._program.ask([source.command for _, source in batch])):
+                    if isinstance(reply, Refused):
+                        done.refused[path] = reply
+                        continue
                     done.loaded.append(reply)
-                    self._remember(reply, head)
+                    done.paths[reply.name] = path
+                    warnings = self._remember(reply, source)
+                    if warnings:
+                        done.warnings[path] = warnings
+                bar.update(len(batch))
         return done
 
     def drop(self, name: str) -> Dropped:
         """Drops a live table, or raises `TableUnknown`."""
-        dropped = self._ask(b"drop " + checked(name) + b"\n")
-        self._columns.pop(name, None)
+        dropped: Dropped = self._ask(b"drop " + checked(name) + b"\n")
+        self._forget(name)
         return dropped
 
-    def tables(self) -> List[Table]:
+    def tables(self) -> list[Table]:
         """The live tables, in the order of their loads."""
-        return self._ask(b"tables\n")
+        tables: list[Table] = self._ask(b"tables\n")
+        return tables
 
-    def columns(self, name: str) -> Tuple[str, ...]:
-        """The names of the columns of a table that this lake has loaded, in their order.
+    def columns(self, name: str) -> tuple[str, ...]:
+        """The names of the columns of a live table, in their order.
 
-        Raises `ColumnUnknown` where there is no such table, or where its header could not be read here.
+        Raises `TableUnknown`, or `ColumnUnknown` where Python could not read the table's header as the program did.
         """
-        if name not in self._columns:
+        return self.profile(name).columns
+
+    def profile(self, name: str) -> Profile:
+        """The names of a table's columns, which of them are numbers, and warnings of what looks wrong with the table. Raises as `columns` does."""
+        if name not in self._profiles:
+            raise TableUnknown(f"no table named {name} is live")
+        known = self._profiles[name]
+        if known is None:
             raise ColumnUnknown(f"the names of the columns of {name} are not known")
-        return self._columns[name]
+        return known
 
     def search(self, values: Iterable[str], k: int = 10) -> Answer:
-        """The k columns (1 to 10,000) that share most distinct values with these. Raises `ValueInvalid` or `TooLong` before anything is sent."""
-        return self._ask(b"search %d\n" % _checked_k(k) + block(b"".join(map(_value_line, values))))
+        """The k columns (1 to 10,000) that share most distinct values with these.
 
-    def like(self, table: str, column: Union[int, str], k: int = 10) -> Answer:
+        Raises `CountInvalid`, `ValueInvalid` or `TooLong` before anything is sent.
+        """
+        answer: Answer = self._ask(_search_command(_query_block(values), k))
+        return answer
+
+    def like(self, table: str, column: int | str, k: int = 10) -> Answer:
         """The k columns of other tables that share most distinct values with this one, which is named by its place, from 1, or by its name.
 
-        Raises `TableUnknown` or `ColumnUnknown`.
+        Raises `CountInvalid`, `TableUnknown` or `ColumnUnknown`.
         """
-        place = self._place(table, column) if isinstance(column, str) else column
-        return self._ask(_like_command(table, place, k))
+        answer: Answer = self._ask(_like_command(table, self._place(table, column), k))
+        return answer
 
-    def likes(self, columns: Sequence[Tuple[str, int]], k: int = 10) -> List[Answer]:
+    def likes(self, columns: Sequence[tuple[str, int]], k: int = 10) -> list[Answer]:
         """The answers of `like` for many columns, each the name of a table and a place. The first that is refused is raised."""
         commands = [_like_command(table, place, k) for table, place in columns]
-        replies: List[Any] = []
+        replies: list[Any] = []
         for first in range(0, len(commands), BATCH_COMMANDS):
             replies += self._program.ask(commands[first : first + BATCH_COMMANDS])
         return [_raised(reply) for reply in replies]
 
-    def merge(self, whole: bool = True) -> Optional[Merged]:
+    def sizes(self, columns: Iterable[tuple[str, int]]) -> list[int]:
+        """The numbers of distinct values of columns, each the name of a table and a place, as the program counts them."""
+        columns = list(columns)
+        unknown = [column for column in dict.fromkeys(columns) if column not in self._sizes]
+        self._sizes.update((column, answer.values) for column, answer in zip(unknown, self.likes(unknown, k=1)))
+        return [self._sizes[column] for column in columns]
+
+    def find(self, values: Iterable[str], k: int = 10, *, numbers: bool = True) -> Findings:
+        """As `search`, and for each row the column's own size, the share of the query, Jaccard's measure, and whether it is a column of numbers; and
+        how many further columns tie with the last row. Without `numbers` the columns of numbers are left out.
+
+        >>> with Lake() as lake:
+        ...     _ = lake.load("stations", b"id,city\\n1,Oslo\\n2,Lima\\n3,Rome\\n")
+        ...     found = lake.find(["lima", "rome"])
+        ...     [(row.column, row.overlap, row.size, row.share, round(row.jaccard, 2)) for row in found], found.ties
+        ([('city', 2, 3, 1.0, 0.67)], 0)
+        """
+        lines = _query_block(values)
+        return self._findings(lambda _, rows: [self._ask(_search_command(lines, rows))], 1, k, numbers)[0]
+
+    def find_like(self, table: str, column: int | str, k: int = 10, *, numbers: bool = True) -> Findings:
+        """As `like`, with what `find` tells."""
+        return self.find_likes([(table, self._place(table, column))], k, numbers=numbers)[0]
+
+    def find_likes(self, columns: Sequence[tuple[str, int]], k: int = 10, *, numbers: bool = True) -> list[Findings]:
+        """What `find_like` tells of many columns, each the name of a table and a place. The first that is refused is raised."""
+        return self._findings(lambda some, rows: self.likes([columns[number] for number in some], rows), len(columns), k, numbers)
+
+    def merge(self, whole: bool = True) -> Merged | None:
         """Merges the whole index into one part, which makes searches faster and changes no answer; or, where `whole` is false, a step of that.
 
         `None` where there is nothing to merge.
@@ -117,18 +176,51 @@ class Lake:
         (reply,) = self._program.ask([b"merge all\n" if whole else b"merge\n"])
         if isinstance(reply, Refused) and reply.reply.startswith("refused nothing to merge"):
             return None
-        return _raised(reply)
+        merged: Merged = _raised(reply)
+        return merged
+
+    def is_numbers(self, table: str, place: int) -> bool | None:
+        """Whether all values of a column are numbers; `None` where that is not known."""
+        known = self._profiles.get(table)
+        return known.numbers[place - 1] if known else None
+
+    def _findings(self, ask: Any, count: int, k: int, numbers: bool) -> list[Findings]:
+        def keeps(match: Match) -> bool:
+            return numbers or not self.is_numbers(match.table, match.place)
+
+        all_cut = cuts(ask, count, checked_k(k), keeps)
+        sizes = iter(self.sizes([(match.table, match.place) for cut in all_cut for match in cut.matches]))
+        return [
+            Findings(
+                cut.values,
+                cut.position,
+                tuple(found(match, cut.values, next(sizes), self.is_numbers(match.table, match.place)) for match in cut.matches),
+                cut.ties,
+                cut.left_out,
+                cut.complete,
+            )
+            for cut in all_cut
+        ]
 
     def _ask(self, command: bytes) -> Any:
         (reply,) = self._program.ask([command])
         return _raised(reply)
 
-    def _remember(self, loaded: Loaded, head: bytes) -> None:
-        names = _header(head)
-        if len(names) == loaded.columns:
-            self._columns[loaded.name] = names
+    def _remember(self, loaded: Loaded, source: _Source) -> tuple[str, ...]:
+        """Keeps what Python reads of a table, where it finds as many columns as the program did, and gives the warnings."""
+        known = profile(source.table) if self._reads_tables else None
+        known = known or header(_head(source.table))
+        is_same = len(known.columns) == loaded.columns
+        self._profiles[loaded.name] = known if is_same else None
+        return known.warnings if is_same else ()
 
-    def _place(self, table: str, column: str) -> int:
+    def _forget(self, name: str) -> None:
+        del self._profiles[name]
+        self._sizes = {column: size for column, size in self._sizes.items() if column[0] != name}
+
+    def _place(self, table: str, column: int | str) -> int:
+        if isinstance(column, int):
+            return column
         places = [place for place, name in enumerate(self.columns(table), 1) if name == column]
         if len(places) != 1:
             raise ColumnUnknown(f"{len(places)} columns of {table} are named {column!r}")
@@ -141,28 +233,49 @@ def _raised(reply: Any) -> Any:
     return reply
 
 
-def _load_command(name: str, table: Any) -> Tuple[bytes, bytes]:
-    """The command that loads a table, and the beginning of its bytes."""
+@dataclass(frozen=True)
+class _Source:
+    """A table that is to be loaded: the command, the table's bytes or its path, and how many bytes it has."""
+
+    command: bytes
+    table: bytes | str
+    size: int
+
+
+def _source(name: str, table: Any) -> _Source:
     front = checked(name)
     if isinstance(table, (str, os.PathLike)):
         path = os.path.abspath(os.fspath(table))
         if _fits_a_line(path):
-            return b"loadfile " + front + b" " + os.fsencode(path) + b"\n", _head(path)
-        with open(path, "rb") as file:
-            data = file.read(BLOCK_BYTES + 1)
-    elif isinstance(table, (bytes, bytearray)):
-        data = bytes(table)
-    elif hasattr(table, "to_csv"):
-        data = table.to_csv(index=False).encode("utf-8")
-    else:
-        raise TypeError(f"a table is a path, bytes or a DataFrame, not {type(table).__name__}")
-    return b"load " + front + b"\n" + block(data), data[:_HEADER_BYTES]
+            return _Source(b"loadfile " + front + b" " + os.fsencode(path) + b"\n", path, _size(path))
+    data = table_bytes(table)
+    return _Source(b"load " + front + b"\n" + block(data), data, len(data))
+
+
+def table_bytes(table: Any) -> bytes:
+    """The bytes of a table that is given as a path, as bytes or as a DataFrame; of a file at most one more than it may have."""
+    if isinstance(table, (str, os.PathLike)):
+        with open(table, "rb") as file:
+            return file.read(BLOCK_BYTES + 1)
+    if isinstance(table, (bytes, bytearray)):
+        return bytes(table)
+    if hasattr(table, "to_csv"):
+        return bytes(table.to_csv(index=False).encode("utf-8"))
+    raise TypeError(f"a table is a path, bytes or a DataFrame, not {type(table).__name__}")
+
+
+def _search_command(lines: bytes, k: int) -> bytes:
+    return b"search %d\n" % checked_k(k) + lines
 
 
 def _like_command(table: str, place: int, k: int) -> bytes:
     if not 1 <= place <= 4_294_967_295:
         raise ColumnUnknown(f"a place is 1 to 4,294,967,295, not {place}")
-    return b"like %d " % _checked_k(k) + checked(table) + b" %d\n" % place
+    return b"like %d " % checked_k(k) + checked(table) + b" %d\n" % place
+
+
+def _query_block(values: Iterable[str]) -> bytes:
+    return block(b"".join(map(_value_line, values)))
 
 
 def _value_line(value: str) -> bytes:
@@ -175,12 +288,6 @@ def _value_line(value: str) -> bytes:
     return line + b"\n"
 
 
-def _checked_k(k: int) -> int:
-    if not 1 <= k <= 10_000:
-        raise ValueError(f"k is 1 to 10,000, not {k}")
-    return k
-
-
 def _fits_a_line(path: str) -> bool:
     """Whether a path can stand in a line of a script: it is UTF-8 of some length, has no line feed, and no space or carriage return at its end."""
     try:
@@ -190,50 +297,69 @@ def _fits_a_line(path: str) -> bool:
     return len(encoded) <= 3_000 and b"\n" not in encoded and not encoded.endswith((b" ", b"\r"))
 
 
-def _head(path: str) -> bytes:
-    """The beginning of a file, or nothing where it cannot be read, which the program will say."""
+def _head(table: bytes | str) -> bytes:
+    """The beginning of a table's bytes or of a file, or nothing where the file cannot be read any more."""
+    if isinstance(table, bytes):
+        return table[:HEADER_BYTES]
     try:
-        with open(path, "rb") as file:
-            return file.read(_HEADER_BYTES)
+        with open(table, "rb") as file:
+            return file.read(HEADER_BYTES)
     except OSError:
         return b""
 
 
-def _header(head: bytes) -> Tuple[str, ...]:
-    """The names of the columns of a table that begins so, where they can be read."""
+def _size(path: str) -> int:
     try:
-        records = csv.reader(io.StringIO(head.decode("utf-8-sig", "replace"), newline=""))
-        return tuple(next((record for record in records if record), ()))
-    except csv.Error:
-        return ()
+        return os.path.getsize(path)
+    except OSError:
+        return 0
 
 
-def _batches(paths: Iterable[str], done: FolderLoad) -> Iterator[List[Tuple[str, bytes, bytes]]]:
-    """The files with their commands and their beginnings, in lists that fit a batch; those of which no command can be made are refused."""
-    batch: List[Tuple[str, bytes, bytes]] = []
+def folder_files(folder: Path, suffix: str) -> list[str]:
+    """The paths of the folder's files whose names end so, in any case, sorted. Raises `FolderEmpty` where there is none."""
+    paths = sorted(entry.path for entry in os.scandir(folder) if entry.is_file() and entry.name.lower().endswith(suffix.lower()))
+    if not paths:
+        raise FolderEmpty(f"{os.fspath(folder)} has no file whose name ends in {suffix}")
+    return paths
+
+
+def _batches(paths: Iterable[str], done: FolderLoad) -> Iterator[list[tuple[str, _Source]]]:
+    """The files as they are loaded together; those of which no command can be made are refused."""
+    batch: list[tuple[str, _Source]] = []
     size = 0
     for path in paths:
         try:
-            command, head = _load_command(table_name(path), path)
-            weight = max(len(command), os.path.getsize(path))
+            source = _source(table_name(path), path)
         except (NameInvalid, TooLong, OSError) as error:
             done.refused[path] = error if isinstance(error, JosieError) else JosieError(str(error))
             continue
-        if len(batch) == BATCH_COMMANDS or size + weight > BATCH_BYTES:
+        if batch and (len(batch) == _FOLDER_COMMANDS or size + source.size > _FOLDER_BYTES):
             yield batch
             batch, size = [], 0
-        batch.append((path, command, head))
-        size += weight
+        batch.append((path, source))
+        size += source.size
     if batch:
         yield batch
 
 
-def _progress(items: Sequence[str]) -> Iterable[str]:
-    """The items, with a bar on a terminal where tqdm is there."""
-    if not sys.stderr.isatty():
-        return items
-    try:
-        from tqdm import tqdm
-    except ImportError:
-        return items
-    return tqdm(items, unit="file", leave=False)
+class Bar(Protocol):
+    """What shows how far something is."""
+
+    def update(self, count: int) -> object: ...
+
+
+class _NoBar:
+    def update(self, count: int) -> None:
+        pass
+
+
+def progress(total: int, unit: str = "file") -> AbstractContextManager[Bar]:
+    """A bar for so many files, or other things, on a terminal, where tqdm is installed; else something that shows nothing."""
+    if sys.stderr.isatty():
+        try:
+            from tqdm import tqdm
+        except ImportError:
+            return nullcontext(_NoBar())
+        bar: AbstractContextManager[Bar] = tqdm(total=total, unit=unit, leave=False)
+        return bar
+    return nullcontext(_NoBar())

@@ -14,13 +14,13 @@ def is_name(name: bytes) -> bool:
 
 def checked(name: str) -> bytes:
     """The bytes of a name."""
-    encoded = name.encode("utf-8", "surrogateescape")
+    encoded = name.encode("utf-8", "surrogatepass")
     if not is_name(encoded):
         raise NameInvalid(f"{name!r} is no name of a table: 1 to 255 bytes of printable ASCII without the space")
     return encoded
 
 
-def table_name(path: "str | os.PathLike[str]") -> str:
+def table_name(path: str | os.PathLike[str]) -> str:
     """The name of a file's table: the file's own name without `.csv` at its end. Each byte that a table's name cannot have, and each `%`, is
     written as `%` and two hexadecimal digits. A name that does not end in `.csv` is kept whole, with a `%` behind it. So no two files of a
     folder have one name.

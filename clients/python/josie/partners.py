@@ -4,17 +4,31 @@ from __future__ import annotations
 
 import csv
 import os
+from collections.abc import Iterable, Iterator
 from dataclasses import astuple, dataclass, fields
-from typing import IO, Iterator, List, Optional, Tuple, Union
+from typing import IO, TYPE_CHECKING
 
 from .errors import ColumnUnknown
-from .lake import Lake
+from .findings import Findings, checked_k
+from .lake import Lake, progress
 from .replies import FolderLoad
+
+if TYPE_CHECKING:
+    import pandas
+
+#: So many columns are asked about at once, few enough that a bar can show how far it is.
+_ASKED_AT_ONCE = 256
 
 
 @dataclass(frozen=True)
 class Partner:
-    """A column of `values` distinct values, a column of another table that shares `overlap` of them, and which share of them that is, from 0 to 1."""
+    """A column of `values` distinct values, and a column of another table that shares `overlap` of them.
+
+    `partner_values` is the number of the partner's own distinct values; `share` is the overlap divided by `values`, and `jaccard` by the number of
+    distinct values that the two have together. `numbers` and `partner_numbers` say whether all values are numbers (`None`: not known). `ties` is the
+    number of further columns that share as many values as this column's last partner, and were cut by their names; where `complete` is false, there
+    may be more of them.
+    """
 
     table: str
     place: int
@@ -25,23 +39,103 @@ class Partner:
     partner_column: str
     overlap: int
     share: float
+    partner_values: int
+    jaccard: float
+    numbers: bool | None
+    partner_numbers: bool | None
+    ties: int
+    complete: bool
 
 
-def joinable(folder: Union[str, "os.PathLike[str]"], k: int = 5, program: Optional[str] = None) -> Tuple[List[Partner], FolderLoad]:
-    """For every column of the tables in the folder its k best partners in other tables, and what came of loading the folder."""
+@dataclass(frozen=True)
+class Asked:
+    """A column of a folder's table, and what was found for it: `None` where it was left out as a column of numbers. `values` is the number of its
+    distinct values."""
+
+    table: str
+    place: int
+    column: str
+    values: int
+    numbers: bool | None
+    findings: Findings | None
+
+    def partners(self) -> Iterator[Partner]:
+        """A row for each partner, with ratios of four digits."""
+        if self.findings is None:
+            return
+        for row in self.findings:
+            yield Partner(
+                table=self.table,
+                place=self.place,
+                column=self.column,
+                values=self.values,
+                partner_table=row.table,
+                partner_place=row.place,
+                partner_column=row.column,
+                overlap=row.overlap,
+                share=round(row.share, 4),
+                partner_values=row.size,
+                jaccard=round(row.jaccard, 4),
+                numbers=self.numbers,
+                partner_numbers=row.numbers,
+                ties=self.findings.ties,
+                complete=self.findings.complete,
+            )
+
+
+@dataclass(frozen=True)
+class Survey:
+    """What came of loading a folder, and what was found for each column of its tables, in the order of their loads."""
+
+    load: FolderLoad
+    columns: tuple[Asked, ...]
+
+    @property
+    def partners(self) -> list[Partner]:
+        """The partners of all columns."""
+        return [partner for column in self.columns for partner in column.partners()]
+
+
+def survey(folder: str | os.PathLike[str], k: int = 5, *, numbers: bool = True, program: str | None = None) -> Survey:
+    """For every column of the tables in the folder its k best partners in other tables; without `numbers` the columns of numbers are neither asked
+    nor found.
+
+    Raises `CountInvalid` or `FolderEmpty` before the program is run or anything is loaded.
+    """
+    checked_k(k)
     with Lake(program) as lake:
         load = lake.load_folder(folder)
         lake.merge()
-        return list(_partners(lake, load, k)), load
+        return Survey(load, tuple(_asked(lake, load, k, numbers)))
 
 
-def _partners(lake: Lake, load: FolderLoad, k: int) -> Iterator[Partner]:
-    asked = [(table.name, place) for table in load.loaded for place in range(1, table.columns + 1)]
-    for (table, place), answer in zip(asked, lake.likes(asked, k)):
-        column = _column_name(lake, table, place)
-        for match in answer:
-            share = round(answer.share(match), 4)
-            yield Partner(table, place, column, answer.values, match.table, match.place, match.column, match.overlap, share)
+def joinable(folder: str | os.PathLike[str], k: int = 5, program: str | None = None, *, numbers: bool = True) -> tuple[list[Partner], FolderLoad]:
+    """The partners that `survey` finds, and what came of loading the folder.
+
+    >>> from tempfile import TemporaryDirectory
+    >>> with TemporaryDirectory() as folder:
+    ...     for name, text in {"stations": "city\\nOslo\\nLima\\n", "rivers": "river,mouth\\nRimac,LIMA\\n"}.items():
+    ...         with open(f"{folder}/{name}.csv", "w") as file:
+    ...             _ = file.write(text)
+    ...     partners, load = joinable(folder)
+    >>> [(row.table, row.column, row.partner_table, row.partner_column, row.overlap, row.share, row.jaccard) for row in partners]
+    [('rivers', 'mouth', 'stations', 'city', 1, 1.0, 0.5), ('stations', 'city', 'rivers', 'mouth', 1, 0.5, 0.5)]
+    """
+    made = survey(folder, k, numbers=numbers, program=program)
+    return made.partners, made.load
+
+
+def _asked(lake: Lake, load: FolderLoad, k: int, numbers: bool) -> Iterator[Asked]:
+    columns = [(table.name, place) for table in load.loaded for place in range(1, table.columns + 1)]
+    asked = [column for column in columns if numbers or not lake.is_numbers(*column)]
+    findings: dict[tuple[str, int], Findings] = {}
+    with progress(len(asked), "column") as bar:
+        for first in range(0, len(asked), _ASKED_AT_ONCE):
+            some = asked[first : first + _ASKED_AT_ONCE]
+            findings.update(zip(some, lake.find_likes(some, k, numbers=numbers)))
+            bar.update(len(some))
+    for (table, place), size in zip(columns, lake.sizes(columns)):
+        yield Asked(table, place, _column_name(lake, table, place), size, lake.is_numbers(table, place), findings.get((table, place)))
 
 
 def _column_name(lake: Lake, table: str, place: int) -> str:
@@ -52,8 +146,17 @@ def _column_name(lake: Lake, table: str, place: int) -> str:
         return ""
 
 
-def write_csv(partners: List[Partner], file: IO[str]) -> None:
-    """Writes the partners as a CSV table with a header."""
+def write_csv(partners: Iterable[Partner], file: IO[str]) -> None:
+    """Writes the partners as a CSV table with a header; truth values are `true` and `false`, and empty where they are not known."""
+    words = {True: "true", False: "false", None: ""}
     writer = csv.writer(file, lineterminator="\n")
     writer.writerow([column.name for column in fields(Partner)])
-    writer.writerows(map(astuple, partners))
+    for partner in partners:
+        writer.writerow([words[value] if value is None or isinstance(value, bool) else value for value in astuple(partner)])
+
+
+def to_frame(partners: Iterable[Partner]) -> pandas.DataFrame:
+    """The partners as a DataFrame. It needs pandas."""
+    import pandas
+
+    return pandas.DataFrame(map(astuple, partners), columns=[column.name for column in fields(Partner)])

@@ -5,7 +5,8 @@ from __future__ import annotations
 import os
 import shutil
 import subprocess
-from typing import IO, Any, List, Optional, Sequence
+from collections.abc import Sequence
+from typing import IO, Any
 
 from .errors import LakeEnded, TooLong
 from .replies import further_lines, parsed
@@ -50,27 +51,41 @@ def block(data: bytes) -> bytes:
 class Program:
     """A josie that runs until `close`, or until it ends by itself."""
 
-    def __init__(self, path: Optional[str] = None) -> None:
+    def __init__(self, path: str | None = None) -> None:
+        pipe = subprocess.PIPE
         try:
-            self._child = subprocess.Popen(
-                [path or find_program(), "run"], stdin=subprocess.PIPE, stdout=subprocess.PIPE, stderr=subprocess.PIPE
-            )
+            self._child = subprocess.Popen([path or find_program(), "run"], stdin=pipe, stdout=pipe, stderr=pipe)
         except OSError as error:
             raise LakeEnded(None, str(error)) from error
         self._between_batches = True
 
+    @property
+    def _input(self) -> IO[bytes]:
+        assert self._child.stdin is not None
+        return self._child.stdin
+
+    @property
+    def _output(self) -> IO[bytes]:
+        assert self._child.stdout is not None
+        return self._child.stdout
+
+    @property
+    def _errors(self) -> IO[bytes]:
+        assert self._child.stderr is not None
+        return self._child.stderr
+
     def close(self) -> None:
         """Ends the program: its standard input is at its end, and nobody waits for more replies."""
-        for stream in (self._child.stdin, self._child.stdout, self._child.stderr):
+        for stream in (self._input, self._output, self._errors):
             _close(stream)
         self._child.wait()
 
-    def ask(self, commands: Sequence[bytes]) -> List[Any]:
+    def ask(self, commands: Sequence[bytes]) -> list[Any]:
         """The replies to the commands of one batch, refusals among them as exceptions that are not raised.
 
         The program reads a whole batch before it writes the first reply, so the two pipes cannot both fill up.
         """
-        if self._child.stdin.closed:
+        if self._input.closed:
             raise LakeEnded(None, "the lake was closed")
         if not self._between_batches:
             raise LakeEnded(None, "a call was broken off, and its replies are not read")
@@ -79,9 +94,9 @@ class Program:
         self._between_batches = False
         try:
             for command in commands:
-                self._child.stdin.write(command)
-            self._child.stdin.write(b"sync\n")
-            self._child.stdin.flush()
+                self._input.write(command)
+            self._input.write(b"sync\n")
+            self._input.flush()
             replies = [self._reply() for _ in commands]
         except OSError as error:
             raise self._ended() from error
@@ -93,15 +108,15 @@ class Program:
         return parsed(first, [self._line() for _ in range(further_lines(first))])
 
     def _line(self) -> bytes:
-        line = self._child.stdout.readline()
+        line = self._output.readline()
         if not line.endswith(b"\n"):
             raise self._ended()
         return line[:-1]
 
     def _ended(self) -> LakeEnded:
-        _close(self._child.stdin)
+        _close(self._input)
         status = self._child.wait()
-        return LakeEnded(status, self._child.stderr.read().decode("utf-8", "replace").strip())
+        return LakeEnded(status, self._errors.read().decode("utf-8", "replace").strip())
 
 
 def _close(stream: IO[bytes]) -> None:

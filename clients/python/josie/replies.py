@@ -3,10 +3,14 @@
 from __future__ import annotations
 
 import re
+from collections.abc import Iterator
 from dataclasses import dataclass, field
-from typing import Dict, Iterator, List, Tuple
+from typing import TYPE_CHECKING, Any
 
 from .errors import JosieError, refusal
+
+if TYPE_CHECKING:
+    import pandas
 
 
 @dataclass(frozen=True)
@@ -54,6 +58,10 @@ class Match:
     place: int
     column: str
 
+    def order(self) -> tuple[int, bytes, bytes, int]:
+        """What rows of an answer are sorted by: greater overlap, table name and column name by their bytes, place."""
+        return -self.overlap, self.table.encode(), self.column.encode(), self.place
+
 
 @dataclass(frozen=True)
 class Answer:
@@ -61,7 +69,7 @@ class Answer:
 
     values: int
     position: int
-    matches: Tuple[Match, ...]
+    matches: tuple[Match, ...]
 
     def __iter__(self) -> Iterator[Match]:
         return iter(self.matches)
@@ -73,7 +81,7 @@ class Answer:
         """Which share of the query's values the column has, from 0 to 1."""
         return match.overlap / self.values if self.values else 0.0
 
-    def to_frame(self):
+    def to_frame(self) -> pandas.DataFrame:
         """The matches as a DataFrame, with their share of the query's values. It needs pandas."""
         import pandas
 
@@ -83,23 +91,27 @@ class Answer:
 
 @dataclass(frozen=True)
 class FolderLoad:
-    """What came of a folder: the tables that were loaded, and why each other file was refused, by its path."""
+    """What came of a folder: the tables that were loaded; the path of each by its name; the warnings of each that has some, and why each other file
+    was refused, by its path."""
 
-    loaded: List[Loaded] = field(default_factory=list)
-    refused: Dict[str, JosieError] = field(default_factory=dict)
+    loaded: list[Loaded] = field(default_factory=list)
+    paths: dict[str, str] = field(default_factory=dict)
+    warnings: dict[str, tuple[str, ...]] = field(default_factory=dict)
+    refused: dict[str, JosieError] = field(default_factory=dict)
 
 
 _ROW = re.compile(rb'  (\d+) (\S+) (\d+) "((?:[^"\\]|\\.)*)"', re.DOTALL)
 _TABLE = re.compile(rb"  (\S+) columns (\d+) members (\d+)")
+_ESCAPE = re.compile(rb'\\(x[0-9a-f]{2}|[nrt"\\])')
 _ESCAPES = {b"n": b"\n", b"r": b"\r", b"t": b"\t", b'"': b'"', b"\\": b"\\"}
 
 
 def _unquoted(name: bytes) -> str:
-    def byte(found: "re.Match[bytes]") -> bytes:
+    def byte(found: re.Match[bytes]) -> bytes:
         mark = found.group(1)
         return bytes([int(mark[1:], 16)]) if mark.startswith(b"x") else _ESCAPES[mark]
 
-    return re.sub(rb'\\(x[0-9a-f]{2}|[nrt"\\])', byte, name).decode("utf-8")
+    return (_ESCAPE.sub(byte, name) if b"\\" in name else name).decode("utf-8")
 
 
 def further_lines(first: bytes) -> int:
@@ -110,7 +122,23 @@ def further_lines(first: bytes) -> int:
     return 0
 
 
-def parsed(first: bytes, further: List[bytes]):
+def _match(line: bytes) -> Match:
+    found = _ROW.fullmatch(line)
+    if found is None:
+        raise JosieError(f"josie wrote an unknown row: {line!r}")
+    overlap, table, place, column = found.groups()
+    return Match(int(overlap), table.decode(), int(place), _unquoted(column))
+
+
+def _table(line: bytes) -> Table:
+    found = _TABLE.fullmatch(line)
+    if found is None:
+        raise JosieError(f"josie wrote an unknown row: {line!r}")
+    name, columns, members = found.groups()
+    return Table(name.decode(), int(columns), int(members))
+
+
+def parsed(first: bytes, further: list[bytes]) -> Any:
     """A reply, from its lines; a refusal is returned as its exception, not raised."""
     words = first.split(b" ")
     kind = words[1]
@@ -119,13 +147,9 @@ def parsed(first: bytes, further: List[bytes]):
     if kind == b"dropped":
         return Dropped(words[2].decode(), int(words[4]))
     if kind == b"tables":
-        return [Table(m.group(1).decode(), int(m.group(2)), int(m.group(3))) for m in map(_TABLE.fullmatch, further)]
+        return [_table(line) for line in further]
     if kind == b"answer":
-        matches = tuple(
-            Match(int(m.group(1)), m.group(2).decode(), int(m.group(3)), _unquoted(m.group(4)))
-            for m in map(_ROW.fullmatch, further)
-        )
-        return Answer(int(words[4]), int(words[6]), matches)
+        return Answer(int(words[4]), int(words[6]), tuple(map(_match, further)))
     if kind == b"merged":
         return Merged(int(words[2]), int(words[5]), int(words[8]))
     if kind == b"refused" or first.endswith(b" no memory"):

@@ -3,57 +3,30 @@
     PYTHONPATH=clients/python python3 -m unittest discover -s clients/python/tests
 """
 
+import contextlib
 import csv
 import doctest
 import importlib.util
 import io
 import os
+import pickle
 import random
 import re
 import signal
 import stat
 import subprocess
 import sys
-import tempfile
+import types
 import unittest
+from unittest import mock
 
 import josie
 from josie import Dropped, Lake, Loaded, Match, Merged, Table
+from josie.errors import refusal
+from josie.names import is_name
 from josie.program import find_program
 from josie.replies import parsed
-
-STATIONS = b"id,city,height\n1,Oslo,23\n2,Lima,161\n3,Rome,21\n"
-RIVERS = b"river,mouth\nTiber,ROME\nRimac,lima\nGlomma,Fredrikstad\n"
-
-
-def expected(sets, query, k, left_out=None):
-    """The k rows that a plain count over sets of ASCII values gives: greater overlap, then table, column and place."""
-    rows = [
-        (-len(query & values), table, column, place)
-        for (table, place, column), values in sets.items()
-        if table != left_out and query & values
-    ]
-    return tuple(Match(-overlap, table, place, column) for overlap, table, column, place in sorted(rows)[:k])
-
-
-class InALake(unittest.TestCase):
-    def setUp(self):
-        self.lake = self.enterContext(Lake()) if hasattr(self, "enterContext") else Lake()
-        self.addCleanup(self.lake.close)
-
-    def folder(self, **files):
-        made = tempfile.TemporaryDirectory()
-        self.addCleanup(made.cleanup)
-        for name, data in files.items():
-            self.write(made.name, name + ".csv", data)
-        return made.name
-
-    def write(self, folder, name, data):
-        path = os.path.join(os.fsencode(folder), os.fsencode(name))
-        with open(path, "wb") as file:
-            file.write(data)
-        return os.fsdecode(path)
-
+from support import RIVERS, STATIONS, InALake, expected, random_table
 
 class Calls(InALake):
     def test_each_call_has_its_reply(self):
@@ -79,11 +52,9 @@ class Calls(InALake):
         draw = random.Random(7)
         sets = {}
         for number in range(60):
-            columns = [[f"v{draw.randrange(90)}" for _ in range(12)] for _ in range(3)]
-            text = "".join(",".join(record) + "\n" for record in [("a", "b", "a"), *zip(*columns)])
-            self.lake.load(f"t{number}", text.encode())
-            for place, (name, column) in enumerate(zip("aba", columns), 1):
-                sets[f"t{number}", place, name] = set(column)
+            text, columns = random_table(draw, 90)
+            self.lake.load(f"t{number}", text)
+            sets.update(((f"t{number}", *column), values) for column, values in columns.items())
         for turn in range(40):
             if turn == 20:
                 self.lake.merge()
@@ -137,16 +108,24 @@ class Refusals(InALake):
             (josie.TableUnknown, lambda: self.lake.like("rivers", 1)),
             (josie.ColumnUnknown, lambda: self.lake.like("stations", 4)),
             (josie.ColumnUnknown, lambda: self.lake.like("stations", "town")),
+            (josie.TableUnknown, lambda: self.lake.like("rivers", "mouth")),
+            (josie.TableUnknown, lambda: self.lake.columns("rivers")),
+            (josie.TableUnknown, lambda: self.lake.find_like("rivers", 1)),
+            (josie.ColumnUnknown, lambda: self.lake.sizes([("stations", 1), ("stations", 4)])),
             (josie.ColumnUnknown, lambda: self.lake.like("stations", 0)),
             (josie.FileRefused, lambda: self.lake.load("rivers", "/nowhere/rivers.csv")),
             (josie.TableRefused, lambda: self.lake.load("rivers", b"")),
             (josie.NameInvalid, lambda: self.lake.load("two words", RIVERS)),
             (josie.NameInvalid, lambda: self.lake.drop("")),
+            (josie.NameInvalid, lambda: self.lake.load("\ud800", RIVERS)),
+            (FileNotFoundError, lambda: self.lake.load("rivers", "/nowhere/two\nlines.csv")),
             (josie.ValueInvalid, lambda: self.lake.search(["two\nlines"])),
             (josie.ValueInvalid, lambda: self.lake.search(["\ud800"])),
             (josie.TooLong, lambda: self.lake.load("long", b"x" * 67_108_865)),
-            (ValueError, lambda: self.lake.search(["Oslo"], k=0)),
-            (ValueError, lambda: self.lake.like("stations", 1, k=10_001)),
+            (josie.CountInvalid, lambda: self.lake.search(["Oslo"], k=0)),
+            (josie.CountInvalid, lambda: self.lake.like("stations", 1, k=10_001)),
+            (josie.CountInvalid, lambda: self.lake.find(["Oslo"], k=-1)),
+            (josie.CountInvalid, lambda: self.lake.find_likes([], k=10_001)),
             (TypeError, lambda: self.lake.load("number", 5)),
         ]:
             with self.subTest(kind=kind.__name__), self.assertRaises(kind):
@@ -159,6 +138,33 @@ class Refusals(InALake):
             with self.assertRaises(josie.TableRefused) as raised:
                 self.lake.load("wrong", data)
             self.assertEqual((raised.exception.record, raised.exception.field), (record, field))
+
+    def test_a_refusal_says_the_reason_in_words(self):
+        for reply, words in [
+            ("refused repeated stations at 1", "a table named stations is live"),
+            ("refused unknown rivers at 4", "no table named rivers is live"),
+            ("refused column stations 9 at 2", "the table stations has no column 9"),
+            ("refused file missing", "there is no such file"),
+            ("refused full tables 65536 more 1 at 65536", "the lake has 65,536 live tables, and 1 more are too many"),
+            ("refused csv no-header", "it has no header"),
+            ("refused csv columns 1025", "its header has 1,025 columns, and at most 1,024 may be"),
+            ("refused csv record 2 want 4 got 3", "record 2 has 3 fields, and the header has 4"),
+            ("refused csv record 2 field 1 not UTF-8", "field 1 of record 2 is not UTF-8; the file may have another encoding"),
+            ("refused values column 3", "column 3 has more than 4,194,304 distinct values"),
+            ("no memory", "the program ran out of memory for this command"),
+        ]:
+            refused = refusal(reply)
+            self.assertEqual((str(refused), refused.reply), (words, reply))
+
+    def test_exceptions_come_whole_out_of_another_process(self):
+        for error in [
+            refusal("refused full tables 65536 more 1 at 65536"),
+            refusal("refused csv record 2 field 1 not UTF-8"),
+            josie.LakeEnded(-9, "killed"),
+            josie.ShardFailed(2, "tcp://127.0.0.1:9", "its worker is gone"),
+        ]:
+            again = pickle.loads(pickle.dumps(error))
+            self.assertEqual((type(again), str(again), vars(again)), (type(error), str(error), vars(error)))
 
     def test_each_reply_of_the_formats_is_known(self):
         formats = os.path.join(os.path.dirname(__file__), "..", "..", "..", "docs", "FORMATS.md")
@@ -181,10 +187,10 @@ class Refusals(InALake):
         self.lake.close()
         with self.assertRaises(josie.LakeEnded):
             self.lake.tables()
-        for status, meaning in [(5, "ran out of memory"), (3, "reading failed"), (77, "exit code 77")]:
+        for status, meaning in [(5, "ran out of memory"), (3, "reading failed"), (77, "exit code 77"), (-9, "signal 9")]:
             path = os.path.join(self.folder(), "program")
             with open(path, "w") as file:
-                file.write(f"#!/bin/sh\nread line\nexit {status}\n")
+                file.write(f"#!/bin/sh\nread line\n{f'exit {status}' if status > 0 else f'kill {status} $$'}\n")
             os.chmod(path, stat.S_IRWXU)
             with Lake(path) as lake, self.assertRaises(josie.LakeEnded) as raised:
                 lake.tables()
@@ -219,6 +225,10 @@ class Refusals(InALake):
 
 
 class Folders(InALake):
+    def run_client(self, *words):
+        env = {**os.environ, "PYTHONPATH": os.pathsep.join(sys.path)}
+        return subprocess.run([sys.executable, "-m", "josie", *words], capture_output=True, text=True, timeout=60, env=env)
+
     def test_a_folder_with_files_that_are_no_tables(self):
         folder = self.folder(stations=STATIONS, rivers=RIVERS, ragged=b"a,b\n1\n", latin=b"a\n\xe9\n", empty=b"")
         self.write(folder, "wind speeds.csv", b"city\nOslo\n")
@@ -237,6 +247,15 @@ class Folders(InALake):
         })
         self.assertEqual([match.table for match in self.lake.search(["rome"])], ["%FF", "n" * 251, "rivers", "stations"])
 
+    def test_no_two_files_have_one_table(self):
+        draw = random.Random(4)
+        pieces = [b".csv", b".CSV", b"%", b"%25", b"25", b"a", b" ", b"\xc3\xa9", b"\xff", b"\n", b"."]
+        files = {b"".join(draw.choices(pieces, k=draw.randrange(1, 6))) for _ in range(20_000)}
+        names = {josie.table_name(os.fsdecode(b"folder/" + file)) for file in files}
+        self.assertEqual(len(names), len(files))
+        self.assertGreater(len(files), 5_000)
+        self.assertTrue(all(is_name(name.encode()) for name in names - {""}))
+
     def test_more_files_than_a_batch_has_commands(self):
         folder = self.folder(**{f"f{number:04}": b"name\n%d\n" % number for number in range(4_100)})
         load = self.lake.load_folder(folder)
@@ -250,24 +269,66 @@ class Folders(InALake):
 
     def test_joinable_at_the_command_line(self):
         folder = self.folder(stations=STATIONS, rivers=RIVERS, ragged=b"a,b\n1\n")
-        ended = subprocess.run(
-            [sys.executable, "-m", "josie", "joinable", folder, "--k", "1"],
-            capture_output=True, text=True, timeout=60, env={**os.environ, "PYTHONPATH": os.pathsep.join(sys.path)},
-        )
+        ended = self.run_client("joinable", folder, "--k", "1")
         self.assertEqual(ended.returncode, 0)
-        self.assertIn("ragged.csv: refused csv record 2 want 2 got 1", ended.stderr)
+        self.assertIn("ragged.csv: refused: record 2 has 1 field, and the header has 2", ended.stderr)
         self.assertEqual(ended.stdout.splitlines(), [
-            "table,place,column,values,partner_table,partner_place,partner_column,overlap,share",
-            "rivers,2,mouth,3,stations,2,city,2,0.6667",
-            "stations,2,city,3,rivers,2,mouth,2,0.6667",
+            "table,place,column,values,partner_table,partner_place,partner_column,overlap,share,partner_values,jaccard,numbers,partner_numbers,ties,complete",
+            "rivers,2,mouth,3,stations,2,city,2,0.6667,3,0.5,false,false,0,true",
+            "stations,2,city,3,rivers,2,mouth,2,0.6667,3,0.5,false,false,0,true",
         ])
+
+    def test_columns_of_which_not_all_is_told_are_named(self):
+        wide = (",".join(["c"] * 1000) + "\n" + ",".join(["7"] * 1000) + "\n").encode()
+        folder = self.folder(a=b"c\n7\nx\n", **{f"w{number:02}": wide for number in range(11)})
+        ended = self.run_client("joinable", folder, "--no-numbers")
+        self.assertEqual(len(ended.stdout.splitlines()), 1)
+        self.assertEqual(ended.stderr, "josie: a 1: 10,000 rows did not tell all partners or ties of this column\n")
+
+    def test_a_command_that_is_refused_leaves_what_was_there(self):
+        folder = self.folder(stations=STATIONS)
+        out = self.write(folder, "partners.out", b"as before")
+        for words, told in [(["--k", "0"], "k is 1 to 10,000, not 0"), (["--k", "10001"], "not 10001")]:
+            for command in ("joinable", "report"):
+                ended = self.run_client(command, folder, *words, "--out", out)
+                self.assertEqual((ended.returncode, told in ended.stderr), (1, True))
+        empty = self.folder()
+        ended = self.run_client("report", empty, "--out", out)
+        self.assertEqual((ended.returncode, ended.stderr), (1, f"josie: {empty} has no file whose name ends in .csv\n"))
+        with open(out, "rb") as file:
+            self.assertEqual(file.read(), b"as before")
+        self.assertEqual(sorted(os.listdir(folder)), ["partners.out", "stations.csv"])
+
+    def test_a_bar_is_shown_on_a_terminal(self):
+        class Terminal(io.StringIO):
+            def isatty(self):
+                return True
+
+        shown = []
+
+        class Bar(contextlib.AbstractContextManager):
+            def __init__(self, total, **_):
+                shown.append(total)
+
+            def __exit__(self, *_):
+                shown.append("end")
+
+            def update(self, count):
+                shown.append(count)
+
+        folder = self.folder(**{f"f{number:03}": b"name\n%d\n" % number for number in range(130)})
+        with mock.patch.dict(sys.modules, {"tqdm": types.SimpleNamespace(tqdm=Bar)}), mock.patch("sys.stderr", Terminal()):
+            self.lake.load_folder(folder)
+        self.assertEqual(shown, [130, 64, 64, 2, "end"])
+        with mock.patch.dict(sys.modules, {"tqdm": None}), mock.patch("sys.stderr", Terminal()), Lake() as lake:
+            self.assertEqual(len(lake.load_folder(folder).loaded), 130)
 
 
 def load_tests(loader, tests, _pattern):
     """The examples of the package are tests too."""
     os.environ["JOSIE"] = find_program()
-    tests.addTests(doctest.DocTestSuite("josie"))
-    tests.addTests(doctest.DocTestSuite("josie.names"))
+    for module in ("josie", *(f"josie.{name}" for name in ("errors", "lake", "names", "partners", "profiles", "sharded", "text"))):
+        tests.addTests(doctest.DocTestSuite(module))
     return tests
 
 

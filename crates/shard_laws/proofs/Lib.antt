@@ -1,0 +1,2 @@
+pub mod ShardLemmas
+mod WorkedRuns
