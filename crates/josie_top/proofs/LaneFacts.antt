@@ -1,6 +1,5 @@
 -- The record of batches whose lanes ran at the same time.
-use Rattle.std.specs.List.{AllByRecursion}
-use Rattle.std.proofs.Common.{◌≡◌, refl, ap, sym, ◌∙◌, subst, ℕ, zero, suc, ◌+◌, ◌-◌, ◌<◌, ◌≤◌, List, [], ◌∷◌, ◌++◌, length, take, drop, map, arith, Bool, true, false, length-append, sum_by}
+use Rattle.std.proofs.Common.{◌≡◌, refl, ap, sym, ◌∙◌, subst, ℕ, zero, suc, ◌+◌, ◌-◌, ◌≤◌, List, [], ◌∷◌, ◌++◌, length, take, drop, arith, Bool, length-append, sum_by}
 use Rattle.std.specs.Prelude.{Option}
 use Rattle.std.proofs.Math.Seq.{drop-append-le}
 use Rattle.std.proofs.lemmas.List.{length-map, take-append-le, take_all, drop_all, length-drop}
@@ -9,14 +8,14 @@ use Rattle.lake_model.specs.declared.Counts.{Counts}
 use Rattle.lake_model.specs.declared.Who.{Who}
 use Rattle.lake_model.specs.Journal.{Entry}
 use Rattle.script_model.specs.Commands.{Command, Batch}
-use Rattle.script_model.specs.Record.{Answered, Options, RunRecord}
+use Rattle.script_model.specs.Record.{Answered, RunRecord}
 use Rattle.script_model.specs.Play.{merger_commands, merges_of, updates, who_of}
 use Rattle.script_model.specs.Right.{AreBatchesRight, IsBatchRight, IsRight, between, done_of}
 use Rattle.script_model.specs.Lanes.{IsOfLanes}
 use Rattle.script_model.specs.Statuses.{IsStated}
 use Rattle.script_model.proofs.RightLemmas.{all_append}
 use Rattle.lake_desk.specs.Together.{IsOneBatchMore}
-use Rattle.josie_top.specs.Progress.{AddsAnswers, HasOneMore, IsMade}
+use Rattle.josie_top.specs.Progress.{AddsAnswers, HasOneMore}
 
 -- ---- a batch that is right stays right where the journal goes on
 

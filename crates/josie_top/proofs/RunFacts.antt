@@ -1,5 +1,5 @@
 -- The ends of a run, and one batch more.
-use Rattle.std.proofs.Common.{◌≡◌, refl, ap, sym, ◌∙◌, subst, ℕ, ◌+◌, ◌-◌, ◌^◌, ◌<◌, ◌≤◌, ◌⊎◌, inl, inr, List, [], ◌∷◌, ◌++◌, Bool, true, false, length, arith, sum_by, map, get_or, length-append}
+use Rattle.std.proofs.Common.{◌≡◌, refl, ap, sym, ◌∙◌, subst, ℕ, ◌+◌, ◌-◌, ◌^◌, ◌<◌, ◌≤◌, ◌⊎◌, inl, inr, List, [], ◌∷◌, ◌++◌, Bool, true, false, length, arith, sum_by, length-append}
 use Rattle.std.specs.Prelude.{Option, Some, None, Ok, Err, if◌then◌else◌, ⊤, MatchOption}
 use Rattle.std.specs.Option.{IfSome}
 use Rattle.std.specs.Io.KnownBytes.{Consumes, Appends, IsAtEnd}
@@ -16,13 +16,13 @@ use Rattle.script_model.specs.declared.Reason.{Reason}
 use Rattle.script_model.specs.declared.ScriptLimits.{ScriptLimits}
 use Rattle.script_model.specs.declared.Status.{Status}
 use Rattle.script_model.specs.declared.Status.TheVariants as status
-use Rattle.script_model.specs.Commands.{Command, File, Batch}
+use Rattle.script_model.specs.Commands.{File, Batch}
 use Rattle.script_model.specs.Reading.{read}
 use Rattle.script_model.specs.Plain.{Mode, Run, Make}
 use Rattle.script_model.specs.Script.{Commands, Whole, FaultAt, commands, commands_with, standard, start}
 use Rattle.script_model.specs.Record.{Options, Answered, RunRecord, plain, empty, with_end}
 use Rattle.script_model.specs.Answered.{is_update_task}
-use Rattle.script_model.specs.Play.{Lane, answers_of, batch_after, gathered, merger_commands, merges_of, pieces_of, play_batch, updates}
+use Rattle.script_model.specs.Play.{gathered, merger_commands, merges_of, updates}
 use Rattle.script_model.specs.Lanes.{IsOfLanes}
 use Rattle.script_model.specs.Statuses.{fetches, left_of, script_of, IsPrefix, IsCutOff}
 use Rattle.script_model.specs.Texts.{text_behind}
@@ -43,7 +43,7 @@ use Rattle.josie_top.specs.Progress.{AddsAnswers, AreCounted, HasCauses, HasMove
 use Rattle.script_laws.proofs.FetchFacts.{reads_fetches, script_fetches}
 use Rattle.josie_top.proofs.ReadFacts.{given_before, outcomes_size, fetched_so_far}
 use Rattle.josie_top.proofs.StreamFacts.{rose_since}
-use Rattle.josie_top.proofs.MadeFacts.{made_start, made_more, made_record_now, record_syncs}
+use Rattle.josie_top.proofs.MadeFacts.{made_start, made_record_now, record_syncs}
 use Rattle.josie_top.proofs.TextFacts.{text_more}
 use Rattle.josie_top.proofs.RowFacts.{script_front, script_whole, whole_front, meets_between, cut_within, done, cut_at_end, refused, broken_off, read_synced, late_start, late_more, late_within}
 

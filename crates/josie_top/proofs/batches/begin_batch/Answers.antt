@@ -1,14 +1,12 @@
-use Rattle.std.proofs.Common.{rules, ◌≡◌, subst, sym, ap, List, [], Ok, Err, length, true}
+use Rattle.std.proofs.Common.{subst, sym, List, [], Ok, length, true}
 use Rattle.std.specs.Prelude.{Option}
-use Rattle.lake_io.specs.Files as shelf
 use Rattle.lake_model.specs.Journal.{standard_limits}
 use Rattle.script_model.specs.declared.Status.{Status}
 use Rattle.script_model.specs.Record.{Options, with_end}
 use Rattle.script_model.specs.Texts.{text_behind}
 use Rattle.script_text.specs.Gathering.{IsWhole}
 use Rattle.script_text.specs.Gathers.{Gathers}
-use Rattle.script_text.specs.declared.refused.ScriptEnd.{ScriptEnd}
-use Rattle.josie_top.specs.Ends.{IsWritten, status_of_end}
+use Rattle.josie_top.specs.Ends.{IsWritten}
 use Rattle.josie_top.specs.Meets.{Meets}
 use Rattle.josie_top.proofs.RunFacts.{begun, ends_without, ends_gathering}
 use Rattle.josie_top.proofs.batches.begin_batch.Goals as goal

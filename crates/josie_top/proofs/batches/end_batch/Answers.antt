@@ -1,4 +1,4 @@
-use Rattle.std.proofs.Common.{rules, ◌≡◌, subst, sym, true, false, length}
+use Rattle.std.proofs.Common.{rules, ◌≡◌, subst, sym, true, false}
 use Rattle.std.specs.Io.KnownBytes.{Appends}
 use Rattle.lake_model.specs.Journal.{standard_limits}
 use Rattle.script_model.specs.declared.Status.{Status}

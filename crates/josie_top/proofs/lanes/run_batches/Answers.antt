@@ -1,4 +1,4 @@
-use Rattle.std.proofs.Common.{rules, ◌≡◌, refl, ap, sym, ◌∙◌, subst, ℕ, ◌+◌, List, [], Bool, ◌≤◌, ◌<◌, ◌++◌, true, false, length, arith}
+use Rattle.std.proofs.Common.{rules, ◌≡◌, refl, ap, sym, ◌∙◌, subst, ℕ, ◌+◌, List, [], ◌++◌, true, false, length, arith}
 use Rattle.std.specs.Prelude.{Option, is_err}
 use Rattle.std.proofs.KnownBytes.{Consumes-nil}
 use Rattle.lake_io.specs.Files as shelf
@@ -10,7 +10,7 @@ use Rattle.script_model.specs.Statuses.{IsStated}
 use Rattle.lake_desk.specs.Together.{AreTogether, IsOneBatchMore}
 use Rattle.script_model.specs.Record.{Answered, Options, RunRecord}
 use Rattle.josie_top.specs.Meets.{Meets}
-use Rattle.josie_top.specs.Progress.{IsAnswered, IsUnderWay}
+use Rattle.josie_top.specs.Progress.{IsUnderWay}
 use Rattle.josie_top.proofs.RunFacts.{starts, ends_between, is_answered, stands_still, causes_since, moved_on}
 use Rattle.josie_top.proofs.LaneFacts.{lanes_answers, lanes_more}
 use Rattle.josie_top.proofs.StreamFacts.{on_ok, on_err}

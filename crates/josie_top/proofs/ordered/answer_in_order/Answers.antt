@@ -1,4 +1,4 @@
-use Rattle.std.proofs.Common.{rules, ◌≡◌, ◌∙◌, ap}
+use Rattle.std.proofs.Common.{rules}
 use Rattle.lake_model.specs.Journal.{standard_limits}
 use Rattle.josie_top.proofs.MadeFacts.{ordered_more}
 use Rattle.josie_top.proofs.StreamFacts.{on_ok_then}

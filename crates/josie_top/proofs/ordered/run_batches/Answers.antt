@@ -1,4 +1,4 @@
-use Rattle.std.proofs.Common.{rules, ◌≡◌, refl, ap, sym, ◌∙◌, subst, ℕ, ◌+◌, List, [], Bool, ◌≤◌, ◌<◌, true, false, length, arith}
+use Rattle.std.proofs.Common.{rules, ◌≡◌, refl, ap, sym, ◌∙◌, subst, ℕ, ◌+◌, List, [], true, false, length, arith}
 use Rattle.std.specs.Prelude.{Option, is_err}
 use Rattle.std.proofs.KnownBytes.{Consumes-nil}
 use Rattle.lake_io.specs.Files as shelf
@@ -7,7 +7,7 @@ use Rattle.script_model.specs.declared.Status.TheVariants as status
 use Rattle.script_model.specs.Play.{updates}
 use Rattle.script_model.specs.Record.{Answered, Options, RunRecord}
 use Rattle.josie_top.specs.Meets.{Meets}
-use Rattle.josie_top.specs.Progress.{IsAnswered, IsUnderWay}
+use Rattle.josie_top.specs.Progress.{IsUnderWay}
 use Rattle.josie_top.proofs.RunFacts.{starts, ends_between, is_answered, stands_still, causes_since, moved_on}
 use Rattle.josie_top.proofs.StreamFacts.{on_ok, on_err}
 use Rattle.josie_top.proofs.ordered.run_batches.Goals as goal
