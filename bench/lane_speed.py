@@ -1,0 +1,130 @@
+#!/usr/bin/env python3
+"""How much faster josie loads and searches on several lanes than on one.
+
+    bench/lane_speed.py [JOSIE] [--times N] [--beside COMMAND]
+
+Two lakes are generated, always the same. `wide` has 128 tables of six columns and 2,000 records, `small` 8,000 tables of three columns and eight records; most values
+are in a few tables and a few in many. Their loads are dealt out to 1, 2, 4, 8 and 16 lanes, a batch of 4,000 at a time. Then one lane merges the whole lake, and
+searches for the 10 columns that share most with 1,000 values are dealt out, all in one batch. josie is kept open, so a time is that from the first byte of
+the commands to the last byte of their replies, the least of N runs. `--beside` names another program that reads the same scripts on one lane, as a baseline.
+
+Last comes what a batch of one command costs, with one lane and with sixteen of which one has the command.
+"""
+import random
+import subprocess
+import threading
+import time
+
+from program import given_words
+
+LANES = (1, 2, 4, 8, 16)
+BATCH = 4_000
+SEARCHES = 400
+LAKES = {"wide": (128, 6, 2_000), "small": (8_000, 3, 8)}
+ASKED = 1_000
+ONES = 2_000
+
+
+def value(chance):
+    """One of many values, the smaller numbers far more often."""
+    return f"v{int(chance.random() ** 3 * 200_000)}"
+
+
+def tables_of(lake):
+    """The loads of a lake, without their lanes."""
+    count, columns, rows = LAKES[lake]
+    chance = random.Random(7)
+    for number in range(count):
+        lines = [",".join(f"c{place}" for place in range(columns))]
+        lines += [",".join(value(chance) for _ in range(columns)) for _ in range(rows)]
+        yield f"load t{number}\n" + "\n".join(lines) + "\n.\n"
+
+
+def searches():
+    chance = random.Random(11)
+    return ["search 10\n" + "\n".join({value(chance) for _ in range(ASKED)}) + "\n.\n" for _ in range(SEARCHES)]
+
+
+def dealt(commands, lanes):
+    """The commands, dealt out to the lanes in turn, with a `sync` behind each batch."""
+    text = []
+    for number, command in enumerate(commands):
+        text.append(command if lanes == 1 else f"@{number % lanes + 1} {command}")
+        if (number + 1) % BATCH == 0:
+            text.append("sync\n")
+    return "".join(text) + "sync\n"
+
+
+class Open:
+    """A program that is kept open; each answer of `timed` is a time in seconds."""
+
+    def __init__(self, words):
+        self.process = subprocess.Popen(words, stdin=subprocess.PIPE, stdout=subprocess.PIPE)
+
+    def timed(self, script, replies):
+        """Writes a script with so many commands, and reads until its last reply has begun and its pipe is idle."""
+        writer = threading.Thread(target=self._write, args=(script.encode(),))
+        start = time.perf_counter()
+        writer.start()
+        seen = 0
+        while seen < replies:
+            line = self.process.stdout.readline()
+            if b" refused " in line or b" no memory" in line:
+                raise SystemExit(f"lane_speed: {line.decode()}")
+            seen += not line.startswith(b"  ")
+        writer.join()
+        return time.perf_counter() - start
+
+    def _write(self, data):
+        self.process.stdin.write(data)
+        self.process.stdin.flush()
+
+    def close(self):
+        self.process.stdin.close()
+        self.process.stdout.read()
+        self.process.wait()
+
+
+def measured(words, lanes, loads, asked):
+    """The seconds of the loads and of the searches."""
+    program = Open(words + (["--lanes", str(lanes)] if lanes > 1 else []))
+    loading = program.timed(dealt(loads, lanes), len(loads))
+    program.timed("merge all\nsync\n", 1)
+    searching = program.timed(dealt(asked, lanes), len(asked))
+    program.close()
+    return loading, searching
+
+
+def least(times, words, lanes, loads, asked):
+    runs = [measured(words, lanes, loads, asked) for _ in range(times)]
+    return min(loading for loading, _ in runs), min(searching for _, searching in runs)
+
+
+def one_command(josie, lanes):
+    """The seconds of a batch of one command."""
+    program = Open([josie, "run", "--lanes", str(lanes)])
+    taken = [program.timed("tables\nsync\n", 1) for _ in range(ONES)]
+    program.close()
+    return sorted(taken)[ONES // 2]
+
+
+def main():
+    given = given_words(__doc__, 3, has_beside=True)
+    asked = searches()
+    for lake in LAKES:
+        loads = list(tables_of(lake))
+        size = sum(map(len, loads)) / 1e6
+        print(f"{lake}: {len(loads)} tables, {size:.1f} MB of CSV, {len(asked)} searches of {ASKED} values")
+        print(f"{'lanes':>8} {'loads/s':>10} {'MB/s':>8} {'times one':>10} {'searches/s':>11} {'times one':>10}")
+        one = None
+        programs = [("beside", given.beside, 1)] if given.beside else []
+        for name, words, lanes in programs + [(str(lanes), [given.josie, "run"], lanes) for lanes in LANES]:
+            loading, searching = least(given.times, words, lanes, loads, asked)
+            one = one or ((loading, searching) if name == "1" else None)
+            base = one or (loading, searching)
+            print(f"{name:>8} {len(loads) / loading:10.0f} {size / loading:8.1f} {base[0] / loading:10.2f} {len(asked) / searching:11.0f} {base[1] / searching:10.2f}", flush=True)
+    print(f"a batch of one command: {one_command(given.josie, 1) * 1e6:.0f} microseconds with one lane, {one_command(given.josie, 16) * 1e6:.0f} with sixteen")
+
+
+if __name__ == "__main__":
+    main()
