@@ -43,7 +43,7 @@ self_prefix now = (omega arith, take_all (length now) now (omega arith))
 pub same_pass : (pass : Known Entry) → pass.holds ≡ false → pass ≡ after_seeing pass pass.seen false
 same_pass pass free = ap (λ (b : Bool). after_seeing pass pass.seen b) free
 
--- what came behind
+-- what the pass had seen, followed by what it saw since
 behind_of : (limits : Counts) (command : Command) (before : Known Entry) (reply : Reply) (after : List Entry) → (a : IsAnswered limits command before reply after) → before.seen ++ (a.grows.rest ++ entries_of a.pinned command reply) ≡ after
 behind_of limits command before reply after a =
     sym (append_assoc before.seen a.grows.rest (entries_of a.pinned command reply)) ∙ ap (λ (j : List Entry). j ++ entries_of a.pinned command reply) a.grows.begins ∙ sym a.added
@@ -212,7 +212,7 @@ pub plans_on_ok : {F : Type 0} (policy : Policy) (journal : List Entry) (version
 plans_on_ok policy journal version (Ok planned) legal current shows plans = (planned_now policy journal version planned legal current shows plans).0
 plans_on_ok policy journal version (Err e) legal current shows plans = tt
 
--- memory was wanting for the pin of a merge
+-- a merge that ran out of memory for its pin
 pub merge_denied : (limits : Counts) (number : ℕ) (all : Bool) (before : Known Entry) (after : List Entry) → Grows caller_of (callers_of before) before.seen after
     → IsAnswered limits (command_with number before.caller (Merge all)) before NoMemory after
 merge_denied limits number all before after grows = record {

@@ -1,4 +1,4 @@
--- A batch over the desks of a run: apart behind its commands, together again behind what they are handed, and what that is for the record.
+-- A batch at the desks of a run: apart after its commands, together again after they are handed the journal, and what that is for the record.
 use Rattle.std.proofs.Common.{◌≡◌, refl, ap, sym, ◌∙◌, subst, ℕ, zero, suc, ◌+◌, ◌-◌, ◌<◌, ◌≤◌, List, [], ◌∷◌, ◌++◌, length, length-append, take, drop, map, Option, Some, None, arith, false}
 use Rattle.std.specs.Prelude.{slice_get, Ok, Err, OnOk}
 use Rattle.std.specs.List.{AllByRecursion, range_with_len}
@@ -42,7 +42,7 @@ commands_within lanes count merger batch are is =
     (all_weaker (λ (c : Command). (0 < c.lane) × (c.lane ≤ lanes)) (λ c. c.lane < count) batch (λ c h. let le : c.lane ≤ lanes = h.1 in omega (arith, le, is)) are)
     (merger_within count merger batch (omega (arith, is)))
 
--- ---- behind the commands
+-- ---- after the commands
 
 -- what the commands of its lane make of a desk
 came : (limits : Counts) (lanes : ℕ) (journal : List Entry) (commands : List Command) (answers : List Answered) (before served : List (Known Entry)) → AreTogether lanes journal before → AreServed (IsStep limits) before commands answers served

@@ -1,4 +1,4 @@
--- A lane's answers are right along a chain of steps, and between the journals before and behind its batch.
+-- A lane's answers are right along a chain of steps, and between the journals before and after its batch.
 use Rattle.std.proofs.Common.{◌≡◌, ap, sym, ◌∙◌, subst, ℕ, List, [], ◌∷◌, ◌++◌, append_assoc, append-nil, inl}
 use Rattle.std.specs.List.{AllByRecursion}
 use Rattle.std.proofs.lemmas.List.{append_cancel_left}

@@ -88,7 +88,7 @@ hands_none desks behind = record { opening = behind.opening; lanes = behind.lane
 pub first_is : (opening : Known Entry) (later now : List (Known Entry)) (first : Known Entry) → now ≡ opening ∷ later → first ≡ get_or now 0 first → first ≡ opening
 first_is opening later now first is at = at ∙ ap (λ (ds : List (Known Entry)). get_or ds 0 first) is
 
--- the next of the others, behind what was written at the first place
+-- the next of the others, after a write at the first place
 next_is : (n : ℕ) (opening noted : Known Entry) (later now : List (Known Entry)) (lane : Known Entry) → 1 ≤ n → now ≡ opening ∷ later → lane ≡ get_or (slice_set now 0 noted) n lane → lane ≡ get_or later (n - 1) lane
 next_is zero opening noted later now lane up is at = absurd (omega (arith, up))
 next_is (suc n) opening noted later now lane up is at =

@@ -13,7 +13,7 @@ use Rattle.script_model.specs.Play.{done_with, entries_of, reply_or_denied}
 use Rattle.script_model.specs.Right.{IsRight}
 
 -- The pass saw entries of others, and then what the reply adds, under its caller and this number. The reply is what this function says of
--- what was seen just before, or memory was wanting.
+-- what was seen just before, or that of a command that ran out of memory.
 pub record IsMade (answer : List Entry → Reply) (adds : Reply → List What) (number : ℕ) (before : Known Entry) (reply : Reply) (after : List Entry) : Type 0 where
   pub found : List Entry
   pub denied : Bool

@@ -1,4 +1,4 @@
--- What the desks have seen behind the commands of a batch, and how they are brought together.
+-- What the desks have seen after the commands of a batch, and how they are brought together.
 use Rattle.std.specs.Prelude.{ℕ, ◌+◌, ◌≡◌, ⊤, false, List, [], ◌∷◌, length, slice_get, Some}
 use Rattle.std.specs.List.{AllByRecursion}
 use mathlib.Core.List.{IsPrefix}
@@ -8,7 +8,7 @@ use Rattle.turn_lock.specs.History.{Grows}
 use Rattle.turn_lock.specs.Passes.{Known, after_seeing, callers_of}
 use Rattle.lake.specs.Lawful.{caller_of}
 
--- The desks are of one lock and numbered from 0, and hold no turn. Each has seen this journal, and what came on from there while its lane was
+-- The desks are of one lock and numbered from 0, and hold no turn. Each has seen this journal, and some of what followed while its lane was
 -- answered. The first is that of the pass that gave the others their numbers.
 pub record AreApart (lanes : ℕ) (journal : List Entry) (desks : List (Known Entry)) : Type 0 where
   pub lock : TableId

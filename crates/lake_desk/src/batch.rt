@@ -1,4 +1,4 @@
-//! A batch of a run, answered over all desks.
+//! A batch of a run, answered at all desks.
 ghost use Rattle.std.specs.Prelude.{◌≡◌, ◌<◌, ◌≤◌, ◌+◌, ◌++◌, ◌^◌, ⊤, List, length, MatchOption, OnErr, OnOk};
 ghost use Rattle.lake_model.specs.Journal.{Entry as EntryOf};
 ghost use Rattle.turn_lock.specs.History.{IsOfGiven};
@@ -45,7 +45,7 @@ fn add_entries(entries: Vec<Entry>, out: &mut RunRecord)
     }
 }
 
-// Puts the answers of a batch and the entries that came with it into the record, for which it has room.
+// Puts the answers of a batch and its entries into the record, for which it has room, and notes its end.
 fn add_batch(answers: Vec<Answered>, entries: Vec<Entry>, out: &mut RunRecord)
     requires answers { length answers.items ≤ out.old.answers_room }
     requires entries { length entries.items ≤ out.old.entries_room }
@@ -57,9 +57,9 @@ fn add_batch(answers: Vec<Answered>, entries: Vec<Entry>, out: &mut RunRecord)
     out.add_sync();
 }
 
-// Brings the desks of a batch together, and puts the answers and what came behind the record's journal into the record.
+// Brings the desks together after the commands of a batch, and puts its answers and entries into the record.
 //
-// The lanes are handed what the first desk has seen last of all, since before that the journal is read and memory taken.
+// The lanes are handed what the first desk has seen last of all, since the reading of the journal before may show it more.
 fn settle<'a, B: Bounds, R: Wait>(
     rt: &R,
     desks: &mut [LakeDesk<'a, B>],
@@ -85,10 +85,11 @@ fn settle<'a, B: Bounds, R: Wait>(
 }
 
 /// Answers a batch: the commands of all lanes at the same time, each lane at the desk of its number, and beside them those of the merger, where
-/// it has a first number, at the first desk. Then the record gets the answers in the order of the script with the merger's behind, the
-/// entries that came, and the end of the batch.
+/// it has a first number, at the first desk. Then the record gets the answers in the order of the script followed by the merger's, the
+/// entries that were made, and the end of the batch.
 ///
-/// Out of memory leaves the record as it was. The desks are of no further use then, since what their lanes have done is not in the record.
+/// `Err(NoMemory)` leaves the record as it was. By then the lake may have entries that the record does not have, so the run cannot go on with
+/// these desks.
 pub fn answer_batch<'a, B: Bounds + Send + Sync, R: Threads + Wait + Sync, G: Gate + Sync>(
     rt: &R,
     alloc: Global,

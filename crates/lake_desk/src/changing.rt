@@ -14,7 +14,7 @@ use segment_core::Segment;
 use std::sync::{Arc, Wait};
 
 /// Loads a table, with the segment of this table alone, and answers the command of this number. What the reply keeps of the table is
-/// made first, so that nothing is refused behind the entry.
+/// made first, so that nothing can be refused once the entry is there.
 pub(crate) fn load<B: Bounds, R: Wait>(
     rt: &R,
     lake: &Lake<B>,

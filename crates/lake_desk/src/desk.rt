@@ -84,7 +84,7 @@ impl<'a, B: Bounds> LakeDesk<'a, B> {
         self.lake.meet(&mut self.pass, note);
     }
 
-    /// The entries of the lake's journal from a position on that the desk has seen. The desk has then seen the whole journal.
+    /// Reads the lake's journal: the entries after a position that the desk has seen already. The desk has then seen these too.
     pub fn journal<R: Wait>(&mut self, rt: &R, after: u64) -> Result<Vec<Entry>, NoMemory>
         requires seen { after ≤ length self.old.seen }
         ensures desk { self.new ≡ after_seeing self.old self.new.seen false }
@@ -96,7 +96,7 @@ impl<'a, B: Bounds> LakeDesk<'a, B> {
         lake.journal(rt, self.alloc, &mut self.pass, after)
     }
 
-    /// How many caller numbers the desk's pass has left to give. All that the pass of caller 0 has seen is of callers that have a number.
+    /// How many caller numbers the desk's pass has left to give. What the pass that gives them has seen is all of callers with a number.
     pub fn numbers(&self) -> u32
         ensures left { result ≡ self.now.left }
         ensures given { (count : ℕ) → self.now.given ≡ Some count → IsOfGiven caller_of count self.now.seen }

@@ -1,4 +1,4 @@
-//! What the desks of a batch have seen, brought together when all lanes are done.
+//! What the desks have seen of the journal, brought together after the commands of a batch.
 ghost use Rattle.std.specs.Prelude.{◌<◌, length};
 ghost use Rattle.lake_desk.specs.Gathered.{AreFree, AreHandedOut, AreOfOneLock, IsBehindAll, IsGathered};
 
@@ -18,7 +18,7 @@ pub(crate) fn gather<'a, B: Bounds>(desks: &mut [LakeDesk<'a, B>])
     }
 }
 
-/// Each of the other desks sees all that the first has seen, and so that what follows its own list is of other callers.
+/// Each of the other desks sees all that the first has seen. What follows its own list there is of other callers.
 pub(crate) fn hand_out<'a, B: Bounds>(desks: &mut [LakeDesk<'a, B>])
     requires lock { AreOfOneLock desks.old }
     requires behind { IsBehindAll desks.old }
