@@ -43,7 +43,7 @@ def run(josie, *words):
 
 def check(josie, _words):
     formats = text_of("FORMATS.md")
-    told = first_column(formats, "| Words | Meaning | Example |") + first_column(formats, "| Line | Meaning | Example |")
+    told = first_column(formats, "| Arguments | Meaning | Example |") + first_column(formats, "| Line | Meaning | Example |")
     texts = {"--help": " ".join(run(josie, "--help")[0].split()), "docs/josie.1": manual_text()}
     missing = [f"{name} lacks `{words}`" for name, text in texts.items() for words in told if words not in text]
     usage = run(josie)[1].strip()

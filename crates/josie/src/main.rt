@@ -15,26 +15,34 @@ const USAGE: &str =
 /// What `--help` alone prints.
 const HELP: &str = "josie run [--lanes N] [--order LIST] [--merge] [--trace]
     Reads a script from standard input and writes its replies to standard output, batch by batch.
-    load NAME           loads the CSV table of the block that follows, which ends with a line `.`
-    loadfile NAME PATH  loads the CSV table of a file
+    load NAME           loads the CSV table on the lines that follow, up to a line `.`
+    loadfile NAME PATH  loads the CSV table in the file at PATH
     drop NAME           drops the table of this name
-    tables              lists the tables that are live
-    search K            finds the K columns (1 to 10000) that share most values with the lines of the block that follows
-    like K NAME PLACE   finds the K columns that share most values with the column at this place of a live table, itself excepted
-    merge               merges four adjacent parts of one size, or else a part half of whose tables are dropped
-    merge all           merges the whole lake into one part
+    tables              lists the live tables
+    search K            finds the K columns (1 to 10000) that share the most values with the lines
+                        that follow, up to a line `.`
+    like K NAME PLACE   finds the K columns that share the most values with the column at this place
+                        of a live table, whose own columns are left out
+    merge               merges four adjacent parts of the index of one size, or else rewrites a part
+                        half of whose tables were dropped
+    merge all           merges the whole index into one part; no merge changes an answer
     sync                ends a batch: its replies are written before more is read
-    @L ...              is a command of lane L, where there are more lanes than one
-    # ...               is a comment, and an empty line is skipped
-    --lanes N           there are N lanes, 1 to 16; the lanes of a batch run at the same time, each on a thread, where no order is stated
-    --order LIST        the lanes take turns in this order, on one thread: lane numbers with commas between, one such piece a batch, pieces with / between
-    --merge             a merger, which is lane 0, merges beside the lanes: once for each load and drop of a batch
-    --trace             writes what was read behind each answer, the layout of the lake behind each answer and merge, and the journal at the end
+    @L ...              a command of lane L; without `@L` the lane is 1
+    # ...               a comment; empty lines are skipped, too
+    --lanes N           runs N lanes, 1 to 16 (default 1); unless an order is stated, the lanes of a
+                        batch run at the same time, each on a thread of its own
+    --order LIST        runs the lanes step by step in this order, on one thread: for each batch a
+                        list of lane numbers separated by commas, the lists separated by /
+    --merge             runs a merger, which is lane 0, beside the lanes: one merge for each load
+                        and drop of a batch
+    --trace             also writes what each search read, the layout of the lake after each answer
+                        and merge, and the journal at the end
 josie make SEED TABLES ROWS
-    makes a lake of chance numbers, asks fifty searches of it, and writes a summary
+    Makes a lake of pseudo-random tables from a seed, asks fifty searches of it, and writes a
+    summary.
 josie --help     prints this text
 josie --version  prints the version
-Read on in README.md, docs/FORMATS.md and the manual page docs/josie.1.";
+See README.md, docs/FORMATS.md and the manual page docs/josie.1.";
 
 /// What `--version` alone prints.
 const VERSION: &str = "josie 0.1.0";
