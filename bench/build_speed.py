@@ -1,16 +1,16 @@
 #!/usr/bin/env python3
-"""How fast the index of one table is built, and the memory that takes, at sizes that grow tenfold.
+"""How fast the index of one table is built, and the memory that it takes, at sizes that grow tenfold.
 
     bench/build_speed.py [INDEX_BENCH] [--times N]
 
 It runs `index_bench COLUMNS ROWS` for tables of 10,000, 100,000 and 1,000,000 members in 10 columns, and prints the nanoseconds a
-member that `segment_build::build` took, as the program measures it: the least of N runs. So no time is in it but that of the index.
+member that `segment_build::build` took, as the program measures it: the least of N runs. It is the time of the index alone.
 
-The memory is what the index alone holds at its peak: the program writes one line when the table stands with its keys, and one when
-the index was built. A counter put in front of the C library's allocator (compiled by `cc` into a folder that is removed again)
+The memory is what the index alone holds at its peak: the program writes one line when the table and its keys are made, and one when
+the index is built. A counter put in front of the C library's allocator (compiled by `cc` into a folder that is removed again)
 counts the bytes that the program holds; the most between the two lines, less those at the first, for each member, is
-printed. So text and keys are not in it. It is printed for two tables of as many members: with 10 columns there is a distinct key
-for each five members, with 100 columns one for each fifty, so that what a distinct key takes is told from what a member takes.
+printed. So text and keys are not in it. It is printed for two tables of equally many members: with 10 columns there is a distinct key
+for each five members, with 100 columns one for each fifty, which separates what a distinct key takes from what a member takes.
 Without `cc` a dash is printed.
 """
 import argparse
@@ -62,7 +62,7 @@ def command(program, columns, members):
 
 
 def nanoseconds(program, members):
-    """What the program says that a member took."""
+    """The nanoseconds that a member took, as the program prints them."""
     words = subprocess.run(command(program, FEW, members), stdout=subprocess.PIPE, check=True).stdout.split()
     if words[:2] != [b"members", str(members).encode()]:
         raise SystemExit(f"build_speed: {members} members asked for, and got {b' '.join(words).decode()}")
@@ -70,7 +70,7 @@ def nanoseconds(program, members):
 
 
 def counter(folder):
-    """The counter, built in this folder, and None where there is no compiler."""
+    """The counter, built in this folder, or None if there is no compiler."""
     compiler = shutil.which("cc")
     if compiler is None:
         return None

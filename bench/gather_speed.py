@@ -23,7 +23,7 @@ PIECE = 65_536
 
 
 def write_script(path, line_bytes):
-    """A script of one batch of full blocks whose lines have so many bytes with their line feeds."""
+    """A script of one batch of full blocks whose lines have this many bytes with their line feeds."""
     line = b"x" * (line_bytes - 1) + b"\n"
     lines = line * (BLOCK // line_bytes)
     first = b"\xff" + lines[1:]

@@ -4,10 +4,10 @@
     bench/lake_speed.py [JOSIE] [--times N]
 
 A lake of 1,000, of 10,000 and of 50,000 tables is loaded by one script; each table has one column with one value, so that
-what is measured is the table's way into the lake and not its text. Then the same script is run with drops behind its loads,
-in an order that a fixed seed mixes. The time of a load is that of the first script, less the start of the program; the time
-of a drop is the difference between the two. A time is the least of N whole runs; both have in them what josie takes to read
-the command and to write its reply.
+what is measured is the addition of a table and not its text. Then the same script is run with drops after its loads,
+in an order that is shuffled by a fixed seed. The time of a load is that of the first script, less the start of the program;
+the time of a drop is the difference between the two. A time is the least of N whole runs; both include the time in which
+josie reads the command and writes its reply.
 
 Each batch has 4,000 commands, so there is a `sync` for as many loads or drops.
 """
@@ -32,7 +32,7 @@ def name(number):
 
 
 def batched(commands):
-    """The commands, with a `sync` behind each batch."""
+    """The commands, with a `sync` after each batch."""
     return "".join(command + ("sync\n" if number % BATCH == 0 else "") for number, command in enumerate(commands, 1))
 
 

@@ -5,7 +5,7 @@
 
 Two lakes are generated, always the same. `wide` has 128 tables of six columns and 2,000 records, `small` 8,000 tables of three columns and eight records; most values
 are in a few tables and a few in many. Their loads are dealt out to 1, 2, 4, 8 and 16 lanes, a batch of 4,000 at a time. Then one lane merges the whole lake, and
-searches for the 10 columns that share most with 1,000 values are dealt out, all in one batch. josie is kept open, so a time is that from the first byte of
+searches for the 10 columns that share the most with 1,000 values are dealt out, all in one batch. josie is kept open, so a time is that from the first byte of
 the commands to the last byte of their replies, the least of N runs. `--beside` names another program that reads the same scripts on one lane, as a baseline.
 
 Last comes what a batch of one command costs, with one lane and with sixteen of which one has the command.
@@ -46,7 +46,7 @@ def searches():
 
 
 def dealt(commands, lanes):
-    """The commands, dealt out to the lanes in turn, with a `sync` behind each batch."""
+    """The commands, dealt out to the lanes in turn, with a `sync` after each batch."""
     text = []
     for number, command in enumerate(commands):
         text.append(command if lanes == 1 else f"@{number % lanes + 1} {command}")
@@ -62,7 +62,7 @@ class Open:
         self.process = subprocess.Popen(words, stdin=subprocess.PIPE, stdout=subprocess.PIPE)
 
     def timed(self, script, replies):
-        """Writes a script with so many commands, and reads until its last reply has begun and its pipe is idle."""
+        """Writes a script with this many commands, and reads until its last reply has begun and its pipe is idle."""
         writer = threading.Thread(target=self._write, args=(script.encode(),))
         start = time.perf_counter()
         writer.start()

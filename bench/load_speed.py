@@ -5,7 +5,7 @@
 
 The table is generated, always the same, and of 16 MiB with its two command lines (a block may have 64).
 Two tables are measured: one whose values are ASCII, and one in which every fourth value has accents or full-width letters,
-so that it takes the longer way to its key. A time is the least of N whole runs of the program, with its start, which is
+whose keys take more work. A time is the least of N whole runs of the program, with its start, which is
 shown by itself. The plain pass is `wc -w` over the same bytes, in the C locale: it looks at each byte once and keeps
 nothing. The third number is Python's csv and unicodedata doing the same work as josie: records, keys, distinct values.
 """
@@ -26,7 +26,7 @@ COLUMNS = 8
 
 
 def table(other_words):
-    """The bytes of a script that loads a table of eight columns and asks one search, of so many bytes."""
+    """A script of at most `MOST_BYTES` bytes, which loads a table of eight columns and asks one search."""
     chance = random.Random(1)
     head, tail = b"load speed\n", b".\nsearch 1\namber 1\n.\n"
     rows = [",".join(f"column {place}" for place in range(1, COLUMNS + 1)).encode()]

@@ -1,12 +1,12 @@
-"""The words of a benchmark of ./josie: where the program is, how often each run is made, and what is measured beside it."""
+"""The arguments of a benchmark of ./josie: where the program is, how often each run is made, and what is measured beside it."""
 import argparse
 import os
 import shlex
 
 
 def given_words(about, times, has_beside=False):
-    """What the words say: `josie`, the program's whole path, `times`, a number of runs, and, where the benchmark takes it, `beside`, the words of
-    another program, or none. `about` is the benchmark's head."""
+    """The parsed arguments: `josie`, the program's whole path, `times`, a number of runs, and, if the benchmark takes it, `beside`, the command of
+    another program, or none. `about` is the benchmark's docstring."""
     here = os.path.dirname(os.path.abspath(__file__))
     words = argparse.ArgumentParser(description=about.splitlines()[0])
     words.add_argument("josie", nargs="?", default=os.path.join(here, "..", "crates", "josie", "out", "josie"))

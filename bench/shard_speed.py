@@ -1,15 +1,15 @@
 #!/usr/bin/env python3
-"""How fast a lake over four processes answers, beside one process with a quarter of the tables.
+"""How fast a lake over four processes answers, compared with one process that has a quarter of the tables.
 
     bench/shard_speed.py [JOSIE] [--times N] [--quick]
 
 It needs Dask (Debian's package python3-distributed). The tables are generated, always the same: three columns of 20,000 records, whose values are drawn so that
 a few are in many tables and most in one or two. One josie holds 279 of them, which have 16 million distinct values summed over columns (a lake may have
 16,777,216); then four of them, in the workers of a local Dask cluster, hold four times as many. Their names are chosen so that each shard gets
-equally many. With --quick there are five tables a process. Each lake is loaded, merged whole, and asked N times for the 10 columns that share most with
-100 values. Shown are the seconds of the load and of the merge, the median and the greatest milliseconds of a search, and the memory of the processes.
+equally many. With --quick there are five tables a process. Each lake is loaded, merged whole, and asked N times for the 10 columns that share the most with
+100 values. It prints the seconds of the load and of the merge, the median and the greatest milliseconds of a search, and the memory of the processes.
 
-With --quick it is also seen that the rows of the four processes are those of one josie with all their tables.
+With --quick it also checks that the rows of the four processes are those of one josie with all their tables.
 """
 import logging
 import os
@@ -44,7 +44,7 @@ def table(number):
 
 
 def names(a_shard):
-    """So many names for each shard, in turn."""
+    """This many names for each shard, in turn."""
     made = [[] for _ in range(SHARDS)]
     number = 0
     while min(map(len, made)) < a_shard:

@@ -1,7 +1,7 @@
 """What the checks of the built program have in common: where it is, and how a check ends.
 
-A check is a function of the program's path and of the words behind it on the command line. It returns what it found right, in a few words, and raises
-`Wrong` where the program does not do what is wanted.
+A check is a function of the program's path and of the arguments after it on the command line. It returns what it found right, in a few words, and raises
+`Wrong` if the program does not do what is expected.
 """
 import os
 import sys
@@ -11,11 +11,11 @@ PROGRAM = os.path.join(HERE, "..", "crates", "josie", "out", "josie")
 
 
 class Wrong(Exception):
-    """What the program did, and what was wanted."""
+    """What the program did, and what was expected."""
 
 
 def main(name, check):
-    """Runs a check by its name, prints its one line, and exits: with 0 where nothing was wrong."""
+    """Runs a check by its name, prints its one line, and exits: with 0 if nothing was wrong."""
     words = [word for word in sys.argv[1:] if not word.startswith("--")]
     josie = os.path.abspath(words[0] if words else PROGRAM)
     try:

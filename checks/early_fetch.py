@@ -3,8 +3,8 @@
 
     checks/early_fetch.py [JOSIE]
 
-The file is a named pipe, which opens for writing only when somebody opens it for reading. josie is given the line alone, and the `sync` behind it only
-when the pipe was open and written. It prints one line, and ends with 0 where the table was loaded.
+The file is a named pipe, which opens for writing only when somebody opens it for reading. josie is given the line alone, and the `sync` after
+it only when the pipe was opened and written. It prints one line, and ends with 0 if the table was loaded.
 """
 import os
 import subprocess
@@ -15,7 +15,7 @@ from check import Wrong, main
 
 
 def opened(path, seconds):
-    """The pipe, open for writing; None where nobody opens it for reading in this time."""
+    """The pipe, open for writing; None if nobody opens it for reading within this time."""
     end = time.monotonic() + seconds
     while time.monotonic() < end:
         try:

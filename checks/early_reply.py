@@ -3,7 +3,7 @@
 
     checks/early_reply.py [JOSIE]
 
-josie is kept open as a co-process: each batch is sent only when all replies to the one before it were read. It prints one line, and ends with 0 where
+josie is kept open as a co-process: each batch is sent only when all replies to the batch before it were read. It prints one line, and ends with 0 if
 each reply came in time.
 """
 import os
@@ -21,7 +21,7 @@ BATCHES = [
 
 
 def read(pipe, size, seconds):
-    """So many bytes of the pipe, or those that come in this time."""
+    """At most this many bytes of the pipe: those that come within this time."""
     end = time.monotonic() + seconds
     got = b""
     while len(got) < size:
@@ -44,7 +44,7 @@ def talk(josie):
             child.kill()
             return f"batch {number}: {got!r}"
     rest, _ = child.communicate(timeout=20)
-    return f"behind the last batch: {rest!r}" if rest else None
+    return f"after the last batch: {rest!r}" if rest else None
 
 
 def check(josie, _words):

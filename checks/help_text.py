@@ -1,10 +1,10 @@
 #!/usr/bin/env python3
-"""What `docs/FORMATS.md` says of words and commands stands in `--help` and in the manual page too, and the usage line is the program's.
+"""The arguments and commands of `docs/FORMATS.md` are in `--help` and in the manual page too, and the usage line is the program's.
 
     checks/help_text.py [JOSIE]
 
-`docs/FORMATS.md` is where the words and the commands are told in full. Each of the first columns of its tables of words and of lines has to stand in the other
-two texts, and the line on standard error that it quotes for words that are refused has to be the one that the program writes.
+`docs/FORMATS.md` describes the arguments and the commands in full. Each entry in the first column of its tables of arguments and of lines has to be in the
+other two texts, and the line on standard error that it quotes for an invalid command line has to be the one that the program writes.
 """
 import os
 import re
@@ -27,7 +27,7 @@ def first_column(text, header):
 
 
 def manual_text():
-    """The manual page without its marks: the words of each request as one line."""
+    """The manual page without its markup, as one line."""
     lines = []
     for line in text_of("josie.1").splitlines():
         if line.startswith("."):
@@ -51,7 +51,7 @@ def check(josie, _words):
         missing.append(f"docs/FORMATS.md lacks `{usage}`")
     if missing:
         raise Wrong("; ".join(missing))
-    return f"{len(told)} words and commands of docs/FORMATS.md stand in --help and the manual page"
+    return f"{len(told)} arguments and commands of docs/FORMATS.md are in --help and the manual page"
 
 
 if __name__ == "__main__":

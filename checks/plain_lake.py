@@ -1,9 +1,9 @@
-"""A plain model of a lake: what each command is answered at a version, and the version that comes of it.
+"""A plain model of a lake: the reply to each command at a version, and the version after it.
 
 A version is the position of the journal, the live tables in the order of their loads, and the parts of the layout. It never changes, so a pin is
 the version itself. A table is a name and its columns, a column a title and an ordered list of distinct values. A part is a number and its places; a
-place is the position of a load, its table, and whether that was dropped. All text is ASCII, where `str.casefold` and `str.strip` make a value what
-it is.
+place is the position of a load, its table, and whether that was dropped. All text is ASCII, so that `str.casefold` and `str.strip` make the
+key of a value.
 """
 from typing import NamedTuple
 
@@ -33,13 +33,13 @@ EMPTY = Version(0, (), ())
 
 
 def set_of(values):
-    """The distinct values of some fields, in order of first sight; a blank field has none."""
+    """The distinct values of some fields, in order of first occurrence; a blank field has none."""
     keys = (value.strip().casefold() for value in values)
     return list(dict.fromkeys(key for key in keys if key))
 
 
 def csv_fault(records):
-    """What is wrong with some records, and None where nothing is."""
+    """What is wrong with some records, or None."""
     if not records:
         return "no-header"
     for number, record in enumerate(records, 1):
@@ -66,7 +66,7 @@ def layout(at):
 
 
 def load(at, name, records):
-    """The lines of the reply, the version behind it, and what the journal says of it; None where nothing was changed. So do all updates."""
+    """The lines of the reply, the version after it, and what the journal says of it, or None if nothing changed. All updates return these."""
     fault = csv_fault(records)
     if fault:
         return [f"refused csv {fault}"], at, None

@@ -1,7 +1,8 @@
 """A plain model of a search: which posting lists it reads and which sets it probes, where the costs decide between the two.
 
-The parts of a layout are searched in turn, and each by its own token order. Before every look it is worked out anew, from whole sets, what is known and what
-the lists that were read tell of each column. A row is a tuple that sorts as rows are ordered: less the overlap, the table's name, the column's, the place.
+The parts of a layout are searched in turn, each by its own token order. Before every look the model works out anew, from whole sets, what is known and what
+the lists that were read say of each column. A row is a tuple that sorts as rows are ordered: the overlap with a minus, the table's name, the column's name,
+the place.
 """
 from bisect import bisect_left
 from collections import Counter
@@ -61,7 +62,7 @@ def met(part, query, excepted):
 
 
 def first_open(columns, probed, read, lists, worst):
-    """The open column that goes first, and None where none is open. Of `lists` lists so many were read; `worst` is the last row that still counts."""
+    """The open column that goes first, or None if none is open. Of `lists` lists this many were read; `worst` is the last row that still counts."""
     found = []
     for column in columns:
         count = bisect_left(column.lists, read)
@@ -75,7 +76,7 @@ def first_open(columns, probed, read, lists, worst):
 
 
 def is_probed(first, lengths, read, worst):
-    """Whether the column that goes first is probed, in place of reading the next list."""
+    """Whether the column that goes first is probed instead of reading the next list."""
     lists, bound = len(lengths), -first.row[0]
     gain = 0
     if worst is not None:
@@ -86,7 +87,7 @@ def is_probed(first, lengths, read, worst):
 
 
 def work(parts, query, most, excepted):
-    """How many lists a search for so many rows reads, and how many sets it probes."""
+    """How many lists a search for this many rows reads, and how many sets it probes."""
     known, reads, probes = [], 0, 0
     for part in parts:
         lengths, columns = met(part, query, excepted)

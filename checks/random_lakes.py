@@ -1,15 +1,15 @@
 #!/usr/bin/env python3
-"""Whole runs of josie against a plain model of a lake, on scripts that chance wrote.
+"""Whole runs of josie against a plain model of a lake, on random scripts.
 
     checks/random_lakes.py [JOSIE]
 
 The seeds are fixed, so the scripts are always the same. They load from blocks and from files, drop, list, merge, and search by values and by
-columns over a few names and values, in batches: names that are taken or unknown, files and places that are not there, columns with one name twice, fields without a value, values that differ only by case and
-by the blanks around them, quoted fields, lines with a carriage return or a further dot, tables without a header or with a
-record of another length, and fields and lines that are not UTF-8; lanes' words, and further spaces between words. The model is
+columns over a few names and values, in batches: names that are taken or unknown, files and places that do not exist, tables with two columns of one name, fields
+without a value, values that differ only by case and by the white space around them, quoted fields, lines with a carriage return or a further dot, tables without a
+header or with a record of another length, fields and lines that are not UTF-8, words of lanes, and further spaces between words. The model is
 `plain_lake.py`; what josie writes, every second script with a trace, is compared with it byte for byte.
 
-It prints one line, and ends with 0 where josie says what the model says, and else with 1.
+It prints one line, and ends with 0 if josie writes what the model says, or else with 1.
 """
 import os
 import random
@@ -21,7 +21,7 @@ import plain_lake
 from plain_lake import NOT_UTF8
 SCRIPTS = 6
 COMMANDS = 450
-MERGE_SCRIPTS = 2  # in these, twenty searches stand before and behind each merge
+MERGE_SCRIPTS = 2  # these have twenty searches before and after each merge
 MERGE_COMMANDS = 2000
 NAMES = ["a", "b", "B", "ab", "t-1", "t1", "t10", "t2", "~", "!x", "\"q\"", "\\"]
 COLUMNS = ["c", "C", "c", "d", "", " c", "two words", "a,b", "\"", "\\", "x\ny", "tab\there"]
@@ -58,7 +58,7 @@ class Script:
             self.journal.append(plain_lake.journal_line(self.lake.position, change, 1, self.commands))
 
     def spaced(self, line):
-        """The words of a command line, now and then with further spaces, behind the word of its lane, or with a carriage return."""
+        """The words of a command line, sometimes with further spaces, with the word of its lane, or with a carriage return."""
         chance = self.chance
         if chance.random() < 0.1:
             line = "@1 " + line
@@ -71,7 +71,7 @@ class Script:
         return plain_lake.written(self.replies, self.journal, trace)
 
     def value(self):
-        """A value in some case, with some blanks around it, or blanks alone, and seldom what is no text."""
+        """A value in some case, with some blanks around it, or only blanks, and rarely bytes that are not UTF-8."""
         chance = self.chance
         if chance.random() < 0.005:
             return "x" + NOT_UTF8
@@ -82,13 +82,13 @@ class Script:
         return chance.choice(BLANKS) + word + chance.choice(BLANKS)
 
     def field(self, text):
-        """A field of CSV that reads as the text: in quotes where it must be, and now and then where it need not."""
+        """A field of CSV that reads as the text: in quotes where it must be, and sometimes where it need not."""
         if any(sign in text for sign in ",\"\n\r") or text == "" or self.chance.random() < 0.2:
             return "\"" + text.replace("\"", "\"\"") + "\""
         return text
 
     def records(self):
-        """A header and its rows, now and then with one row that has a field too many or too few, or no record at all."""
+        """A header and its rows, sometimes with one row that has a field too many or too few, or no record at all."""
         chance = self.chance
         if chance.random() < 0.03:
             return []
@@ -148,7 +148,7 @@ class Script:
             self.command(f"search {most}", plain_lake.search(self.lake, most, block), block)
 
     def merge(self):
-        """A merge, with the same twenty searches before and behind it where that is asked: their rows stay, as the model's do not depend on parts."""
+        """A merge, with the same twenty searches before and after it if that is asked for: their rows stay, since the model's do not depend on parts."""
         chance = self.chance
         whole = chance.random() < 0.3
         searches = []
@@ -192,7 +192,7 @@ def script_of(seed):
 
 
 def difference(seed, script, josie, folder):
-    """The first difference between what josie writes for a script and the model, and None where there is none."""
+    """The first difference between what josie writes for a script and the model, or None."""
     for path, text in script.files.items():
         with open(os.path.join(folder, path), "w", encoding="utf-8", errors="surrogateescape", newline="") as file:
             file.write(text)

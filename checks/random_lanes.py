@@ -1,14 +1,14 @@
 #!/usr/bin/env python3
-"""Runs of josie on threads, each trace proved right by a plain model, on scripts that chance wrote; and each run played again in the order that its trace shows.
+"""Runs of josie on threads, on random scripts: each trace is shown to be right by a plain model, and each run is replayed in the order that its trace shows.
 
     checks/random_lanes.py [--all] [JOSIE]
 
-Random scripts of loads, drops, lists, searches and merges on two to sixteen lanes, with a merger and without, run without a stated order. Of each trace the
-journal is replayed on the model of `plain_lake.py`: each entry is that of one command, which was accepted at its position, and the version after it is the
+Random scripts of loads, drops, lists, searches and merges on two to sixteen lanes, with a merger and without, run without a stated order. The journal of each
+trace is replayed on the model of `plain_lake.py`: each entry is that of one command, which was accepted at its position, and the version after it is the
 model's. Then each reply is the model's reply at the positions that it shows, with its work and its layout; along a lane the positions never fall, and an
 entry's position is greater than all before it; each position lies between the ends of the batch before and of its own; each accepted command has one entry.
 Last, the order of the steps that the trace shows is stated by `--order`, and that run, on one thread, gives the same bytes. The seeds are fixed, the threads
-are not. With `--all` there are many thousands of scripts. It prints one line, and ends with 0 where all is right.
+are not. With `--all` there are twenty thousand scripts. It prints one line, and ends with 0 if everything is right.
 """
 import random
 import re
@@ -87,7 +87,7 @@ def placed(command, lines):
 
 
 def made_again(command, pinned, now):
-    """What the model replies to a command that was pinned at one version and answered at another, the version after it, and its change."""
+    """The model's reply to a command that was pinned at one version and answered at another, the version after it, and its change."""
     kind, *more = command.words.split(" ")
     if kind == "load":
         return plain_lake.load(now, more[0], [[text] for text in command.block])
@@ -149,13 +149,13 @@ def check_positions(replies, ends):
             if not last <= position <= ends[batch]:
                 raise Wrong(f"command {reply.command.number}: position {position} after {last}, in a batch that ends at {ends[batch]}")
             if reply.is_entry and position is reply.at and position == last:
-                raise Wrong(f"command {reply.command.number}: its entry {position} is not behind all that its lane had seen")
+                raise Wrong(f"command {reply.command.number}: its entry {position} does not follow all that its lane had seen")
             last = position
         low[lane] = last
 
 
 def steps_of(reply):
-    """The steps of a command, each as the length of the journal before it, and whether it makes an entry; None where the reply does not tell."""
+    """The steps of a command, each as the length of the journal before it, and whether it makes an entry; None if the reply does not show it."""
     last = (reply.at - reply.is_entry if reply.at is not None else None, reply.is_entry)
     if not reply.command.words.startswith(("search", "like", "merge")):
         return [last]
@@ -174,7 +174,7 @@ def order_of(replies, ends):
                 todo.setdefault(reply.command.lane, []).extend(steps_of(reply))
         piece = []
         while any(todo.values()):
-            # what makes no entry and was done at this length comes first, and then the entry
+            # steps at this length that make no entry come first, and then the entry
             ready = [lane for lane, steps in todo.items() if steps and not steps[0][1] and steps[0][0] in (None, length)]
             ready = ready or [lane for lane, steps in todo.items() if steps and steps[0] == (length, True)]
             if not ready:

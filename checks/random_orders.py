@@ -1,13 +1,13 @@
 #!/usr/bin/env python3
-"""Runs of josie on several lanes in stated orders, against a plain model of the play, on scripts that chance wrote.
+"""Runs of josie on several lanes in stated orders, on random scripts, against a plain model of the play.
 
     checks/random_orders.py [JOSIE]
 
 The first part: random scripts of loads, drops, lists, searches and merges on one to five lanes, with a merger and without, each in a random order
 (pieces with too few and too many steps, and lanes that have none left) and lane by lane. The second: one script of three lanes, a search and a list, a
-load and a drop, and a merge of the whole layout, in every order of its seven steps. What josie writes, mostly with a trace, is the model's byte for
+load and a drop, and a merge of the whole layout, in every order of its seven steps. What josie writes, mostly with a trace, is the model's, byte for
 byte. The model is a list of versions (`plain_lake.py`): a load, a drop and a list take one step, a search and a merge two, of which the first takes
-the version that they are answered at. The seeds are fixed. It prints one line, and ends with 0 where all is as the model says.
+the version that they are answered at. The seeds are fixed. It prints one line, and ends with 0 if everything is as the model says.
 """
 import itertools
 import random
@@ -53,7 +53,7 @@ def script_of(batches):
 
 
 def step(lane, play):
-    """The next step of a lane in a play, where it has one."""
+    """The next step of a lane in a play, if it has one."""
     todo, pins, done = play["todo"][lane], play["pins"], play["done"]
     if not todo:
         return

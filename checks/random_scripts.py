@@ -1,13 +1,14 @@
 #!/usr/bin/env python3
-"""The script grammar against a plain model, on lines that chance and a table wrote.
+"""The script grammar against a plain model, on random lines and lines of a table.
 
     checks/random_scripts.py [JOSIE] [--all]
 
 Two kinds of scripts, none of which loads a table, so that every reply follows from the line alone. The first: each command line with one of
 its bytes replaced, at every position, by each of the 256 byte values (with `--all`; else by every fifth of them). The second: random scripts of
-commands, blocks, comments, `sync` lines, lanes' words and lines at fault, with carriage returns and without, with and without an end. Each is
+commands, blocks, comments, `sync` lines, words of lanes and lines at fault, with carriage returns and without, with and without an end. Each is
 written whole, and then in random pieces. The exit code, the line on standard error and the replies must be the model's. The model cuts the whole
-script into lines and reads one after another. The seed is fixed. It prints one line, and ends with 0 where all is as the model says.
+script into lines and reads one after another. The seed is fixed. It prints one line, and ends with 0 if everything is as the model
+says.
 """
 import random
 import subprocess
@@ -44,7 +45,7 @@ def split_words(text):
 
 
 def says(text):
-    """What a line outside a block says: a kind and its values. A ValueError is bad words."""
+    """What a line outside a block says: a kind and its values. A ValueError means `bad words`."""
     words = split_words(text)
     if words[0].startswith(b"@"):
         lane = number(words[0][1:], 10 ** 5000)
@@ -81,7 +82,7 @@ def says(text):
 
 
 def reply(kind, values, body):
-    """What a command is answered over a lake without tables."""
+    """The reply to a command over a lake without tables."""
     if kind == b"load":
         return "refused csv no-header"
     if kind == b"loadfile":
@@ -146,7 +147,7 @@ def model(script):
 
 
 def run(josie, script, pieces):
-    """What josie makes of the script, given in these pieces."""
+    """What josie writes for the script, given in these pieces."""
     ended = subprocess.Popen([josie, "run"], stdin=subprocess.PIPE, stdout=subprocess.PIPE, stderr=subprocess.PIPE, bufsize=0)
     try:
         for piece in pieces:

@@ -1,10 +1,10 @@
 #!/usr/bin/env python3
-"""Which crates took most processor time while the gate ran.
+"""Which crates took the most processor time while the gate ran.
 
     checks/slowest_crates.py &      # kill -INT $! prints the table and ends it
 
-Every second it reads, from /proc, the processor time of each running prover, and whose crate it proves (the word behind `--crate-name`). What a prover
-takes after the last look at it is not counted.
+Every second it reads, from /proc, the processor time of each running prover, and which crate it proves (the argument after `--crate-name`).
+What a prover takes after the last such reading is not counted.
 """
 import collections
 import os
@@ -17,7 +17,7 @@ SHOWN = 5
 
 
 def provers():
-    """The crate and the processor seconds of each prover that runs, by its process number and the time of its start."""
+    """The crate and the processor seconds of each running prover, by its process number and the time of its start."""
     found = {}
     for process in pathlib.Path("/proc").glob("[0-9]*"):
         try:

@@ -1,12 +1,12 @@
 #!/usr/bin/env python3
-"""The worked runs: what josie writes for the scripts and the words of `checks/runs`, each a folder named by what it shows.
+"""The worked runs: what josie writes for the scripts and command lines of `checks/runs`, each a folder named for what it shows.
 
     checks/worked_runs.py [JOSIE] [NAME ..]
 
-A folder has the words (`args`, one a line), standard input (`stdin`, none: empty), the output that is wanted (`stdout`, or `stdout.pattern`, a regular
-expression), the exit status where it is not 0 (`status`), the line on standard error where it is stated (`stderr`), and the files that lie where josie runs
-(`data/`). What is wanted was worked out by hand from the definitions, never taken from the program. With names, only these runs. It prints a line for each run
-that fails, and one line in all, and ends with 0 where none failed.
+A folder has the arguments (`args`, one a line), standard input (`stdin`, empty if it is missing), the expected output (`stdout`, or `stdout.pattern`, a regular
+expression), the exit status if it is not 0 (`status`), the line on standard error if it is stated (`stderr`), and the files in the folder where josie runs
+(`data/`). What is expected was worked out by hand from the definitions, never taken from the program. With names, only these runs. It prints a line for each
+run that fails, and one line in all, and ends with 0 if none failed.
 """
 import os
 import re
@@ -20,7 +20,7 @@ RUNS = os.path.join(HERE, "runs")
 
 
 def read(folder, name, default=None):
-    """The bytes of a file of the folder, or the default where there is none."""
+    """The bytes of a file of the folder, or the default if there is none."""
     path = os.path.join(folder, name)
     if not os.path.exists(path):
         return default
@@ -29,7 +29,7 @@ def read(folder, name, default=None):
 
 
 def differences(josie, folder):
-    """What differs from what is wanted, a line each."""
+    """What differs from what is expected, a line each."""
     words = read(folder, "args").split(b"\n")[:-1]
     data = os.path.join(folder, "data")
     with tempfile.TemporaryDirectory() as empty:
