@@ -1,5 +1,5 @@
 """python -m josie joinable DIR [--k K] [--no-numbers] [--out FILE]: the best partners of every column of a folder of CSV files, as a CSV table.
-python -m josie report DIR [--k K] [--no-numbers] [--out FILE]: the same as a page, report.html without --out.
+python -m josie report DIR [--k K] [--no-numbers] [--out FILE]: the same as a page, which is report.html without --out.
 """
 
 from __future__ import annotations
@@ -45,7 +45,7 @@ def _words() -> argparse.Namespace:
 
 
 def _tell(made: Survey, to: TextIO) -> None:
-    """The files that were refused, what looks wrong with those that were not, and the columns of which not all could be told."""
+    """Prints the files that were refused, what looks wrong with those that were not, and the columns whose results may be incomplete."""
     for path, why in made.load.refused.items():
         print(f"josie: {path}: refused: {why}", file=to)
     for path, warnings in made.load.warnings.items():
@@ -63,7 +63,7 @@ def _table(partners: list[Partner]) -> str:
 
 
 def _write(text: str, out: str | None) -> None:
-    """Writes the text to standard output, or to a file, which is there whole or as it was before."""
+    """Writes the text to standard output, or to a file, which is written whole or left as it was."""
     if out is None:
         sys.stdout.buffer.write(text.encode("utf-8"))
         return

@@ -13,14 +13,14 @@ def _again(kind: type[BaseException], args: tuple[Any, ...], fields: dict[str, A
 
 
 class JosieError(Exception):
-    """Whatever this package raises. It can be pickled, so it comes whole out of another process."""
+    """The base class of what this package raises. It can be pickled, so it passes whole between processes."""
 
     def __reduce__(self) -> tuple[Any, ...]:
         return _again, (type(self), self.args, self.__dict__)
 
 
 class NameInvalid(JosieError, ValueError):
-    """A table's name is no name: 1 to 255 bytes, each printable ASCII without the space. Nothing was sent."""
+    """A table's name is invalid: it has to be 1 to 255 bytes, each a printable ASCII character other than the space. Nothing was sent."""
 
 
 class TooLong(JosieError, ValueError):
@@ -36,11 +36,11 @@ class CountInvalid(JosieError, ValueError):
 
 
 class FolderEmpty(JosieError):
-    """The folder has no file of the suffix that was asked for."""
+    """The folder has no file with the suffix that was asked for."""
 
 
 class LakeEnded(JosieError):
-    """The program is not running any more, or never ran. `status` is its exit code, where there is one."""
+    """The program is not running any more, or never ran. `status` is its exit code, if there is one."""
 
     MEANINGS = {
         0: "it ended",
@@ -62,8 +62,8 @@ class LakeEnded(JosieError):
 
 
 class Refused(JosieError):
-    """A command was refused, and changed nothing. `reply` is the program's own line, without the command's number, or words of this package; as a
-    text the exception says the reason in words."""
+    """A command was refused, and changed nothing. `reply` is the program's own line, without the command's number, or a text of this package;
+    the text of the exception says the reason in words."""
 
     def __init__(self, reply: str, words: str | None = None) -> None:
         self.reply = reply
@@ -71,7 +71,7 @@ class Refused(JosieError):
 
 
 class OutOfMemory(Refused):
-    """The program found no memory for the command."""
+    """The program ran out of memory for the command."""
 
 
 class NameTaken(Refused):
@@ -87,7 +87,7 @@ class ColumnUnknown(Refused):
 
 
 class LakeFull(Refused):
-    """The lake would have more tables, updates, members or key bytes than it may: it has `count` of `what`, and `more` were to come."""
+    """The lake would exceed its limit of tables, updates, members or key bytes: it has `count` of `what`, and `more` were to be added."""
 
     def __init__(self, reply: str, words: str | None, what: str, count: int, more: int) -> None:
         self.what, self.count, self.more = what, count, more
@@ -95,9 +95,9 @@ class LakeFull(Refused):
 
 
 class TableRefused(Refused):
-    """The bytes are no table: no header, too many columns or values, a record of another length, or not UTF-8.
+    """The bytes are not a table: no header, too many columns or values, a record of another length, or not UTF-8.
 
-    `record` and `field` count from 1, the header being record 1; they are `None` where the refusal names none.
+    `record` and `field` count from 1, the header being record 1; they are `None` if the refusal names none.
     """
 
     def __init__(self, reply: str, words: str | None = None, record: int | None = None, field: int | None = None) -> None:
@@ -110,11 +110,11 @@ class FileRefused(Refused):
 
 
 class QueryRefused(Refused):
-    """The values are no query: not UTF-8, or more than 4,194,304 of them."""
+    """The values are not a query: not UTF-8, or more than 4,194,304 of them."""
 
 
 class ShardFailed(JosieError):
-    """A shard of a `ShardedLake` gave no answer, so there is none: `shard` is its number, from 0, and `worker` the address of its worker. What went
+    """A shard of a `ShardedLake` gave no answer, so the lake gives none: `shard` is its number, from 0, and `worker` the address of its worker. What went
     wrong there is the cause."""
 
     def __init__(self, shard: int, worker: str, why: str) -> None:
@@ -127,11 +127,11 @@ _FILES = {
     "missing": "there is no such file",
     "longer": "the file has more than 67,108,864 bytes",
 }
-_FULL = {"tables": "live tables", "updates": "loads, drops and merges", "members": "distinct values", "key-bytes": "bytes of distinct values"}
+_FULL = {"tables": "live tables", "updates": "loads and drops", "members": "distinct values", "key-bytes": "bytes of distinct values"}
 
 
 def refusal(reply: str) -> Refused:
-    """The exception of a reply, given without its command's number: `refused ...` or `no memory`.
+    """The exception of a reply, which is given without its command's number: `refused ...` or `no memory`.
 
     >>> print(refusal("refused csv record 3 want 2 got 1"))
     record 3 has 1 field, and the header has 2
@@ -162,7 +162,7 @@ def refusal(reply: str) -> Refused:
 
 
 def _table_refused(reply: str, words: list[str]) -> TableRefused:
-    """The exception of a reply `refused csv ..`, from the words behind `csv`."""
+    """The exception of a reply `refused csv ..`, from the words after `csv`."""
     match words:
         case ["no-header"]:
             return TableRefused(reply, "it has no header")

@@ -1,4 +1,4 @@
-"""Answers with what tells a good partner from a chance one: sizes, shares, ties, and which columns are numbers."""
+"""Answers with what distinguishes a good partner from a chance one: sizes, shares, ties, and which columns are numbers."""
 
 from __future__ import annotations
 
@@ -12,13 +12,13 @@ from .replies import Answer, Match
 if TYPE_CHECKING:
     import pandas
 
-#: An answer of the program has at most so many rows.
+#: The most rows of an answer of the program.
 MOST_ROWS = 10_000
 
-#: By so many times as many rows a question is asked again that was not told all.
+#: The factor by which a question that was not answered completely is asked again with more rows.
 _GROWTH = 8
 
-#: So many rows are asked for at once, so that many questions with many rows do not fill the memory.
+#: The most rows that are asked for at once, so that many questions with many rows do not fill the memory.
 _ROWS_AT_ONCE = 100_000
 
 
@@ -27,7 +27,7 @@ class Found:
     """A column that shares `overlap` distinct values with the query.
 
     `size` is the number of its own distinct values; `share` is the overlap divided by the query's size, and `jaccard` by the number of distinct values
-    that the two have together. `numbers` says whether all its values are numbers, and is `None` where that is not known.
+    that the two have together. `numbers` says whether all its values are numbers, and is `None` if that is not known.
     """
 
     overlap: int
@@ -42,11 +42,11 @@ class Found:
 
 @dataclass(frozen=True)
 class Findings:
-    """The columns that share most with a query of `values` distinct values.
+    """The columns that share the most with a query of `values` distinct values.
 
     `ties` is the number of further columns that share as many values as the last row: they were cut by the names of table and column. `left_out` is the
-    number of columns of numbers that would be rows, or tie with the last, had they not been left out. Where `complete` is false, the 10,000 rows that
-    an answer has at most did not tell all: the rows are right as far as they go, more may be missing behind them, and there may be more ties.
+    number of columns of numbers that would be rows, or tie with the last, had they not been left out. If `complete` is false, the 10,000 rows that
+    an answer has at most did not show all of this: the rows are right as far as they go, more may follow, and there may be more ties.
     """
 
     values: int
@@ -72,7 +72,7 @@ class Findings:
 
 @dataclass(frozen=True)
 class Cut:
-    """An answer's first rows that are kept, and what was cut off behind them."""
+    """An answer's first rows that are kept, and what was cut off after them."""
 
     values: int
     position: int
@@ -83,16 +83,16 @@ class Cut:
 
 
 def checked_k(k: int) -> int:
-    """The number of rows that is asked for, where it can be."""
+    """The number of rows that is asked for, if it is valid."""
     if not 1 <= k <= MOST_ROWS:
         raise CountInvalid(f"k is 1 to {MOST_ROWS:,}, not {k}")
     return k
 
 
 def cuts(ask: Callable[[Sequence[int], int], Sequence[Answer]], count: int, k: int, keeps: Callable[[Match], bool]) -> list[Cut]:
-    """For each of `count` questions its first k rows that are kept. `ask` answers some of them, by their numbers, with so many rows each.
+    """For each of `count` questions its first k rows that are kept. `ask` answers some of them, by their numbers, with a given number of rows each.
 
-    A question is asked with more rows until the first k that are kept are known, and how many tie with the last of them, or there can be no more.
+    A question is asked with more rows until the first k that are kept, and how many tie with the last of them, are known, or there can be no more.
     """
     done: dict[int, Cut] = {}
     open_, rows = list(range(count)), min(k + 1, MOST_ROWS)
@@ -107,7 +107,7 @@ def cuts(ask: Callable[[Sequence[int], int], Sequence[Answer]], count: int, k: i
 
 
 def _cut(answer: Answer, asked: int, k: int, keeps: Callable[[Match], bool]) -> Cut:
-    """The first k rows that are kept of an answer that was asked for so many."""
+    """The first k rows that are kept of an answer that was asked for this many rows."""
     kept = [match for match in answer if keeps(match)]
     worst = kept[k - 1].overlap if len(kept) >= k else 1
     among = sum(match.overlap >= worst for match in answer)
@@ -118,6 +118,6 @@ def _cut(answer: Answer, asked: int, k: int, keeps: Callable[[Match], bool]) -> 
 
 
 def found(match: Match, values: int, size: int, numbers: bool | None) -> Found:
-    """A row with its measures, where the query has so many distinct values."""
+    """A row with its measures, for a query of this many distinct values."""
     together = values + size - match.overlap
     return Found(match.overlap, match.table, match.place, match.column, size, match.overlap / values, match.overlap / together, numbers)

@@ -1,4 +1,4 @@
-"""A lake of tables, and the questions that are asked of it."""
+"""A lake of tables, and the searches over it."""
 
 from __future__ import annotations
 
@@ -19,7 +19,7 @@ from .replies import Answer, Dropped, FolderLoad, Loaded, Match, Merged, Table
 
 Path: TypeAlias = "str | os.PathLike[str]"
 
-#: A folder is loaded in batches of so many files and so many bytes, few enough that a bar can show how far it is.
+#: The most files and bytes of a batch in which a folder is loaded, few enough that a bar can show the progress.
 _FOLDER_COMMANDS = 64
 _FOLDER_BYTES = 33_554_432
 
@@ -27,11 +27,11 @@ _FOLDER_BYTES = 33_554_432
 class Lake:
     """A lake of tables, held by one josie that runs until the `with` block ends, or until `close`.
 
-    `program` is the path of the program; without it, the one is run that the variable JOSIE names, or that was built in this repository, or
-    that is on the path. Where it cannot be started, or has ended, a call raises `LakeEnded`.
+    `program` is the path of the program; without it the program is the one that the variable JOSIE names, or that was built in this repository, or
+    that is on the path. If it cannot be started, or has ended, a call raises `LakeEnded`.
 
-    With `profiles`, each table that is loaded is read by Python too, for the marks on its columns and for warnings (`profile`); else only its header is
-    read, which makes long loads shorter.
+    With `profiles`, each table that is loaded is read by Python too, for the marks on its columns and for warnings (`profile`); otherwise only its header
+    is read, which makes long loads shorter.
 
     >>> with Lake() as lake:
     ...     _ = lake.load("stations", b"id,city\\n1,Oslo\\n2,Lima\\n")
@@ -59,8 +59,8 @@ class Lake:
     def load(self, name: str, table: Any) -> Loaded:
         """Loads a table: the path of a CSV file, the bytes of one, or a DataFrame, whose index is left out.
 
-        Raises `NameInvalid` or `TooLong` before anything is sent, and `NameTaken`, `TableRefused`, `FileRefused` or `LakeFull`, behind which
-        the lake is as before.
+        Raises `NameInvalid` or `TooLong` before anything is sent, and `NameTaken`, `TableRefused`, `FileRefused` or `LakeFull`, after
+        which the lake is as before.
         """
         source = _source(name, table)
         loaded: Loaded = self._ask(source.command)
@@ -68,10 +68,10 @@ class Lake:
         return loaded
 
     def load_folder(self, folder: Path, suffix: str = ".csv") -> FolderLoad:
-        """Loads each file of the folder whose name ends so, in any case, in the order of the names, each as the table `table_name` of it.
+        """Loads each file of the folder whose name ends with the suffix, in any case, in the order of the names, as the table that `table_name` gives.
 
-        A file that is no table is listed with what it was refused for, and the others are loaded. On a terminal a bar shows how far it is,
-        where tqdm is installed. Raises `FolderEmpty`.
+        A file that is not a table is listed with why it was refused, and the others are loaded. On a terminal a bar shows the progress,
+        if tqdm is installed. Raises `FolderEmpty`.
         """
         paths = folder_files(folder, suffix)
         done = FolderLoad()
@@ -96,14 +96,14 @@ class Lake:
         return dropped
 
     def tables(self) -> list[Table]:
-        """The live tables, in the order of their loads."""
+        """The live tables, in the order in which they were loaded."""
         tables: list[Table] = self._ask(b"tables\n")
         return tables
 
     def columns(self, name: str) -> tuple[str, ...]:
         """The names of the columns of a live table, in their order.
 
-        Raises `TableUnknown`, or `ColumnUnknown` where Python could not read the table's header as the program did.
+        Raises `TableUnknown`, or `ColumnUnknown` if Python could not read the table's header as the program did.
         """
         return self.profile(name).columns
 
@@ -117,7 +117,7 @@ class Lake:
         return known
 
     def search(self, values: Iterable[str], k: int = 10) -> Answer:
-        """The k columns (1 to 10,000) that share most distinct values with these.
+        """The k columns (1 to 10,000) that share the most distinct values with these.
 
         Raises `CountInvalid`, `ValueInvalid` or `TooLong` before anything is sent.
         """
@@ -125,7 +125,7 @@ class Lake:
         return answer
 
     def like(self, table: str, column: int | str, k: int = 10) -> Answer:
-        """The k columns of other tables that share most distinct values with this one, which is named by its place, from 1, or by its name.
+        """The k columns of other tables that share the most distinct values with this one, which is given by its place, from 1, or by its name.
 
         Raises `CountInvalid`, `TableUnknown` or `ColumnUnknown`.
         """
@@ -148,7 +148,7 @@ class Lake:
         return [self._sizes[column] for column in columns]
 
     def find(self, values: Iterable[str], k: int = 10, *, numbers: bool = True) -> Findings:
-        """As `search`, and for each row the column's own size, the share of the query, Jaccard's measure, and whether it is a column of numbers; and
+        """Like `search`, and for each row the column's own size, the share of the query, Jaccard's measure, and whether it is a column of numbers; and
         how many further columns tie with the last row. Without `numbers` the columns of numbers are left out.
 
         >>> with Lake() as lake:
@@ -161,17 +161,17 @@ class Lake:
         return self._findings(lambda _, rows: [self._ask(_search_command(lines, rows))], 1, k, numbers)[0]
 
     def find_like(self, table: str, column: int | str, k: int = 10, *, numbers: bool = True) -> Findings:
-        """As `like`, with what `find` tells."""
+        """Like `like`, with what `find` adds."""
         return self.find_likes([(table, self._place(table, column))], k, numbers=numbers)[0]
 
     def find_likes(self, columns: Sequence[tuple[str, int]], k: int = 10, *, numbers: bool = True) -> list[Findings]:
-        """What `find_like` tells of many columns, each the name of a table and a place. The first that is refused is raised."""
+        """What `find_like` gives for many columns, each the name of a table and a place. The first that is refused is raised."""
         return self._findings(lambda some, rows: self.likes([columns[number] for number in some], rows), len(columns), k, numbers)
 
     def merge(self, whole: bool = True) -> Merged | None:
-        """Merges the whole index into one part, which makes searches faster and changes no answer; or, where `whole` is false, a step of that.
+        """Merges the whole index into one part, which makes searches faster and changes no answer; or, if `whole` is false, a step of that.
 
-        `None` where there is nothing to merge.
+        `None` if there is nothing to merge.
         """
         (reply,) = self._program.ask([b"merge all\n" if whole else b"merge\n"])
         if isinstance(reply, Refused) and reply.reply.startswith("refused nothing to merge"):
@@ -180,7 +180,7 @@ class Lake:
         return merged
 
     def is_numbers(self, table: str, place: int) -> bool | None:
-        """Whether all values of a column are numbers; `None` where that is not known."""
+        """Whether all values of a column are numbers; `None` if that is not known."""
         known = self._profiles.get(table)
         return known.numbers[place - 1] if known else None
 
@@ -207,7 +207,7 @@ class Lake:
         return _raised(reply)
 
     def _remember(self, loaded: Loaded, source: _Source) -> tuple[str, ...]:
-        """Keeps what Python reads of a table, where it finds as many columns as the program did, and gives the warnings."""
+        """Keeps what Python reads from a table, if it finds as many columns as the program did, and gives the warnings."""
         known = profile(source.table) if self._reads_tables else None
         known = known or header(_head(source.table))
         is_same = len(known.columns) == loaded.columns
@@ -253,7 +253,7 @@ def _source(name: str, table: Any) -> _Source:
 
 
 def table_bytes(table: Any) -> bytes:
-    """The bytes of a table that is given as a path, as bytes or as a DataFrame; of a file at most one more than it may have."""
+    """The bytes of a table that is given as a path, as bytes or as a DataFrame; of a file at most one byte more than it may have."""
     if isinstance(table, (str, os.PathLike)):
         with open(table, "rb") as file:
             return file.read(BLOCK_BYTES + 1)
@@ -289,7 +289,7 @@ def _value_line(value: str) -> bytes:
 
 
 def _fits_a_line(path: str) -> bool:
-    """Whether a path can stand in a line of a script: it is UTF-8 of some length, has no line feed, and no space or carriage return at its end."""
+    """Whether a path can be written in a line of a script: it is UTF-8 and not empty, has no line feed, and no space or carriage return at its end."""
     try:
         encoded = path.encode("utf-8")
     except UnicodeEncodeError:
@@ -298,7 +298,7 @@ def _fits_a_line(path: str) -> bool:
 
 
 def _head(table: bytes | str) -> bytes:
-    """The beginning of a table's bytes or of a file, or nothing where the file cannot be read any more."""
+    """The beginning of a table's bytes or of a file, or nothing if the file can no longer be read."""
     if isinstance(table, bytes):
         return table[:HEADER_BYTES]
     try:
@@ -316,7 +316,7 @@ def _size(path: str) -> int:
 
 
 def folder_files(folder: Path, suffix: str) -> list[str]:
-    """The paths of the folder's files whose names end so, in any case, sorted. Raises `FolderEmpty` where there is none."""
+    """The sorted paths of the folder's files whose names end with the suffix, in any case. Raises `FolderEmpty` if there is none."""
     paths = sorted(entry.path for entry in os.scandir(folder) if entry.is_file() and entry.name.lower().endswith(suffix.lower()))
     if not paths:
         raise FolderEmpty(f"{os.fspath(folder)} has no file whose name ends in {suffix}")
@@ -324,7 +324,7 @@ def folder_files(folder: Path, suffix: str) -> list[str]:
 
 
 def _batches(paths: Iterable[str], done: FolderLoad) -> Iterator[list[tuple[str, _Source]]]:
-    """The files as they are loaded together; those of which no command can be made are refused."""
+    """The files as they are loaded together; those for which no command can be written are refused."""
     batch: list[tuple[str, _Source]] = []
     size = 0
     for path in paths:
@@ -343,7 +343,7 @@ def _batches(paths: Iterable[str], done: FolderLoad) -> Iterator[list[tuple[str,
 
 
 class Bar(Protocol):
-    """What shows how far something is."""
+    """What shows the progress of something."""
 
     def update(self, count: int) -> object: ...
 
@@ -354,7 +354,7 @@ class _NoBar:
 
 
 def progress(total: int, unit: str = "file") -> AbstractContextManager[Bar]:
-    """A bar for so many files, or other things, on a terminal, where tqdm is installed; else something that shows nothing."""
+    """A bar for this many files, or other things, on a terminal, if tqdm is installed; otherwise something that shows nothing."""
     if sys.stderr.isatty():
         try:
             from tqdm import tqdm

@@ -22,8 +22,8 @@ def checked(name: str) -> bytes:
 
 def table_name(path: str | os.PathLike[str]) -> str:
     """The name of a file's table: the file's own name without `.csv` at its end. Each byte that a table's name cannot have, and each `%`, is
-    written as `%` and two hexadecimal digits. A name that does not end in `.csv` is kept whole, with a `%` behind it. So no two files of a
-    folder have one name.
+    written as `%` and two hexadecimal digits. A name that does not end in `.csv` is kept whole, followed by a `%`. So no two files of a
+    folder get the same name.
 
     >>> table_name("data/stations.csv")
     'stations'

@@ -16,7 +16,7 @@ from .replies import FolderLoad
 if TYPE_CHECKING:
     import pandas
 
-#: So many columns are asked about at once, few enough that a bar can show how far it is.
+#: The number of columns that are asked about at once, few enough that a bar can show the progress.
 _ASKED_AT_ONCE = 256
 
 
@@ -26,7 +26,7 @@ class Partner:
 
     `partner_values` is the number of the partner's own distinct values; `share` is the overlap divided by `values`, and `jaccard` by the number of
     distinct values that the two have together. `numbers` and `partner_numbers` say whether all values are numbers (`None`: not known). `ties` is the
-    number of further columns that share as many values as this column's last partner, and were cut by their names; where `complete` is false, there
+    number of further columns that share as many values as this column's last partner, and were cut by their names; if `complete` is false, there
     may be more of them.
     """
 
@@ -49,7 +49,7 @@ class Partner:
 
 @dataclass(frozen=True)
 class Asked:
-    """A column of a folder's table, and what was found for it: `None` where it was left out as a column of numbers. `values` is the number of its
+    """A column of a folder's table, and what was found for it: `None` if it was left out as a column of numbers. `values` is the number of its
     distinct values."""
 
     table: str
@@ -85,7 +85,7 @@ class Asked:
 
 @dataclass(frozen=True)
 class Survey:
-    """What came of loading a folder, and what was found for each column of its tables, in the order of their loads."""
+    """The result of loading a folder, and what was found for each column of its tables, in the order in which they were loaded."""
 
     load: FolderLoad
     columns: tuple[Asked, ...]
@@ -97,8 +97,8 @@ class Survey:
 
 
 def survey(folder: str | os.PathLike[str], k: int = 5, *, numbers: bool = True, program: str | None = None) -> Survey:
-    """For every column of the tables in the folder its k best partners in other tables; without `numbers` the columns of numbers are neither asked
-    nor found.
+    """For every column of the tables in the folder its k best partners in other tables; without `numbers` the columns of numbers are left out
+    on both sides.
 
     Raises `CountInvalid` or `FolderEmpty` before the program is run or anything is loaded.
     """
@@ -110,7 +110,7 @@ def survey(folder: str | os.PathLike[str], k: int = 5, *, numbers: bool = True, 
 
 
 def joinable(folder: str | os.PathLike[str], k: int = 5, program: str | None = None, *, numbers: bool = True) -> tuple[list[Partner], FolderLoad]:
-    """The partners that `survey` finds, and what came of loading the folder.
+    """The partners that `survey` finds, and the result of loading the folder.
 
     >>> from tempfile import TemporaryDirectory
     >>> with TemporaryDirectory() as folder:
@@ -139,7 +139,7 @@ def _asked(lake: Lake, load: FolderLoad, k: int, numbers: bool) -> Iterator[Aske
 
 
 def _column_name(lake: Lake, table: str, place: int) -> str:
-    """The name of a column, which is empty where the header could not be read here."""
+    """The name of a column, which is empty if the header could not be read here."""
     try:
         return lake.columns(table)[place - 1]
     except ColumnUnknown:
@@ -147,7 +147,7 @@ def _column_name(lake: Lake, table: str, place: int) -> str:
 
 
 def write_csv(partners: Iterable[Partner], file: IO[str]) -> None:
-    """Writes the partners as a CSV table with a header; truth values are `true` and `false`, and empty where they are not known."""
+    """Writes the partners as a CSV table with a header; truth values are `true` and `false`, and empty if they are not known."""
     words = {True: "true", False: "false", None: ""}
     writer = csv.writer(file, lineterminator="\n")
     writer.writerow([column.name for column in fields(Partner)])

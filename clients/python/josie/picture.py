@@ -1,4 +1,4 @@
-"""The picture of which tables hang together: a drawing in SVG, without anything from elsewhere."""
+"""The picture of which tables are connected: a drawing in SVG, without anything from elsewhere."""
 
 from __future__ import annotations
 
@@ -9,20 +9,20 @@ from dataclasses import dataclass
 from .partners import Partner
 from .text import escaped
 
-#: A picture has at most so many lines; the weaker ones are not drawn.
+#: The most lines of a picture; the weaker ones are not drawn.
 MOST_LINES = 2_000
 
 _LABEL = 24
 _LABEL_WIDTH = 170
 _STEP = 22
 _WIDTH = 1_200
-#: In a group of more tables than this their names stand along the rays of the circle, where they cannot overlap.
+#: In a group of more tables than this their names are drawn along the rays of the circle, where they cannot overlap.
 _LEVEL = 8
 
 
 @dataclass(frozen=True)
 class Line:
-    """Two tables, the first by name before the other, that hang together by this pair of columns, the one with the greatest share of those between them."""
+    """Two tables, ordered by name, that are connected by this pair of columns, the one with the greatest share between them."""
 
     first: str
     second: str
@@ -30,7 +30,7 @@ class Line:
 
 
 def lines(partners: Iterable[Partner], least_share: float, least_overlap: int) -> list[Line]:
-    """The lines between tables: there is one where a column that is not of numbers has at least this share of its values, and at least so many, in a
+    """The lines between tables. There is one if a column that is not of numbers has at least this share of its values, and at least this many, in a
     column of the other table that is not of numbers. The strongest come first, and no more than a picture has."""
     best: dict[tuple[str, str], Partner] = {}
     for partner in partners:
@@ -45,7 +45,7 @@ def lines(partners: Iterable[Partner], least_share: float, least_overlap: int) -
 
 
 def groups(drawn: Sequence[Line]) -> list[list[str]]:
-    """The tables that hang together, the largest group first; within a group neighbours stand close to each other."""
+    """The groups of connected tables, the largest first; within a group neighbours are close to each other."""
     near: dict[str, list[str]] = {}
     for line in drawn:
         near.setdefault(line.first, []).append(line.second)
@@ -56,7 +56,7 @@ def groups(drawn: Sequence[Line]) -> list[list[str]]:
 
 
 def _reached(start: str, near: Mapping[str, list[str]], seen: set[str]) -> list[str]:
-    """All tables that hang together with this one, depth first."""
+    """All tables that are connected with this one, depth first."""
     group, stack = [], [start]
     while stack:
         table = stack.pop()
@@ -68,7 +68,7 @@ def _reached(start: str, near: Mapping[str, list[str]], seen: set[str]) -> list[
 
 
 def svg(drawn: Sequence[Line]) -> str:
-    """The picture: each group on a circle of its own, and a line between two tables that is the wider the greater the share."""
+    """The picture: each group on a circle of its own, and a line between two tables that is wider for a greater share."""
     places, width, height = _placed(groups(drawn))
     head = f'<svg xmlns="http://www.w3.org/2000/svg" width="{width:.0f}" height="{height:.0f}" viewBox="0 0 {width:.0f} {height:.0f}" role="img">'
     return "\n".join([head, *map(lambda line: _line(line, places), drawn), *(_node(table, spot) for table, spot in places.items()), "</svg>"])
@@ -76,7 +76,7 @@ def svg(drawn: Sequence[Line]) -> str:
 
 @dataclass(frozen=True)
 class _Spot:
-    """Where a table stands, and where on its circle, as an angle from the right, clockwise; and whether its name is level."""
+    """Where a table is drawn, and where on its circle, as an angle from the right, clockwise; and whether its name is level."""
 
     x: float
     y: float
@@ -85,7 +85,7 @@ class _Spot:
 
 
 def _placed(all_groups: Sequence[Sequence[str]]) -> tuple[dict[str, _Spot], float, float]:
-    """The spot of each table, and the size of the picture. The circles stand in rows."""
+    """The spot of each table, and the size of the picture. The circles are arranged in rows."""
     places: dict[str, _Spot] = {}
     left = top = row_height = width = 0.0
     for group in all_groups:

@@ -1,4 +1,4 @@
-"""What a table's own text tells beside the program's sets: the names of its columns, which of them are numbers, and what looks wrong with it."""
+"""What a table's own text says besides the program's sets: the names of its columns, which of them are numbers, and what looks wrong with it."""
 
 from __future__ import annotations
 
@@ -11,10 +11,10 @@ from dataclasses import dataclass
 from itertools import islice
 from typing import IO
 
-#: So many bytes at the beginning of a table are read for the names of its columns.
+#: The number of bytes at the beginning of a table that are read for the names of its columns.
 HEADER_BYTES = 1 << 20
 
-#: So many records at the beginning of a table are looked at for a header that is data, and for another separator.
+#: The number of records at the beginning of a table that are checked for a header that is data, and for another separator.
 _SAMPLE = 1_000
 _MOST_FIELD_BYTES = 67_108_864
 _NUMBER = re.compile(r"[+-]?(\d+([.,]\d*)?|[.,]\d+)([eE][+-]?\d+)?", re.ASCII)
@@ -24,8 +24,8 @@ _SEPARATORS = {";": "a semicolon", "\t": "a tab", "|": "a bar"}
 
 @dataclass(frozen=True)
 class Profile:
-    """The names of a table's columns; for each whether all its values are numbers, `None` where the table was not read for that; and warnings, in
-    words."""
+    """The names of a table's columns; for each whether all its values are numbers, `None` if the table was not read for that; and warnings as
+    texts."""
 
     columns: tuple[str, ...]
     numbers: tuple[bool | None, ...]
@@ -33,7 +33,7 @@ class Profile:
 
 
 def is_number(value: str) -> bool:
-    """Whether a value is a decimal number: digits with a sign, a point or a comma within, and an exponent where there are.
+    """Whether a value is a decimal number: digits, possibly with a sign, a point or a comma, and an exponent.
 
     >>> [is_number(text) for text in ("5", "-0.5", "1e9", "3,14", "2024-01-01", "")]
     [True, True, True, True, False, False]
@@ -42,7 +42,7 @@ def is_number(value: str) -> bool:
 
 
 def header(head: bytes) -> Profile:
-    """The names alone, from the beginning of a table's bytes. There are none where they cannot be read."""
+    """The names alone, from the beginning of a table's bytes. There are none if they cannot be read."""
     try:
         names = tuple(next(_records(io.StringIO(head.decode("utf-8-sig", "replace"), newline="")), ()))
     except csv.Error:
@@ -51,9 +51,9 @@ def header(head: bytes) -> Profile:
 
 
 def profile(table: bytes | str | os.PathLike[str]) -> Profile | None:
-    """What the bytes of a table, or of the file at a path, tell; `None` where Python cannot read them as a table.
+    """What the bytes of a table, or of the file at a path, say; `None` if Python cannot read them as a table.
 
-    A column is of numbers where it has a value that is one, and each other value is one too, or a usual word for a missing value: `NA`, `N/A`, `NaN`,
+    A column is of numbers if it has a value that is a number, and each other value is one too, or a usual word for a missing value: `NA`, `N/A`, `NaN`,
     `nil`, `none`, `null`, `-` and `?`, in any case.
 
     >>> profile(b"city,height\\nOslo,23\\nLima,NA\\n")
@@ -78,7 +78,7 @@ def _opened(table: bytes | str | os.PathLike[str]) -> IO[str]:
 
 
 def _records(text: Iterable[str]) -> Iterator[list[str]]:
-    """The records of a text; empty lines are none."""
+    """The records of a text; empty lines are skipped."""
     return (record for record in csv.reader(text) if record)
 
 
@@ -94,7 +94,7 @@ def _profile(records: Iterator[list[str]]) -> Profile:
 
 
 def _strike(may_be: dict[int, bool], records: Sequence[list[str]]) -> None:
-    """Takes the columns out that have a value which is no number. What is left says whether a number was seen."""
+    """Removes the columns that have a value which is not a number. What is left says whether a number was seen."""
     for place in list(may_be):
         values = {record[place].strip() for record in records}
         others = {value for value in values if not is_number(value)}

@@ -11,11 +11,11 @@ from typing import IO, Any
 from .errors import LakeEnded, TooLong
 from .replies import further_lines, parsed
 
-#: A batch of the program has at most so many commands,
+#: The most commands of a batch of the program,
 BATCH_COMMANDS = 4096
-#: and its blocks and files at most so many bytes together.
+#: and the most bytes of its blocks and files together.
 BATCH_BYTES = 536_870_912
-#: A block of a script, and a file, has at most so many bytes.
+#: The most bytes of a block of a script, and of a file.
 BLOCK_BYTES = 67_108_864
 
 
@@ -37,7 +37,7 @@ def find_program() -> str:
 def block(data: bytes) -> bytes:
     """The lines of a block with the dot that ends it; a line that begins with a dot gets one more.
 
-    Raises `TooLong` where the program would stop at it.
+    Raises `TooLong` if the program would stop at it.
     """
     if data and not data.endswith(b"\n"):
         data += b"\n"
@@ -75,7 +75,7 @@ class Program:
         return self._child.stderr
 
     def close(self) -> None:
-        """Ends the program: its standard input is at its end, and nobody waits for more replies."""
+        """Ends the program: closes its standard input, and does not wait for more replies."""
         for stream in (self._input, self._output, self._errors):
             _close(stream)
         self._child.wait()
@@ -120,7 +120,7 @@ class Program:
 
 
 def _close(stream: IO[bytes]) -> None:
-    """Closes a pipe, whose other end may be gone."""
+    """Closes a pipe, whose other end may be closed already."""
     try:
         stream.close()
     except OSError:

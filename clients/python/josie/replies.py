@@ -15,7 +15,7 @@ if TYPE_CHECKING:
 
 @dataclass(frozen=True)
 class Loaded:
-    """A table was loaded, with so many columns and distinct values over all of them, at this position of the history."""
+    """A table was loaded, with its number of columns and of distinct values over all of them, at this position of the history."""
 
     name: str
     columns: int
@@ -42,7 +42,7 @@ class Table:
 
 @dataclass(frozen=True)
 class Merged:
-    """So many parts of the index became one of so many tables, at this position of the history."""
+    """`parts` parts of the index became one part of `tables` tables, at this position of the history."""
 
     parts: int
     tables: int
@@ -65,7 +65,7 @@ class Match:
 
 @dataclass(frozen=True)
 class Answer:
-    """The columns that share most with a query of `values` distinct values, over the tables live at this position."""
+    """The columns that share the most with a query of `values` distinct values, over the tables live at this position."""
 
     values: int
     position: int
@@ -91,7 +91,7 @@ class Answer:
 
 @dataclass(frozen=True)
 class FolderLoad:
-    """What came of a folder: the tables that were loaded; the path of each by its name; the warnings of each that has some, and why each other file
+    """The result of loading a folder: the tables that were loaded; the path of each by its name; the warnings of each that has some, and why each other file
     was refused, by its path."""
 
     loaded: list[Loaded] = field(default_factory=list)

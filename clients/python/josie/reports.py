@@ -11,7 +11,7 @@ from .partners import Asked, Partner, Survey, survey
 from .picture import MOST_LINES, lines, svg
 from .text import escaped
 
-#: Two tables hang together in the picture where a column has at least this share of its values, and at least so many, in a column of the other.
+#: Two tables are connected in the picture if a column has at least this share of its values, and at least this many, in a column of the other.
 LEAST_SHARE = 0.5
 LEAST_OVERLAP = 2
 
@@ -22,8 +22,8 @@ def report(folder: str | os.PathLike[str], k: int = 5, *, numbers: bool = True, 
 
 
 def page(made: Survey, title: str) -> str:
-    """The page that shows a survey: the partners, a picture of which tables hang together, the tables with what looks wrong with them, and the files that
-    were refused. Whatever comes out of the files is escaped, and nothing is fetched from elsewhere."""
+    """The page that shows a survey: the partners, a picture of which tables are connected, the tables with what looks wrong with them, and the files that
+    were refused. All text from the files is escaped, and nothing is fetched from elsewhere."""
     template = files("josie").joinpath("report.html").read_text(encoding="utf-8")
     partners = made.partners
     parts = {
@@ -62,7 +62,7 @@ def _summary(made: Survey, partners: Sequence[Partner]) -> str:
 
 
 def _cells(cells: Iterable[object]) -> str:
-    """Cells of a row. A number stands at the right, with the value that it is sorted by."""
+    """Cells of a row. A number is aligned to the right, with the value that it is sorted by."""
     made = []
     for cell in cells:
         if isinstance(cell, bool) or cell is None:

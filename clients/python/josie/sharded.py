@@ -20,11 +20,11 @@ from .replies import Answer, Dropped, FolderLoad, Loaded, Match, Merged, Table
 if TYPE_CHECKING:
     from distributed import Client
 
-#: Tables of a folder are sent to a shard so many at a time, and so many bytes.
+#: The most tables of a folder, and bytes, that are sent to a shard at a time.
 _SENT_TABLES = 64
 _SENT_BYTES = 33_554_432
 
-#: So many seconds pass between two looks at whether a shard that has not answered yet is still there.
+#: The seconds between two checks whether a shard that has not answered yet is still there.
 _PATIENCE = 1.0
 
 
@@ -39,14 +39,14 @@ def shard_of(name: str, shards: int) -> int:
 
 
 def merged(answers: Sequence[Answer], k: int) -> tuple[Match, ...]:
-    """The first k rows of some answers, merged in answer order. Where each was asked for k rows, these are the rows of one lake that holds all tables:
+    """The first k rows of some answers, merged in answer order. If each was asked for k rows, these are the rows of one lake that holds all tables:
     the crate `shard_laws` has the proof."""
     return tuple(islice(heapq.merge(*answers, key=Match.order), k))
 
 
 @dataclass(frozen=True)
 class ShardedAnswer:
-    """The columns of all shards that share most with a query of `values` distinct values, and the position of each shard's history."""
+    """The columns of all shards that share the most with a query of `values` distinct values, and the position of each shard's history."""
 
     values: int
     positions: tuple[int, ...]
@@ -73,7 +73,7 @@ class Shard:
         return self._lake.load(name, table)
 
     def load_all(self, tables: Sequence[tuple[str, bytes]]) -> list[Loaded | JosieError]:
-        """Loads tables. A refusal stands in the place of its table's reply."""
+        """Loads tables. A refusal takes the place of its table's reply."""
         return [self._loaded(name, table) for name, table in tables]
 
     def drop(self, name: str) -> Dropped:
@@ -104,10 +104,10 @@ class ShardedLake:
     """A lake whose tables are spread over shards by their names (`shard_of`), one josie each, in the workers of a Dask cluster.
 
     `client` is the cluster's; there are as many shards as workers, or `shards`, which are dealt out to the workers in turn. `program` is the path of the
-    program at the workers; without it each finds it as `Lake` does. The package has to be installed at the workers.
+    program at the workers; without it each worker finds it as `Lake` does. The package has to be installed at the workers.
 
-    An answer is that of one lake which holds all tables. Where a shard is gone, or its josie has ended, a call raises `ShardFailed`, and so does
-    each one after it: its tables are lost, and no answer is given of the rest.
+    An answer is that of one lake which holds all tables. If a shard is gone, or its josie has ended, a call raises `ShardFailed`, and so does
+    each one after it: its tables are lost, and the other shards give no answers.
 
         with Client(cluster) as client, ShardedLake(client) as lake:
             lake.load_folder("data")
@@ -159,7 +159,7 @@ class ShardedLake:
         return loaded
 
     def load_folder(self, folder: Path, suffix: str = ".csv") -> FolderLoad:
-        """Loads the files of a folder, as `Lake.load_folder` does. There are no warnings: nobody but the program reads the tables."""
+        """Loads the files of a folder, as `Lake.load_folder` does. There are no warnings: only the program reads the tables."""
         paths = folder_files(folder, suffix)
         done = FolderLoad()
         under_way: dict[int, tuple[list[str], Any]] = {}
@@ -183,7 +183,7 @@ class ShardedLake:
         return sorted((table for tables in self._wait_for_all(lambda shard: shard.tables()) for table in tables), key=lambda table: table.name)
 
     def search(self, values: Iterable[str], k: int = 10) -> ShardedAnswer:
-        """The k columns of all shards that share most distinct values with these. Raises as `Lake.search` does, or `ShardFailed`."""
+        """The k columns of all shards that share the most distinct values with these. Raises as `Lake.search` does, or `ShardFailed`."""
         checked_k(k)
         asked = list(values)
         answers: list[Answer] = self._wait_for_all(lambda shard: shard.search(asked, k))
@@ -193,7 +193,7 @@ class ShardedLake:
         return ShardedAnswer(sizes.pop(), tuple(answer.position for answer in answers), merged(answers, k))
 
     def merge(self) -> list[Merged | None]:
-        """Merges the index of each shard into one part, which makes searches faster and changes no answer; `None` where there is nothing to merge."""
+        """Merges the index of each shard into one part, which makes searches faster and changes no answer; `None` if there is nothing to merge."""
         replies: list[Merged | None] = self._wait_for_all(lambda shard: shard.merge())
         return replies
 
@@ -220,7 +220,7 @@ class ShardedLake:
         return self._called(number, lambda shard: shard.load_all(tables))
 
     def _wait(self, calls: Sequence[tuple[int, Any]]) -> list[Any]:
-        """What calls give, each of the shard with this number. Where one is refused, that is raised once all have come."""
+        """What calls give, each of the shard with this number. If one is refused, that is raised once all have returned."""
         outcomes = [self._outcome(number, future) for number, future in calls]
         for outcome in outcomes:
             if isinstance(outcome, JosieError):
@@ -257,7 +257,7 @@ class ShardedLake:
         return self._failed
 
     def _collect(self, under_way: dict[int, tuple[list[str], Any]], number: int, done: FolderLoad) -> None:
-        """Waits for what was sent to a shard, where something was, and enters what came of it."""
+        """Waits for what was sent to a shard, if anything was, and enters the results."""
         if number not in under_way:
             return
         paths, future = under_way.pop(number)
@@ -270,7 +270,7 @@ class ShardedLake:
                 done.paths[reply.name] = path
 
     def _parcels(self, paths: Iterable[str], done: FolderLoad) -> Iterator[tuple[int, list[tuple[str, str, bytes]]]]:
-        """The files with their tables' names and bytes, in parcels for a shard each; those that cannot be sent are refused."""
+        """The files with their tables' names and bytes, in parcels, each for one shard; those that cannot be sent are refused."""
         parcels: dict[int, list[tuple[str, str, bytes]]] = {}
         sizes = dict.fromkeys(range(len(self)), 0)
         for path in paths:

@@ -1,4 +1,4 @@
-"""Text of strangers in a page."""
+"""Untrusted text in a page."""
 
 from __future__ import annotations
 
@@ -9,8 +9,8 @@ _CONTROL = re.compile(r"[\x00-\x1f\x7f-\x9f\u200b-\u200f\u2028-\u202e\u2066-\u20
 
 
 def escaped(text: str) -> str:
-    """The text as it stands in a page, between tags or in an attribute's quotes. What cannot be seen, turns the direction of the text, or is no text is
-    written out.
+    """The text as it is written in a page, between tags or in an attribute's quotes. What cannot be seen, changes the direction of the text, or is not text,
+    is written as an escape.
 
     >>> print(escaped('<b a="1">&\\x00\\u202e'))
     &lt;b a=&quot;1&quot;&gt;&amp;\\x00\\u202e

@@ -12,7 +12,7 @@ from support import RIVERS, STATIONS, InAFolder, InALake, expected, random_table
 
 
 def measured(sets, query, k, numbers=(), left_out=None, leave_numbers_out=False):
-    """What the findings have to be: the rows with their measures, how many tie with the last, and how many columns of numbers were passed over."""
+    """What the findings have to be: the rows with their measures, how many tie with the last, and how many columns of numbers were left out."""
     rows = expected(sets, query, None, left_out)
     kept = [row for row in rows if not (leave_numbers_out and (row.table, row.place) in numbers)]
     shown = [

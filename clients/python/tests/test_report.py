@@ -69,7 +69,7 @@ def shown(text):
 
 
 def partner_cells(row):
-    """How a partner stands in the page."""
+    """How a partner is shown in the page."""
     return (
         row.table, str(row.place), shown(row.column), f"{row.values:,}", kind(row.numbers),
         row.partner_table, str(row.partner_place), shown(row.partner_column), f"{row.partner_values:,}", kind(row.partner_numbers),
@@ -141,7 +141,7 @@ class Contents(InAPage):
 @unittest.skipUnless(CHROMIUM, "Chromium is not installed (Debian's package chromium)")
 class InChromium(InAPage):
     def show(self, *words, **asked):
-        """What Chromium makes of the page."""
+        """The page as Chromium shows it."""
         path = os.path.join(self.made.name, "report.html")
         with open(path, "w", encoding="utf-8") as file:
             file.write(self.text)
