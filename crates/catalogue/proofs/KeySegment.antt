@@ -1,12 +1,16 @@
 -- The arrays of the segment of one table whose only column has one key, which is known.
-use Rattle.std.proofs.Common.{◌≡◌, refl, ap, sym, subst, ℕ, zero, suc, ◌<◌, List, [], ◌∷◌, length, get_or, arith, lit<, lit≤}
+use Rattle.std.proofs.Common.{◌≡◌, refl, ap, sym, subst, ℕ, zero, suc, ◌<◌, List, [], ◌∷◌, length, get_or, arith, length-append, lit<, lit≤}
 use Rattle.std.specs.Prelude.{codes}
+use Rattle.std.specs.List.Sorted.{IsSorted}
 use Rattle.std.proofs.lemmas.List.Sorted.{IsPermutation-refl}
 use Rattle.lake_model.specs.Texts.{Text}
 use Rattle.lake_model.specs.Sorting.{in_order, put_in_order}
 use Rattle.lake_model.specs.Tables.{Column, Table, column_with, keys_at, table_with}
 use Rattle.search_model.specs.Arrays.{AreArrays, IsAt, IsByKey, token_with}
-use Rattle.search_model.specs.Segment.{segment, Token, tokens_of}
+use Rattle.search_model.specs.Ranks.{number_cmp, AreInverse, AreRanks}
+use Rattle.search_model.specs.Segment.{columns_in, columns_of, segment, Titled, Token, tokens_of}
+use Rattle.search_model.proofs.ColumnLemmas.{length-columns_in}
+use Rattle.search_model.proofs.RankLemmas.{ranks_are}
 use Rattle.search_model.specs.declared.Owner.{Owner}
 use Rattle.search_model.specs.declared.Posting.{Posting}
 use Rattle.search_model.specs.declared.TokenAt.{TokenAt}
@@ -62,3 +66,28 @@ key_arrays t h k = by t.columns h k
     by (c ∷ []) h k =
         subst (λ (keys : List Text). AreArrays (table_with t.name (column_with c.name keys ∷ []) ∷ []) (first_column ∷ []) (only_token ∷ []) (0 ∷ []) (0 ∷ 1 ∷ []) (only_posting ∷ []) (0 ∷ 1 ∷ []) (0 ∷ [])) (sym k) (arrays t.name c.name)
     by (c ∷ d ∷ columns) h k = absurd (omega arith)
+
+-- the only column has the rank 0
+pub key_inverse : AreInverse (0 ∷ []) (0 ∷ [])
+key_inverse = record { size = refl; back = back_one; within = within_one; forth = back_one }
+  where
+    within_one : (r : ℕ) → r < 1 → get_or (0 ∷ []) r 0 < 1
+    within_one zero b = lit< tt
+    within_one (suc r) b = absurd (omega arith)
+
+    back_one : (x : ℕ) → x < 1 → get_or (0 ∷ []) (get_or (0 ∷ []) x 0) 0 ≡ x
+    back_one zero b = refl
+    back_one (suc x) b = absurd (omega arith)
+
+in_names : (columns : List Titled) → IsSorted (number_cmp columns) (0 ∷ [])
+in_names columns k d low h = absurd (omega arith)
+
+pub key_ranks : (t : Table) → length t.columns ≡ 1 → AreRanks (segment (t ∷ [])).columns (0 ∷ [])
+unfolding segment
+key_ranks t h =
+    let columns = columns_of (t ∷ []) in
+    let one : length columns ≡ 1 = length-columns t h in
+    ranks_are columns (0 ∷ []) (0 ∷ []) (sym one) key_inverse (in_names columns) (λ x b. (let below = key_inverse.within x (omega (arith, b, one)) in omega (arith, below, one)))
+  where
+    length-columns : (t : Table) → length t.columns ≡ 1 → length (columns_of (t ∷ [])) ≡ 1
+    length-columns t h = omega (arith, length-append (columns_in 0 t) [], length-columns_in 0 t, h)

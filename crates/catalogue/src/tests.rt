@@ -80,6 +80,8 @@ fn segment(alloc: Global, table: SharedTable) -> Result<Arc<Segment>, Fail>
     let postings = vec![in alloc; posting]?;
     let set_starts = vec![in alloc; 0, 1]?;
     let set_tokens = vec![in alloc; 0]?;
+    let ranks = vec![in alloc; 0]?;
+    let by_rank = vec![in alloc; 0]?;
     let segment = Segment::new(
         tables,
         owners,
@@ -89,6 +91,8 @@ fn segment(alloc: Global, table: SharedTable) -> Result<Arc<Segment>, Fail>
         postings,
         set_starts,
         set_tokens,
+        ranks,
+        by_rank,
     );
     Ok(Arc::new(alloc, segment)?)
 }

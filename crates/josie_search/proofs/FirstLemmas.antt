@@ -1,11 +1,10 @@
 -- The first of the columns that lead, one more at a time.
-use Rattle.std.proofs.Common.{◌≡◌, refl, ap, sym, ◌∙◌, subst, ◌⊎◌, inl, inr, ℕ, ◌<◌, ◌≤◌, ◌||◌, List, [], ◌∷◌, ◌++◌, Bool, true, false, arith, cond, Option, Some, None, eqb as nat_eq, ltb as nat_lt}
+use Rattle.std.proofs.Common.{◌≡◌, refl, ap, sym, ◌∙◌, subst, ◌⊎◌, inl, inr, ℕ, ◌<◌, ◌≤◌, List, [], ◌∷◌, Bool, true, false, arith, cond, Option, Some, None, eqb as nat_eq, ltb as nat_lt}
 use Rattle.std.specs.Option.{option_to_list}
 use Rattle.std.specs.Ordering.{is_lt, nat_cmp, ordering_reverse, ordering_then}
 use Rattle.std.specs.declared.cmp.Ordering.{Ordering}
 use Rattle.std.specs.declared.cmp.Ordering.TheVariants.{Less, Equal, Greater}
 use Rattle.std.proofs.lemmas.Cmp.{nat_cmp_total}
-use Rattle.std.proofs.lemmas.List.Folds.{list_any-append}
 use Rattle.std.proofs.lemmas.Map.Keys.{ge_from_not_lt}
 use Rattle.std.proofs.lemmas.Bool.Decides.{nat_tests}
 use Rattle.lake_model.proofs.AnswerLemmas.{row_cmp_total}
@@ -35,10 +34,10 @@ pub no_sooner : (a b : Row) → is_before a b ≡ false → a.overlap ≤ b.over
 no_sooner a b h = ge_from_not_lt b.overlap a.overlap (not_first (nat_cmp b.overlap a.overlap) _ h)
 
 -- the greater overlap comes first
-sooner : (a b : Row) → a.overlap < b.overlap → is_before b a ≡ true
+pub sooner : (a b : Row) → a.overlap < b.overlap → is_before b a ≡ true
 sooner a b h = by_test (is_before b a) (λ e. e) (λ e. absurd (let le = no_sooner b a e in omega arith))
 
-later : (a b : Row) → a.overlap < b.overlap → is_before a b ≡ false
+pub later : (a b : Row) → a.overlap < b.overlap → is_before a b ≡ false
 later a b h = (less_order row_cmp_total).one_way b a (sooner a b h)
 
 -- a comes before b, and c does not
@@ -141,10 +140,6 @@ module _ (query : Query) (part : Searched) (tallies : List Tally) (known : List 
         by Equal e Equal f = subst (λ (b : Bool). Found more (Some (cond b (n, row) (x, best)))) (sym (λ i. is_lt (ordering_then (e i) (f i)))) (kept (ap is_lt e) (λ l. absurd (let le = high (ap is_lt f) in omega arith)))
         by Equal e Greater f = subst (λ (b : Bool). Found more (Some (cond b (n, row) (x, best)))) (sym (λ i. is_lt (ordering_then (e i) (f i)))) (kept (ap is_lt e) (λ l. absurd (let le = high (ap is_lt f) in omega arith)))
 
-    -- a column whose bound is too low
-    pub too_low : (x : ℕ) (best : Row) → Found done (Some (x, best)) → (bound_at n).overlap < best.overlap → Found more (Some (x, best))
-    too_low x best h low = stays x best h (later (bound_at n) best low) (λ l. sooner (bound_at n) best low)
-
     -- one column more
     pub found_more : (found : Option (ℕ × Row)) (row : Option Row) → Found done found → option_to_list row ≡ lead_row query part tallies known left n → Found more (first_of found n row)
     found_more found None h e = passed found h (led_not (does_lead n) (sym e))
@@ -161,12 +156,3 @@ module _ (query : Query) (part : Searched) (tallies : List Tally) (known : List 
     lower = λ y l d. h.lower y (covers y d) l d;
     higher = λ y l m d. h.higher y (covers y d) l d;
   }
-
--- one column behind others
-pub among_pushed : (done : List ℕ) (n y : ℕ) → is_among (done ++ n ∷ []) y ≡ true → (is_among done y ≡ true) ⊎ (y ≡ n)
-among_pushed done n y e = by (is_among done y) refl (nat_eq y n) refl (sym (list_any-append (nat_eq y) done (n ∷ [])) ∙ e)
-  where
-    by : (a : Bool) → is_among done y ≡ a → (b : Bool) → nat_eq y n ≡ b → (is_among done y || (nat_eq y n || false)) ≡ true → (is_among done y ≡ true) ⊎ (y ≡ n)
-    by true f b g k = inl f
-    by false f true g k = inr (let same : y ≡ n = grind (arith, nat_tests) in same)
-    by false f false g k = absurd (let z : false ≡ true = (λ i. sym f i || (sym g i || false)) ∙ k in cc)

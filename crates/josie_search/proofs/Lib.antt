@@ -1,3 +1,6 @@
+pub mod HeapLemmas
+pub mod HeldLemmas
+pub mod LeadLemmas
 pub mod ProbeLemmas
 pub mod TallyLemmas
 pub mod TouchedLemmas

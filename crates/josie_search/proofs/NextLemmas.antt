@@ -3,7 +3,7 @@ use Rattle.std.proofs.Common.{◌≡◌, refl, ap, sym, ◌∙◌, subst, ℕ, �
 use Rattle.std.specs.Prelude.{slice_get}
 use Rattle.std.proofs.lemmas.List.{length-map}
 use Rattle.lake_model.specs.Answer.{Query, Row, row_cmp}
-use Rattle.search_model.specs.declared.Look.TheVariants.{Probe}
+use Rattle.search_model.specs.declared.Look.TheVariants.{Probe, Read}
 use Rattle.search_model.specs.declared.Summary.{Summary}
 use Rattle.search_model.specs.Looks.{beats, choice, hits, known_rows, left_of, list_lengths, next_look, Progress, read_next, Searched, seen_by, summary_with, threshold, unseen_open, worst}
 use Rattle.search_model.specs.Segment.{Titled}
@@ -12,11 +12,11 @@ use Rattle.search_state.specs.State.{column_at, seen_at}
 use Rattle.search_state.proofs.OfferLemmas.{worst_is}
 use Rattle.josie_search.specs.declared.tally.Tally.{Tally}
 use Rattle.josie_search.specs.Costs.{lengths_of, summary_of, threshold_of}
-use Rattle.josie_search.specs.Open.{IsHead, overlap_of, taken}
-use Rattle.josie_search.specs.Rows.{FoundTo, leads}
+use Rattle.josie_search.specs.Open.{chosen, IsHead, overlap_of, taken}
+use Rattle.josie_search.specs.Rows.{FoundFrom, FoundTo, leads}
 use Rattle.josie_search.specs.State.{IsAt}
 use Rattle.josie_search.specs.Tallies.{tally_at, tally_of}
-use Rattle.josie_search.proofs.OpenLemmas.{first_beaten, first_open, none_opens, seen_count}
+use Rattle.josie_search.proofs.OpenLemmas.{first_beaten, first_open, none_high, none_opens}
 
 -- what the code tells is what the definition tells
 sum_same : (last : Option Row) (progress : Progress) (lengths : List ℕ) (c : Titled) (set : List ℕ) (x : ℕ) (found : List ℕ) → 0 < length found
@@ -74,6 +74,49 @@ module _ (says : Summary → Bool) (query : Query) (before : List Row) (part : S
       ap (choice says part progress last) head
       ∙ ap (λ c. cond c (Some (read_next part progress)) None) (ap (unseen_open (left_of part progress)) (threshold_same last) ∙ e)
 
+  -- what the chooser makes of the head of the open columns is the next look
+  pub next_chosen : (column : Option ℕ) → IsHead query part progress last column → ((x : ℕ) → column ≡ Some x → 0 < (seen_at part progress x).count) → chosen says part.number lengths part.query progress.read tallies (overlap_of last) column ≡ next_look says query before part progress
+  next_chosen None head some = by (unseen_open (length part.query - progress.read) (threshold_of (overlap_of last))) refl
+    where
+      by : (b : Bool) → unseen_open (length part.query - progress.read) (threshold_of (overlap_of last)) ≡ b → cond b (Some (Read part.number (get_or part.query progress.read 0))) None ≡ next_look says query before part progress
+      by true e = sym (next_unseen true head e)
+      by false e = sym (next_unseen false head e)
+  next_chosen (Some x) head some = by (says (summary_of lengths progress.read (tally_at tallies x) (overlap_of last))) refl
+    where
+      by : (b : Bool) → says (summary_of lengths progress.read (tally_at tallies x) (overlap_of last)) ≡ b → cond b (Some (Probe part.number x (tally_at tallies x).position)) (Some (Read part.number (get_or part.query progress.read 0))) ≡ next_look says query before part progress
+      by true e = sym (next_probes x head (some x refl) e)
+      by false e = sym (next_reads x head (some x refl) e)
+
+-- what a look that was chosen tells
+module _ (says : Summary → Bool) (number : ℕ) (lengths tokens : List ℕ) (read : ℕ) (tallies : List Tally) (worst : Option ℕ) where
+  pub chosen_probe : (column : Option ℕ) (n x after : ℕ) → chosen says number lengths tokens read tallies worst column ≡ Some (Probe n x after) → (n ≡ number) × (column ≡ Some x) × (after ≡ (tally_at tallies x).position)
+  chosen_probe None n x after e = by (unseen_open (length tokens - read) (threshold_of worst)) e
+    where
+      by : (b : Bool) → cond b (Some (Read number (get_or tokens read 0))) None ≡ Some (Probe n x after) → (n ≡ number) × (None ≡ Some x) × (after ≡ (tally_at tallies x).position)
+      by true e = absurd (let f : Some (Read number (get_or tokens read 0)) ≡ Some (Probe n x after) = e in cc)
+      by false e = absurd (let f : None ≡ Some (Probe n x after) = e in cc)
+  chosen_probe (Some y) n x after e = by (says (summary_of lengths read (tally_at tallies y) worst)) e
+    where
+      by : (b : Bool) → cond b (Some (Probe number y (tally_at tallies y).position)) (Some (Read number (get_or tokens read 0))) ≡ Some (Probe n x after) → (n ≡ number) × (Some y ≡ Some x) × (after ≡ (tally_at tallies x).position)
+      by true f =
+          let same_n : n ≡ number = cc in
+          let same : y ≡ x = cc in
+          let at : after ≡ (tally_at tallies y).position = cc in
+          (same_n, ap Some same, at ∙ ap (λ (z : ℕ). (tally_at tallies z).position) same)
+      by false f = absurd (let g : Some (Read number (get_or tokens read 0)) ≡ Some (Probe n x after) = f in cc)
+
+  pub chosen_read : (column : Option ℕ) (n t : ℕ) → chosen says number lengths tokens read tallies worst column ≡ Some (Read n t) → (n ≡ number) × (t ≡ get_or tokens read 0)
+  chosen_read None n t e = by (unseen_open (length tokens - read) (threshold_of worst)) e
+    where
+      by : (b : Bool) → cond b (Some (Read number (get_or tokens read 0))) None ≡ Some (Read n t) → (n ≡ number) × (t ≡ get_or tokens read 0)
+      by true f = (let g : n ≡ number = cc in g, let g : t ≡ get_or tokens read 0 = cc in g)
+      by false f = absurd (let g : None ≡ Some (Read n t) = f in cc)
+  chosen_read (Some y) n t e = by (says (summary_of lengths read (tally_at tallies y) worst)) e
+    where
+      by : (b : Bool) → cond b (Some (Probe number y (tally_at tallies y).position)) (Some (Read number (get_or tokens read 0))) ≡ Some (Read n t) → (n ≡ number) × (t ≡ get_or tokens read 0)
+      by true f = absurd (let g : Some (Probe number y (tally_at tallies y).position) ≡ Some (Read n t) = f in cc)
+      by false f = (let g : n ≡ number = cc in g, let g : t ≡ get_or tokens read 0 = cc in g)
+
 -- the k-th row that is known is that of the first k that are kept
 pub last_is : (query : Query) (known rows : List Row) (k : ℕ) → 0 < query.k → k ≡ query.k → rows ≡ best row_cmp query.k known → slice_get rows (k - 1) ≡ worst query known
 last_is query known rows k some same e = (λ i. slice_get (e i) (same i - 1)) ∙ sym (worst_is query known some)
@@ -89,28 +132,25 @@ head_found query part progress tallies known last (Some (x, row)) is h result e 
     by true f = first_open query part progress tallies known is last x row h f
     by false f = first_beaten query part progress tallies known is last x row h f
 
+-- the first that leads with a bound from the k-th row's overlap on, and whether it beats, give the head of the open ones
+pub head_from : (query : Query) (part : Searched) (progress : Progress) (tallies : List Tally) (known : List Bool) (last : Option Row) (found : Option (ℕ × Row)) (low : ℕ) → IsAt part progress tallies known → low ≡ threshold_of (overlap_of last)
+    → FoundFrom query part tallies known (left_of part progress) (length part.segment.columns) low found → (result : Option ℕ) → result ≡ taken last found → IsHead query part progress last result
+head_from query part progress tallies known last None low is high h result e = subst (IsHead query part progress last) (sym e) (none_high query part progress tallies known is last low high h)
+head_from query part progress tallies known last (Some found) low is high h result e = head_found query part progress tallies known last (Some found) is h result e
+
 -- the same, of what is known by other names
-pub head_now : (query : Query) (part : Searched) (progress : Progress) (tallies : List Tally) (known : List Bool) (last kept : Option Row) (found : Option (ℕ × Row)) (left n : ℕ) (result : Option ℕ) → IsAt part progress tallies known
-    → kept ≡ last → left ≡ left_of part progress → n ≡ length part.segment.columns → FoundTo query part tallies known left n found → result ≡ taken kept found → IsHead query part progress last result
-head_now query part progress tallies known last kept found left n result is same l m h e =
-    head_found query part progress tallies known last found is
-    (subst (λ (k : ℕ). FoundTo query part tallies known (left_of part progress) k found) m (subst (λ (k : ℕ). FoundTo query part tallies known k n found) l h))
+pub head_now : (query : Query) (part : Searched) (progress : Progress) (tallies : List Tally) (known : List Bool) (last kept : Option Row) (found : Option (ℕ × Row)) (left n low : ℕ) (result : Option ℕ) → IsAt part progress tallies known
+    → kept ≡ last → left ≡ left_of part progress → n ≡ length part.segment.columns → low ≡ threshold_of (overlap_of kept) → FoundFrom query part tallies known left n low found → result ≡ taken kept found → IsHead query part progress last result
+head_now query part progress tallies known last kept found left n low result is same l m high h e =
+    head_from query part progress tallies known last found low is (high ∙ ap (λ (w : Option Row). threshold_of (overlap_of w)) same)
+    (subst (λ (k : ℕ). FoundFrom query part tallies known (left_of part progress) k low found) m (subst (λ (k : ℕ). FoundFrom query part tallies known k n low found) l h))
     result (e ∙ ap (λ (w : Option Row). taken w found) same)
 
--- the column that was taken was seen
-pub taken_seen : (query : Query) (part : Searched) (progress : Progress) (tallies : List Tally) (known : List Bool) (kept : Option Row) (found : Option (ℕ × Row)) (left n x : ℕ) → IsAt part progress tallies known
-    → FoundTo query part tallies known left n found → Some x ≡ taken kept found → 0 < (seen_at part progress x).count
-taken_seen query part progress tallies known kept None left n x is h e = absurd (let f : Some x ≡ None = e in cc)
-taken_seen query part progress tallies known kept (Some (y, row)) left n x is h e = by (beats kept row) e
-  where
-    by : (b : Bool) → Some x ≡ cond b (Some y) None → 0 < (seen_at part progress x).count
-    by true f = let same : y ≡ x = cc in subst (λ (z : ℕ). 0 < (seen_at part progress z).count) same (seen_count query part progress tallies known is y h.does)
-    by false f = absurd (let g : Some x ≡ None = f in cc)
-
-pub taken_leads : (query : Query) (part : Searched) (tallies : List Tally) (known : List Bool) (kept : Option Row) (found : Option (ℕ × Row)) (left n x : ℕ) → FoundTo query part tallies known left n found → Some x ≡ taken kept found
+-- the column that was taken leads
+pub taken_leads : (query : Query) (part : Searched) (tallies : List Tally) (known : List Bool) (kept : Option Row) (found : Option (ℕ × Row)) (left n low x : ℕ) → FoundFrom query part tallies known left n low found → Some x ≡ taken kept found
     → (x < n) × (leads query part tallies known x ≡ true)
-taken_leads query part tallies known kept None left n x h e = absurd (let f : Some x ≡ None = e in cc)
-taken_leads query part tallies known kept (Some (y, row)) left n x h e = by (beats kept row) e
+taken_leads query part tallies known kept None left n low x h e = absurd (let f : Some x ≡ None = e in cc)
+taken_leads query part tallies known kept (Some (y, row)) left n low x h e = by (beats kept row) e
   where
     by : (b : Bool) → Some x ≡ cond b (Some y) None → (x < n) × (leads query part tallies known x ≡ true)
     by true f = let same : y ≡ x = cc in subst (λ (z : ℕ). (z < n) × (leads query part tallies known z ≡ true)) same (h.within, h.does)

@@ -11,10 +11,12 @@ use Rattle.search_state.specs.State.{column_at, open_at, seen_at}
 use Rattle.search_state.proofs.CoverLemmas.{none_open}
 use Rattle.search_state.proofs.HeadLemmas.{first_by_rows}
 use Rattle.josie_search.specs.declared.tally.Tally.{Tally}
-use Rattle.josie_search.specs.Rows.{bound_row, is_before, IsFirst, leads, most_of, NoneLeads}
+use Rattle.josie_search.specs.Costs.{threshold_of}
+use Rattle.josie_search.specs.Open.{overlap_of}
+use Rattle.josie_search.specs.Rows.{bound_row, is_before, IsFirst, leads, most_of, NoneFrom, NoneLeads}
 use Rattle.josie_search.specs.State.{IsAt}
 use Rattle.josie_search.specs.Tallies.{tally_at, tally_of}
-use Rattle.josie_search.proofs.FirstLemmas.{no_sooner_there}
+use Rattle.josie_search.proofs.FirstLemmas.{later, no_sooner_there}
 
 pub tally_count : (set found : List ℕ) → (tally_of set found).count ≡ length found
 tally_count set [] = refl
@@ -104,3 +106,11 @@ module _ (query : Query) (part : Searched) (progress : Progress) (tallies : List
   first_beaten last x row h b =
       none_open query part progress last (λ y l. closed_by last y (λ e.
       no_later_beats last row (seen_at part progress y).bound (ap (λ (r : Row). is_before r row) (sym (bounds_are y e)) ∙ no_sooner_there query part tallies known left (length part.segment.columns) x y row h l e) b))
+
+  -- None leads with a bound from the last one's overlap on: none is open.
+  pub none_high : (last : Option Row) (low : ℕ) → low ≡ threshold_of (overlap_of last) → NoneFrom query part tallies known left (length part.segment.columns) low → open_columns query part progress last ≡ []
+  none_high last low high h = none_open query part progress last (λ y l. closed_by last y (λ e. beaten last high y (h y l e) e))
+    where
+      beaten : (last : Option Row) → low ≡ threshold_of (overlap_of last) → (y : ℕ) → most_of left (tally_at tallies y) < low → does_lead y ≡ true → beats last (seen_at part progress y).bound ≡ false
+      beaten None high y less e = absurd (let some = seen_count y e in let c = counts y in omega (arith, high, less, some, c))
+      beaten (Some w) high y less e = ap (λ (r : Row). is_before r w) (sym (bounds_are y e)) ∙ later (bound_row part tallies left y) w (omega (arith, high, less))

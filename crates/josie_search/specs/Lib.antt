@@ -2,6 +2,7 @@ pub mod Search
 pub mod Tallies
 pub mod Columns
 pub mod Rows
+pub mod Candidates
 pub mod State
 pub mod Costs
 pub mod Open

@@ -45,6 +45,14 @@ NoneLeads query part tallies known n = (y : ℕ) → y < n → leads query part 
 abbrev pub FoundTo : Query → Searched → List Tally → List Bool → ℕ → ℕ → Option (ℕ × Row) → Type 0
 FoundTo query part tallies known left n found = MatchOption found (NoneLeads query part tallies known n) (λ f. IsFirst query part tallies known left n f.0 f.1)
 
+-- none leads with a bound of so much
+abbrev pub NoneFrom : Query → Searched → List Tally → List Bool → ℕ → ℕ → ℕ → Type 0
+NoneFrom query part tallies known left n low = (y : ℕ) → y < n → leads query part tallies known y ≡ true → most_of left (tally_at tallies y) < low
+
+-- the first that leads, or none leads with a bound of so much
+abbrev pub FoundFrom : Query → Searched → List Tally → List Bool → ℕ → ℕ → ℕ → Option (ℕ × Row) → Type 0
+FoundFrom query part tallies known left n low found = MatchOption found (NoneFrom query part tallies known left n low) (λ f. IsFirst query part tallies known left n f.0 f.1)
+
 -- The first of those among some columns, in whatever order they come: of equal rows that of the lower number.
 pub record IsFirstAmong (query : Query) (part : Searched) (tallies : List Tally) (known : List Bool) (left : ℕ) (done : List ℕ) (x : ℕ) (row : Row) : Type 0 where
   pub does : leads query part tallies known x ≡ true

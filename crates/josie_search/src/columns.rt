@@ -63,6 +63,7 @@ impl Columns {
     pub(crate) fn touched(&self) -> &[u32]
         ensures touched { result.now ≡ self.now.touched }
         ensures listed { IsListed self.now.tallies self.now.touched }
+        ensures few { length result.now ≤ length self.now.tallies }
     {
         &self.touched
     }

@@ -1,82 +1,135 @@
 //! The first of the columns that may be open.
-ghost use Rattle.std.specs.Prelude.{◌≡◌, ◌<◌, ◌≤◌, ◌+◌, ◌^◌, ◌++◌, ◌∷◌, [], ℕ, List, get_or, length};
-ghost use Rattle.search_model.specs.Looks.{searched};
+ghost use Rattle.std.specs.Prelude.{◌≡◌, ◌<◌, ◌≤◌, ◌+◌, ◌^◌, ℕ, List, Some, ◌&&◌, false, true, get_or, length, nat_lt};
+ghost use Rattle.lake_model.specs.Answer.{Query};
+ghost use Rattle.search_model.specs.Looks.{Searched, searched};
+ghost use Rattle.search_model.specs.Ranks.{AreInverse, AreRanks};
 ghost use Rattle.segment_core.specs.Versions.{part_at, segment_at};
-ghost use Rattle.josie_search.specs.Rows.{first_of, FoundAmong, FoundTo};
+ghost use Rattle.josie_search.specs.Candidates.{all_of, AreApart, AreHeld, FoundExact, goes_in, IsOfRank, IsTop, most_now, NoneExact, weight};
+ghost use Rattle.josie_search.specs.Rows.{FoundFrom, leads, most_of};
 ghost use Rattle.josie_search.specs.Tallies.{tally_at};
 
+use crate::candidates::{Candidate, Candidates, candidate_of, most_now};
 use crate::columns::Columns;
+use crate::hold::{goes_in, reach};
 use crate::query::Asked;
 use crate::row::{lead_of, most_of};
 use column_set::Row;
-use segment_core::Looks;
+use segment_core::{ColumnOrder, Looks};
 
-/// The first of the columns that were seen, are not known and may be in the answer, by the rows of their bounds, with this row. It
-/// walks the columns that were seen.
+/// The first of the columns that were seen, are not known and may be in the answer, by the rows of their bounds, with this row; `None`
+/// where none has a bound of `low` or more. It takes out the candidates that come before it, and puts those back whose bounds have
+/// fallen.
 pub(crate) fn first_lead<'a>(
     looks: &Looks<'a>,
     part: u32,
     query: &Asked<'_>,
     columns: &Columns,
+    candidates: &mut Candidates,
+    order: ColumnOrder<'_>,
     left: u32,
+    low: u32,
 ) -> Option<(u32, Row<'a>)>
     requires part { part < length looks.now.version.parts }
+    requires ranks { AreRanks (segment_at looks.now.version.parts part).columns order.ranks.now }
+    requires inverse { AreInverse order.ranks.now order.by_rank.now }
     requires wide { length (segment_at looks.now.version.parts part).sets ≤ length columns.now.tallies }
     requires seen { (column : ℕ) → 0 < (tally_at columns.now.tallies column).count → column < length (segment_at looks.now.version.parts part).sets }
     requires small { (column : ℕ) → (tally_at columns.now.tallies column).count + left < 2 ^ 32 }
-    ensures { FoundTo query.now (searched query.now (part_at looks.now.version.parts part)) columns.now.tallies columns.now.known left (length (segment_at looks.now.version.parts part).sets) result }
+    requires room { length columns.now.tallies ≤ candidates.old.room }
+    requires held { AreHeld query.now (searched query.now (part_at looks.now.version.parts part)) order.ranks.now columns.now.tallies columns.now.known left candidates.old.low (all_of candidates.old) }
+    ensures found { FoundFrom query.now (searched query.now (part_at looks.now.version.parts part)) columns.now.tallies columns.now.known left (length (segment_at looks.now.version.parts part).sets) low result }
+    ensures held { AreHeld query.now (searched query.now (part_at looks.now.version.parts part)) order.entry.ranks.now columns.now.tallies columns.now.known left candidates.new.low (all_of candidates.new) }
+    ensures room { candidates.new.room ≡ candidates.old.room }
 {
-    let mut found = None;
-    for column in columns.touched() {
-        found = first_more(looks, part, query, columns, left, found, *column);
+    reach(candidates, columns, order.ranks, left, low);
+    while let Some(top) = candidates.top(left) {
+        if most_now(top, left) < u64::from(low) {
+            return None;
+        }
+        let column = ranked(order, top.rank);
+        match exact_lead(looks, part, query, columns, left, top, column) {
+            Some(lead) => return Some(lead),
+            None => mend(candidates, columns, left, top, column),
+        }
     }
-    found
+    None
 }
 
-// The first of what was found and of one more column. Most columns have a lower bound than what was found, and need no row.
-fn first_more<'a>(
+// The column of this rank, if there is one.
+fn ranked(order: ColumnOrder<'_>, rank: u32) -> Option<u32>
+    requires inverse { AreInverse order.ranks.now order.by_rank.now }
+    requires below { (x : ℕ) → x < length order.ranks.now → get_or order.ranks.now x 0 < length order.ranks.now }
+    ensures column { IsOfRank (length order.entry.ranks.now) order.entry.ranks.now rank result }
+    ensures within { (x : ℕ) → result ≡ Some x → x < length order.entry.ranks.now }
+{
+    if rank as usize >= order.by_rank.len() {
+        return None;
+    }
+    let column = order.by_rank[rank as usize];
+    if order.ranks[column as usize] == rank {
+        Some(column)
+    } else {
+        None
+    }
+}
+
+// The column with the row of its bound, where it leads, and the candidate's number is its bound.
+fn exact_lead<'a>(
     looks: &Looks<'a>,
     part: u32,
     query: &Asked<'_>,
     columns: &Columns,
     left: u32,
-    found: Option<(u32, Row<'a>)>,
-    column: u32,
+    top: Candidate,
+    column: Option<u32>,
 ) -> Option<(u32, Row<'a>)>
     requires part { part < length looks.now.version.parts }
-    requires column { column < length (segment_at looks.now.version.parts part).sets }
-    requires tallies { column < length columns.now.tallies }
-    requires small { (tally_at columns.now.tallies column).count + left < 2 ^ 32 }
-    ensures { (done : List ℕ) → FoundAmong query.now (searched query.now (part_at looks.now.version.parts part)) columns.now.tallies columns.now.known left done found.entry → FoundAmong query.now (searched query.now (part_at looks.now.version.parts part)) columns.now.tallies columns.now.known left (done ++ column ∷ []) result }
+    requires column { (x : ℕ) → column ≡ Some x → x < length (segment_at looks.now.version.parts part).sets }
+    requires wide { length (segment_at looks.now.version.parts part).sets ≤ length columns.now.tallies }
+    requires small { (column : ℕ) → (tally_at columns.now.tallies column).count + left < 2 ^ 32 }
+    ensures { FoundExact query.now (searched query.now (part_at looks.now.version.parts part)) columns.now.tallies columns.now.known left top column result }
 {
-    if let Some((_, best)) = &found {
-        if most_of(columns.tally(column), left) < best.overlap {
-            return found;
-        }
+    let column = column?;
+    if u64::from(most_of(columns.tally(column), left)) != most_now(top, left) {
+        return None;
     }
-    let row = lead_of(looks, part, query, columns, left, column);
-    first_of(found, column, row)
+    match lead_of(looks, part, query, columns, left, column) {
+        None => None,
+        Some(row) => Some((column, row)),
+    }
 }
 
-// The first of what was found and of the row of one more column, if it has one.
-fn first_of<'a>(
-    found: Option<(u32, Row<'a>)>,
-    column: u32,
-    row: Option<Row<'a>>,
-) -> Option<(u32, Row<'a>)>
-    ensures { result ≡ first_of found.entry column row.entry }
+// Takes out the first candidate, and puts its column back with its bound, where that is lower than the candidate's number.
+fn mend(
+    candidates: &mut Candidates,
+    columns: &Columns,
+    left: u32,
+    top: Candidate,
+    column: Option<u32>,
+)
+    requires top { IsTop left candidates.old top }
+    requires small { (column : ℕ) → (tally_at columns.now.tallies column).count + left < 2 ^ 32 }
+    requires within { (x : ℕ) → column ≡ Some x → x < length columns.now.tallies }
+    ensures held { (query : Query) (part : Searched) (ranks : List ℕ) (n : ℕ) → AreApart n ranks → ((x : ℕ) → leads query part columns.now.tallies columns.now.known x ≡ true → x < n) → IsOfRank n ranks top.rank column → NoneExact query part columns.now.tallies columns.now.known left top column → AreHeld query part ranks columns.now.tallies columns.now.known left candidates.old.low (all_of candidates.old) → AreHeld query part ranks columns.now.tallies columns.now.known left candidates.new.low (all_of candidates.new) }
+    ensures weight { weight left (all_of candidates.new) < weight left (all_of candidates.old) }
+    ensures low { candidates.new.low ≡ candidates.old.low }
+    ensures room { candidates.new.room ≡ candidates.old.room }
 {
-    let Some(row) = row else {
-        return found;
+    candidates.pop(top);
+    let Some(column) = column else {
+        return;
     };
-    match found {
-        None => Some((column, row)),
-        Some((first, best)) => {
-            if row.order(&best).then(column.cmp(&first)).is_lt() {
-                Some((column, row))
-            } else {
-                Some((first, best))
-            }
-        }
+    if has_fallen(columns, left, candidates.low(), top, column) {
+        candidates.push(candidate_of(columns.tally(column), left, top.rank));
     }
+}
+
+// Whether a column has to be held for bounds from `low` on, and its bound is lower than the candidate's number.
+fn has_fallen(columns: &Columns, left: u32, low: u32, top: Candidate, column: u32) -> bool
+    requires column { column < length columns.now.tallies }
+    requires small { (tally_at columns.now.tallies column).count + left < 2 ^ 32 }
+    ensures { result ≡ (goes_in (get_or columns.now.known column false) low left (tally_at columns.now.tallies column) && nat_lt (most_of left (tally_at columns.now.tallies column)) (most_now left top)) }
+{
+    goes_in(columns, left, low, column)
+        && u64::from(most_of(columns.tally(column), left)) < most_now(top, left)
 }

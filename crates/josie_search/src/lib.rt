@@ -2,9 +2,11 @@
 //! says, and stops in a part where no column can come before the k-th row that it knows.
 #![tactic(auto)]
 
+mod candidates;
 mod columns;
 mod cost;
 mod first;
+mod hold;
 mod next;
 mod offer;
 mod part;

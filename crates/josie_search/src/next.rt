@@ -5,22 +5,26 @@ ghost use Rattle.std.specs.List.{All};
 ghost use Rattle.lake_model.specs.Answer.{Row as RowOf, row_cmp};
 ghost use Rattle.search_laws.specs.Select.{best};
 ghost use Rattle.search_model.specs.Looks.{beats, known_rows, next_look, Progress, searched};
+ghost use Rattle.search_model.specs.Ranks.{AreInverse, AreRanks};
 ghost use Rattle.segment_core.specs.Versions.{part_at, segment_at};
-ghost use Rattle.josie_search.specs.Costs.{threshold_of};
-ghost use Rattle.josie_search.specs.Open.{overlap_of, taken};
+ghost use Rattle.josie_search.specs.Candidates.{all_of, AreHeld};
+ghost use Rattle.josie_search.specs.Costs.{lengths_of, threshold_of};
+ghost use Rattle.josie_search.specs.Open.{chosen, overlap_of, taken};
 ghost use Rattle.josie_search.specs.Rows.{leads};
 ghost use Rattle.josie_search.specs.State.{IsAt};
 ghost use Rattle.josie_search.specs.Tallies.{tally_at};
 
+use crate::candidates::Candidates;
 use crate::columns::Columns;
 use crate::cost::summarize;
 use crate::first::first_lead;
+use crate::hold::rest;
 use crate::query::Asked;
 use crate::sure::surely_reads;
 use column_set::Row;
 use cost_model::Chooser;
 use search_bounds::unseen_open;
-use segment_core::{Look, Looks};
+use segment_core::{ColumnOrder, Look, Looks};
 use topk_heap::TopK;
 
 /// The next look of a search in a part, of which the first lists were read; `None` where the part is done. No column has a greater
@@ -32,6 +36,8 @@ pub(crate) fn next_look<C: Chooser>(
     tokens: &[u32],
     read: u32,
     columns: &Columns,
+    candidates: &mut Candidates,
+    order: ColumnOrder<'_>,
     top: &TopK<'_>,
     chooser: &C,
     most: u32,
@@ -43,55 +49,83 @@ pub(crate) fn next_look<C: Chooser>(
     requires tokens { tokens.now ≡ (searched query.now (part_at looks.now.version.parts part)).query }
     requires some { 0 < query.now.k }
     requires read { read < length tokens.now }
+    requires ranks { AreRanks (segment_at looks.now.version.parts part).columns order.ranks.now }
+    requires inverse { AreInverse order.ranks.now order.by_rank.now }
     requires wide { length (segment_at looks.now.version.parts part).sets ≤ length columns.now.tallies }
+    requires room { length columns.now.tallies ≤ candidates.old.room }
     requires seen { (column : ℕ) → 0 < (tally_at columns.now.tallies column).count → column < length (segment_at looks.now.version.parts part).sets }
     requires small { (column : ℕ) → (tally_at columns.now.tallies column).count ≤ read }
     requires k { top.now.k ≡ query.now.k }
+    requires held { AreHeld query.now (searched query.now (part_at looks.now.version.parts part)) order.ranks.now columns.now.tallies columns.now.known (length tokens.now - read) candidates.old.low (all_of candidates.old) }
     ensures next { (before : List RowOf) (progress : Progress) → IsAt (searched query.now (part_at looks.now.version.parts part)) progress columns.now.tallies columns.now.known → progress.read ≡ read → top.now.rows ≡ best row_cmp query.now.k (before ++ known_rows query.now (searched query.now (part_at looks.now.version.parts part)) progress) → result ≡ next_look (C.says chooser.now) query.now before (searched query.now (part_at looks.now.version.parts part)) progress }
     ensures probed { (n x after : ℕ) → result ≡ Some (Probe n x after) → (n ≡ (part_at looks.now.version.parts part).number) × (x < length (segment_at looks.now.version.parts part).sets) × (leads query.now (searched query.now (part_at looks.now.version.parts part)) columns.now.tallies columns.now.known x ≡ true) × (after ≡ (tally_at columns.now.tallies x).position) }
     ensures listed { (n t : ℕ) → result ≡ Some (Read n t) → (n ≡ (part_at looks.now.version.parts part).number) × (t ≡ get_or tokens.now read 0) }
+    ensures held { AreHeld query.now (searched query.now (part_at looks.now.version.parts part)) order.entry.ranks.now columns.now.tallies columns.now.known (length tokens.now - read) candidates.new.low (all_of candidates.new) }
+    ensures room { candidates.new.room ≡ candidates.old.room }
 {
-    let left = tokens.len() as u32 - read;
-    let number = looks.number(part);
-    let token = tokens[read as usize];
     if surely_reads(
         looks, part, query, tokens, read, columns, top, chooser, *witness, most,
     ) {
+        rest(candidates);
         return Some(Look::Read {
-            part: number,
-            token,
+            part: looks.number(part),
+            token: tokens[read as usize],
         });
     }
-    let found = first_lead(looks, part, query, columns, left);
-    *witness = column_of(&found);
+    let left = tokens.len() as u32 - read;
     let worst = worst_overlap(top.worst());
-    match take_better(top.worst(), found) {
-        Some(column) => {
-            let tally = columns.tally(column);
-            let summary = summarize(looks, part, tokens, read, tally, worst);
-            if chooser.probe(&summary) {
-                Some(Look::Probe {
-                    part: number,
-                    set: column,
-                    after: tally.position,
-                })
-            } else {
-                Some(Look::Read {
-                    part: number,
-                    token,
-                })
-            }
-        }
-        None => {
-            if unseen_open(left, threshold(worst)) {
-                Some(Look::Read {
-                    part: number,
-                    token,
-                })
-            } else {
-                None
-            }
-        }
+    let low = threshold(worst);
+    let found = first_lead(looks, part, query, columns, candidates, order, left, low);
+    *witness = column_of(&found);
+    let column = take_better(top.worst(), found);
+    choose(looks, part, tokens, read, columns, chooser, worst, column)
+}
+
+// What a chooser makes of the best open column, if there is one, where `worst` is the overlap of the k-th row that is known.
+fn choose<C: Chooser>(
+    looks: &Looks<'_>,
+    part: u32,
+    tokens: &[u32],
+    read: u32,
+    columns: &Columns,
+    chooser: &C,
+    worst: Option<u32>,
+    column: Option<u32>,
+) -> Option<Look>
+    requires part { part < length looks.now.version.parts }
+    requires few { length tokens.now ≤ 4194304 }
+    requires tokens { All (λ token. token < length (segment_at looks.now.version.parts part).tokens) tokens.now }
+    requires read { read < length tokens.now }
+    requires small { (column : ℕ) → (tally_at columns.now.tallies column).count ≤ read }
+    requires seen { (x : ℕ) → column ≡ Some x → (x < length columns.now.tallies) × (0 < (tally_at columns.now.tallies x).count) }
+    ensures { result ≡ chosen (C.says chooser.now) (part_at looks.now.version.parts part).number (lengths_of (segment_at looks.now.version.parts part) tokens.now) tokens.now read columns.now.tallies worst column }
+{
+    let number = looks.number(part);
+    let token = tokens[read as usize];
+    let Some(column) = column else {
+        let left = tokens.len() as u32 - read;
+        return if unseen_open(left, threshold(worst)) {
+            Some(Look::Read {
+                part: number,
+                token,
+            })
+        } else {
+            None
+        };
+    };
+    let tally = columns.tally(column);
+    let summary = summarize(looks, part, tokens, read, tally, worst);
+    if chooser.probe(&summary) {
+        Some(Look::Probe {
+            part: number,
+            set: column,
+            after: tally.position,
+        })
+    } else {
+        Some(Look::Read {
+            part: number,
+            token,
+        })
     }
 }
 

@@ -6,6 +6,7 @@ ghost use Rattle.lake_model.specs.Sorting.{put_in_order};
 ghost use Rattle.search_laws.specs.Select.{best};
 ghost use Rattle.search_model.specs.declared.Look.TheVariants.{Probe};
 ghost use Rattle.search_model.specs.Looks.{hits, is_eligible, known_rows, run, searched, start};
+ghost use Rattle.search_model.specs.Ranks.{AreInverse, AreRanks};
 ghost use Rattle.search_state.specs.State.{column_at};
 ghost use Rattle.segment_core.specs.Versions.{part_at, segment_at};
 ghost use Rattle.josie_search.specs.Columns.{IsClean};
@@ -13,14 +14,16 @@ ghost use Rattle.josie_search.specs.Offers.{shared_row};
 ghost use Rattle.josie_search.specs.Room.{looks_bound};
 ghost use Rattle.josie_search.specs.Tallies.{no_tally, tally_at, tally_of};
 
+use crate::candidates::Candidates;
 use crate::columns::Columns;
+use crate::hold::follow;
 use crate::next::next_look;
 use crate::offer::{offer, offer_rest};
 use crate::probe::probe;
 use crate::query::Asked;
 use crate::row::row_of;
 use cost_model::Chooser;
-use segment_core::{Look, Looks};
+use segment_core::{ColumnOrder, Look, Looks};
 use topk_heap::TopK;
 
 /// Probes a column, marks it as known, and offers its row.
@@ -68,6 +71,8 @@ pub(crate) fn search_part<'a, C: Chooser>(
     query: &Asked<'_>,
     tokens: &[u32],
     columns: &mut Columns,
+    candidates: &mut Candidates,
+    order: ColumnOrder<'_>,
     top: &mut TopK<'a>,
     chooser: &C,
 )
@@ -78,6 +83,9 @@ pub(crate) fn search_part<'a, C: Chooser>(
     requires some { 0 < query.now.k }
     requires k { top.old.k ≡ query.now.k }
     requires wide { length (segment_at looks.old.version.parts part).sets ≤ length columns.old.tallies }
+    requires ranks { AreRanks (segment_at looks.old.version.parts part).columns order.ranks.now }
+    requires inverse { AreInverse order.ranks.now order.by_rank.now }
+    requires kept { length columns.old.tallies ≤ candidates.old.room }
     requires clean { IsClean columns.old }
     requires room { looks_bound (part_at looks.old.version.parts part) tokens.now ≤ looks.old.spare }
     requires rows { top.old.rows ≡ best row_cmp query.now.k top.old.rows }
@@ -86,8 +94,10 @@ pub(crate) fn search_part<'a, C: Chooser>(
     ensures k { top.new.k ≡ top.old.k }
     ensures spare { looks.old.spare ≤ looks.new.spare + looks_bound (part_at looks.old.version.parts part) tokens.now }
     ensures wide { length columns.new.tallies ≡ length columns.old.tallies }
+    ensures kept { candidates.new.room ≡ candidates.old.room }
     ensures rows { top.new.rows ≡ best row_cmp query.now.k (top.old.rows ++ known_rows query.now (searched query.now (part_at looks.old.version.parts part)) (run (C.says chooser.now) query.now top.old.rows (searched query.now (part_at looks.old.version.parts part)) start).1) }
 {
+    candidates.clear(u32::MAX);
     let lists = tokens.len() as u32;
     let mut read = 0;
     let mut most = 0;
@@ -100,6 +110,8 @@ pub(crate) fn search_part<'a, C: Chooser>(
             tokens,
             read,
             columns,
+            candidates,
+            order,
             top,
             chooser,
             most,
@@ -107,8 +119,10 @@ pub(crate) fn search_part<'a, C: Chooser>(
         ) {
             None => return,
             Some(Look::Read { .. }) => {
-                most = columns.count(looks.list(part, tokens[read as usize]), most);
+                let list = looks.list(part, tokens[read as usize]);
+                most = columns.count(list, most);
                 read += 1;
+                follow(candidates, columns, order.ranks, lists - read, list);
             }
             Some(Look::Probe { set, .. }) => {
                 probe_column(looks, part, query, tokens, read, set, columns, top);

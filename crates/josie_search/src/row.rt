@@ -5,7 +5,7 @@ ghost use Rattle.lake_model.specs.Answer.{is_excepted};
 ghost use Rattle.search_model.specs.Arrays.{titled_at};
 ghost use Rattle.search_model.specs.Looks.{is_eligible, row_with, searched};
 ghost use Rattle.segment_core.specs.Versions.{marks_of, part_at, segment_at};
-ghost use Rattle.josie_search.specs.Rows.{lead_row, most_of};
+ghost use Rattle.josie_search.specs.Rows.{lead_row, most_of, rest_of};
 ghost use Rattle.josie_search.specs.Tallies.{tally_at};
 
 use crate::columns::Columns;
@@ -56,8 +56,14 @@ pub(crate) fn most_of(tally: Tally, left: u32) -> u32
     requires { tally.count + left < 2 ^ 32 }
     ensures { result ≡ most_of left tally }
 {
-    let rest = tally.size.saturating_sub(1).saturating_sub(tally.position);
-    bound(tally.count, left, rest)
+    bound(tally.count, left, rest_of(tally))
+}
+
+/// How many tokens of a column of this tally come behind the last list that holds it.
+pub(crate) fn rest_of(tally: Tally) -> u32
+    ensures { result ≡ rest_of tally }
+{
+    tally.size.saturating_sub(1).saturating_sub(tally.position)
 }
 
 /// The row of a column's bound, where the column was seen, is not known, and may be in the answer.

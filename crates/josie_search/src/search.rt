@@ -7,6 +7,7 @@ ghost use Rattle.josie_search.specs.Search.{answer_of, query_with, search_with};
 ghost use Rattle.search_model.specs.Looks.{log};
 ghost use Rattle.segment_core.specs.Versions.{live_of, part_at, segment_at};
 
+use crate::candidates::Candidates;
 use crate::columns::Columns;
 use crate::part::search_part;
 use crate::query::Asked;
@@ -25,6 +26,7 @@ pub struct Prepared<'a, 'q> {
     query: Asked<'q>,
     tokens: Vec<Vec<u32>>,
     columns: Columns,
+    candidates: Candidates,
     top: TopK<'a>,
 }
 
@@ -37,7 +39,7 @@ impl<'a, 'q> Model for Prepared<'a, 'q> {
 
     ghost view = { λ p. search_with p.looks.version p.query };
 
-    ghost invariant = { λ p. (p.looks.log ≡ []) × IsReady p.looks.version.parts p.query p.looks.spare (map (λ tokens. tokens.items) p.tokens.items) p.columns p.top };
+    ghost invariant = { λ p. (p.looks.log ≡ []) × IsReady p.looks.version.parts p.query p.looks.spare (map (λ tokens. tokens.items) p.tokens.items) p.columns p.candidates p.top };
 }
 
 /// The rows of an answer, and the looks with the log of what was read for it.
@@ -47,10 +49,10 @@ pub struct Answer<'a> {
     pub looks: Looks<'a>,
 }
 
-/// All that a search needs, taken before it runs: the query's tokens of each part, a tally and a mark for each column of the part that has
-/// most, the first k rows, and room in the log for as many looks as the search can take. These are, of each part, as many as it has lists
-/// of the query's tokens, and as many again as these have postings or the part has columns, whichever is less. The search leaves out the
-/// columns of the table named `except`, if any.
+/// All that a search needs, taken before it runs: the query's tokens of each part; a tally, a mark and room for four candidates for each
+/// column of the part that has most; the first k rows; and room in the log for as many looks as the search can take. These are, of each
+/// part, as many as it has lists of the query's tokens, and as many again as these have postings or the part has columns, whichever is
+/// less. The search leaves out the columns of the table named `except`, if any.
 ///
 /// It is refused only for want of memory; what it gives takes none.
 pub fn prepare<'a, 'q>(
@@ -66,7 +68,9 @@ pub fn prepare<'a, 'q>(
     ensures { IfOk result (λ prepared. prepared ≡ search_with looks.entry.version (query_with k query.now (option_copied except.entry))) }
 {
     let tokens = ask_parts(alloc, &mut looks, query)?;
-    let columns = Columns::new(alloc, most_columns(&looks))?;
+    let most = most_columns(&looks);
+    let columns = Columns::new(alloc, most)?;
+    let candidates = Candidates::new(alloc, most)?;
     let top = TopK::new(alloc, k)?;
     // A search takes at most as many lists as the query has keys.
     prove!(query.len() <= 4_194_304);
@@ -79,6 +83,7 @@ pub fn prepare<'a, 'q>(
         },
         tokens,
         columns,
+        candidates,
         top,
     })
 }
@@ -148,17 +153,21 @@ impl<'a, 'q> Prepared<'a, 'q> {
             query,
             tokens,
             mut columns,
+            mut candidates,
             mut top,
         } = self;
         for part in 0..looks.parts() {
             columns.clear();
             let asked = &tokens[part as usize];
+            let order = looks.order(part);
             search_part(
                 &mut looks,
                 part,
                 &query,
                 asked,
                 &mut columns,
+                &mut candidates,
+                order,
                 &mut top,
                 chooser,
             );

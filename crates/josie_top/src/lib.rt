@@ -11,6 +11,7 @@ ghost use Rattle.script_text.specs.Words.{mode_of, mode_read, IsModeInRange};
 ghost use Rattle.josie_top.specs.Ends.{status_of_refused};
 ghost use Rattle.josie_top.specs.Meets.{HasNoFault, IsMaking, IsOrdered, IsSaid, MeetsMode};
 
+pub use lake_desk::LakeDesk;
 use lake_io::{Gate, Shelf, Sink, Source};
 use making::make_lake;
 use ordered::run_in_order;

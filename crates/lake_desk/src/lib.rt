@@ -14,4 +14,6 @@ pub use desk::LakeDesk;
 pub use opening::{Standard, open_desks};
 
 #[cfg(test)]
+mod meter_tests;
+#[cfg(test)]
 mod tests;

@@ -55,17 +55,17 @@ impl Gate for Crossing {
 }
 
 // The name that a text is.
-fn name(text: &str) -> Result<Name, Fail> {
+pub(crate) fn name(text: &str) -> Result<Name, Fail> {
     Ok(Name::read(text.as_bytes()).ok_or("no name")?)
 }
 
 // A body of these bytes.
-fn body(alloc: Global, text: &str) -> Result<Body, Fail> {
+pub(crate) fn body(alloc: Global, text: &str) -> Result<Body, Fail> {
     Ok(Body::new(Vec::from_slice(alloc, text.as_bytes())?).ok_or("no body")?)
 }
 
 // A command.
-fn command(number: u64, lane: u32, task: Task) -> Command
+pub(crate) fn command(number: u64, lane: u32, task: Task) -> Command
     requires lane { 1 ≤ lane }
     requires task { IsTaskInRange task }
     ensures { result.lane ≡ lane }

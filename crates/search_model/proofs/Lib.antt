@@ -5,4 +5,5 @@ pub mod OverlapLemmas
 pub mod BoundLemmas
 pub mod FilterLemmas
 pub mod LooksLemmas
+pub mod RankLemmas
 mod WorkedRuns

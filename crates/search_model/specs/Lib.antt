@@ -2,3 +2,4 @@ pub mod Segment
 pub mod Choosers
 pub mod Looks
 pub mod Arrays
+pub mod Ranks

@@ -11,7 +11,8 @@ use Rattle.search_model.specs.Segment.{Titled}
 use Rattle.search_model.specs.Looks.{Searched, Progress, Seen, seen, is_open, open_columns, row_with, beats, is_eligible, is_known}
 use Rattle.lake_model.proofs.SortingLemmas.{less_order, irreflexive}
 use Rattle.lake_model.proofs.AnswerLemmas.{row_cmp_total}
-use Rattle.search_state.specs.State.{AreRanks, Candidate, Covers, AreCovered, IsTop, seen_at, open_at, column_at}
+use Rattle.search_model.specs.Ranks.{AreRanks}
+use Rattle.search_state.specs.State.{Candidate, Covers, AreCovered, IsTop, seen_at, open_at, column_at}
 use Rattle.search_model.specs.Arrays.{no_titled}
 use Rattle.search_state.proofs.HeadLemmas.{covered_by_top}
 

@@ -13,7 +13,8 @@ use Rattle.search_model.specs.Looks.{Searched, Progress, Seen, seen, is_open, op
 use Rattle.lake_model.proofs.SortingLemmas.{all_in_order}
 use Rattle.lake_model.proofs.SortingLemmas.{stays}
 use Rattle.lake_model.proofs.AnswerLemmas.{row_cmp_total}
-use Rattle.search_state.specs.State.{AreRanks, Candidate, Covers, AreCovered, IsTop, seen_at, open_at, column_at}
+use Rattle.search_model.specs.Ranks.{AreRanks}
+use Rattle.search_state.specs.State.{Candidate, Covers, AreCovered, IsTop, seen_at, open_at, column_at}
 use Rattle.search_model.specs.Arrays.{no_titled}
 
 -- ---- the first of a list in order

@@ -3,13 +3,16 @@
 use Rattle.std.proofs.Common.{◌≡◌, refl, ap, ℕ, zero, suc, ◌+◌, ◌<◌, ◌≤◌, false, List, [], ◌∷◌, map, length, get_or, arith, lit<}
 use Rattle.std.specs.Prelude.{codes}
 use Rattle.std.specs.Cmp.Lexicographic.{slice_cmp}
+use Rattle.std.specs.List.Sorted.{IsSorted}
 use Rattle.std.specs.Ordering.{is_lt, nat_cmp}
 use Rattle.std.proofs.lemmas.List.Sorted.{IsPermutation-middle}
 use Rattle.lake_model.specs.Texts.{Text}
 use Rattle.lake_model.specs.Sorting.{in_order, put_in_order}
 use Rattle.lake_model.specs.Tables.{Column, Table, column_name, column_with, keys_at, table_with, titles_of}
 use Rattle.search_model.specs.Arrays.{AreArrays, IsAt, IsByKey, key_of, token_with}
-use Rattle.search_model.specs.Segment.{segment, Token, tokens_of}
+use Rattle.search_model.specs.Ranks.{number_cmp, AreInverse, AreRanks}
+use Rattle.search_model.specs.Segment.{columns_of, segment, Token, tokens_of}
+use Rattle.search_model.proofs.RankLemmas.{ranks_are}
 use Rattle.search_model.specs.declared.TokenAt.{TokenAt}
 use Rattle.segment_build.specs.Worked.{worked_owners, worked_postings, worked_table, worked_tokens}
 
@@ -66,3 +69,26 @@ worked_arrays = record {
   small = lit< tt;
   few = lit< tt;
 }
+
+-- each column has its number for its rank
+pub worked_inverse : AreInverse (0 ∷ 1 ∷ []) (0 ∷ 1 ∷ [])
+worked_inverse = record { size = refl; back = back_two; within = within_two; forth = back_two }
+  where
+    within_two : (r : ℕ) → r < 2 → get_or (0 ∷ 1 ∷ []) r 0 < 2
+    within_two zero b = lit< tt
+    within_two (suc zero) b = lit< tt
+    within_two (suc (suc r)) b = absurd (omega arith)
+
+    back_two : (x : ℕ) → x < 2 → get_or (0 ∷ 1 ∷ []) (get_or (0 ∷ 1 ∷ []) x 0) 0 ≡ x
+    back_two zero b = refl
+    back_two (suc zero) b = refl
+    back_two (suc (suc x)) b = absurd (omega arith)
+
+-- p comes before q
+in_names : IsSorted (number_cmp (columns_of (worked_table ∷ []))) (0 ∷ 1 ∷ [])
+in_names zero d low h = refl
+in_names (suc k) d low h = absurd (omega arith)
+
+pub worked_ranks : AreRanks (segment (worked_table ∷ [])).columns (0 ∷ 1 ∷ [])
+unfolding segment
+worked_ranks = ranks_are (columns_of (worked_table ∷ [])) (0 ∷ 1 ∷ []) (0 ∷ 1 ∷ []) refl worked_inverse in_names (λ x b. worked_inverse.within x b)

@@ -123,6 +123,8 @@ fn segment(alloc: Global) -> Result<Segment, Fail>
     let postings = postings(alloc)?;
     let set_starts = vec![in alloc; 0, 2, 3]?;
     let set_tokens = vec![in alloc; 0, 1, 1]?;
+    let ranks = vec![in alloc; 0, 1]?;
+    let by_rank = vec![in alloc; 0, 1]?;
     Ok(Segment::new(
         tables,
         owners,
@@ -132,6 +134,8 @@ fn segment(alloc: Global) -> Result<Segment, Fail>
         postings,
         set_starts,
         set_tokens,
+        ranks,
+        by_rank,
     ))
 }
 
@@ -215,6 +219,9 @@ fn columns(rt: HostRuntime) -> Result<(), Fail> {
     assert_eq!(rt; column(&looks, 0), Some((2, true, true, 1)));
     assert_eq!(rt; column(&looks, 1), Some((1, true, true, 2)));
     assert_eq!(rt; column(&looks, 2), None);
+    let order = looks.order(0);
+    assert_eq!(rt; order.ranks, [0, 1].as_slice());
+    assert_eq!(rt; order.by_rank, [0, 1].as_slice());
     Ok(())
 }
 

@@ -8,21 +8,24 @@ use column_set::SharedTable;
 use no_memory::NoMemory;
 use segment_core::Segment;
 use std::alloc::Global;
+use title_order::{TitleOrder, order_columns};
 use token_order::{TokenLists, Vocab};
 
 /// The segment of these tables. Its index is that of Zhu, Deng, Nargesian and Miller, "JOSIE: Overlap Set Similarity Search for Finding
 /// Joinable Tables in Data Lakes", SIGMOD 2019.
 ///
 /// It takes the time to sort all keys of all columns by their bytes, once. That gives the token of each key of each column; the distinct
-/// keys and the sets are then sorted as numbers, and the posting lists written in one pass, and no key is compared again. The most
-/// memory is taken at the end, and is what the segment keeps: 16 bytes for each key of each column, 16 for each distinct key, and 12
-/// for each column. (While the keys are sorted, they take 12 bytes for each key of each column, and at most 32 for each distinct key;
-/// where few keys stand in more than three columns, that is more.) It is refused only for want of memory.
+/// keys and the sets are then sorted as numbers, and the posting lists written in one pass, and no key is compared again. The columns
+/// are sorted once too, by their names. The most memory is taken at the end, and is what the segment keeps: 16 bytes for each key of each
+/// column, 16 for each distinct key, and 20 for each column. (While the keys are sorted, they take 12 bytes for each key of each column,
+/// and at most 32 for each distinct key; where few keys stand in more than three columns, that is more.) It is refused only for want of
+/// memory.
 pub fn build(alloc: Global, tables: Vec<SharedTable>) -> Result<Segment, NoMemory>
     requires columns { sum_by (λ t. length t.columns) tables.items < 2 ^ 32 }
     requires members { sum_by members tables.items < 2 ^ 32 }
     ensures { IfOk result (λ segment. segment ≡ tables.items) }
 {
+    let TitleOrder { ranks, by_rank } = order_columns(alloc, &tables)?;
     let vocab = Vocab::build(alloc, &tables)?;
     let sets = column_sets(alloc, &tables, &vocab)?;
     let TokenLists {
@@ -48,5 +51,7 @@ pub fn build(alloc: Global, tables: Vec<SharedTable>) -> Result<Segment, NoMemor
         postings,
         sets.starts,
         sets.tokens,
+        ranks,
+        by_rank,
     ))
 }

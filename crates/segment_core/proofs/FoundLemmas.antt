@@ -17,7 +17,6 @@ use Rattle.std.proofs.lemmas.Map.Lookups.{exact_unsigned}
 use Rattle.std.proofs.lemmas.Slice.Eq.{bytes_eq-Decides}
 use Rattle.lake_model.specs.Texts.{Text}
 use Rattle.lake_model.specs.Tables.{Table, has_key, distinct}
-use Rattle.lake_model.specs.Sorting.{in_order}
 use Rattle.lake_model.proofs.SortingLemmas.{in_order-IsPermutation, in_order_moves, sorted_is}
 use Rattle.search_model.specs.Segment.{Titled, Token, columns_of, segment, token_cmp, token_of, tokens_in, tokens_of}
 use Rattle.search_model.specs.Arrays.{IsToken, key_of}

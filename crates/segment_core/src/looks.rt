@@ -2,6 +2,7 @@
 ghost use Rattle.std.specs.Prelude.{◌≡◌, ◌<◌, ◌+◌, ◌++◌, ◌∷◌, [], count_by, drop, false, get_or, length, not, IfOk, OnErr, OnOk};
 ghost use Rattle.search_model.specs.Looks.{is_read};
 
+use crate::order::ColumnOrder;
 use crate::segment::Segment;
 use crate::version::{Part, Version};
 use column_set::{QuerySet, Titles};
@@ -37,6 +38,7 @@ impl<'a> Model for Looks<'a> {
 impl<'a> Looks<'a> {
     ghost use Rattle.lake_model.specs.Tables.{titles_of};
     ghost use Rattle.search_model.specs.Arrays.{table_at, titled_at, IsToken};
+    ghost use Rattle.search_model.specs.Ranks.{AreInverse, AreRanks};
     ghost use Rattle.search_model.specs.Segment.{tokens_in};
     ghost use Rattle.segment_core.specs.Versions.{looks_with, marks_of, part_at, segment_at, tables_of};
 
@@ -112,6 +114,16 @@ impl<'a> Looks<'a> {
         ensures { IfOk result (λ tokens. tokens.items ≡ tokens_in (segment_at self.now.version.parts part).tokens query.now) }
     {
         self.version.part(part).segment().tokens_among(alloc, query)
+    }
+
+    /// The columns of a part in the order of names, those of marked tables too.
+    pub fn order(&self, part: u32) -> ColumnOrder<'a>
+        requires { part < length self.now.version.parts }
+        ensures ranks { AreRanks (segment_at self.now.version.parts part).columns result.ranks.now }
+        ensures inverse { AreInverse result.ranks.now result.by_rank.now }
+    {
+        let version: &'a Version = self.version;
+        version.part(part).segment().order()
     }
 
     /// Whether the table of a column is unmarked.

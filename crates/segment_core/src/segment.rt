@@ -2,10 +2,12 @@
 ghost use Rattle.std.specs.Prelude.{◌≡◌, ◌⊎◌, ◌+◌, ◌<◌, ◌≤◌, [], drop, get_or, length, slice_index, slice_range, IfErr, IfOk, None, OnOk, Some};
 ghost use Rattle.std.specs.List.Sorted.{IsPermutation};
 ghost use Rattle.search_model.specs.Arrays.{key_of, table_at, titled_at, IsToken};
+ghost use Rattle.search_model.specs.Ranks.{AreInverse, AreRanks};
 ghost use Rattle.search_model.specs.Segment.{segment, tokens_in};
 ghost use Rattle.segment_core.specs.LiveColumn.{fault_in, keys_in};
 
 use crate::column::ColumnRefused;
+use crate::order::ColumnOrder;
 use column_set::{QuerySet, SharedTable};
 use no_memory::NoMemory;
 use search_model::{Owner, Posting, TokenAt};
@@ -15,8 +17,8 @@ use std::sync::atomic::{AtomicU64, Ordering};
 
 /// The inverted index of a list of tables. Its columns are those of the tables, numbered from 0 by table and then by place. Its
 /// tokens are the distinct keys of the columns, numbered from 0 by rising frequency (how many columns hold the key), and then by
-/// the bytes of the key. Each column has its tokens, and each token its posting list: the columns that hold it. A contract sees the
-/// list of the tables.
+/// the bytes of the key. Each column has its tokens, and each token its posting list: the columns that hold it. Each column also has
+/// its rank in the order of names. A contract sees the list of the tables.
 ///
 /// A segment never changes but for its meter, which counts how often one of its lists was read. The index is that of Zhu, Deng,
 /// Nargesian and Miller, "JOSIE: Overlap Set Similarity Search for Finding Joinable Tables in Data Lakes", SIGMOD 2019.
@@ -30,6 +32,8 @@ pub struct Segment {
     postings: Vec<Posting>,
     set_starts: Vec<u32>,
     set_tokens: Vec<u32>,
+    ranks: Vec<u32>,
+    by_rank: Vec<u32>,
     meter: AtomicU64,
 }
 
@@ -37,12 +41,14 @@ impl Model for Segment {
     ghost use Rattle.std.specs.Prelude.{List};
     ghost use Rattle.lake_model.specs.Tables.{Table};
     ghost use Rattle.search_model.specs.Arrays.{AreArrays};
+    ghost use Rattle.search_model.specs.Ranks.{AreInverse, AreRanks};
+    ghost use Rattle.search_model.specs.Segment.{segment};
 
     ghost Value = { List Table };
 
     ghost view = { λ s. s.tables.items };
 
-    ghost invariant = { λ s. AreArrays s.tables.items s.owners.items s.tokens.items s.by_key.items s.list_starts.items s.postings.items s.set_starts.items s.set_tokens.items };
+    ghost invariant = { λ s. AreArrays s.tables.items s.owners.items s.tokens.items s.by_key.items s.list_starts.items s.postings.items s.set_starts.items s.set_tokens.items × AreRanks (segment s.tables.items).columns s.ranks.items × AreInverse s.ranks.items s.by_rank.items };
 }
 
 impl Segment {
@@ -50,7 +56,8 @@ impl Segment {
 
     /// The segment of these tables, from its arrays: where each column stands; where each token's key stands, in the order of the
     /// tokens; the tokens' numbers, by their keys; the posting lists, one behind another, with where each begins and one more for
-    /// the end; and the columns' tokens likewise. It takes no memory.
+    /// the end; the columns' tokens likewise; each column's rank in the order of names, and the columns by their ranks. It takes no
+    /// memory.
     pub fn new(
         tables: Vec<SharedTable>,
         owners: Vec<Owner>,
@@ -60,8 +67,12 @@ impl Segment {
         postings: Vec<Posting>,
         set_starts: Vec<u32>,
         set_tokens: Vec<u32>,
+        ranks: Vec<u32>,
+        by_rank: Vec<u32>,
     ) -> Segment
-        requires { AreArrays tables.items owners.items tokens.items by_key.items list_starts.items postings.items set_starts.items set_tokens.items }
+        requires arrays { AreArrays tables.items owners.items tokens.items by_key.items list_starts.items postings.items set_starts.items set_tokens.items }
+        requires ranks { AreRanks (segment tables.items).columns ranks.items }
+        requires inverse { AreInverse ranks.items by_rank.items }
         ensures { result ≡ tables.items }
     {
         Segment {
@@ -73,6 +84,8 @@ impl Segment {
             postings,
             set_starts,
             set_tokens,
+            ranks,
+            by_rank,
             meter: AtomicU64::new(0),
         }
     }
@@ -129,6 +142,17 @@ impl Segment {
         ensures within { result.table < length self.now }
     {
         self.owners[set as usize]
+    }
+
+    /// The columns in the order of names.
+    pub(crate) fn order(&self) -> ColumnOrder<'_>
+        ensures ranks { AreRanks (segment self.now).columns result.ranks.now }
+        ensures inverse { AreInverse result.ranks.now result.by_rank.now }
+    {
+        ColumnOrder {
+            ranks: &self.ranks,
+            by_rank: &self.by_rank,
+        }
     }
 
     /// The columns that hold the token, rising, each with the token's position among its tokens and their number. It raises the

@@ -1,51 +1,65 @@
-use Rattle.std.proofs.Common.{◌≡◌, ◌∙◌, ap, sym, subst, ℕ, ◌<◌, List, [], ◌∷◌, ◌++◌, get_or, length, take, true, arith}
-use Rattle.std.proofs.lemmas.List.{take_all, take_more}
+use Rattle.std.proofs.Common.{◌≡◌, [], ◌∙◌, sym, subst, ℕ, length, arith}
 use Rattle.search_model.specs.Looks.{searched}
-use Rattle.segment_core.specs.Versions.{part_at, segment_at}
-use Rattle.josie_search.specs.Rows.{FoundAmong, leads}
-use Rattle.josie_search.specs.Tallies.{tally_at}
-use Rattle.josie_search.proofs.FirstLemmas.{first_of_all}
+use Rattle.segment_core.proofs.SegmentLemmas.{length-sets}
+use Rattle.segment_core.specs.Versions.{part_at, segment_at, tables_of}
+use Rattle.josie_search.specs.Candidates.{all_of, IsOfRank}
+use Rattle.josie_search.proofs.HeldLemmas.{held_from}
+use Rattle.josie_search.proofs.LeadLemmas.{first_exact, none_so_high}
 use Rattle.josie_search.proofs.LoopLemmas.{lead_parts}
-use Rattle.josie_search.proofs.TouchedLemmas.{item_seen, listed_within, touched_listed}
 use Rattle.josie_search.proofs.first.first_lead.Goals as goal
 
-pub first_more-found-requires-clause-column : goal.first_more-found-requires-clause-column
-first_more-found-requires-clause-column c =
-    let is = c.touched-column-items.ensures.touched in
-    let within : c.loop-column.column-index < length c.args.columns.now.touched = omega (arith, c.loop-column-test.true, ap length is) in
-    let seen = item_seen c.args.columns.now.tallies c.args.columns.now.touched c.touched-column-items.ensures.listed c.loop-column.column-index 0 within in
-    omega (arith, c.requires.seen _ seen, ap (λ (xs : List ℕ). get_or xs c.loop-column.column-index 0) is)
+pub reach-requires-clause-ranked : goal.reach-requires-clause-ranked
+reach-requires-clause-ranked c = λ x some. omega (arith, c.requires.seen x some, length-sets (tables_of (part_at c.args.looks.now.version.parts c.args.part)), c.requires.ranks.size)
 
-pub first_more-found-requires-clause-tallies : goal.first_more-found-requires-clause-tallies
-first_more-found-requires-clause-tallies c =
-    let is = c.touched-column-items.ensures.touched in
-    let within : c.loop-column.column-index < length c.args.columns.now.touched = omega (arith, c.loop-column-test.true, ap length is) in
-    omega (arith, listed_within c.args.columns.now.tallies c.args.columns.now.touched c.touched-column-items.ensures.listed c.loop-column.column-index 0 within, ap (λ (xs : List ℕ). get_or xs c.loop-column.column-index 0) is)
+pub loop-top-init : goal.loop-top-init
+loop-top-init c = record {
+  held = c.reach.ensures.held c.args.query.now (searched c.args.query.now (part_at c.args.looks.now.version.parts c.args.part)) c.requires.held;
+  low = c.reach.ensures.low;
+  room = c.reach.ensures.room;
+}
 
-pub loop-column-preserved : goal.loop-column-preserved
-loop-column-preserved c =
+pub returns-then-most_now-from-clause-found : goal.returns-then-most_now-from-clause-found
+returns-then-most_now-from-clause-found c =
     let query = c.args.query.now in
     let part = searched query (part_at c.args.looks.now.version.parts c.args.part) in
     let columns = c.args.columns.now in
-    let i = c.loop-column.column-index in
-    let is = c.touched-column-items.ensures.touched in
-    let within : i < length columns.touched = omega (arith, c.loop-column-test.true, ap length is) in
-    let here = ap (λ (xs : List ℕ). take i columns.touched ++ get_or xs i 0 ∷ []) is in
+    none_so_high query part c.args.order.ranks.now columns.tallies columns.known c.args.left c.args.low (all_of c.loop-top.candidates) c.loop-top.invariant.held c.in-Some.top c.in-Some.ensures.ahead _ (omega (arith, c.if-most_now-from.true, c.most_now.ensures, c.from.ensures))
+
+pub returns-in-Some-exact_lead-clause-found : goal.returns-in-Some-exact_lead-clause-found
+returns-in-Some-exact_lead-clause-found c =
+    let query = c.args.query.now in
+    let whole = part_at c.args.looks.now.version.parts c.args.part in
+    let part = searched query whole in
+    let columns = c.args.columns.now in
+    let of_rank = subst (λ (n : ℕ). IsOfRank n c.args.order.ranks.now c.in-Some.top.rank c.ranked-column.result) (c.requires.ranks.size ∙ sym (length-sets (tables_of whole))) c.ranked-column.ensures.column in
+    first_exact query part c.args.order.ranks.now columns.tallies columns.known c.args.left c.args.low (all_of c.loop-top.candidates) c.loop-top.invariant.held c.in-Some.top c.in-Some.ensures.ahead
+    (length (segment_at c.args.looks.now.version.parts c.args.part).sets) c.in-Some-exact_lead.lead.0 c.ranked-column.result c.in-Some-exact_lead.lead.1 (length-sets (tables_of whole)) c.requires.ranks
+    (omega (arith, c.if-most_now-from.false, c.most_now.ensures, c.from.ensures)) of_rank c.in-Some-exact_lead.ensures
+    (λ y lead. c.requires.seen y (lead_parts query part columns.tallies columns.known y lead).2)
+
+pub loop-top-preserved : goal.loop-top-preserved
+loop-top-preserved c =
+    let query = c.args.query.now in
+    let whole = part_at c.args.looks.now.version.parts c.args.part in
+    let part = searched query whole in
+    let columns = c.args.columns.now in
+    let kept = c.loop-top.invariant in
+    let sets = length (segment_at c.args.looks.now.version.parts c.args.part).sets in
+    let same : sets ≡ length part.segment.columns = length-sets (tables_of whole) in
+    let of_rank = subst (λ (n : ℕ). IsOfRank n c.args.order.ranks.now c.in-Some.top.rank c.ranked-column.result) (c.requires.ranks.size ∙ sym (length-sets (tables_of whole))) c.ranked-column.ensures.column in
+    let before = held_from query part c.args.order.ranks.now columns.tallies columns.known c.args.left c.args.low c.loop-top.candidates.low [] (all_of c.loop-top.candidates) (omega (arith, kept.low)) kept.held in
+    let after = c.mend.ensures.held query part c.args.order.ranks.now sets (λ x y h k e. c.requires.ranks.apart x y (omega (arith, h, same)) (omega (arith, k, same)) e) (λ y lead. c.requires.seen y (lead_parts query part columns.tallies columns.known y lead).2) of_rank c.in-None.ensures before in
     record {
-      found = subst (λ (done : List ℕ). FoundAmong query part columns.tallies columns.known c.args.left done c.first_more-found.result) (here ∙ sym (take_more columns.touched i 0 within))
-          (c.first_more-found.ensures (take i columns.touched) c.loop-column.invariant.found);
+      held = held_from query part c.args.order.ranks.now columns.tallies columns.known c.args.left c.mend.new.candidates.low c.args.low [] (all_of c.mend.new.candidates) (omega (arith, kept.low, c.mend.ensures.low)) after;
+      low = c.mend.ensures.low ∙ kept.low;
+      room = c.mend.ensures.room ∙ kept.room;
     }
 
-pub returns : goal.returns
-returns c =
-    let query = c.args.query.now in
-    let part = searched query (part_at c.args.looks.now.version.parts c.args.part) in
-    let columns = c.args.columns.now in
-    let i = c.loop-column.column-index in
-    let is = c.touched-column-items.ensures.touched in
-    let all : take i columns.touched ≡ columns.touched = take_all i columns.touched (omega (arith, c.loop-column-test.false, ap length is)) in
-    let lead : (y : ℕ) → leads query part columns.tallies columns.known y ≡ true → 0 < (tally_at columns.tallies y).count = λ y d. (lead_parts query part columns.tallies columns.known y d).2 in
-    first_of_all query part columns.tallies columns.known c.args.left (length (segment_at c.args.looks.now.version.parts c.args.part).sets) columns.touched c.loop-column.found
-    (subst (λ (done : List ℕ). FoundAmong query part columns.tallies columns.known c.args.left done c.loop-column.found) all c.loop-column.invariant.found)
-    (λ y d. touched_listed columns.tallies columns.touched y c.touched-column-items.ensures.listed (lead y d))
-    (λ y d. c.requires.seen y (lead y d))
+pub ranked-column-requires-clause-below : goal.ranked-column-requires-clause-below
+ranked-column-requires-clause-below c = λ x h. omega (arith, c.requires.ranks.below x (omega (arith, h, c.requires.ranks.size)), c.requires.ranks.size)
+
+pub exact_lead-requires-clause-column : goal.exact_lead-requires-clause-column
+exact_lead-requires-clause-column c = λ x e. omega (arith, c.ranked-column.ensures.within x e, c.requires.ranks.size, length-sets (tables_of (part_at c.args.looks.now.version.parts c.args.part)))
+
+pub mend-requires-clause-within : goal.mend-requires-clause-within
+mend-requires-clause-within c = λ x e. omega (arith, c.ranked-column.ensures.within x e, c.requires.ranks.size, length-sets (tables_of (part_at c.args.looks.now.version.parts c.args.part)), c.requires.wide)

@@ -1,4 +1,4 @@
-use Rattle.std.proofs.Common.{◌≡◌, ◌∙◌, refl, sym, ap, subst, ℕ, ◌+◌, ◌<◌, ◌≤◌, ◌++◌, ◌∷◌, [], List, Bool, true, length, get_or, take, arith, Some}
+use Rattle.std.proofs.Common.{◌≡◌, ◌∙◌, refl, sym, ap, subst, map, ℕ, ◌+◌, ◌-◌, ◌<◌, ◌≤◌, ◌++◌, ◌∷◌, [], List, Bool, true, length, get_or, take, arith, Some}
 use Rattle.std.specs.List.{filter}
 use Rattle.lake_model.specs.Answer.{row_cmp}
 use Rattle.search_model.specs.declared.Look.TheVariants.{Probe, Read}
@@ -10,6 +10,7 @@ use Rattle.segment_core.proofs.SegmentLemmas.{length-sets}
 use Rattle.segment_core.specs.Versions.{part_at, segment_at, tables_of, VersionOf}
 use Rattle.lake_model.specs.Sorting.{put_in_order}
 use Rattle.std.proofs.lemmas.List.{take_all}
+use Rattle.josie_search.specs.Candidates.{all_of, AreHeld}
 use Rattle.josie_search.specs.Offers.{offers, shared_row}
 use Rattle.josie_search.specs.Room.{unprobed}
 use Rattle.josie_search.specs.Rows.{lead_row}
@@ -17,6 +18,7 @@ use Rattle.josie_search.specs.declared.tally.Tally.{Tally}
 use Rattle.josie_search.specs.Tallies.{AreTallies, of_column, tally_at}
 use Rattle.josie_search.proofs.RestLemmas.{counted_in, all_offered, counted_within, probed_known}
 use Rattle.josie_search.proofs.GoingLemmas.{Going, begins, ended_log, ended_rows, nothing_next, probes_on, read_rows, reads_on, tallies_small}
+use Rattle.josie_search.proofs.HeldLemmas.{held_known, held_read, held_unseen, uncounted}
 use Rattle.josie_search.proofs.LoopLemmas.{columns_within, lead_parts, next_now, picked_few, probed_less}
 use Rattle.josie_search.proofs.RoomLemmas.{few_asked}
 use Rattle.josie_search.proofs.SegmentLists.{list_read, token_within}
@@ -32,6 +34,8 @@ loop-read-init g c = record {
   most = λ column. omega (arith, ap (λ (t : Tally). t.count) (c.requires.clean.clean column));
   wide = refl;
   within = omega arith;
+  held = held_unseen c.args.query.now (searched c.args.query.now (part_at c.args.looks.now.version.parts c.args.part)) c.args.order.ranks.now c.args.columns.now.tallies c.args.columns.now.known (length c.args.tokens.now - 0) c.clear.new.self.low [] (all_of c.clear.new.self) (λ x out. ap (λ (t : Tally). t.count) (c.requires.clean.clean x));
+  kept = c.clear.ensures.room;
   room = omega (arith, c.requires.room, few_asked (part_at c.args.looks.now.version.parts c.args.part) c.args.query.now.keys c.args.tokens.now c.args.columns.now.known c.requires.tokens);
   spent = omega (arith, few_asked (part_at c.args.looks.now.version.parts c.args.part) c.args.query.now.keys c.args.tokens.now c.args.columns.now.known c.requires.tokens);
 }
@@ -68,8 +72,8 @@ returns-in-None-clause-rows g c =
     let next = next_now says query c.args.part c.loop-read.looks.version version c.args.top.now.rows c.args.looks.now.log c.loop-read.looks.log c.loop-read.read c.loop-read.columns.tallies c.loop-read.columns.known c.loop-read.top.rows _ kept.version kept.going unread c.in-None.ensures.next in
     ended_rows says query (searched query (part_at version.parts c.args.part)) c.args.top.now.rows c.args.looks.now.log c.loop-read.looks.log c.loop-read.read c.loop-read.columns.tallies c.loop-read.columns.known c.loop-read.top.rows kept.going (sym next) unread
 
-pub list-requires-clause-token : goal.list-requires-clause-token
-list-requires-clause-token g c =
+pub list-list-requires-clause-token : goal.list-list-requires-clause-token
+list-list-requires-clause-token g c =
     let tokens = (segment_at c.args.looks.now.version.parts c.args.part).tokens in
     let within = token_within tokens c.args.query.now.keys c.loop-read.read 0 (omega (arith, c.loop-read-test.true, ap (λ (ts : List ℕ). length ts) c.requires.tokens)) in
     omega (arith, within, ap (λ (ts : List ℕ). get_or ts c.loop-read.read 0) c.requires.tokens, ap (λ (v : VersionOf). length (segment_at v.parts c.args.part).tokens) c.loop-read.invariant.version)
@@ -80,8 +84,8 @@ count-most-requires-clause-within g c =
     let token = get_or c.args.tokens.now c.loop-read.read 0 in
     let there : token < length (segment_at version.parts c.args.part).tokens =
     (let within = token_within (segment_at version.parts c.args.part).tokens c.args.query.now.keys c.loop-read.read 0 (omega (arith, c.loop-read-test.true, ap (λ (ts : List ℕ). length ts) c.requires.tokens)) in omega (arith, within, ap (λ (ts : List ℕ). get_or ts c.loop-read.read 0) c.requires.tokens)) in
-    let list = list_read c.loop-read.looks.version version c.args.part token c.list.result.now c.loop-read.invariant.version there c.list.ensures.list in
-    columns_within (segment_at version.parts c.args.part).sets token (length c.loop-read.columns.tallies) c.list.result.now (omega (arith, c.loop-read.invariant.wide, c.requires.wide)) list
+    let list = list_read c.loop-read.looks.version version c.args.part token c.list-list.result.now c.loop-read.invariant.version there c.list-list.ensures.list in
+    columns_within (segment_at version.parts c.args.part).sets token (length c.loop-read.columns.tallies) c.list-list.result.now (omega (arith, c.loop-read.invariant.wide, c.requires.wide)) list
 
 pub count-most-requires-clause-small : goal.count-most-requires-clause-small
 count-most-requires-clause-small g c = λ column.
@@ -90,9 +94,44 @@ count-most-requires-clause-small g c = λ column.
     let token = get_or c.args.tokens.now c.loop-read.read 0 in
     let there : token < length (segment_at version.parts c.args.part).tokens =
     (let within = token_within (segment_at version.parts c.args.part).tokens c.args.query.now.keys c.loop-read.read 0 (omega (arith, c.loop-read-test.true, ap (λ (ts : List ℕ). length ts) c.requires.tokens)) in omega (arith, within, ap (λ (ts : List ℕ). get_or ts c.loop-read.read 0) c.requires.tokens)) in
-    let list = list_read c.loop-read.looks.version version c.args.part token c.list.result.now c.loop-read.invariant.version there c.list.ensures.list in
+    let list = list_read c.loop-read.looks.version version c.args.part token c.list-list.result.now c.loop-read.invariant.version there c.list-list.ensures.list in
     let few = tallies_small (searched c.args.query.now whole).segment.sets (searched c.args.query.now whole).query c.loop-read.read c.loop-read.columns.tallies c.loop-read.invariant.going.tallies_are column in
     omega (arith, few, c.requires.few, c.loop-read-test.true, ap (λ (ps : List Posting). length (filter (of_column column) ps)) list, picked_few (segment_at version.parts c.args.part).sets token column)
+
+pub follow-requires-clause-within : goal.follow-requires-clause-within
+follow-requires-clause-within g c =
+    let version = c.args.looks.now.version in
+    let token = get_or c.args.tokens.now c.loop-read.read 0 in
+    let there : token < length (segment_at version.parts c.args.part).tokens =
+    (let within = token_within (segment_at version.parts c.args.part).tokens c.args.query.now.keys c.loop-read.read 0 (omega (arith, c.loop-read-test.true, ap (λ (ts : List ℕ). length ts) c.requires.tokens)) in omega (arith, within, ap (λ (ts : List ℕ). get_or ts c.loop-read.read 0) c.requires.tokens)) in
+    let list = list_read c.loop-read.looks.version version c.args.part token c.list-list.result.now c.loop-read.invariant.version there c.list-list.ensures.list in
+    columns_within (segment_at version.parts c.args.part).sets token (length c.count-most.new.self.tallies) c.list-list.result.now (omega (arith, c.count-most.ensures.wide, c.loop-read.invariant.wide, c.requires.wide)) list
+
+pub follow-requires-clause-ranked : goal.follow-requires-clause-ranked
+follow-requires-clause-ranked g c =
+    let version = c.args.looks.now.version in
+    let token = get_or c.args.tokens.now c.loop-read.read 0 in
+    let there : token < length (segment_at version.parts c.args.part).tokens =
+    (let within = token_within (segment_at version.parts c.args.part).tokens c.args.query.now.keys c.loop-read.read 0 (omega (arith, c.loop-read-test.true, ap (λ (ts : List ℕ). length ts) c.requires.tokens)) in omega (arith, within, ap (λ (ts : List ℕ). get_or ts c.loop-read.read 0) c.requires.tokens)) in
+    let list = list_read c.loop-read.looks.version version c.args.part token c.list-list.result.now c.loop-read.invariant.version there c.list-list.ensures.list in
+    columns_within (segment_at version.parts c.args.part).sets token (length c.args.order.ranks.now) c.list-list.result.now (omega (arith, length-sets (tables_of (part_at version.parts c.args.part)), c.requires.ranks.size)) list
+
+pub follow-requires-clause-small : goal.follow-requires-clause-small
+follow-requires-clause-small g c = λ x.
+    let query = c.args.query.now in
+    let version = c.args.looks.now.version in
+    let whole = part_at version.parts c.args.part in
+    let part = searched query whole in
+    let kept = c.loop-read.invariant in
+    let read = c.loop-read.read in
+    let token = get_or c.args.tokens.now read 0 in
+    let unread : read < length part.query = omega (arith, c.loop-read-test.true, ap (λ (ts : List ℕ). length ts) c.requires.tokens) in
+    let there : token < length (segment_at version.parts c.args.part).tokens =
+    (let within = token_within (segment_at version.parts c.args.part).tokens query.keys read 0 unread in omega (arith, within, ap (λ (ts : List ℕ). get_or ts read 0) c.requires.tokens)) in
+    let list = list_read c.loop-read.looks.version version c.args.part token c.list-list.result.now kept.version there c.list-list.ensures.list in
+    let are = tallies_more part.segment.sets part.query read 0 c.loop-read.columns.tallies c.count-most.new.self.tallies c.list-list.result.now unread kept.going.tallies_are (list ∙ (λ i. postings_of part.segment.sets (get_or (c.requires.tokens i) read 0))) c.count-most.ensures.tallies in
+    let few = tallies_small part.segment.sets part.query (read + 1) c.count-most.new.self.tallies are x in
+    omega (arith, few, c.requires.few, c.loop-read-test.true)
 
 pub loop-read-preserved-in-Some-Read : goal.loop-read-preserved-in-Some-Read
 loop-read-preserved-in-Some-Read g c =
@@ -107,24 +146,29 @@ loop-read-preserved-in-Some-Read g c =
     let unread : read < length part.query = omega (arith, c.loop-read-test.true, ap (λ (ts : List ℕ). length ts) c.requires.tokens) in
     let there : token < length (segment_at version.parts c.args.part).tokens =
     (let within = token_within (segment_at version.parts c.args.part).tokens query.keys read 0 unread in omega (arith, within, ap (λ (ts : List ℕ). get_or ts read 0) c.requires.tokens)) in
-    let list = list_read c.loop-read.looks.version version c.args.part token c.list.result.now kept.version there c.list.ensures.list in
+    let list = list_read c.loop-read.looks.version version c.args.part token c.list-list.result.now kept.version there c.list-list.ensures.list in
     let next = next_now says query c.args.part c.loop-read.looks.version version c.args.top.now.rows c.args.looks.now.log c.loop-read.looks.log read c.loop-read.columns.tallies c.loop-read.columns.known c.loop-read.top.rows (Some c.in-Some-Read.field-0) kept.version kept.going unread c.in-Some-Read.ensures.next in
     let is : Some c.in-Some-Read.field-0 ≡ Some (Read c.in-Some-Read.field-0-0 c.in-Some-Read.field-0-1) = ap Some c.in-Some-Read.field-0-is in
     let looked = c.in-Some-Read.ensures.listed c.in-Some-Read.field-0-0 c.in-Some-Read.field-0-1 is in
-    let are = tallies_more part.segment.sets part.query read 0 c.loop-read.columns.tallies c.count-most.new.self.tallies c.list.result.now unread kept.going.tallies_are (list ∙ (λ i. postings_of part.segment.sets (get_or (c.requires.tokens i) read 0))) c.count-most.ensures.tallies in
+    let are = tallies_more part.segment.sets part.query read 0 c.loop-read.columns.tallies c.count-most.new.self.tallies c.list-list.result.now unread kept.going.tallies_are (list ∙ (λ i. postings_of part.segment.sets (get_or (c.requires.tokens i) read 0))) c.count-most.ensures.tallies in
+    let was = subst (λ (v : VersionOf). AreHeld query (searched query (part_at v.parts c.args.part)) c.args.order.ranks.now c.loop-read.columns.tallies c.loop-read.columns.known (length c.args.tokens.now - read) c.next_look.new.candidates.low (all_of c.next_look.new.candidates)) kept.version c.next_look.ensures.held in
     let known = ap (unprobed (segment_at version.parts c.args.part).sets c.args.tokens.now) c.count-most.ensures.known in
     record {
       lists = refl;
-      version = c.list.ensures.version ∙ kept.version;
-      going = subst (λ (ks : List Bool). Going says query part c.args.top.now.rows c.args.looks.now.log c.list.new.self.log (read + 1) c.count-most.new.self.tallies ks c.loop-read.top.rows) (sym c.count-most.ensures.known)
-          (reads_on says query part c.args.top.now.rows c.args.looks.now.log c.loop-read.looks.log read c.loop-read.columns.tallies c.loop-read.columns.known c.loop-read.top.rows kept.going unread c.in-Some-Read.field-0-0 c.in-Some-Read.field-0-1 c.list.new.self.log c.count-most.new.self.tallies (sym next ∙ is)
-          (c.list.ensures.log ∙ (λ i. c.loop-read.looks.log ++ Read (sym looked.0 i) (sym looked.1 i) ∷ [])) are);
+      version = c.list-list.ensures.version ∙ kept.version;
+      going = subst (λ (ks : List Bool). Going says query part c.args.top.now.rows c.args.looks.now.log c.list-list.new.self.log (read + 1) c.count-most.new.self.tallies ks c.loop-read.top.rows) (sym c.count-most.ensures.known)
+          (reads_on says query part c.args.top.now.rows c.args.looks.now.log c.loop-read.looks.log read c.loop-read.columns.tallies c.loop-read.columns.known c.loop-read.top.rows kept.going unread c.in-Some-Read.field-0-0 c.in-Some-Read.field-0-1 c.list-list.new.self.log c.count-most.new.self.tallies (sym next ∙ is)
+          (c.list-list.ensures.log ∙ (λ i. c.loop-read.looks.log ++ Read (sym looked.0 i) (sym looked.1 i) ∷ [])) are);
       k = kept.k;
       most = c.count-most.ensures.most;
       wide = c.count-most.ensures.wide ∙ kept.wide;
       within = omega (arith, c.loop-read-test.true);
-      room = omega (arith, kept.room, c.list.ensures.spare, c.loop-read-test.true, known);
-      spent = omega (arith, kept.spent, c.list.ensures.spare, c.loop-read-test.true, known);
+      held = c.follow.ensures.held query part (held_read query part c.args.order.ranks.now c.loop-read.columns.tallies c.count-most.new.self.tallies c.count-most.new.self.known (length c.args.tokens.now - read) (length c.args.tokens.now - (read + 1)) c.next_look.new.candidates.low (map (λ (p : Posting). p.column) c.list-list.result.now) (all_of c.next_look.new.candidates) (omega arith)
+          (λ x out. c.count-most.ensures.tallies x ∙ uncounted x c.list-list.result.now (tally_at c.loop-read.columns.tallies x) out)
+          (subst (λ (ks : List Bool). AreHeld query part c.args.order.ranks.now c.loop-read.columns.tallies ks (length c.args.tokens.now - read) c.next_look.new.candidates.low (all_of c.next_look.new.candidates)) (sym c.count-most.ensures.known) was));
+      kept = c.follow.ensures.room ∙ c.next_look.ensures.room ∙ kept.kept;
+      room = omega (arith, kept.room, c.list-list.ensures.spare, c.loop-read-test.true, known);
+      spent = omega (arith, kept.spent, c.list-list.ensures.spare, c.loop-read-test.true, known);
     }
 
 pub probe_column-requires-clause-column : goal.probe_column-requires-clause-column
@@ -230,6 +274,7 @@ loop-read-preserved g c =
     let less = probed_less sets c.args.tokens.now part.query c.loop-read.columns.tallies c.loop-read.columns.known x read c.requires.tokens kept.going.tallies_are columns within led.1 led.2 in
     let k : c.loop-read.top.k ≡ query.k = kept.k ∙ c.requires.k in
     let live : is_eligible query part (column_at part x) ≡ true = sym (ap (λ (v : VersionOf). is_eligible query (searched query (part_at v.parts c.args.part)) (column_at (searched query (part_at v.parts c.args.part)) x)) kept.version) ∙ led.0 in
+    let was = subst (λ (v : VersionOf). AreHeld query (searched query (part_at v.parts c.args.part)) c.args.order.ranks.now c.loop-read.columns.tallies c.loop-read.columns.known (length c.args.tokens.now - read) c.next_look.new.candidates.low (all_of c.next_look.new.candidates)) kept.version c.next_look.ensures.held in
     let rows = c.probe_column.ensures.rows ∙ (λ i. take (k i) (put_in_order row_cmp (shared_row query (searched query (part_at (kept.version i).parts c.args.part)) x) c.loop-read.top.rows)) in
     record {
       lists = refl;
@@ -242,6 +287,10 @@ loop-read-preserved g c =
       most = λ x. omega (arith, kept.most x, ap (λ (ts : List Tally). (tally_at ts x).count) c.probe_column.ensures.tallies);
       wide = ap (λ (ts : List Tally). length ts) c.probe_column.ensures.tallies ∙ kept.wide;
       within = kept.within;
+      held = subst (λ (ts : List Tally). AreHeld query part c.args.order.ranks.now ts c.probe_column.new.columns.known (length c.args.tokens.now - read) c.next_look.new.candidates.low (all_of c.next_look.new.candidates)) (sym c.probe_column.ensures.tallies)
+          (subst (λ (ks : List Bool). AreHeld query part c.args.order.ranks.now c.loop-read.columns.tallies ks (length c.args.tokens.now - read) c.next_look.new.candidates.low (all_of c.next_look.new.candidates)) (sym c.probe_column.ensures.known)
+          (held_known query part c.args.order.ranks.now c.loop-read.columns.tallies c.loop-read.columns.known (length c.args.tokens.now - read) c.next_look.new.candidates.low x (all_of c.next_look.new.candidates) was));
+      kept = c.next_look.ensures.room ∙ kept.kept;
       room = omega (arith, kept.room, c.probe_column.ensures.spare, less, ap (unprobed sets c.args.tokens.now) c.probe_column.ensures.known);
       spent = omega (arith, kept.spent, c.probe_column.ensures.spare, less, ap (unprobed sets c.args.tokens.now) c.probe_column.ensures.known);
     }

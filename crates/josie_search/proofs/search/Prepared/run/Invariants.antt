@@ -12,5 +12,6 @@ invariant-loop-part g l = record {
   through : Through (g.C.Chooser.says l.chooser) l.fn.self.query (map (searched l.fn.self.query) l.fn.self.version.parts) l.part l.looks.log l.top.rows;
   k : l.top.k ≡ l.fn.self.query.k;
   wide : IsMost l.fn.self.version.parts (length l.columns.tallies);
+  kept : length l.columns.tallies ≤ l.candidates.room;
   room : sum_by (looks_in l.fn.self.query.keys) (drop l.part l.fn.self.version.parts) ≤ l.looks.spare;
 }

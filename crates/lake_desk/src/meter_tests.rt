@@ -1,0 +1,131 @@
+//! How much a desk looks at in the segments of a lake: what the reply of each search tells, one column for each like, and nothing besides.
+ghost use Rattle.std.specs.Prelude.{◌≡◌, ◌≤◌, IfOk};
+
+use crate::tests::{body, command, name};
+use crate::{LakeDesk, Standard};
+use catalogue::Limits;
+use lake::{Lake, Pass};
+use lake_io::NoGate;
+use lane_run::Desk;
+use reply_text::{By, Reply};
+use script_text::{Command, Task};
+use std::alloc::Global;
+use std::sync::Wait;
+use std::test::Fail;
+use std::thread::Threads;
+
+// Three tables of weather stations, of the weather and of a census.
+const STATIONS: &str =
+    "\u{feff}station_id,city,country\r\n1,\"São Paulo, SP\",Brazil\r\n2,Zürich,Switzerland\r\n3,\"New\nYork\",USA\r\n";
+
+const WEATHER: &str = "place,temp\nZÜRICH,12\n\"São Paulo, SP\",25\nLima,18\n";
+
+const CENSUS: &str =
+    "City,Country,Pop\nzürich,switzerland,400000\nOslo,Norway,700000\n\"são paulo, sp\",Brazil,12000000\n";
+
+// The load of a table of this text.
+fn load(alloc: Global, number: u64, table: &str, text: &str) -> Result<Command, Fail> {
+    let task = Task::Load {
+        name: name(table)?,
+        body: body(alloc, text)?,
+    };
+    Ok(command(number, 1, task))
+}
+
+// The search for the columns that are most like the one at a place of a table.
+fn like(number: u64, table: &str, place: u32) -> Result<Command, Fail>
+    requires { 1 ≤ place }
+{
+    let task = Task::Like {
+        k: 10,
+        name: name(table)?,
+        place,
+    };
+    Ok(command(number, 1, task))
+}
+
+// Three tables that are merged, and a search that is decided by the rarest of four keys.
+fn one_list_decides(alloc: Global) -> Result<Vec<Command>, Fail> {
+    let search = Task::Search {
+        k: 1,
+        body: body(alloc, "a\nb\nc\nd\n")?,
+    };
+    let commands = [
+        load(alloc, 1, "t1", "c\na\nb\nc\nd\n")?,
+        load(alloc, 2, "t2", "c\nd\n")?,
+        load(alloc, 3, "t3", "c\nc\nd\n")?,
+        command(4, 1, Task::Merge { all: true }),
+        command(5, 1, search),
+    ];
+    Ok(Vec::from_array(alloc, commands)?)
+}
+
+// Three tables, and a search by each of two columns of the first.
+fn likes(alloc: Global) -> Result<Vec<Command>, Fail> {
+    let commands = [
+        load(alloc, 1, "stations", STATIONS)?,
+        load(alloc, 2, "weather", WEATHER)?,
+        load(alloc, 3, "census", CENSUS)?,
+        like(4, "stations", 2)?,
+        like(5, "stations", 3)?,
+    ];
+    Ok(Vec::from_array(alloc, commands)?)
+}
+
+// How many reads, and how many probes, a reply tells beside those of others.
+fn told_by(reply: &Reply, others: (u64, u64)) -> (u64, u64) {
+    match reply {
+        Reply::Found { reads, probes, .. } => (
+            others.0.saturating_add(*reads),
+            others.1.saturating_add(*probes),
+        ),
+        _ => others,
+    }
+}
+
+// What the meters of all segments say.
+fn meters<R: Wait>(rt: &R, lake: &Lake<Standard>, pass: &mut Pass<Standard>) -> Result<u64, Fail>
+    requires { pass.old.lock ≡ lake.now }
+{
+    let pin = lake.pin(rt, pass)?;
+    let mut sum = 0u64;
+    for part in 0..pin.parts() {
+        sum = sum.saturating_add(pin.meter(part));
+    }
+    Ok(sum)
+}
+
+// What the meters of a lake say behind commands at one desk; and what the replies tell.
+fn metered<R: Threads + Wait + Sync>(
+    rt: &R,
+    alloc: Global,
+    commands: &[Command],
+) -> Result<(u64, (u64, u64)), Fail> {
+    let (lake, opening) = Lake::<Standard>::new(alloc, Limits::standard(), 1)?;
+    let mut desk = LakeDesk::new(alloc, &lake, opening);
+    let mut told = (0, 0);
+    for command in commands {
+        let by = By::Command {
+            number: command.number(),
+            lane: command.lane(),
+        };
+        let reply = desk.answer(rt, by, command.task(), &NoGate);
+        told = told_by(&reply, told);
+    }
+    let mut pass = desk.into_pass();
+    Ok((meters(rt, &lake, &mut pass)?, told))
+}
+
+#[test]
+fn one_list_and_one_set(rt: HostRuntime) -> Result<(), Fail> {
+    let commands = one_list_decides(rt.alloc())?;
+    assert_eq!(rt; metered(&rt, rt.alloc(), &commands)?, (2, (1, 1)));
+    Ok(())
+}
+
+#[test]
+fn twelve_lists_three_sets_and_two_columns(rt: HostRuntime) -> Result<(), Fail> {
+    let commands = likes(rt.alloc())?;
+    assert_eq!(rt; metered(&rt, rt.alloc(), &commands)?, (17, (12, 3)));
+    Ok(())
+}

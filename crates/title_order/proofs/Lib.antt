@@ -1,0 +1,2 @@
+mod TitleLemmas
+mod PlaceLemmas

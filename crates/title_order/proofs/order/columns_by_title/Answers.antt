@@ -1,0 +1,23 @@
+use Rattle.std.proofs.Common.{◌∙◌, ap, sym, subst, map, rules}
+use Rattle.std.proofs.lemmas.Result.{IfOk-weaker}
+use Rattle.std.specs.List.Sorted.{IsSorted}
+use Rattle.search_model.specs.Ranks.{number_cmp}
+use Rattle.search_model.specs.Segment.{columns_of}
+use Rattle.token_order.proofs.SortLemmas.{sorted_by_key}
+use Rattle.title_order.specs.Titles.{by_title, AreNumbers}
+use Rattle.title_order.specs.declared.title.Title.{Title}
+use Rattle.title_order.proofs.TitleLemmas.{all_numbers, by_title_total, number_of, numbers_sorted}
+use Rattle.title_order.proofs.order.columns_by_title.Goals as goal
+
+pub returns-clause-sorted : goal.returns-clause-sorted
+returns-clause-sorted c =
+    let columns = columns_of c.args.tables.now in
+    let sorted = c.sort_unstable_by.new.self.items in
+    let up : IsSorted by_title sorted = sorted_by_key by_title_total (λ (t : Title). t) sorted c.sort_unstable_by.ensures.sorted (λ a r f' k. search rules) in
+    let are = numbers_sorted columns c.in_ok-titles.titles.items c.in_ok-titles.ensures sorted c.sort_unstable_by.ensures.permutation up in
+    IfOk-weaker c.numbers_of.result _ _ (λ numbers is. subst (IsSorted (number_cmp columns)) (sym (is ∙ ap (map number_of) c.deref.ensures.value)) are) c.numbers_of.ensures
+
+pub returns-clause-all : goal.returns-clause-all
+returns-clause-all c =
+    let are = all_numbers (columns_of c.args.tables.now) c.in_ok-titles.titles.items c.in_ok-titles.ensures c.sort_unstable_by.new.self.items c.sort_unstable_by.ensures.permutation in
+    IfOk-weaker c.numbers_of.result _ _ (λ numbers is. subst AreNumbers (sym (is ∙ ap (map number_of) c.deref.ensures.value)) are) c.numbers_of.ensures

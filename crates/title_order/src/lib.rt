@@ -1,0 +1,10 @@
+//! The columns of a list of tables in the order of their names, so that two columns compare by two numbers.
+#![tactic(auto)]
+
+mod order;
+mod title;
+
+pub use order::{TitleOrder, order_columns};
+
+#[cfg(test)]
+mod tests;

@@ -1,0 +1,78 @@
+//! The numbers of columns by their names, and their ranks there.
+ghost use Rattle.std.specs.Prelude.{◌≡◌, ◌<◌, ◌^◌, length, map, IfOk};
+ghost use Rattle.std.specs.List.Sorted.{IsSorted};
+ghost use Rattle.search_model.specs.Ranks.{number_cmp, AreInverse, AreRanks};
+ghost use Rattle.search_model.specs.Segment.{columns_of, segment};
+ghost use Rattle.title_order.specs.Titles.{AreNumbers, ArePlaces};
+
+use crate::title::{Title, all_titles};
+use column_set::SharedTable;
+use no_memory::NoMemory;
+use std::alloc::Global;
+
+/// The order of the columns of a list of tables by the bytes of their tables' names, those of their own names, their places, and their
+/// numbers, which count from 0 by table and then by place: for each column, at its number, how many come before it, and the numbers of
+/// the columns in that order.
+#[derive(Drop)]
+pub struct TitleOrder {
+    pub ranks: Vec<u32>,
+    pub by_rank: Vec<u32>,
+}
+
+/// The order of the columns of the tables. It takes the time to sort the columns, which is that to sort the names of one table, or those of
+/// all tables and columns together; and 28 bytes for each column while they are sorted, of which 8 are kept. It is refused only for want of
+/// memory, as it is where there are 2^32 columns or more.
+pub fn order_columns(alloc: Global, tables: &[SharedTable]) -> Result<TitleOrder, NoMemory>
+    ensures ranks { IfOk result (λ order. AreRanks (segment tables.now).columns order.ranks.items) }
+    ensures inverse { IfOk result (λ order. AreInverse order.ranks.items order.by_rank.items) }
+{
+    let by_rank = columns_by_title(alloc, tables)?;
+    let ranks = places_of(alloc, &by_rank)?;
+    Ok(TitleOrder { ranks, by_rank })
+}
+
+// The numbers of the columns in their order.
+fn columns_by_title(alloc: Global, tables: &[SharedTable]) -> Result<Vec<u32>, NoMemory>
+    ensures sorted { IfOk result (λ numbers. IsSorted (number_cmp (columns_of tables.now)) numbers.items) }
+    ensures long { IfOk result (λ numbers. length numbers.items ≡ length (columns_of tables.now)) }
+    ensures all { IfOk result (λ numbers. AreNumbers numbers.items) }
+    ensures few { IfOk result (λ numbers. length numbers.items < 2 ^ 32) }
+{
+    let mut titles = all_titles(alloc, tables)?;
+    titles.sort_unstable_by(|a, b| a.order(b));
+    numbers_of(alloc, &titles)
+}
+
+// The numbers of these columns.
+fn numbers_of(alloc: Global, titles: &[Title<'_>]) -> Result<Vec<u32>, NoMemory>
+    ensures { IfOk result (λ numbers. numbers.items ≡ map (λ t. t.number) titles.now) }
+{
+    let mut numbers = Vec::with_capacity(alloc, titles.len())?;
+    for title in titles {
+        numbers.push(title.number)?;
+    }
+    Ok(numbers)
+}
+
+// Where each number stands among these, which are 0, 1 and so on in some order. It takes one write a number.
+fn places_of(alloc: Global, numbers: &[u32]) -> Result<Vec<u32>, NoMemory>
+    requires few { length numbers.now < 2 ^ 32 }
+    requires all { AreNumbers numbers.now }
+    ensures { IfOk result (λ places. ArePlaces numbers.now places.items) }
+{
+    let mut places = vec![in alloc; 0; numbers.len()]?;
+    write_places(numbers, &mut places);
+    Ok(places)
+}
+
+// Writes the place of each number at the number.
+fn write_places(numbers: &[u32], places: &mut [u32])
+    requires few { length numbers.now < 2 ^ 32 }
+    requires all { AreNumbers numbers.now }
+    requires room { length places.old ≡ length numbers.now }
+    ensures { ArePlaces numbers.now places.new }
+{
+    for place in 0..numbers.len() as u32 {
+        places[numbers[place as usize] as usize] = place;
+    }
+}

@@ -1,0 +1,95 @@
+//! The columns of tables, as what they are sorted by.
+ghost use Rattle.std.specs.Prelude.{◌≡◌, ◌<◌, ◌≤◌, ◌∷◌, ℕ, [], length, sum_by, IfOk, OnOk};
+ghost use Rattle.search_model.specs.Segment.{columns_in, columns_of, titled_in};
+ghost use Rattle.title_order.specs.Titles.{by_row, by_title, AreMoreTitles};
+
+use column_set::{Row, SharedTable, TableSets};
+use no_memory::NoMemory;
+use std::alloc::Global;
+use std::cmp::Ordering;
+
+/// A column: its row, with no overlap, and its number among the columns of a list of tables, by table and then by place, from 0.
+#[derive(Drop)]
+pub struct Title<'a> {
+    pub row: Row<'a>,
+    pub number: u32,
+}
+
+impl<'a> Title<'a> {
+    /// By the bytes of the table's name, those of the column's name, the place, and the number.
+    pub fn order(&self, other: &Title<'_>) -> Ordering
+        ensures { result ≡ by_title self.now other.now }
+    {
+        match self.row.table().bytes().cmp(other.row.table().bytes()) {
+            Ordering::Equal => self.order_in_table(other),
+            unequal => unequal,
+        }
+    }
+
+    // The same, where the tables' names are equal: so the columns' names are read only then.
+    fn order_in_table(&self, other: &Title<'_>) -> Ordering
+        ensures { result ≡ by_row self.now other.now }
+    {
+        let by_row = self.row.order(&other.row);
+        let by_number = self.number.cmp(&other.number);
+        by_row.then(by_number)
+    }
+}
+
+/// The columns of the tables, by their numbers. They are refused for want of memory where there are 2^32 or more.
+pub fn all_titles<'a>(alloc: Global, tables: &'a [SharedTable]) -> Result<Vec<Title<'a>>, NoMemory>
+    ensures { IfOk result (λ titles. AreMoreTitles [] titles.items (columns_of tables.now)) }
+{
+    let mut titles = Vec::with_capacity(alloc, column_count(tables)?)?;
+    for shared in tables {
+        push_titles(&mut titles, shared.table())?;
+    }
+    Ok(titles)
+}
+
+// How many columns the tables have together. It is refused for want of memory where these are 2^64 or more.
+fn column_count(tables: &[SharedTable]) -> Result<usize, NoMemory>
+    ensures { IfOk result (λ count. count ≡ sum_by (λ t. length t.columns) tables.now) }
+{
+    let mut count = 0usize;
+    for shared in tables {
+        let Some(more) = count.checked_add(shared.table().columns() as usize) else {
+            return Err(NoMemory);
+        };
+        count = more;
+    }
+    Ok(count)
+}
+
+// Adds the columns of a table.
+fn push_titles<'a>(titles: &mut Vec<Title<'a>>, table: &'a TableSets) -> Result<(), NoMemory>
+    ensures { OnOk result ((from : ℕ) → AreMoreTitles titles.old.items titles.new.items (columns_in from table.now)) }
+{
+    for i in 0..table.columns() {
+        push_title(titles, table, i + 1)?;
+    }
+    Ok(())
+}
+
+// Adds the column at a place of a table.
+fn push_title<'a>(
+    titles: &mut Vec<Title<'a>>,
+    table: &'a TableSets,
+    place: u32,
+) -> Result<(), NoMemory>
+    requires low { 0 < place }
+    requires high { place ≤ length table.now.columns }
+    ensures { OnOk result ((from : ℕ) → AreMoreTitles titles.old.items titles.new.items (titled_in from table.now place ∷ [])) }
+{
+    if titles.len() >= 0xFFFF_FFFF {
+        return Err(NoMemory);
+    }
+    let number = titles.len() as u32;
+    let row = Row {
+        overlap: 0,
+        titles: table.titles(),
+        place,
+    };
+    titles.push(Title { row, number })?;
+    Ok(())
+}
