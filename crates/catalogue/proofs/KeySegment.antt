@@ -14,6 +14,8 @@ use Rattle.search_model.proofs.RankLemmas.{ranks_are}
 use Rattle.search_model.specs.declared.Owner.{Owner}
 use Rattle.search_model.specs.declared.Posting.{Posting}
 use Rattle.search_model.specs.declared.TokenAt.{TokenAt}
+use Rattle.segment_core.specs.Hashes.{AreKept, AreKeys, IsByHash}
+use Rattle.segment_core.proofs.SegmentLemmas.{keys_kept}
 
 abbrev pub first_column : Owner
 first_column = record { table = 0; place = 1 }
@@ -57,7 +59,7 @@ one_key [] a n e = absurd (omega arith)
 one_key (k ∷ []) a n e = ap (λ (t : Text). t ∷ []) e
 one_key (k ∷ l ∷ keys) a n e = absurd (omega arith)
 
-pub key_arrays : (t : Table) → length t.columns ≡ 1 → keys_at t 1 ≡ codes "key" ∷ [] → AreArrays (t ∷ []) (first_column ∷ []) (only_token ∷ []) (0 ∷ []) (0 ∷ 1 ∷ []) (only_posting ∷ []) (0 ∷ 1 ∷ []) (0 ∷ [])
+key_arrays : (t : Table) → length t.columns ≡ 1 → keys_at t 1 ≡ codes "key" ∷ [] → AreArrays (t ∷ []) (first_column ∷ []) (only_token ∷ []) (0 ∷ []) (0 ∷ 1 ∷ []) (only_posting ∷ []) (0 ∷ 1 ∷ []) (0 ∷ [])
 key_arrays t h k = by t.columns h k
   where
     by : (columns : List Column) → length columns ≡ 1 → keys_at (table_with t.name columns) 1 ≡ codes "key" ∷ []
@@ -66,6 +68,13 @@ key_arrays t h k = by t.columns h k
     by (c ∷ []) h k =
         subst (λ (keys : List Text). AreArrays (table_with t.name (column_with c.name keys ∷ []) ∷ []) (first_column ∷ []) (only_token ∷ []) (0 ∷ []) (0 ∷ 1 ∷ []) (only_posting ∷ []) (0 ∷ 1 ∷ []) (0 ∷ [])) (sym k) (arrays t.name c.name)
     by (c ∷ d ∷ columns) h k = absurd (omega arith)
+
+pub key_places : (t : Table) → length t.columns ≡ 1 → keys_at t 1 ≡ codes "key" ∷ [] → AreKeys (t ∷ []) (first_column ∷ []) (only_token ∷ [])
+key_places t h k = keys_kept _ _ _ _ _ _ _ _ (key_arrays t h k)
+
+pub key_kept : (t : Table) → length t.columns ≡ 1 → keys_at t 1 ≡ codes "key" ∷ [] → (hashes numbers : List ℕ) → IsByHash (segment (t ∷ [])).tokens hashes numbers
+    → AreKept (t ∷ []) (first_column ∷ []) (only_token ∷ []) hashes numbers (0 ∷ 1 ∷ []) (only_posting ∷ []) (0 ∷ 1 ∷ []) (0 ∷ [])
+key_kept t h k hashes numbers order = record { by_key = 0 ∷ []; arrays = key_arrays t h k; order = order }
 
 -- the only column has the rank 0
 pub key_inverse : AreInverse (0 ∷ []) (0 ∷ [])

@@ -10,7 +10,9 @@ use crate::{
 use column_set::{Name, SharedTable, TableSets};
 use csv_table::read_table;
 use no_memory::NoMemory;
-use segment_core::{Merged, Numbers, Owner, Pin, Plan, Posting, Segment, TokenAt};
+use segment_core::{
+    Merged, Numbers, Owner, Pin, Plan, Posting, Segment, TokenAt, order_by_hash,
+};
 use std::alloc::Global;
 use std::sync::Arc;
 use std::test::Fail;
@@ -75,7 +77,7 @@ fn segment(alloc: Global, table: SharedTable) -> Result<Arc<Segment>, Fail>
     let tables = vec![in alloc; table]?;
     let owners = vec![in alloc; Owner { table: 0, place: 1 }]?;
     let tokens = vec![in alloc; token]?;
-    let by_key = vec![in alloc; 0]?;
+    let by_hash = order_by_hash(alloc, &tables, &owners, &tokens)?;
     let list_starts = vec![in alloc; 0, 1]?;
     let postings = vec![in alloc; posting]?;
     let set_starts = vec![in alloc; 0, 1]?;
@@ -86,7 +88,7 @@ fn segment(alloc: Global, table: SharedTable) -> Result<Arc<Segment>, Fail>
         tables,
         owners,
         tokens,
-        by_key,
+        by_hash,
         list_starts,
         postings,
         set_starts,

@@ -14,6 +14,8 @@ use Rattle.search_model.specs.Ranks.{number_cmp, AreInverse, AreRanks}
 use Rattle.search_model.specs.Segment.{columns_of, segment, Token, tokens_of}
 use Rattle.search_model.proofs.RankLemmas.{ranks_are}
 use Rattle.search_model.specs.declared.TokenAt.{TokenAt}
+use Rattle.segment_core.specs.Hashes.{AreKept, AreKeys, IsByHash}
+use Rattle.segment_core.proofs.SegmentLemmas.{keys_kept}
 use Rattle.segment_build.specs.Worked.{worked_owners, worked_postings, worked_table, worked_tokens}
 
 pub one_key : (keys : List Text) (a : Text) → length keys ≡ 1 → get_or keys 0 [] ≡ a → keys ≡ a ∷ []
@@ -55,7 +57,7 @@ rising (suc k) d low h = absurd (omega arith)
 by_key : IsByKey named (1 ∷ 0 ∷ [])
 by_key = record { rising = rising; same = IsPermutation-middle (0 ∷ []) 1 [] }
 
-pub worked_arrays : AreArrays (worked_table ∷ []) worked_owners worked_tokens (1 ∷ 0 ∷ []) (0 ∷ 1 ∷ 3 ∷ []) worked_postings (0 ∷ 2 ∷ 3 ∷ []) (0 ∷ 1 ∷ 1 ∷ [])
+worked_arrays : AreArrays (worked_table ∷ []) worked_owners worked_tokens (1 ∷ 0 ∷ []) (0 ∷ 1 ∷ 3 ∷ []) worked_postings (0 ∷ 2 ∷ 3 ∷ []) (0 ∷ 1 ∷ 1 ∷ [])
 unfolding in_order put_in_order tokens_of segment
 worked_arrays = record {
   owned = refl;
@@ -69,6 +71,12 @@ worked_arrays = record {
   small = lit< tt;
   few = lit< tt;
 }
+
+pub worked_keys : AreKeys (worked_table ∷ []) worked_owners worked_tokens
+worked_keys = keys_kept _ _ _ _ _ _ _ _ worked_arrays
+
+pub worked_kept : (hashes numbers : List ℕ) → IsByHash (segment (worked_table ∷ [])).tokens hashes numbers → AreKept (worked_table ∷ []) worked_owners worked_tokens hashes numbers (0 ∷ 1 ∷ 3 ∷ []) worked_postings (0 ∷ 2 ∷ 3 ∷ []) (0 ∷ 1 ∷ 1 ∷ [])
+worked_kept hashes numbers order = record { by_key = 1 ∷ 0 ∷ []; arrays = worked_arrays; order = order }
 
 -- each column has its number for its rank
 pub worked_inverse : AreInverse (0 ∷ 1 ∷ []) (0 ∷ 1 ∷ [])

@@ -10,7 +10,7 @@ use csv_table::read_table;
 use no_memory::NoMemory;
 use segment_core::{
     ColumnRefused, Look, Looks, Marks, Numbers, Owner, Part, Pin, Posting, Segment, TokenAt,
-    Version,
+    Version, order_by_hash,
 };
 use std::alloc::Global;
 use std::process::Abort;
@@ -118,7 +118,7 @@ fn segment(alloc: Global) -> Result<Segment, Fail>
     let tables = vec![in alloc; table(alloc)?]?;
     let owners = owners(alloc)?;
     let tokens = tokens(alloc)?;
-    let by_key = vec![in alloc; 1, 0]?;
+    let by_hash = order_by_hash(alloc, &tables, &owners, &tokens)?;
     let list_starts = vec![in alloc; 0, 1, 3]?;
     let postings = postings(alloc)?;
     let set_starts = vec![in alloc; 0, 2, 3]?;
@@ -129,7 +129,7 @@ fn segment(alloc: Global) -> Result<Segment, Fail>
         tables,
         owners,
         tokens,
-        by_key,
+        by_hash,
         list_starts,
         postings,
         set_starts,

@@ -6,7 +6,7 @@ use crate::columns::column_sets;
 use crate::lists::{PostingLists, list_starts, posting_lists};
 use column_set::SharedTable;
 use no_memory::NoMemory;
-use segment_core::Segment;
+use segment_core::{Segment, order_by_hash};
 use std::alloc::Global;
 use title_order::{TitleOrder, order_columns};
 use token_order::{TokenLists, Vocab};
@@ -15,11 +15,11 @@ use token_order::{TokenLists, Vocab};
 /// Joinable Tables in Data Lakes", SIGMOD 2019.
 ///
 /// It takes the time to sort all keys of all columns by their bytes, once. That gives the token of each key of each column; the distinct
-/// keys and the sets are then sorted as numbers, and the posting lists written in one pass, and no key is compared again. The columns
-/// are sorted once too, by their names. The most memory is taken at the end, and is what the segment keeps: 16 bytes for each key of each
-/// column, 16 for each distinct key, and 20 for each column. (While the keys are sorted, they take 12 bytes for each key of each column,
-/// and at most 32 for each distinct key; where few keys stand in more than three columns, that is more.) It is refused only for want of
-/// memory.
+/// keys and the sets are then sorted as numbers, and the posting lists written in one pass, and keys are compared again only where their
+/// hashes are equal, while the tokens are sorted by these. The columns are sorted once too, by their names. The most memory is taken at the
+/// end, and is what the segment keeps: 16 bytes for each key of each column, 20 for each distinct key, and 20 for each column. (While the
+/// keys are sorted, they take 12 bytes for each key of each column, and at most 32 for each distinct key; where few keys stand in more than
+/// three columns, that is more.) It is refused only for want of memory.
 pub fn build(alloc: Global, tables: Vec<SharedTable>) -> Result<Segment, NoMemory>
     requires columns { sum_by (λ t. length t.columns) tables.items < 2 ^ 32 }
     requires members { sum_by members tables.items < 2 ^ 32 }
@@ -31,11 +31,12 @@ pub fn build(alloc: Global, tables: Vec<SharedTable>) -> Result<Segment, NoMemor
     let TokenLists {
         tokens,
         frequencies,
-        by_key,
+        ..
     } = vocab.into_lists();
     let list_starts = list_starts(alloc, &frequencies)?;
     // The starts say the same, and the most memory is taken behind here.
     drop(frequencies);
+    let by_hash = order_by_hash(alloc, &tables, &sets.owners, &tokens)?;
     let PostingLists { starts, postings } = posting_lists(
         alloc,
         &sets.starts,
@@ -46,7 +47,7 @@ pub fn build(alloc: Global, tables: Vec<SharedTable>) -> Result<Segment, NoMemor
         tables,
         sets.owners,
         tokens,
-        by_key,
+        by_hash,
         starts,
         postings,
         sets.starts,

@@ -95,6 +95,18 @@ fn tokens(rt: HostRuntime) -> Result<(), Fail> {
     Ok(())
 }
 
+// Two pairs of keys of one hash: each key that the column has is found, and the other is not.
+#[test]
+fn colliding_keys(rt: HostRuntime) -> Result<(), Fail> {
+    let alloc = rt.alloc();
+    let segment = build(alloc, one_table(alloc, b"v\ncostarring\nliquid\ndeclinate\n")?)?;
+    assert_eq!(rt; held(&segment, "costarring"), Some((0, 1)));
+    assert_eq!(rt; held(&segment, "liquid"), Some((2, 1)));
+    assert_eq!(rt; held(&segment, "declinate"), Some((1, 1)));
+    assert_eq!(rt; held(&segment, "macallums"), None);
+    Ok(())
+}
+
 // A key in each of 300 tables: its token is the last, and its list has all the columns.
 #[test]
 fn long_list(rt: HostRuntime) -> Result<(), Fail> {

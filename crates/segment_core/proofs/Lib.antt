@@ -3,6 +3,7 @@ pub mod SegmentLemmas
 pub mod PartLemmas
 pub mod AmongLemmas
 pub mod FoundLemmas
+pub mod HashLemmas
 pub mod ShownLemmas
 pub mod PositionLemmas
 pub mod ColumnLemmas

@@ -1,5 +1,5 @@
 -- What the arrays of a segment say of the lists and the sets of its tables.
-use Rattle.std.proofs.Common.{◌≡◌, ◌∙◌, refl, sym, ap, subst, ℕ, ◌<◌, ◌≤◌, List, [], get_or, length, map, arith}
+use Rattle.std.proofs.Common.{◌≡◌, ◌∙◌, sym, ap, subst, ℕ, ◌<◌, ◌≤◌, List, [], get_or, length, map, arith}
 use Rattle.std.proofs.lemmas.List.{length-map, get_or-map}
 use Rattle.std.proofs.lemmas.List.FromFn.{length-enumerate_from}
 use Rattle.lake_model.specs.Texts.{Text}
@@ -10,7 +10,8 @@ use Rattle.search_model.specs.declared.Owner.{Owner}
 use Rattle.search_model.specs.Segment.{Token, segment}
 use Rattle.search_model.proofs.ColumnLemmas.{stands, Stands}
 use Rattle.search_model.proofs.KeyLemmas.{key_here}
-use Rattle.search_model.specs.Arrays.{AreArrays, IsByKey, all_of, key_of, no_titled, owner_of, pointed, starts_of, table_at, titled_at}
+use Rattle.search_model.specs.Arrays.{AreArrays, all_of, key_of, no_titled, owner_of, pointed, starts_of, table_at, titled_at}
+use Rattle.segment_core.specs.Hashes.{AreKeys}
 use Rattle.segment_core.proofs.ListsLemmas.{Bounds, bounds}
 
 pub length-sets : (tables : List Table) → length (segment tables).sets ≡ length (segment tables).columns
@@ -43,13 +44,24 @@ module _ (held tables : List Table) (is : held ≡ tables) (owners : List Owner)
   pub token_count : length tokens ≡ length (segment tables).tokens
   token_count = sym (length-map tokens (pointed held)) ∙ ap length arrays.named ∙ length-map (segment held).tokens (λ (t : Token). t.key) ∙ ap (λ (ts : List Table). length (segment ts).tokens) is
 
-  pub sorted_keys : IsByKey (segment tables).tokens by_key
-  sorted_keys = subst (λ (ts : List Table). IsByKey (segment ts).tokens by_key) is arrays.sorted
+-- the arrays that tell where the keys of the tokens stand
+pub keys_kept : (tables : List Table) (owners : List Owner) (tokens : List TokenAt) (by_key list_starts : List ℕ) (postings : List Posting) (set_starts set_tokens : List ℕ) → AreArrays tables owners tokens by_key list_starts postings set_starts set_tokens → AreKeys tables owners tokens
+keys_kept tables owners tokens by_key list_starts postings set_starts set_tokens arrays = record { owned = arrays.owned; named = arrays.named; within = arrays.within }
+
+pub key_count : (tables : List Table) (owners : List Owner) (tokens : List TokenAt) → AreKeys tables owners tokens → length tokens ≡ length (segment tables).tokens
+key_count tables owners tokens keys = sym (length-map tokens (pointed tables)) ∙ ap length keys.named ∙ length-map (segment tables).tokens (λ (t : Token). t.key)
 
 -- the column of a number stands in its table
 pub stands_there : (tables : List Table) (set : ℕ) → set < length (segment tables).columns → Stands tables (titled_at (segment tables).columns set)
 unfolding segment
 stands_there tables set h = stands tables set h
+
+-- what stands in no array
+abbrev pub no_token : TokenAt
+no_token = record { column = 0; index = 0 }
+
+abbrev pub no_owner : Owner
+no_owner = record { table = 0; place = 0 }
 
 -- Where the key of a token is read: its place is one of the columns, this is one of a table, and that table has the key there.
 pub record IsRead (tables : List Table) (at : TokenAt) (owner : Owner) (token : ℕ) : Type 0 where
@@ -58,21 +70,20 @@ pub record IsRead (tables : List Table) (at : TokenAt) (owner : Owner) (token : 
   pub high : owner.place ≤ length (table_at tables owner.table).columns
   pub key : get_or (keys_at (table_at tables owner.table) owner.place) at.index [] ≡ key_of (segment tables).tokens token
 
-module _ (tables : List Table) (owners : List Owner) (tokens : List TokenAt) (by_key list_starts : List ℕ) (postings : List Posting) (set_starts set_tokens : List ℕ)
-    (arrays : AreArrays tables owners tokens by_key list_starts postings set_starts set_tokens) (token : ℕ) (within : token < length tokens) (at : TokenAt) (is : at ≡ get_or tokens token at) where
+module _ (tables : List Table) (owners : List Owner) (tokens : List TokenAt) (keys : AreKeys tables owners tokens) (token : ℕ) (within : token < length tokens) (at : TokenAt) (is : at ≡ get_or tokens token at) where
   column_there : at.column < length (segment tables).columns
   unfolding segment
-  column_there = subst (λ (t : TokenAt). t.column < length (segment tables).columns) (sym is) (arrays.within token at within).column
+  column_there = subst (λ (t : TokenAt). t.column < length (segment tables).columns) (sym is) (keys.within token at within).column
 
   pub owner_there : at.column < length owners
-  owner_there = omega (arith, column_there, ap length arrays.owned, length-map (segment tables).columns owner_of)
+  owner_there = omega (arith, column_there, ap length keys.owned, length-map (segment tables).columns owner_of)
 
   keys_there : (owner : Owner) → owner ≡ get_or owners at.column owner → owner ≡ owner_of (titled_at (segment tables).columns at.column)
-  keys_there owner e = e ∙ owner_at tables tables refl owners tokens by_key list_starts postings set_starts set_tokens arrays at.column owner (omega (arith, column_there, length-sets tables))
+  keys_there owner e = e ∙ ap (λ (os : List Owner). get_or os at.column owner) keys.owned ∙ get_or-map owner_of (segment tables).columns at.column no_titled owner column_there
 
   named : get_or (titled_at (segment tables).columns at.column).column.keys at.index [] ≡ key_of (segment tables).tokens token
   unfolding segment
-  named = key_here (pointed tables) tokens (segment tables).tokens token at arrays.named within is
+  named = key_here (pointed tables) tokens (segment tables).tokens token at keys.named within is
 
   pub is_read : (owner : Owner) → owner ≡ get_or owners at.column owner → IsRead tables at owner token
   is_read owner e =
@@ -82,5 +93,5 @@ module _ (tables : List Table) (owners : List Owner) (tokens : List TokenAt) (by
         table = here.table;
         low = here.low;
         high = here.high;
-        key = ap (λ (keys : List Text). get_or keys at.index []) here.keys ∙ named;
+        key = ap (λ (ks : List Text). get_or ks at.index []) here.keys ∙ named;
       })

@@ -4,3 +4,4 @@ pub mod Lines
 pub mod Positions
 pub mod LiveColumn
 pub mod Plans
+pub mod Hashes

@@ -3,6 +3,7 @@
 
 mod column;
 mod find;
+mod hashes;
 mod layout;
 mod looks;
 mod numbers;
@@ -14,6 +15,7 @@ mod swap;
 mod version;
 
 pub use column::ColumnRefused;
+pub use hashes::{HashOrder, order_by_hash};
 pub use layout::{Layout, Places, TableLines};
 pub use looks::Looks;
 pub use numbers::{Marks, Numbers};

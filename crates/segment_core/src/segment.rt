@@ -1,17 +1,21 @@
 //! The inverted index of a list of tables, in flat arrays.
-ghost use Rattle.std.specs.Prelude.{◌≡◌, ◌⊎◌, ◌+◌, ◌<◌, ◌≤◌, [], drop, get_or, length, slice_index, slice_range, IfErr, IfOk, None, OnOk, Some};
+ghost use Rattle.std.specs.Prelude.{◌≡◌, ◌⊎◌, ◌+◌, ◌<◌, ◌≤◌, ◌∷◌, ℕ, [], drop, get_or, length, slice_index, slice_range, IfErr, IfNone, IfOk, IfSome, None, OnOk, Some};
+ghost use Rattle.std.specs.Cmp.Lexicographic.{slice_cmp};
 ghost use Rattle.std.specs.List.Sorted.{IsPermutation};
+ghost use Rattle.std.specs.Ordering.{nat_cmp};
 ghost use Rattle.search_model.specs.Arrays.{key_of, table_at, titled_at, IsToken};
 ghost use Rattle.search_model.specs.Ranks.{AreInverse, AreRanks};
 ghost use Rattle.search_model.specs.Segment.{segment, tokens_in};
 ghost use Rattle.segment_core.specs.LiveColumn.{fault_in, keys_in};
 
 use crate::column::ColumnRefused;
+use crate::hashes::{HashOrder, hash_key, key_at};
 use crate::order::ColumnOrder;
 use column_set::{QuerySet, SharedTable};
 use no_memory::NoMemory;
 use search_model::{Owner, Posting, TokenAt};
 use std::alloc::Global;
+use std::cmp::Ordering as Comparison;
 use std::marker::Model;
 use std::sync::atomic::{AtomicU64, Ordering};
 
@@ -27,7 +31,7 @@ pub struct Segment {
     tables: Vec<SharedTable>,
     owners: Vec<Owner>,
     tokens: Vec<TokenAt>,
-    by_key: Vec<u32>,
+    by_hash: HashOrder,
     list_starts: Vec<u32>,
     postings: Vec<Posting>,
     set_starts: Vec<u32>,
@@ -40,29 +44,29 @@ pub struct Segment {
 impl Model for Segment {
     ghost use Rattle.std.specs.Prelude.{List};
     ghost use Rattle.lake_model.specs.Tables.{Table};
-    ghost use Rattle.search_model.specs.Arrays.{AreArrays};
     ghost use Rattle.search_model.specs.Ranks.{AreInverse, AreRanks};
     ghost use Rattle.search_model.specs.Segment.{segment};
+    ghost use Rattle.segment_core.specs.Hashes.{AreKept};
 
     ghost Value = { List Table };
 
     ghost view = { λ s. s.tables.items };
 
-    ghost invariant = { λ s. AreArrays s.tables.items s.owners.items s.tokens.items s.by_key.items s.list_starts.items s.postings.items s.set_starts.items s.set_tokens.items × AreRanks (segment s.tables.items).columns s.ranks.items × AreInverse s.ranks.items s.by_rank.items };
+    ghost invariant = { λ s. AreKept s.tables.items s.owners.items s.tokens.items s.by_hash.hashes.items s.by_hash.tokens.items s.list_starts.items s.postings.items s.set_starts.items s.set_tokens.items × AreRanks (segment s.tables.items).columns s.ranks.items × AreInverse s.ranks.items s.by_rank.items };
 }
 
 impl Segment {
-    ghost use Rattle.search_model.specs.Arrays.{AreArrays};
+    ghost use Rattle.segment_core.specs.Hashes.{hash_at, hash_of, hashed_key, AreKept};
 
     /// The segment of these tables, from its arrays: where each column stands; where each token's key stands, in the order of the
-    /// tokens; the tokens' numbers, by their keys; the posting lists, one behind another, with where each begins and one more for
+    /// tokens; the tokens in the order of their hashes; the posting lists, one behind another, with where each begins and one more for
     /// the end; the columns' tokens likewise; each column's rank in the order of names, and the columns by their ranks. It takes no
     /// memory.
     pub fn new(
         tables: Vec<SharedTable>,
         owners: Vec<Owner>,
         tokens: Vec<TokenAt>,
-        by_key: Vec<u32>,
+        by_hash: HashOrder,
         list_starts: Vec<u32>,
         postings: Vec<Posting>,
         set_starts: Vec<u32>,
@@ -70,7 +74,7 @@ impl Segment {
         ranks: Vec<u32>,
         by_rank: Vec<u32>,
     ) -> Segment
-        requires arrays { AreArrays tables.items owners.items tokens.items by_key.items list_starts.items postings.items set_starts.items set_tokens.items }
+        requires arrays { AreKept tables.items owners.items tokens.items by_hash.hashes.items by_hash.tokens.items list_starts.items postings.items set_starts.items set_tokens.items }
         requires ranks { AreRanks (segment tables.items).columns ranks.items }
         requires inverse { AreInverse ranks.items by_rank.items }
         ensures { result ≡ tables.items }
@@ -79,7 +83,7 @@ impl Segment {
             tables,
             owners,
             tokens,
-            by_key,
+            by_hash,
             list_starts,
             postings,
             set_starts,
@@ -104,17 +108,55 @@ impl Segment {
         self.owners.len() as u32
     }
 
-    /// The token that the key is, and `None` where no column has the key. It takes as many comparisons as the number of tokens has
-    /// binary digits.
+    /// The token that the key is, and `None` where no column has the key. It takes as many comparisons of numbers as the number of
+    /// tokens has binary digits, and then one of texts; where another key has the same hash, as many of texts again.
     pub fn lookup(&self, key: &str) -> Option<u32>
         ensures { IsToken (segment self.now).tokens key.now result }
     {
+        let hash = hash_key(key);
+        let token = self.first_hashed(hash)?;
+        if self.key(token) == key {
+            return Some(token);
+        }
+        self.lookup_colliding(hash, key)
+    }
+
+    // The first token of which the key has the hash, in the order of the keys' bytes.
+    fn first_hashed(&self, hash: u32) -> Option<u32>
+        ensures there { IfSome result (λ token. token < length (segment self.now).tokens) }
+        ensures lacking { IfNone result ((n : ℕ) → n < length (segment self.now).tokens → hash_at (segment self.now).tokens n ≡ hash → ⊥) }
+    {
+        let hashes = &self.by_hash.hashes;
+        let at = hashes.partition_point(|other| *other < hash);
+        if at >= hashes.len() || hashes[at] != hash {
+            return None;
+        }
+        Some(self.by_hash.tokens[at])
+    }
+
+    // The token that the key is, where another key may have its hash too.
+    fn lookup_colliding(&self, hash: u32, key: &str) -> Option<u32>
+        requires { hash ≡ hash_of key.now }
+        ensures { IsToken (segment self.now).tokens key.now result }
+    {
         match self
-            .by_key
-            .binary_search_by(|token| self.key(*token).cmp(key))
+            .by_hash
+            .tokens
+            .binary_search_by(|token| self.hash_order(*token, hash, key))
         {
-            Ok(at) => Some(self.by_key[at]),
+            Ok(at) => Some(self.by_hash.tokens[at]),
             Err(_) => None,
+        }
+    }
+
+    // How a token stands to a key: by their hashes, and then by the bytes of the keys.
+    fn hash_order(&self, token: u32, hash: u32, key: &str) -> Comparison
+        ensures { result ≡ slice_cmp nat_cmp (hashed_key (segment self.now).tokens token) (hash ∷ key.now) }
+    {
+        let own = self.key(token);
+        match hash_key(own).cmp(&hash) {
+            Comparison::Equal => own.cmp(key),
+            unequal => unequal,
         }
     }
 
@@ -205,14 +247,7 @@ impl Segment {
     fn key(&self, token: u32) -> &str
         ensures { result.now ≡ key_of (segment self.now).tokens token }
     {
-        if token as usize >= self.tokens.len() {
-            return "";
-        }
-        let at = self.tokens[token as usize];
-        let owner = self.owners[at.column as usize];
-        self.tables[owner.table as usize]
-            .table()
-            .key(owner.place, at.index)
+        key_at(&self.tables, &self.owners, &self.tokens, token)
     }
 }
 

@@ -1,10 +1,24 @@
-use Rattle.catalogue.proofs.KeySegment.{key_arrays, key_inverse, key_ranks}
+use Rattle.std.proofs.Common.{◌∙◌, subst, List, lit<}
+use Rattle.lake_model.specs.Tables.{Table}
+use Rattle.search_model.specs.Segment.{segment}
+use Rattle.segment_core.specs.Hashes.{IsByHash}
+use Rattle.catalogue.proofs.KeySegment.{key_inverse, key_kept, key_places, key_ranks}
 use Rattle.catalogue.proofs.tests.segment.Goals as goal
+
+pub order_by_hash-requires-clause-keys : goal.order_by_hash-requires-clause-keys
+order_by_hash-requires-clause-keys c =
+    rw (c.deref.ensures.value, c.deref-2.ensures.value, c.deref-3.ensures.value, c.in_ok-tables.ensures.items, c.in_ok-owners.ensures.items, c.in_ok-tokens.ensures.items) (key_places c.args.table c.requires.columns c.requires.keys)
+
+pub order_by_hash-requires-clause-few : goal.order_by_hash-requires-clause-few
+order_by_hash-requires-clause-few c = rw (c.deref-3.ensures.value, c.in_ok-tokens.ensures.items) (lit< tt)
 
 pub new-segment-requires-clause-arrays : goal.new-segment-requires-clause-arrays
 new-segment-requires-clause-arrays c =
-    rw (c.in_ok-tables.ensures.items, c.in_ok-owners.ensures.items, c.in_ok-tokens.ensures.items, c.in_ok-by_key.ensures.items, c.in_ok-list_starts.ensures.items, c.in_ok-postings.ensures.items, c.in_ok-set_starts.ensures.items, c.in_ok-set_tokens.ensures.items)
-    (key_arrays c.args.table c.requires.columns c.requires.keys)
+    let hashes = c.in_ok-by_hash.by_hash.hashes.items in
+    let numbers = c.in_ok-by_hash.by_hash.tokens.items in
+    let order = subst (λ (ts : List Table). IsByHash (segment ts).tokens hashes numbers) (c.deref.ensures.value ∙ c.in_ok-tables.ensures.items) c.in_ok-by_hash.ensures in
+    rw (c.in_ok-tables.ensures.items, c.in_ok-owners.ensures.items, c.in_ok-tokens.ensures.items, c.in_ok-list_starts.ensures.items, c.in_ok-postings.ensures.items, c.in_ok-set_starts.ensures.items, c.in_ok-set_tokens.ensures.items)
+    (key_kept c.args.table c.requires.columns c.requires.keys hashes numbers order)
 
 pub new-segment-requires-clause-ranks : goal.new-segment-requires-clause-ranks
 new-segment-requires-clause-ranks c = rw (c.in_ok-tables.ensures.items, c.in_ok-ranks.ensures.items) (key_ranks c.args.table c.requires.columns)

@@ -12,7 +12,7 @@ loop-token-preserved c =
     let tokens = (segment c.args.self.now).tokens in
     let keys = c.args.query.now in
     let i = c.loop-token.token in
-    let within : i < length tokens = omega (arith, token_count _ _ c.self.view_is _ _ _ _ _ _ _ c.self.invariant.0) in
+    let within : i < length tokens = omega (arith, token_count _ _ c.self.view_is _ _ _ _ _ _ _ c.self.invariant.0.arrays) in
     let is : c.has.result ≡ has_key keys (key_of tokens i) = c.has.ensures ∙ ap (has_key keys) c.key.ensures in
     let more = λ (b : Bool) (e : has_key keys (key_of tokens i) ≡ b). tokens_in_more keys tokens i within ∙ ap (λ (b : Bool). tokens_in (take i tokens) keys ++ cond b (i ∷ []) []) e in
     elim c.if-has.branch [

@@ -5,10 +5,10 @@ use Rattle.segment_core.proofs.segment.Segment.list.Goals as goal
 
 pub list_at-requires : goal.list_at-requires
 list_at-requires c =
-    let b = list_bounds _ _ c.self.view_is _ _ _ _ _ _ _ c.self.invariant.0 c.args.token c.requires in
+    let b = list_bounds _ _ c.self.view_is _ _ _ _ _ _ _ c.self.invariant.0.arrays c.args.token c.requires in
     rw (c.deref.ensures.value, c.deref-2.ensures.value) (record { there = b.there; rising = omega (arith, b.size); within = omega (arith, b.high) })
 
 pub returns : goal.returns
 returns c =
-    let b = list_bounds _ _ c.self.view_is _ _ _ _ _ _ _ c.self.invariant.0 c.args.token c.requires in
+    let b = list_bounds _ _ c.self.view_is _ _ _ _ _ _ _ c.self.invariant.0.arrays c.args.token c.requires in
     c.list_at.ensures ∙ rw (c.deref.ensures.value, c.deref-2.ensures.value) (part_is _ _ _ 0 _ b (omega arith))

@@ -5,10 +5,10 @@ use Rattle.segment_core.proofs.segment.Segment.size.Goals as goal
 
 pub len_at-requires : goal.len_at-requires
 len_at-requires c =
-    let b = set_bounds _ _ c.self.view_is _ _ _ _ _ _ _ c.self.invariant.0 c.args.set c.requires in
+    let b = set_bounds _ _ c.self.view_is _ _ _ _ _ _ _ c.self.invariant.0.arrays c.args.set c.requires in
     rw c.deref.ensures.value (record { there = b.there; rising = omega (arith, b.size) })
 
 pub returns : goal.returns
 returns c =
-    let b = set_bounds _ _ c.self.view_is _ _ _ _ _ _ _ c.self.invariant.0 c.args.set c.requires in
+    let b = set_bounds _ _ c.self.view_is _ _ _ _ _ _ _ c.self.invariant.0.arrays c.args.set c.requires in
     omega (arith, b.size, ap (λ (s : List ℕ). slice_index s c.args.set) c.deref.ensures.value, ap (λ (s : List ℕ). slice_index s (c.args.set + 1)) c.deref.ensures.value, c.len_at.ensures)
