@@ -268,12 +268,9 @@ fn loaded_part(alloc: Global, at: u64, segment: Arc<Segment>) -> Result<Part, No
     requires { length segment.value ≡ 1 }
     ensures { IfOk result (λ part. part ≡ part_with at (places_with (at ∷ []) segment.value (false ∷ []))) }
 {
-    Ok(Part {
-        number: at,
-        segment,
-        positions: Numbers::new(vec![in alloc; at]?),
-        marked: Marks::new(vec![in alloc; false]?),
-    })
+    let positions = Numbers::new(vec![in alloc; at]?);
+    let marked = Marks::new(vec![in alloc; false]?);
+    Part::new(alloc, at, segment, positions, marked)
 }
 
 // Pushes where there is room.

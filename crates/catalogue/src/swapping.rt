@@ -140,7 +140,7 @@ impl Catalogue {
 fn is_part(part: &Part, number: u64, positions: &Numbers) -> bool
     ensures { result ≡ (nat_eq part.now.number number && bytes_eq (loads_of part.now) positions.now) }
 {
-    part.number == number && part.loads() == positions.list()
+    part.number() == number && part.loads() == positions.list()
 }
 
 // The numbers of planned parts.
@@ -172,13 +172,11 @@ fn merged_part(
     let Some(segment) = segment else {
         return Ok(None);
     };
-    let marked = carried_marks(alloc, run, kept.list())?;
-    Ok(Some(Part {
-        number: at,
-        segment,
-        positions: kept.copy()?,
-        marked: Marks::new(marked),
-    }))
+    let carried = carried_marks(alloc, run, kept.list())?;
+    let marked = Marks::new(carried);
+    let positions = kept.copy()?;
+    let part = Part::new(alloc, at, segment, positions, marked)?;
+    Ok(Some(part))
 }
 
 // The marks of the kept positions, which stand in these parts in this order: one walk over the loads of the parts.

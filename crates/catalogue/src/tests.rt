@@ -11,7 +11,7 @@ use column_set::{Name, SharedTable, TableSets};
 use csv_table::read_table;
 use no_memory::NoMemory;
 use segment_core::{
-    Merged, Numbers, Owner, Pin, Plan, Posting, Segment, TokenAt, order_by_hash,
+    Layout, Merged, Numbers, Owner, Pin, Plan, Posting, Segment, TokenAt, order_by_hash,
 };
 use std::alloc::Global;
 use std::sync::Arc;
@@ -242,6 +242,19 @@ fn holds(alloc: Global, pin: &Pin, at: u64, tables: usize) -> Result<(), Fail> {
     Ok(())
 }
 
+// Expects that a layout has this position, and for each load a part of its own, marked or not.
+fn shows(layout: &Layout, at: u64, loads: &[(u64, bool)]) -> Result<(), Fail> {
+    if layout.at() != at || layout.parts().len() != loads.len() {
+        return Err(Fail::from("another layout"));
+    }
+    for ((number, places), (load, marked)) in layout.parts().iter().zip(loads.iter()) {
+        if number != load || places.list() != [(*load, *marked)].as_slice() {
+            return Err(Fail::from("another part"));
+        }
+    }
+    Ok(())
+}
+
 // Expects so many live tables, so many loads and drops, and so many loads of a table of one key.
 pub fn counts(lake: &Catalogue, live: usize, updates: usize, loads: u64) -> Result<(), Fail> {
     let counts = lake.counts();
@@ -331,6 +344,20 @@ fn a_pin_keeps_what_is_dropped_and_loaded_later(rt: HostRuntime) -> Result<(), F
     holds(alloc, &lake.pin()?, 3, 1)?;
     assert!(rt; lake.live(&name("a")?));
     counts(&lake, 1, 3, 2)
+}
+
+#[test]
+fn a_layout_keeps_what_is_dropped_and_loaded_later(rt: HostRuntime) -> Result<(), Fail> {
+    let alloc = rt.alloc();
+    let mut lake = Catalogue::new(alloc, Limits::standard())?;
+    loads(&mut lake, alloc, "a", Ok(1))?;
+    let loaded = lake.pin()?.layout(alloc)?;
+    drops(&mut lake, "a", Ok(2))?;
+    let dropped = lake.pin()?.layout(alloc)?;
+    loads(&mut lake, alloc, "a", Ok(3))?;
+    shows(&loaded, 1, &[(1, false)])?;
+    shows(&dropped, 2, &[(1, true)])?;
+    shows(&lake.pin()?.layout(alloc)?, 3, &[(1, true), (3, false)])
 }
 
 #[test]

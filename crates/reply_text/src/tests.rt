@@ -62,7 +62,8 @@ fn merger_traces(
 fn layout(alloc: Global, at: u64, parts: &[(u64, &[(u64, bool)])]) -> Result<Layout, NoMemory> {
     let mut held = Vec::new(alloc);
     for (number, places) in parts {
-        held.push((*number, Places::new(Vec::from_slice(alloc, places)?)))?;
+        let places = Arc::new(alloc, Vec::from_slice(alloc, places)?)?;
+        held.push((*number, Places::new(places)))?;
     }
     Ok(Layout::new(at, held))
 }

@@ -143,12 +143,10 @@ fn segment(alloc: Global) -> Result<Segment, Fail>
 fn version(alloc: Global) -> Result<Arc<Version>, Fail>
     ensures { IfOk result (λ version. version.value ≡ worked_version) }
 {
-    let part = Part {
-        number: 7,
-        segment: Arc::new(alloc, segment(alloc)?)?,
-        positions: Numbers::new(vec![in alloc; 7]?),
-        marked: Marks::new(vec![in alloc; false]?),
-    };
+    let segment = Arc::new(alloc, segment(alloc)?)?;
+    let positions = Numbers::new(vec![in alloc; 7]?);
+    let marked = Marks::new(vec![in alloc; false]?);
+    let part = Part::new(alloc, 7, segment, positions, marked)?;
     let mut version = Arc::new(alloc, Version::empty(alloc))?;
     Version::add(&mut version, 7, part)?;
     Ok(version)

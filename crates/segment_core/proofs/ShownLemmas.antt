@@ -1,9 +1,9 @@
 -- What replies show of a version, from the lists that its parts keep.
 use Rattle.std.proofs.Common.{◌≡◌, refl, ap, ◌∙◌, ℕ, zero, suc, ◌+◌, ◌<◌, List, [], ◌∷◌, ◌++◌, Bool, true, false, cond, length, get_or, take, arith}
-use Rattle.std.specs.List.{zip}
+use Rattle.std.specs.List.{slice_set, zip}
 use Rattle.lake_model.specs.Tables.{Table, Line, line_of}
 use Rattle.search_model.specs.Arrays.{table_at}
-use Rattle.segment_core.specs.Lines.{lines_without, shown_places, unmarked_lines}
+use Rattle.segment_core.specs.Lines.{lines_without, mark_pair, shown_places, unmarked_lines}
 use Rattle.segment_core.specs.Versions.{places_with}
 
 pub zip_places : (ns : List ℕ) (ts : List Table) (ms : List Bool) → length ns ≡ length ts → length ms ≡ length ts → shown_places (places_with ns ts ms) ≡ zip ns ms
@@ -13,6 +13,19 @@ zip_places [] (t ∷ ts) ms h k = absurd (omega arith)
 zip_places (n ∷ ns) [] ms h k = absurd (omega arith)
 zip_places (n ∷ ns) (t ∷ ts) [] h k = absurd (omega arith)
 zip_places (n ∷ ns) (t ∷ ts) (m ∷ ms) h k = ap (λ (ps : List (ℕ × Bool)). (n, m) ∷ ps) (zip_places ns ts ms (omega arith) (omega arith))
+
+pub length_pairs : (ns : List ℕ) (ms : List Bool) → length ns ≡ length ms → length (zip ns ms) ≡ length ms
+length_pairs [] [] h = refl
+length_pairs [] (m ∷ ms) h = absurd (omega arith)
+length_pairs (n ∷ ns) [] h = absurd (omega arith)
+length_pairs (n ∷ ns) (m ∷ ms) h = omega (arith, length_pairs ns ms (omega arith))
+
+pub mark_pairs : (ns : List ℕ) (ms : List Bool) (i : ℕ) → length ns ≡ length ms → mark_pair i (zip ns ms) ≡ zip ns (slice_set ms i true)
+mark_pairs [] [] i h = refl
+mark_pairs [] (m ∷ ms) i h = absurd (omega arith)
+mark_pairs (n ∷ ns) [] i h = absurd (omega arith)
+mark_pairs (n ∷ ns) (m ∷ ms) zero h = refl
+mark_pairs (n ∷ ns) (m ∷ ms) (suc i) h = ap (λ (ps : List (ℕ × Bool)). (n, m) ∷ ps) (mark_pairs ns ms i (omega arith))
 
 pub lines_places : (ns : List ℕ) (ts : List Table) (ms : List Bool) → length ns ≡ length ts → length ms ≡ length ts → unmarked_lines (places_with ns ts ms) ≡ lines_without ts ms
 lines_places [] [] ms h k = refl

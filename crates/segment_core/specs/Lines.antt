@@ -1,5 +1,5 @@
 -- What replies show of a version.
-use Rattle.std.specs.Prelude.{ℕ, Bool, List, [], ◌∷◌, map, filter, not, if◌then◌else◌}
+use Rattle.std.specs.Prelude.{ℕ, Bool, true, false, List, [], ◌∷◌, map, filter, not, get_or, slice_set, if◌then◌else◌}
 use Rattle.lake_model.specs.Texts.{Text}
 use Rattle.lake_model.specs.Tables.{Table, Line, line_of, line_with}
 use Rattle.lake_model.specs.Layout.{Place, Part, unmarked_of}
@@ -7,6 +7,10 @@ use Rattle.lake_model.specs.Layout.{Place, Part, unmarked_of}
 -- the positions of places, with their marks
 abbrev pub shown_places : List Place → List (ℕ × Bool)
 shown_places places = map (λ place. (place.position, place.marked)) places
+
+-- the pair of an index marked
+abbrev pub mark_pair : ℕ → List (ℕ × Bool) → List (ℕ × Bool)
+mark_pair n pairs = slice_set pairs n ((get_or pairs n (0, false)).0, true)
 
 -- a line from its parts: the name, how many columns, how many members
 abbrev pub line_from : Text × ℕ × ℕ → Line

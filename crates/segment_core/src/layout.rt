@@ -1,16 +1,18 @@
 //! What replies show of a version: its layout, and a line for each of its live tables.
-ghost use Rattle.std.specs.Prelude.{◌≡◌, map};
+ghost use Rattle.std.specs.Prelude.{◌≡◌, ◌<◌, length, map, IfOk, OnErr, OnOk};
 ghost use Rattle.lake_model.specs.Layout.{shown_with};
-ghost use Rattle.segment_core.specs.Lines.{line_from};
+ghost use Rattle.segment_core.specs.Lines.{line_from, mark_pair};
 
 use column_set::Name;
+use no_memory::NoMemory;
 use std::marker::Model;
+use std::sync::Arc;
 
-/// The places of a part: for each table the position of its load in the journal, and whether it is marked as dropped. A contract
-/// sees the list.
+/// The places of a part: for each table the position of its load in the journal, and whether it is marked as dropped. The part and
+/// the layouts that show it share one list. A contract sees the list.
 #[derive(Drop)]
 pub struct Places {
-    places: Vec<(u64, bool)>,
+    places: Arc<Vec<(u64, bool)>>,
 }
 
 impl Model for Places {
@@ -18,13 +20,13 @@ impl Model for Places {
 
     ghost Value = { List (ℕ × Bool) };
 
-    ghost view = { λ p. p.places.items };
+    ghost view = { λ p. p.places.value.items };
 }
 
 impl Places {
     /// These places. It takes no memory.
-    pub fn new(places: Vec<(u64, bool)>) -> Places
-        ensures { result ≡ places.items }
+    pub fn new(places: Arc<Vec<(u64, bool)>>) -> Places
+        ensures { result ≡ places.value.items }
     {
         Places { places }
     }
@@ -34,6 +36,28 @@ impl Places {
         ensures { result.now ≡ self.now }
     {
         &self.places
+    }
+
+    // The same places, over the same list.
+    pub(crate) fn share(&self) -> Result<Places, NoMemory>
+        ensures { IfOk result (λ other. other ≡ self.now) }
+    {
+        Ok(Places {
+            places: Arc::try_clone(&self.places)?,
+        })
+    }
+
+    // Marks the place of an index, from 0, as dropped. The list is copied only where it has another owner. Out of memory, the places
+    // stay as they were.
+    pub(crate) fn mark_dropped(&mut self, i: u32) -> Result<(), NoMemory>
+        requires { i < length self.old }
+        ensures ok { OnOk result (self.new ≡ mark_pair i self.old) }
+        ensures err { OnErr result (self.new ≡ self.old) }
+    {
+        let own = Arc::make_mut(&mut self.places)?;
+        let (position, _) = own[i as usize];
+        own[i as usize] = (position, true);
+        Ok(())
     }
 }
 

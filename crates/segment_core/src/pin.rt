@@ -104,7 +104,7 @@ impl Pin {
         Looks::new(alloc, &self.version)
     }
 
-    /// The layout of the version.
+    /// The layout of the version. It takes one entry a part, and shares the places of each.
     pub fn layout(&self, alloc: Global) -> Result<Layout, NoMemory>
         ensures { IfOk result (λ layout. layout ≡ shown_with self.now.at (shown self.now.parts)) }
     {
@@ -136,9 +136,9 @@ impl Pin {
 fn shown_parts(alloc: Global, parts: &[Part]) -> Result<Vec<(u64, Places)>, NoMemory>
     ensures { IfOk result (λ all. all.items ≡ shown parts.now) }
 {
-    let mut all = Vec::new(alloc);
+    let mut all = Vec::with_capacity(alloc, parts.len())?;
     for part in parts {
-        all.push((part.number, part.places(alloc)?))?;
+        all.push((part.number, part.places()?))?;
     }
     Ok(all)
 }

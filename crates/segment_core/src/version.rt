@@ -6,7 +6,7 @@ ghost use Rattle.segment_core.specs.Distinct.{unmarked_names, AreDistinct};
 ghost use Rattle.segment_core.specs.Lines.{line_from, lines_without, shown_places, unmarked_lines};
 ghost use Rattle.segment_core.specs.Plans.{replaced};
 ghost use Rattle.segment_core.specs.Positions.{loads_of};
-ghost use Rattle.segment_core.specs.Versions.{marked_at, marks_of, part_at, tables_of, version_with};
+ghost use Rattle.segment_core.specs.Versions.{marked_at, marks_of, part_at, part_with, places_with, tables_of, version_with};
 
 use crate::layout::Places;
 use crate::numbers::{Marks, Numbers};
@@ -19,17 +19,20 @@ use std::sync::Arc;
 
 /// A part of a version: its number, which is the position of the entry of the journal that made it; its segment; and for each
 /// table of the segment, in their order, the position of its load in the journal, and whether it was dropped since. There are as
-/// many positions and as many marks as tables. A contract sees a part of a layout.
+/// many positions and as many marks as tables. The two stand beside each other once more, in a list that layouts share. A contract
+/// sees a part of a layout.
 #[derive(Drop)]
 pub struct Part {
-    pub number: u64,
-    pub segment: Arc<Segment>,
-    pub positions: Numbers,
-    pub marked: Marks,
+    pub(crate) number: u64,
+    pub(crate) segment: Arc<Segment>,
+    pub(crate) positions: Numbers,
+    pub(crate) marked: Marks,
+    pairs: Places,
 }
 
 impl Model for Part {
     ghost use Rattle.std.specs.Prelude.{◌≡◌, length};
+    ghost use Rattle.std.specs.List.{zip};
     ghost use Rattle.lake_model.specs.Layout.{Part as PartOf};
     ghost use Rattle.segment_core.specs.Versions.{places_with, part_with};
 
@@ -37,10 +40,39 @@ impl Model for Part {
 
     ghost view = { λ p. part_with p.number (places_with p.positions p.segment.value p.marked) };
 
-    ghost invariant = { λ p. (length p.positions ≡ length p.segment.value) × (length p.marked ≡ length p.segment.value) };
+    ghost invariant = { λ p. (length p.positions ≡ length p.segment.value) × (length p.marked ≡ length p.segment.value) × (p.pairs ≡ zip p.positions p.marked) };
 }
 
 impl Part {
+    /// The part of this number over a segment, with the position of the load of each table, and its mark.
+    pub fn new(
+        alloc: Global,
+        number: u64,
+        segment: Arc<Segment>,
+        positions: Numbers,
+        marked: Marks,
+    ) -> Result<Part, NoMemory>
+        requires positions { length positions ≡ length segment.value }
+        requires marks { length marked ≡ length segment.value }
+        ensures { IfOk result (λ part. part ≡ part_with number (places_with positions segment.value marked)) }
+    {
+        let pairs = paired(alloc, positions.list(), marked.list())?;
+        Ok(Part {
+            number,
+            segment,
+            positions,
+            marked,
+            pairs: Places::new(Arc::new(alloc, pairs)?),
+        })
+    }
+
+    /// Its number.
+    pub fn number(&self) -> u64
+        ensures { result ≡ self.now.number }
+    {
+        self.number
+    }
+
     /// The segment of its tables, the marked ones too.
     pub fn segment(&self) -> &Segment
         ensures { result.now ≡ tables_of self.now }
@@ -63,11 +95,12 @@ impl Part {
         self.marked.list()
     }
 
-    /// The position of the load of each of its tables, and whether the table is marked.
-    pub(crate) fn places(&self, alloc: Global) -> Result<Places, NoMemory>
+    /// The position of the load of each of its tables, and whether the table is marked: the list is shared, and a later mark changes
+    /// nothing of it.
+    pub(crate) fn places(&self) -> Result<Places, NoMemory>
         ensures { IfOk result (λ places. places ≡ shown_places self.now.places) }
     {
-        Ok(Places::new(paired(alloc, self.positions.list(), self.marked.list())?))
+        self.pairs.share()
     }
 
     /// Puts the lines of its unmarked tables behind others.
@@ -77,12 +110,15 @@ impl Part {
         add_unmarked(self.segment.tables(), self.marked.list(), lines)
     }
 
-    // Marks the table of an index, from 0.
-    fn mark(&mut self, place: u32)
+    // Marks the table of an index, from 0. Out of memory, the part stays as it was.
+    fn mark(&mut self, place: u32) -> Result<(), NoMemory>
         requires { place < length self.old.places }
-        ensures { self.new ≡ marked_at place self.old }
+        ensures ok { OnOk result (self.new ≡ marked_at place self.old) }
+        ensures err { OnErr result (self.new ≡ self.old) }
     {
+        self.pairs.mark_dropped(place)?;
         self.marked.mark(place);
+        Ok(())
     }
 
     // The same part, over the same segment.
@@ -94,6 +130,7 @@ impl Part {
             segment: Arc::try_clone(&self.segment)?,
             positions: self.positions.copy()?,
             marked: self.marked.copy()?,
+            pairs: self.pairs.share()?,
         })
     }
 }
@@ -182,7 +219,8 @@ impl Version {
     }
 
     /// Moves the version to a position, with the table marked that is at an index of a part, both from 0. The list of the parts is
-    /// copied only where the version has another owner. Where memory is wanting, the version stays as it was.
+    /// copied only where the version has another owner, and the places of the part only where a layout or another version shares
+    /// them. Out of memory, the version stays as it was.
     pub fn mark(version: &mut Arc<Version>, at: u64, part: u32, place: u32) -> Result<(), NoMemory>
         requires part { part < length version.old.value.parts }
         requires place { place < length (part_at version.old.value.parts part).places }
@@ -192,8 +230,7 @@ impl Version {
         ensures err { OnErr result (version.new.value ≡ version.old.value) }
     {
         let own = Arc::make_mut(version)?;
-        own.mark_here(at, part, place);
-        Ok(())
+        own.mark_here(at, part, place)
     }
 
     // One more part, in a version with no other owner.
@@ -210,15 +247,17 @@ impl Version {
     }
 
     // A table marked, in a version with no other owner.
-    fn mark_here(&mut self, at: u64, part: u32, place: u32)
+    fn mark_here(&mut self, at: u64, part: u32, place: u32) -> Result<(), NoMemory>
         requires part { part < length self.old.parts }
         requires place { place < length (part_at self.old.parts part).places }
         requires positions { AreDistinct (positions_of (slice_set self.old.parts part (marked_at place (part_at self.old.parts part)))) }
         requires names { AreDistinct (unmarked_names (slice_set self.old.parts part (marked_at place (part_at self.old.parts part)))) }
-        ensures { self.new ≡ version_with at (slice_set self.old.parts part (marked_at place (part_at self.old.parts part))) }
+        ensures ok { OnOk result (self.new ≡ version_with at (slice_set self.old.parts part (marked_at place (part_at self.old.parts part)))) }
+        ensures err { OnErr result (self.new ≡ self.old) }
     {
-        self.parts[part as usize].mark(place);
+        self.parts[part as usize].mark(place)?;
         self.at = at;
+        Ok(())
     }
 
     // A part or none in the place of others, in a version with no other owner.

@@ -68,12 +68,15 @@ fn part(
     if !are_few(&tables) {
         return Err(Fail::from("large tables"));
     }
-    Ok(Part {
+    let segment = Arc::new(alloc, build(alloc, tables)?)?;
+    let part = Part::new(
+        alloc,
         number,
-        segment: Arc::new(alloc, build(alloc, tables)?)?,
-        positions: Numbers::new(positions),
-        marked: Marks::new(marked),
-    })
+        segment,
+        Numbers::new(positions),
+        Marks::new(marked),
+    )?;
+    Ok(part)
 }
 
 impl Tables {

@@ -1,17 +1,18 @@
 use Rattle.std.proofs.Common.{◌≡◌, ◌∙◌, ap, ◌∷◌, [], List, ℕ, length}
+use Rattle.lake_model.specs.Layout.{Part}
 use Rattle.catalogue.specs.Swaps.{kept_marks}
 use Rattle.segment_core.specs.Versions.{part_with, places_with}
 use Rattle.catalogue.proofs.SwapLemmas.{lengths, one_part_is}
 use Rattle.catalogue.proofs.swapping.merged_part.Goals as goal
 
-pub invariant_of-result : goal.invariant_of-result
-invariant_of-result c =
+pub new-requires : goal.new-requires
+new-requires c =
     let kept = c.args.kept.now in
     let run = c.args.run.now in
     let are = rw c.in-Some.is at c.requires.tables in
-    let marked : c.new.result ≡ kept_marks c.args.kept.now c.args.run.now = c.new.ensures ∙ c.in_ok-marked.ensures ∙ ap (λ (ns : List ℕ). kept_marks ns c.args.run.now) c.list.ensures in
-    let l = lengths kept run c.in-Some.segment.value c.new.result c.requires.taken are marked in
-    (ap (λ (ns : List ℕ). length ns) c.in_ok-copy.ensures ∙ l.0, l.1)
+    let marked : c.new-marked.result ≡ kept_marks c.args.kept.now c.args.run.now = c.new-marked.ensures ∙ c.in_ok-carried.ensures ∙ ap (λ (ns : List ℕ). kept_marks ns c.args.run.now) c.list.ensures in
+    let l = lengths kept run c.in-Some.segment.value c.new-marked.result c.requires.taken are marked in
+    record { positions = ap (λ (ns : List ℕ). length ns) c.in_ok-positions.ensures ∙ l.0; marks = l.1 }
 
 pub returns : goal.returns
 returns c =
@@ -19,5 +20,6 @@ returns c =
     let run = c.args.run.now in
     let are = rw c.in-Some.is at c.requires.tables in
     let some = rw c.in-Some.is at c.requires.some in
-    let marked : c.new.result ≡ kept_marks c.args.kept.now c.args.run.now = c.new.ensures ∙ c.in_ok-marked.ensures ∙ ap (λ (ns : List ℕ). kept_marks ns c.args.run.now) c.list.ensures in
-    ap (λ (ns : List ℕ). part_with c.args.at (places_with ns c.in-Some.segment.value c.new.result) ∷ []) c.in_ok-copy.ensures ∙ one_part_is c.args.at kept run c.in-Some.segment.value c.new.result c.requires.taken are marked some
+    let marked : c.new-marked.result ≡ kept_marks c.args.kept.now c.args.run.now = c.new-marked.ensures ∙ c.in_ok-carried.ensures ∙ ap (λ (ns : List ℕ). kept_marks ns c.args.run.now) c.list.ensures in
+    let is = c.in_ok-part.ensures ∙ ap (λ (ns : List ℕ). part_with c.args.at (places_with ns c.in-Some.segment.value c.new-marked.result)) c.in_ok-positions.ensures in
+    ap (λ (part : Part). part ∷ []) is ∙ one_part_is c.args.at kept run c.in-Some.segment.value c.new-marked.result c.requires.taken are marked some
