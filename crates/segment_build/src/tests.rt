@@ -99,7 +99,10 @@ fn tokens(rt: HostRuntime) -> Result<(), Fail> {
 #[test]
 fn colliding_keys(rt: HostRuntime) -> Result<(), Fail> {
     let alloc = rt.alloc();
-    let segment = build(alloc, one_table(alloc, b"v\ncostarring\nliquid\ndeclinate\n")?)?;
+    let segment = build(
+        alloc,
+        one_table(alloc, b"v\ncostarring\nliquid\ndeclinate\n")?,
+    )?;
     assert_eq!(rt; held(&segment, "costarring"), Some((0, 1)));
     assert_eq!(rt; held(&segment, "liquid"), Some((2, 1)));
     assert_eq!(rt; held(&segment, "declinate"), Some((1, 1)));
