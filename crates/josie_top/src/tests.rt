@@ -12,58 +12,32 @@ const SCRIPT: &str =
 const WRITTEN: &str =
     "1 loaded stations columns 3 members 9 at 1\n2 answer 1 of 3 at 1\n  2 stations 2 \"city\"\n3 answer 1 of 2 at 1\n  2 stations 3 \"country\"\n";
 
-// A run over streams in memory. Of a read, a write or a fetch that fails, the number, from 1; 0 where none does.
-#[derive(Clone, Copy)]
-struct Case<'a> {
-    arguments: &'a [&'a str],
-    script: &'a str,
-    bytes_a_read: usize,
-    failing_read: u64,
-    bytes_a_write: usize,
-    failing_write: u64,
-    failing_fetch: u64,
-}
-
-// The run of a script that reads it at once, writes in pieces of 64 bytes, and has no failure.
-fn whole<'a>(arguments: &'a [&'a str], script: &'a str) -> Case<'a> {
-    Case {
-        arguments,
-        script,
-        bytes_a_read: 4096,
-        failing_read: 0,
-        bytes_a_write: 64,
-        failing_write: 0,
-        failing_fetch: 0,
-    }
-}
-
-// How a run ends, and whether it wrote this. The shelf has one file.
-fn ends<R: Threads + Wait + Sync>(
+// How a run of the words ends, and whether it wrote this. The shelf has one file.
+fn ends_with<R: Threads + Wait + Sync>(
     rt: &R,
     alloc: Global,
-    case: Case<'_>,
-    written: &str,
+    texts: &[&str],
+    script: &str,
+    piece: usize,
+    failing_read: u64,
+    sink_piece: usize,
+    failing_write: u64,
+    failing_fetch: u64,
+    written: &[u8],
 ) -> Result<(Status, bool), Fail> {
     let mut words = Vec::new(alloc);
-    for argument in case.arguments {
-        words.push(String::from_str(alloc, argument)?)?;
+    for text in texts {
+        words.push(String::from_str(alloc, text)?)?;
     }
-    let reads = [case.failing_read];
-    let mut source = MemorySource::new(
-        alloc,
-        case.script.as_bytes(),
-        case.bytes_a_read.max(1),
-        &reads,
-    )
-    .ok()
-    .ok_or("memory")?;
-    let writes = [case.failing_write];
-    let mut sink = MemorySink::new(alloc, 4096, case.bytes_a_write.max(1), &writes)
+    let mut source = MemorySource::new(alloc, script.as_bytes(), piece.max(1), &[failing_read])
+        .ok()
+        .ok_or("memory")?;
+    let mut sink = MemorySink::new(alloc, 4096, sink_piece.max(1), &[failing_write])
         .ok()
         .ok_or("memory")?;
     let mut shelf = MemoryShelf::new(alloc);
     shelf.add("here.csv", b"c\nx\n").ok().ok_or("memory")?;
-    shelf.fail_at(case.failing_fetch).ok().ok_or("memory")?;
+    shelf.fail_at(failing_fetch).ok().ok_or("memory")?;
     let mut record = RunRecord::new(alloc);
     let status = run(
         rt,
@@ -75,18 +49,47 @@ fn ends<R: Threads + Wait + Sync>(
         &NoGate,
         &mut record,
     );
-    Ok((status, sink.written() == written.as_bytes()))
+    Ok((status, sink.written() == written))
+}
+
+// The same of the word `run`, with no fetch that fails.
+fn ends<R: Threads + Wait + Sync>(
+    rt: &R,
+    alloc: Global,
+    script: &str,
+    piece: usize,
+    failing_read: u64,
+    sink_piece: usize,
+    failing_write: u64,
+    written: &[u8],
+) -> Result<(Status, bool), Fail> {
+    ends_with(
+        rt,
+        alloc,
+        &["run"],
+        script,
+        piece,
+        failing_read,
+        sink_piece,
+        failing_write,
+        0,
+        written,
+    )
 }
 
 #[test]
 fn answers_a_script(rt: HostRuntime) -> Result<(), Fail> {
     for piece in [1usize, 7, 64, 4096] {
-        let case = Case {
-            bytes_a_read: piece,
-            bytes_a_write: piece,
-            ..whole(&["run"], SCRIPT)
-        };
-        let (status, same) = ends(&rt, rt.alloc(), case, WRITTEN)?;
+        let (status, same) = ends(
+            &rt,
+            rt.alloc(),
+            SCRIPT,
+            piece,
+            0,
+            piece,
+            0,
+            WRITTEN.as_bytes(),
+        )?;
         assert!(rt; status == Status::Done && same);
     }
     Ok(())
@@ -94,11 +97,7 @@ fn answers_a_script(rt: HostRuntime) -> Result<(), Fail> {
 
 #[test]
 fn writes_nothing_for_an_empty_input(rt: HostRuntime) -> Result<(), Fail> {
-    let case = Case {
-        failing_write: 1,
-        ..whole(&["run"], "")
-    };
-    let (status, same) = ends(&rt, rt.alloc(), case, "")?;
+    let (status, same) = ends(&rt, rt.alloc(), "", 1, 0, 1, 1, b"")?;
     assert!(rt; status == Status::Done && same);
     Ok(())
 }
@@ -107,34 +106,24 @@ fn writes_nothing_for_an_empty_input(rt: HostRuntime) -> Result<(), Fail> {
 #[test]
 fn ends_at_each_failing_read_with_nothing_written(rt: HostRuntime) -> Result<(), Fail> {
     for (piece, calls) in [(1usize, 163u64), (7, 25), (64, 4)] {
-        for failing in 1..=calls + 1 {
-            let case = Case {
-                bytes_a_read: piece,
-                failing_read: failing,
-                ..whole(&["run"], SCRIPT)
-            };
-            if failing <= calls {
-                assert!(rt; ends(&rt, rt.alloc(), case, "")? == (Status::ReadFault, true));
-            } else {
-                assert!(rt; ends(&rt, rt.alloc(), case, WRITTEN)? == (Status::Done, true));
-            }
+        for failing in 1..=calls {
+            let (status, same) = ends(&rt, rt.alloc(), SCRIPT, piece, failing, 64, 0, b"")?;
+            assert!(rt; status == Status::ReadFault && same);
         }
+        let (status, _) = ends(&rt, rt.alloc(), SCRIPT, piece, calls + 1, 64, 0, b"")?;
+        assert!(rt; status == Status::Done);
     }
     Ok(())
 }
 
 #[test]
 fn ends_at_each_failing_write_with_what_was_taken(rt: HostRuntime) -> Result<(), Fail> {
+    let written = WRITTEN.as_bytes();
     for (piece, calls) in [(1usize, 132u64), (7, 19), (64, 3)] {
         let mut taken = 0usize;
         for failing in 1..=calls {
-            let first = WRITTEN.get(..taken).ok_or("the text is shorter")?;
-            let case = Case {
-                bytes_a_write: piece,
-                failing_write: failing,
-                ..whole(&["run"], SCRIPT)
-            };
-            let (status, same) = ends(&rt, rt.alloc(), case, first)?;
+            let first = written.get(..taken).ok_or("the text is shorter")?;
+            let (status, same) = ends(&rt, rt.alloc(), SCRIPT, 4096, 0, piece, failing, first)?;
             assert!(rt; status == Status::WriteFault && same);
             taken = taken.saturating_add(piece);
         }
@@ -144,27 +133,28 @@ fn ends_at_each_failing_write_with_what_was_taken(rt: HostRuntime) -> Result<(),
 
 #[test]
 fn writes_each_batch_before_it_reads_the_next(rt: HostRuntime) -> Result<(), Fail> {
-    let read = Case {
-        bytes_a_read: 12,
-        failing_read: 3,
-        ..whole(&["run"], "tables\nsync\ntables")
-    };
-    assert!(rt; ends(&rt, rt.alloc(), read, "1 tables 0 at 0\n")? == (Status::ReadFault, true));
-    let write = Case {
-        bytes_a_write: 5,
-        failing_write: 2,
-        ..whole(&["run"], "tables\nsync\ntables")
-    };
-    assert!(rt; ends(&rt, rt.alloc(), write, "1 tab")? == (Status::WriteFault, true));
-    let fault = Case {
-        bytes_a_read: 17,
-        failing_read: 2,
-        ..whole(&["run"], "tables\nsync\nfind\ntables\n")
-    };
-    let (status, same) = ends(&rt, rt.alloc(), fault, "1 tables 0 at 0\n")?;
-    let line = 3;
-    let reason = Reason::Unknown;
-    assert!(rt; same && status == Status::Script { line, reason });
+    let script = "tables\nsync\ntables";
+    let (status, same) = ends(&rt, rt.alloc(), script, 12, 3, 64, 0, b"1 tables 0 at 0\n")?;
+    assert!(rt; status == Status::ReadFault && same);
+    let (status, same) = ends(&rt, rt.alloc(), script, 64, 0, 5, 2, b"1 tab")?;
+    assert!(rt; status == Status::WriteFault && same);
+    let (status, same) = ends(
+        &rt,
+        rt.alloc(),
+        "tables\nsync\nfind\ntables\n",
+        17,
+        2,
+        64,
+        0,
+        b"1 tables 0 at 0\n",
+    )?;
+    assert!(rt;
+        same && status
+            == Status::Script {
+                line: 3,
+                reason: Reason::Unknown
+            }
+    );
     Ok(())
 }
 
@@ -221,12 +211,18 @@ fn loads_from_files(rt: HostRuntime) -> Result<(), Fail> {
         ),
         (2, "1 refused file missing\n2 refused file failed\n"),
     ] {
-        let case = Case {
-            bytes_a_read: 9,
+        let (status, same) = ends_with(
+            &rt,
+            rt.alloc(),
+            &["run"],
+            script,
+            9,
+            0,
+            64,
+            0,
             failing_fetch,
-            ..whole(&["run"], script)
-        };
-        let (status, same) = ends(&rt, rt.alloc(), case, written)?;
+            written.as_bytes(),
+        )?;
         assert!(rt; status == Status::Done && same);
     }
     Ok(())
@@ -237,8 +233,18 @@ fn traces_a_run(rt: HostRuntime) -> Result<(), Fail> {
     let script = "load a\nc\nx\n.\ndrop a\nload b\nc\nx\n.\nsearch 1\nx\n.\n";
     let written =
         "1 loaded a columns 1 members 1 at 1\n2 dropped a at 2\n3 loaded b columns 1 members 1 at 3\n4 answer 1 of 1 at 3\n  1 b 1 \"c\"\n  work reads 2 probes 0\n  layout at 3 parts 1:1- 3:3\njournal 3\n  1 load lane 1 command 1 a\n  2 drop lane 1 command 2 a\n  3 load lane 1 command 3 b\n";
-    let case = whole(&["run", "--trace"], script);
-    let (status, same) = ends(&rt, rt.alloc(), case, written)?;
+    let (status, same) = ends_with(
+        &rt,
+        rt.alloc(),
+        &["run", "--trace"],
+        script,
+        64,
+        0,
+        64,
+        0,
+        0,
+        written.as_bytes(),
+    )?;
     assert!(rt; status == Status::Done && same);
     Ok(())
 }
@@ -248,28 +254,19 @@ fn runs_lanes_in_a_stated_order(rt: HostRuntime) -> Result<(), Fail> {
     let script = "load a\nc\nx\n.\nload b\nc\nx\n.\nmerge all\n@2 merge all\n";
     let written =
         "1 loaded a columns 1 members 1 at 1\n2 loaded b columns 1 members 1 at 2\n3 merged 2 parts into 2 tables at 3\n4 refused stale part 1 at 3\n";
-    let case = whole(&["run", "--lanes", "2", "--order", "1,1,1,2,1,2"], script);
-    let (status, same) = ends(&rt, rt.alloc(), case, written)?;
+    let (status, same) = ends_with(
+        &rt,
+        rt.alloc(),
+        &["run", "--lanes", "2", "--order", "1,1,1,2,1,2"],
+        script,
+        64,
+        0,
+        64,
+        0,
+        0,
+        written.as_bytes(),
+    )?;
     assert!(rt; status == Status::Done && same);
-    Ok(())
-}
-
-// In each batch nobody changes what the other lane is answered.
-#[test]
-fn runs_lanes_on_threads(rt: HostRuntime) -> Result<(), Fail> {
-    let script = "load a\nc\nx\n.\n@2 load a b\n";
-    let case = whole(&["run", "--lanes", "2"], script);
-    let (status, same) = ends(&rt, rt.alloc(), case, "")?;
-    let line = 5;
-    let reason = Reason::Words;
-    assert!(rt; status == Status::Script { line, reason } && same);
-    let script = "load a\nc\nx\n.\nsync\nsearch 1\nx\n.\n@2 drop b\n@3 tables\nsync\n@3 drop a\n";
-    let written =
-        "1 loaded a columns 1 members 1 at 1\n2 answer 1 of 1 at 1\n  1 a 1 \"c\"\n3 refused unknown b at 1\n4 tables 1 at 1\n  a columns 1 members 1\n5 dropped a at 2\n";
-    for arguments in [["run", "--lanes", "3"], ["run", "--lanes=4", "--merge"]] {
-        let (status, same) = ends(&rt, rt.alloc(), whole(&arguments, script), written)?;
-        assert!(rt; status == Status::Done && same);
-    }
     Ok(())
 }
 
@@ -278,11 +275,18 @@ fn runs_lanes_on_threads(rt: HostRuntime) -> Result<(), Fail> {
 fn makes_a_lake_without_reading(rt: HostRuntime) -> Result<(), Fail> {
     let written =
         "tables 1\nmembers 6\nmerges 0\nanswers 50 rows 0 overlap 0\nreads 100 probes 0\n";
-    let case = Case {
-        failing_read: 1,
-        ..whole(&["make", "0", "1", "2"], "")
-    };
-    let (status, same) = ends(&rt, rt.alloc(), case, written)?;
+    let (status, same) = ends_with(
+        &rt,
+        rt.alloc(),
+        &["make", "0", "1", "2"],
+        "",
+        1,
+        1,
+        64,
+        0,
+        0,
+        written.as_bytes(),
+    )?;
     assert!(rt; status == Status::Done && same);
     Ok(())
 }
@@ -295,11 +299,7 @@ fn names_the_first_line_at_fault(rt: HostRuntime) -> Result<(), Fail> {
         ("search 10001\n", 1, Reason::Words),
         ("# no command\n\n \n@2 tables\n", 4, Reason::Lane),
     ] {
-        let case = Case {
-            bytes_a_read: 5,
-            ..whole(&["run"], script)
-        };
-        let (status, same) = ends(&rt, rt.alloc(), case, "")?;
+        let (status, same) = ends(&rt, rt.alloc(), script, 5, 0, 64, 0, b"")?;
         assert!(rt; status == Status::Script { line, reason } && same);
     }
     Ok(())
@@ -313,12 +313,18 @@ fn refuses_words(rt: HostRuntime) -> Result<(), Fail> {
         ["run", "--lanes=17"],
         ["make", "7"],
     ] {
-        let case = Case {
-            failing_read: 1,
-            failing_write: 1,
-            ..whole(&texts, "search 1\n.\n")
-        };
-        let (status, same) = ends(&rt, rt.alloc(), case, "")?;
+        let (status, same) = ends_with(
+            &rt,
+            rt.alloc(),
+            &texts,
+            "search 1\n.\n",
+            1,
+            1,
+            1,
+            1,
+            0,
+            b"",
+        )?;
         assert!(rt; status == Status::Usage && same);
     }
     Ok(())
