@@ -116,7 +116,8 @@ fn status_of_refused(refused: WordsRefused) -> Status
 
 /// The program's one call: the runtime, the words after the program's name, the streams, the files, the gate that is told of each
 /// command's moments, and an empty record. Where no order is stated, the lanes of a batch run at the same time, each on a thread, and
-/// the merger beside them; what one lane does alone, or where no thread can be made, is done on the caller's thread.
+/// the merger beside them; what one lane does alone, or where no thread can be made, is done on the caller's thread. It waits for the
+/// lanes, so its contract holds if it returns.
 pub fn run<R: Threads + Wait + Sync, S: Source, K: Sink, F: Shelf, G: Gate + Sync>(
     rt: &R,
     alloc: Global,
