@@ -63,12 +63,10 @@ class Match:
         return -self.overlap, self.table.encode(), self.column.encode(), self.place
 
 
-@dataclass(frozen=True)
-class Answer:
-    """The columns that share the most with a query of `values` distinct values, over the tables live at this position."""
+class Matches:
+    """The rows of an answer to a query of `values` distinct values."""
 
     values: int
-    position: int
     matches: tuple[Match, ...]
 
     def __iter__(self) -> Iterator[Match]:
@@ -87,6 +85,15 @@ class Answer:
 
         rows = [(m.overlap, self.share(m), m.table, m.place, m.column) for m in self.matches]
         return pandas.DataFrame(rows, columns=["overlap", "share", "table", "place", "column"])
+
+
+@dataclass(frozen=True)
+class Answer(Matches):
+    """The columns that share the most with a query of `values` distinct values, over the tables live at this position."""
+
+    values: int
+    position: int
+    matches: tuple[Match, ...]
 
 
 @dataclass(frozen=True)

@@ -15,7 +15,7 @@ from .findings import checked_k
 from .lake import Lake, Path, folder_files, progress, table_bytes
 from .names import checked, table_name
 from .program import BLOCK_BYTES
-from .replies import Answer, Dropped, FolderLoad, Loaded, Match, Merged, Table
+from .replies import Answer, Dropped, FolderLoad, Loaded, Match, Matches, Merged, Table
 
 if TYPE_CHECKING:
     from distributed import Client
@@ -45,22 +45,12 @@ def merged(answers: Sequence[Answer], k: int) -> tuple[Match, ...]:
 
 
 @dataclass(frozen=True)
-class ShardedAnswer:
+class ShardedAnswer(Matches):
     """The columns of all shards that share the most with a query of `values` distinct values, and the position of each shard's history."""
 
     values: int
     positions: tuple[int, ...]
     matches: tuple[Match, ...]
-
-    def __iter__(self) -> Iterator[Match]:
-        return iter(self.matches)
-
-    def __len__(self) -> int:
-        return len(self.matches)
-
-    def share(self, match: Match) -> float:
-        """Which share of the query's values the column has, from 0 to 1."""
-        return match.overlap / self.values if self.values else 0.0
 
 
 class Shard:
