@@ -1,12 +1,13 @@
 #!/usr/bin/env python3
 """How much faster josie loads and searches on several lanes than on one.
 
-    bench/lane_speed.py [JOSIE] [--times N] [--beside COMMAND]
+    bench/lane_speed.py [JOSIE] [--times N] [--beside COMMAND] [--lake LOADS SEARCHES]
 
 Two lakes are generated, always the same. `wide` has 128 tables of six columns and 2,000 records, `small` 8,000 tables of three columns and eight records; most values
-are in a few tables and a few in many. Their loads are dealt out to 1, 2, 4, 8 and 16 lanes, a batch of 4,000 at a time. Then one lane merges the whole lake, and
-searches for the 10 columns that share the most with 1,000 values are dealt out, all in one batch. josie is kept open, so a time is that from the first byte of
-the commands to the last byte of their replies, the least of N runs. `--beside` names another program that reads the same scripts on one lane, as a baseline.
+are in a few tables and a few in many. With `--lake`, the loads and the searches of two scripts take their place. The loads are dealt out to 1, 2, 4, 8 and 16 lanes,
+a batch of 4,000 at a time: the largest first, each to the lane that has been given the fewest bytes. Then one lane merges the whole lake, and 400 searches are
+dealt out, all in one batch (of a generated lake, for the 10 columns that share the most with 1,000 values). josie is kept open, so a time is that from the first
+byte of the commands to the last byte of their replies, the least of N runs. `--beside` names another program that reads the same scripts on one lane, as a baseline.
 
 Last comes what a batch of one command costs, with one lane and with sixteen of which one has the command.
 """
@@ -45,14 +46,24 @@ def searches():
     return ["search 10\n" + "\n".join({value(chance) for _ in range(ASKED)}) + "\n.\n" for _ in range(SEARCHES)]
 
 
+def commands_of(path):
+    """The commands of a script that have a block, each with its block."""
+    with open(path, encoding="utf-8", newline="") as script:
+        blocks = script.read().replace("sync\n", "").split("\n.\n")
+    return [block + "\n.\n" for block in blocks if block]
+
+
 def dealt(commands, lanes):
-    """The commands, dealt out to the lanes in turn, with a `sync` after each batch."""
+    """The commands, the largest of each batch first, each dealt to the lane that has been given the fewest bytes, with a `sync` after each batch."""
     text = []
-    for number, command in enumerate(commands):
-        text.append(command if lanes == 1 else f"@{number % lanes + 1} {command}")
-        if (number + 1) % BATCH == 0:
-            text.append("sync\n")
-    return "".join(text) + "sync\n"
+    for start in range(0, len(commands), BATCH):
+        given = [0] * lanes
+        for command in sorted(commands[start : start + BATCH], key=len, reverse=True):
+            lane = given.index(min(given))
+            given[lane] += len(command)
+            text.append(command if lanes == 1 else f"@{lane + 1} {command}")
+        text.append("sync\n")
+    return "".join(text)
 
 
 class Open:
@@ -108,13 +119,21 @@ def one_command(josie, lanes):
     return sorted(taken)[ONES // 2]
 
 
-def main():
-    given = given_words(__doc__, 3, has_beside=True)
+def lakes(given):
+    """The lakes that are measured: of each its name, its loads and the searches."""
+    if given.lake:
+        loads, asked = map(commands_of, given.lake)
+        times = -(-SEARCHES // len(asked))
+        return [("lake", loads, (asked * times)[:SEARCHES])]
     asked = searches()
-    for lake in LAKES:
-        loads = list(tables_of(lake))
+    return [(lake, list(tables_of(lake)), asked) for lake in LAKES]
+
+
+def main():
+    given = given_words(__doc__, 3, has_beside=True, has_lake=True)
+    for lake, loads, asked in lakes(given):
         size = sum(map(len, loads)) / 1e6
-        print(f"{lake}: {len(loads)} tables, {size:.1f} MB of CSV, {len(asked)} searches of {ASKED} values")
+        print(f"{lake}: {len(loads)} tables, {size:.1f} MB of CSV, {len(asked)} searches")
         print(f"{'lanes':>8} {'loads/s':>10} {'MB/s':>8} {'times one':>10} {'searches/s':>11} {'times one':>10}")
         one = None
         programs = [("beside", given.beside, 1)] if given.beside else []

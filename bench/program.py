@@ -4,15 +4,17 @@ import os
 import shlex
 
 
-def given_words(about, times, has_beside=False):
+def given_words(about, times, has_beside=False, has_lake=False):
     """The parsed arguments: `josie`, the program's whole path, `times`, a number of runs, and, if the benchmark takes it, `beside`, the command of
-    another program, or none. `about` is the benchmark's docstring."""
+    another program, or none, and `lake`, two scripts, or none. `about` is the benchmark's docstring."""
     here = os.path.dirname(os.path.abspath(__file__))
     words = argparse.ArgumentParser(description=about.splitlines()[0])
     words.add_argument("josie", nargs="?", default=os.path.join(here, "..", "crates", "josie", "out", "josie"))
     words.add_argument("--times", type=int, default=times)
     if has_beside:
         words.add_argument("--beside", type=shlex.split, metavar="COMMAND")
+    if has_lake:
+        words.add_argument("--lake", nargs=2, metavar=("LOADS", "SEARCHES"))
     given = words.parse_args()
     given.josie = os.path.abspath(given.josie)
     return given

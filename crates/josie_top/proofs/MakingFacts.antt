@@ -17,6 +17,7 @@ use Rattle.josie_top.specs.declared.writing.WriteStop.{WriteStop}
 use Rattle.josie_top.specs.declared.writing.WriteStop.TheVariants as stop
 use Rattle.josie_top.specs.Ends.{status_of_stop}
 use Rattle.josie_top.specs.Meets.{Makes}
+use Rattle.josie_top.specs.World.{World}
 
 -- the batch is played alone
 one_batch : (limits : Counts) (batch : Batch) (turns : List Bool) → played limits made_options (batch ∷ []) (turns ∷ []) ≡ record (batch_after limits 1 batch [] [] turns (empty plain)) { options = made_options }
@@ -40,15 +41,15 @@ lake_made limits seed tables rows batch turns made now batch_is lanes is closed 
 
 -- ---- the rows
 
-pub nothing_made_of : (limits : Counts) (seed tables rows : ℕ) (written : Option (List ℕ)) (made : RunRecord) → made ≡ empty plain → Makes limits seed tables rows status.NoMemory written written made
-nothing_made_of limits seed tables rows written made is = record { taken = []; took = Appends-nil written; row = inl (refl, is) }
+pub nothing_made_of : (limits : Counts) (seed tables rows : ℕ) (world : World) (made : RunRecord) → made ≡ empty plain → Makes limits seed tables rows status.NoMemory world world made
+nothing_made_of limits seed tables rows world made is = record { taken = []; took = Appends-nil world.written; row = inl (refl, is) }
 
-pub whole_summary : (limits : Counts) (seed tables rows : ℕ) (before now : Option (List ℕ)) (made : RunRecord) → IsLakeMade limits seed tables rows made → Appends before now (summary made)
+pub whole_summary : (limits : Counts) (seed tables rows : ℕ) (before now : World) (made : RunRecord) → IsLakeMade limits seed tables rows made → Appends before.written now.written (summary made)
     → Makes limits seed tables rows status.Done before now made
 whole_summary limits seed tables rows before now made is took = record { taken = summary made; took = took; row = (is, refl) }
 
-pub part_of_summary : (limits : Counts) (seed tables rows : ℕ) (why : WriteStop) (before now : Option (List ℕ)) (made : RunRecord) → IsLakeMade limits seed tables rows made
-    → (part : List ℕ) × IsPrefix part (summary made) × Appends before now part → Makes limits seed tables rows (status_of_stop why) before now made
+pub part_of_summary : (limits : Counts) (seed tables rows : ℕ) (why : WriteStop) (before now : World) (made : RunRecord) → IsLakeMade limits seed tables rows made
+    → (part : List ℕ) × IsPrefix part (summary made) × Appends before.written now.written part → Makes limits seed tables rows (status_of_stop why) before now made
 part_of_summary limits seed tables rows stop.Failed before now made is (part, prefix, took) = record { taken = part; took = took; row = (is, prefix) }
 part_of_summary limits seed tables rows stop.NoMemory before now made is (part, prefix, took) = record { taken = part; took = took; row = inr (is, prefix) }
 

@@ -1,7 +1,7 @@
 -- The rows of the table of statuses, from how far a run is.
 use Rattle.std.proofs.Common.{◌≡◌, refl, ap, sym, ◌∙◌, subst, ℕ, ◌-◌, ◌<◌, ◌≤◌, inl, inr, sum_by, List, [], ◌∷◌, ◌++◌, append_assoc, true, false, length, take, arith, length-append, flat_map}
 use Rattle.std.specs.Prelude.{Option, Some, None}
-use Rattle.std.specs.Io.KnownBytes.{Consumes, IsAtEnd}
+use Rattle.std.specs.Io.KnownBytes.{Appends, Consumes, IsAtEnd}
 use Rattle.std.proofs.KnownBytes.{Consumes-trans}
 use Rattle.std.proofs.lemmas.List.{append-nil}
 use Rattle.std.proofs.Math.Seq.{take-append_seam}
@@ -25,6 +25,7 @@ use Rattle.script_text.specs.Gathering.{Gathering, ReadsOn, IsSynced, IsWhole, I
 use Rattle.script_text.proofs.BatchLemmas.{ReadsLate}
 use Rattle.script_text.proofs.ProgressLemmas.{fetched_join}
 use Rattle.josie_top.specs.Meets.{IsReadLate, Meets}
+use Rattle.josie_top.specs.World.{HasMoved, World}
 use Rattle.josie_top.specs.Progress.{AreRead, AreWritten, IsGoingOn, IsLateSoFar, IsMade}
 use Rattle.script_laws.proofs.FetchFacts.{reads_fetches}
 use Rattle.josie_top.proofs.ReadFacts.{given_before, reads_more, reads_commands, outcomes_size, fetched_so_far}
@@ -40,10 +41,10 @@ used_within : (options : Options) (gathering : Gathering) → IsGoingOn options 
 used_within options gathering goes = subst (λ (l : ScriptLimits). gathering.reading.used ≤ l.input) goes.limits_are goes.within
 
 -- The whole script: the batches that were read, and what the rest gives.
-pub script_front : (options : Options) (left_before left_now left : Option (List ℕ)) (files : Option (List shelf.File)) (first second : ℕ) (gathering : Gathering) (batches : List Batch)
-    → (been : AreRead options left_before left_now files first second gathering batches) → IsGoingOn options gathering → (more : List ℕ) (later : List File)
+pub script_front : (options : Options) (before now : World) (left : Option (List ℕ)) (gathering : Gathering) (batches : List Batch)
+    → (been : AreRead options before now gathering batches) → IsGoingOn options gathering → (more : List ℕ) (later : List File)
     → script_of options (been.outcomes ++ later) (been.given ++ more) left ≡ given_before batches been.asked (commands_from (grammar_of standard options.lanes) (reading_at gathering.reading [] later) ((gathering.held ++ more) ++ left_of left))
-script_front options left_before left_now left files first second gathering batches been goes more later =
+script_front options before now left gathering batches been goes more later =
     ap (commands_from (grammar_of standard options.lanes) (start (been.outcomes ++ later))) (append_assoc been.given more (left_of left))
     ∙ reads_commands (grammar_of standard options.lanes) (start []) gathering.reading been.given gathering.held been.outcomes batches been.asked later (more ++ left_of left) been.lines_read (used_within options gathering goes)
     ∙ ap (λ (bytes : List ℕ). given_before batches been.asked (commands_from (grammar_of standard options.lanes) (reading_at gathering.reading [] later) bytes)) (sym (append_assoc gathering.held more (left_of left)))
@@ -77,27 +78,35 @@ cut limits options outcomes came script rest left taken made batches asked is si
   holds = holds;
 }
 
+-- the files stay the same, so what was fetched later follows what was fetched before
+pub fetched_on : (before mid now : World) (asked paths : List Text) (outcomes others : List File) → HasMoved before mid
+    → AreFetched before.files before.fetch_faults mid.fetch_faults asked outcomes → AreFetched mid.files mid.fetch_faults now.fetch_faults paths others
+    → AreFetched before.files before.fetch_faults now.fetch_faults (asked ++ paths) (outcomes ++ others)
+fetched_on before mid now asked paths outcomes others moved first second =
+    fetched_join before.files before.fetch_faults mid.fetch_faults now.fetch_faults asked paths outcomes others first
+    (subst (λ (files : Option (List shelf.File)). AreFetched files mid.fetch_faults now.fetch_faults paths others) moved.files second)
+
 -- a run that ends between two batches, all whose text is written
-pub meets_between : (limits : Counts) (options : Options) (left0 left1 left2 written0 written1 : Option (List ℕ)) (files : Option (List shelf.File)) (f0 f1 f2 : ℕ) (gathering : Gathering) (batches : List Batch) (made : RunRecord) (more : List ℕ)
-    → (been : AreRead options left0 left1 files f0 f1 gathering batches) → IsGoingOn options gathering → IsMade limits options batches made → (writ : AreWritten options written0 written1 made)
-    → Consumes left1 left2 more → f1 ≤ f2 → Meets limits options status.NoMemory left0 left2 written0 written1 files f0 f2 made
-meets_between limits options left0 left1 left2 written0 written1 files f0 f1 f2 gathering batches made more been goes is writ gave later =
+pub meets_between : (limits : Counts) (options : Options) (before mid now : World) (gathering : Gathering) (batches : List Batch) (made : RunRecord) (more : List ℕ)
+    → (been : AreRead options before mid gathering batches) → IsGoingOn options gathering → IsMade limits options batches made → (writ : AreWritten options before mid made)
+    → Consumes mid.left now.left more → mid.fetch_faults ≤ now.fetch_faults → now.written ≡ mid.written → Meets limits options status.NoMemory before now made
+meets_between limits options before mid now gathering batches made more been goes is writ gave later unwritten =
     let not_ended = is.unended in
-    let front = script_front options left0 left1 left2 files f0 f1 gathering batches been goes more [] in
+    let front = script_front options before mid now.left gathering batches been goes more [] in
     let same : been.outcomes ++ [] ≡ been.outcomes = append-nil been.outcomes in
-    let script : script_of options been.outcomes (been.given ++ more) left2 ≡ given_before batches been.asked _ = ap (λ (o : List File). script_of options o (been.given ++ more) left2) (sym same) ∙ front in
+    let script : script_of options been.outcomes (been.given ++ more) now.left ≡ given_before batches been.asked _ = ap (λ (o : List File). script_of options o (been.given ++ more) now.left) (sym same) ∙ front in
     let all : writ.taken ≡ text made = writ.text_is ∙ sym (text_unended options made is.options_are not_ended) in
-    let row : IsCutOff limits options been.outcomes (λ asked. AreFetchedSoFar files f0 f2 asked been.outcomes) (script_of options been.outcomes (been.given ++ more) left2) left2 writ.taken made =
-    cut limits options been.outcomes (λ asked. AreFetchedSoFar files f0 f2 asked been.outcomes) _ _ left2 writ.taken made batches been.asked script (outcomes_size files f0 f1 been.asked been.outcomes been.fetched)
+    let row : IsCutOff limits options been.outcomes (λ asked. AreFetchedSoFar before.files before.fetch_faults now.fetch_faults asked been.outcomes) (script_of options been.outcomes (been.given ++ more) now.left) now.left writ.taken made =
+    cut limits options been.outcomes (λ asked. AreFetchedSoFar before.files before.fetch_faults now.fetch_faults asked been.outcomes) _ _ now.left writ.taken made batches been.asked script (outcomes_size before.files before.fetch_faults mid.fetch_faults been.asked been.outcomes been.fetched)
     (reads_fetches standard options.lanes gathering.reading been.given gathering.held been.outcomes batches been.asked been.lines_read)
-    (fetched_so_far files f0 f1 f2 been.asked been.outcomes been.fetched later) (made_record_now limits options batches made is) not_ended
+    (fetched_so_far before.files before.fetch_faults mid.fetch_faults now.fetch_faults been.asked been.outcomes been.fetched later) (made_record_now limits options batches made is) not_ended
     (whole_prefix writ.taken (text made) all) (subst (IsPrefix _) (sym writ.text_is) (answers_prefix options.trace _ made.answers)) in
     record {
       given = been.given ++ more;
       taken = writ.taken;
       outcomes = been.outcomes;
-      gave = Consumes-trans left0 left1 left2 been.given more been.gave gave;
-      took = writ.took;
+      gave = Consumes-trans before.left mid.left now.left been.given more been.gave gave;
+      took = subst (λ (w : Option (List ℕ)). Appends before.written w writ.taken) (sym unwritten) writ.took;
       row = inr row;
       late = tt;
     }
@@ -141,13 +150,13 @@ cut_within limits options outcomes came script rest left before now new batches 
 -- ---- the whole input
 
 -- the script of an input that is at its end
-pub script_whole : (options : Options) (left_before left_now left : Option (List ℕ)) (files : Option (List shelf.File)) (first second : ℕ) (before now : Gathering) (batches later : List Batch) (more : List ℕ) (paths : List Text) (others : List File)
-    → (been : AreRead options left_before left_now files first second before batches) → IsGoingOn options before → IsWhole before now left more paths others later
+pub script_whole : (options : Options) (first second : World) (left : Option (List ℕ)) (before now : Gathering) (batches later : List Batch) (more : List ℕ) (paths : List Text) (others : List File)
+    → (been : AreRead options first second before batches) → IsGoingOn options before → IsWhole before now left more paths others later
     → script_of options (been.outcomes ++ others) (been.given ++ more) left ≡ commands_with (batches ++ later) Whole (been.asked ++ paths)
-script_whole options left_before left_now left files first second before now batches later more paths others been goes whole =
+script_whole options first second left before now batches later more paths others been goes whole =
     let here : commands_from (grammar_of standard options.lanes) (reading_at before.reading [] others) (before.held ++ more) ≡ commands_with later Whole paths =
     subst (λ (g : Grammar). commands_from g (reading_at before.reading [] others) (before.held ++ more) ≡ commands_with later Whole paths) (grammar_is options before goes) whole.commands in
-    script_front options left_before left_now left files first second before batches been goes more others
+    script_front options first second left before batches been goes more others
     ∙ ap (λ (bytes : List ℕ). given_before batches been.asked (commands_from (grammar_of standard options.lanes) (reading_at before.reading [] others) bytes)) (end_of left (before.held ++ more) whole.at_end)
     ∙ ap (given_before batches been.asked) here
   where
@@ -196,20 +205,21 @@ cut_at_end limits options outcomes came script left batches asked made taken par
 -- ---- faults of the script and of the source
 
 -- The line is the first at fault.
-pub refused : (limits : Counts) (options : Options) (left0 left1 left2 : Option (List ℕ)) (files : Option (List shelf.File)) (f0 f1 f2 : ℕ) (gathering : Gathering) (batches : List Batch) (made : RunRecord) (taken more : List ℕ) (paths : List Text) (others : List File) (line : ℕ) (why : Reason)
-    → (been : AreRead options left0 left1 files f0 f1 gathering batches) → IsGoingOn options gathering → IsMade limits options batches made → taken ≡ answers_text options.trace made.answers
-    → AreFetched files f1 f2 paths others → IsFaulty gathering left2 more paths others line why
-    → IsRefused limits options (λ asked. AreFetched files f0 f2 asked (been.outcomes ++ others)) (script_of options (been.outcomes ++ others) (been.given ++ more) left2) line why taken made
-refused limits options left0 left1 left2 files f0 f1 f2 gathering batches made taken more paths others line why been goes is taken_is fetched faulty =
-    let here : commands_from (grammar_of standard options.lanes) (reading_at gathering.reading [] others) ((gathering.held ++ more) ++ left_of left2) ≡ commands_with [] (FaultAt line why) paths =
-    subst (λ (g : Grammar). commands_from g (reading_at gathering.reading [] others) ((gathering.held ++ more) ++ left_of left2) ≡ commands_with [] (FaultAt line why) paths) (grammar_is options gathering goes) faulty.commands in
-    let script : script_of options (been.outcomes ++ others) (been.given ++ more) left2 ≡ commands_with (batches ++ []) (FaultAt line why) (been.asked ++ paths) =
-    script_front options left0 left1 left2 files f0 f1 gathering batches been goes more others ∙ ap (given_before batches been.asked) here in
-    let same : (script_of options (been.outcomes ++ others) (been.given ++ more) left2).batches ≡ batches = ap (λ (s : Commands). s.batches) script ∙ append-nil batches in
+pub refused : (limits : Counts) (options : Options) (before mid now : World) (gathering : Gathering) (batches : List Batch) (made : RunRecord) (taken more : List ℕ) (paths : List Text) (others : List File) (line : ℕ) (why : Reason)
+    → HasMoved before mid → (been : AreRead options before mid gathering batches) → IsGoingOn options gathering → IsMade limits options batches made → taken ≡ answers_text options.trace made.answers
+    → AreFetched mid.files mid.fetch_faults now.fetch_faults paths others → IsFaulty gathering now.left more paths others line why
+    → IsRefused limits options (λ asked. AreFetched before.files before.fetch_faults now.fetch_faults asked (been.outcomes ++ others)) (script_of options (been.outcomes ++ others) (been.given ++ more) now.left) line why taken made
+refused limits options before mid now gathering batches made taken more paths others line why moved been goes is taken_is fetched faulty =
+    let here : commands_from (grammar_of standard options.lanes) (reading_at gathering.reading [] others) ((gathering.held ++ more) ++ left_of now.left) ≡ commands_with [] (FaultAt line why) paths =
+    subst (λ (g : Grammar). commands_from g (reading_at gathering.reading [] others) ((gathering.held ++ more) ++ left_of now.left) ≡ commands_with [] (FaultAt line why) paths) (grammar_is options gathering goes) faulty.commands in
+    let script : script_of options (been.outcomes ++ others) (been.given ++ more) now.left ≡ commands_with (batches ++ []) (FaultAt line why) (been.asked ++ paths) =
+    script_front options before mid now.left gathering batches been goes more others ∙ ap (given_before batches been.asked) here in
+    let same : (script_of options (been.outcomes ++ others) (been.given ++ more) now.left).batches ≡ batches = ap (λ (s : Commands). s.batches) script ∙ append-nil batches in
     let not_ended = is.unended in
     record {
       fault = ap (λ (s : Commands). s.end) script;
-      fetched = subst (λ (asked : List Text). AreFetched files f0 f2 asked (been.outcomes ++ others)) (sym (ap (λ (s : Commands). s.asked) script)) (fetched_join files f0 f1 f2 been.asked paths been.outcomes others been.fetched fetched);
+      fetched = subst (λ (asked : List Text). AreFetched before.files before.fetch_faults now.fetch_faults asked (been.outcomes ++ others)) (sym (ap (λ (s : Commands). s.asked) script))
+          (fetched_on before mid now been.asked paths been.outcomes others moved been.fetched fetched);
       ended = not_ended;
       record_of = subst (λ (b : List Batch). IsRecordOf limits options b made) (sym same) (made_record_now limits options batches made is);
       written = taken_is ∙ sym (text_unended options made is.options_are not_ended);
@@ -226,11 +236,11 @@ begun_is options outcomes given held batches after asked lines_read no_feed late
     ap (read (grammar_of standard options.lanes) (read_with [] (Stands (start (outcomes ++ later))))) ends ∙ lines_read.reads later
 
 -- The source failed behind these batches.
-pub broken_off : (limits : Counts) (options : Options) (left0 left1 : Option (List ℕ)) (files : Option (List shelf.File)) (f0 f1 f2 : ℕ) (gathering : Gathering) (batches : List Batch) (made : RunRecord) (taken more : List ℕ) (paths : List Text) (others : List File)
-    → (been : AreRead options left0 left1 files f0 f1 gathering batches) → IsGoingOn options gathering → IsMade limits options batches made → taken ≡ answers_text options.trace made.answers
-    → AreFetched files f1 f2 paths others → IsUnfinished gathering more paths others
-    → IsBrokenOff limits options (λ asked. AreFetched files f0 f2 asked (been.outcomes ++ others)) (begun options (been.outcomes ++ others) (been.given ++ more)) taken made
-broken_off limits options left0 left1 files f0 f1 f2 gathering batches made taken more paths others been goes is taken_is fetched unfinished =
+pub broken_off : (limits : Counts) (options : Options) (before mid now : World) (gathering : Gathering) (batches : List Batch) (made : RunRecord) (taken more : List ℕ) (paths : List Text) (others : List File)
+    → HasMoved before mid → (been : AreRead options before mid gathering batches) → IsGoingOn options gathering → IsMade limits options batches made → taken ≡ answers_text options.trace made.answers
+    → AreFetched mid.files mid.fetch_faults now.fetch_faults paths others → IsUnfinished gathering more paths others
+    → IsBrokenOff limits options (λ asked. AreFetched before.files before.fetch_faults now.fetch_faults asked (been.outcomes ++ others)) (begun options (been.outcomes ++ others) (been.given ++ more)) taken made
+broken_off limits options before mid now gathering batches made taken more paths others moved been goes is taken_is fetched unfinished =
     let here : ReadsOn (grammar_of standard options.lanes) gathering.reading (gathering.held ++ more) others [] unfinished.reading unfinished.held paths =
     subst (λ (g : Grammar). ReadsOn g gathering.reading (gathering.held ++ more) others [] unfinished.reading unfinished.held paths) (grammar_is options gathering goes) unfinished.lines_read in
     let all = reads_more (grammar_of standard options.lanes) (start []) gathering.reading unfinished.reading been.given more gathering.held unfinished.held been.outcomes others batches [] been.asked paths been.lines_read here in
@@ -238,31 +248,31 @@ broken_off limits options left0 left1 files f0 f1 f2 gathering batches made take
     ap (λ (o : List File). begun options o (been.given ++ more)) (sym (append-nil (been.outcomes ++ others)))
     ∙ begun_is options (been.outcomes ++ others) (been.given ++ more) unfinished.held (batches ++ []) unfinished.reading (been.asked ++ paths) all unfinished.rest [] in
     let not_ended = is.unended in
-    let row : IsBrokenOff limits options (λ asked. AreFetched files f0 f2 asked (been.outcomes ++ others)) (read_with (batches ++ []) (Stands (reading_at unfinished.reading (been.asked ++ paths) []))) taken made =
+    let row : IsBrokenOff limits options (λ asked. AreFetched before.files before.fetch_faults now.fetch_faults asked (been.outcomes ++ others)) (read_with (batches ++ []) (Stands (reading_at unfinished.reading (been.asked ++ paths) []))) taken made =
     record {
       no_fault = tt;
-      fetched = fetched_join files f0 f1 f2 been.asked paths been.outcomes others been.fetched fetched;
+      fetched = fetched_on before mid now been.asked paths been.outcomes others moved been.fetched fetched;
       ended = not_ended;
       record_of = subst (λ (b : List Batch). IsRecordOf limits options b made) (sym (append-nil batches)) (made_record_now limits options batches made is);
       written = taken_is ∙ sym (text_unended options made is.options_are not_ended);
     } in
-    subst (λ (b : LinesRead). IsBrokenOff limits options (λ asked. AreFetched files f0 f2 asked (been.outcomes ++ others)) b taken made) (sym begun_here) row
+    subst (λ (b : LinesRead). IsBrokenOff limits options (λ asked. AreFetched before.files before.fetch_faults now.fetch_faults asked (been.outcomes ++ others)) b taken made) (sym begun_here) row
 
 -- ---- one batch more
 
 -- what was read, up to one more `sync`
-unfoldable pub read_synced : (options : Options) (left0 left1 left2 : Option (List ℕ)) (files : Option (List shelf.File)) (f0 f1 f2 : ℕ) (before now : Gathering) (batches : List Batch) (batch : Batch) (more : List ℕ) (paths : List Text) (others : List File)
-    → (been : AreRead options left0 left1 files f0 f1 before batches) → IsGoingOn options before → Consumes left1 left2 more → AreFetched files f1 f2 paths others → IsSynced before now more paths others batch
-    → AreRead options left0 left2 files f0 f2 now (batches ++ batch ∷ [])
-read_synced options left0 left1 left2 files f0 f1 f2 before now batches batch more paths others been goes gave fetched synced =
+unfoldable pub read_synced : (options : Options) (first second third : World) (before now : Gathering) (batches : List Batch) (batch : Batch) (more : List ℕ) (paths : List Text) (others : List File)
+    → HasMoved first second → (been : AreRead options first second before batches) → IsGoingOn options before → Consumes second.left third.left more
+    → AreFetched second.files second.fetch_faults third.fetch_faults paths others → IsSynced before now more paths others batch → AreRead options first third now (batches ++ batch ∷ [])
+read_synced options first second third before now batches batch more paths others moved been goes gave fetched synced =
     let here : ReadsOn (grammar_of standard options.lanes) before.reading (before.held ++ more) others (batch ∷ []) now.reading now.held paths =
     subst (λ (g : Grammar). ReadsOn g before.reading (before.held ++ more) others (batch ∷ []) now.reading now.held paths) (grammar_is options before goes) synced.lines_read in
     record {
       given = been.given ++ more;
       asked = been.asked ++ paths;
       outcomes = been.outcomes ++ others;
-      gave = Consumes-trans left0 left1 left2 been.given more been.gave gave;
-      fetched = fetched_join files f0 f1 f2 been.asked paths been.outcomes others been.fetched fetched;
+      gave = Consumes-trans first.left second.left third.left been.given more been.gave gave;
+      fetched = fetched_on first second third been.asked paths been.outcomes others moved been.fetched fetched;
       lines_read = reads_more (grammar_of standard options.lanes) (start []) before.reading now.reading been.given more before.held now.held been.outcomes others batches (batch ∷ []) been.asked paths been.lines_read here;
     }
 
@@ -289,10 +299,10 @@ late_start options = record {
 }
 
 -- A batch more was gathered, and the source read late for it.
-pub late_more : (options : Options) (left0 left1 : Option (List ℕ)) (files : Option (List shelf.File)) (f0 f1 : ℕ) (gathering : Gathering) (batches : List Batch) (Idle : Type 0) (more : List ℕ) (others : List File)
-    → (been : AreRead options left0 left1 files f0 f1 gathering batches) → IsGoingOn options gathering → IsLateSoFar options been.given been.outcomes (length batches - 1) → ReadsLate Idle gathering more others
+pub late_more : (options : Options) (before now : World) (gathering : Gathering) (batches : List Batch) (Idle : Type 0) (more : List ℕ) (others : List File)
+    → (been : AreRead options before now gathering batches) → IsGoingOn options gathering → IsLateSoFar options been.given been.outcomes (length batches - 1) → ReadsLate Idle gathering more others
     → IsLateSoFar options (been.given ++ more) (been.outcomes ++ others) (length batches)
-late_more options left0 left1 files f0 f1 gathering batches Idle more others been goes late (inl (idle, none)) = record {
+late_more options before now gathering batches Idle more others been goes late (inl (idle, none)) = record {
   first = late.first;
   last = late.last;
   came = late.came;
@@ -308,7 +318,7 @@ late_more options left0 left1 files f0 f1 gathering batches Idle more others bee
   rest = late.rest;
   fewer = omega (arith, late.fewer);
 }
-late_more options left0 left1 files f0 f1 gathering batches Idle more others been goes late (inr read_late) =
+late_more options before now gathering batches Idle more others been goes late (inr read_late) =
     let unfinished = read_late.unfinished in
     let here : ReadsOn (grammar_of standard options.lanes) gathering.reading (gathering.held ++ read_late.first) read_late.came [] unfinished.reading unfinished.held read_late.asked =
     subst (λ (g : Grammar). ReadsOn g gathering.reading (gathering.held ++ read_late.first) read_late.came [] unfinished.reading unfinished.held read_late.asked) (grammar_is options gathering goes) unfinished.lines_read in

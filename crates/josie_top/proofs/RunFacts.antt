@@ -7,7 +7,6 @@ use Rattle.std.proofs.KnownBytes.{Consumes-nil, Consumes-trans, Appends-nil, App
 use Rattle.std.proofs.lemmas.List.{append-nil}
 use Rattle.std.proofs.lemmas.List.Sums.{count_by-le-length, sum_by_push}
 use Rattle.lake_io.specs.Causes.{Rose}
-use Rattle.lake_io.specs.Files as shelf
 use Rattle.lake_model.specs.declared.Counts.{Counts}
 use Rattle.lake_model.specs.Texts.{Text}
 use Rattle.lake_model.specs.Journal.{standard_limits}
@@ -37,30 +36,73 @@ use Rattle.josie_top.specs.declared.writing.WriteStop.{WriteStop}
 use Rattle.josie_top.specs.declared.writing.WriteStop.TheVariants as stop
 use Rattle.josie_top.specs.Ends.{IsWritten, status_of_end, status_of_refused, status_of_stop}
 use Rattle.script_text.proofs.BatchLemmas.{ReadsLate}
-use Rattle.script_text.proofs.ProgressLemmas.{fetched_join}
-use Rattle.josie_top.specs.Meets.{HasNoFault, IsReadLate, IsSaid, Meets, MeetsMode}
-use Rattle.josie_top.specs.Progress.{AddsAnswers, AreCounted, HasCauses, HasMoved, HasOneMore, IsAnswered, IsBegun, AreWritten, IsGoingOn, IsLateSoFar, IsMade, IsUnderWay}
+use Rattle.josie_top.specs.Meets.{EndsModeWell, EndsWell, HasNoFault, IsReadLate, IsSaid, Meets, MeetsMode}
+use Rattle.josie_top.specs.Progress.{AddsAnswers, AreCounted, HasOneMore, IsAnswered, IsBegun, AreWritten, IsGoingOn, IsLateSoFar, IsMade, IsUnderWay}
+use Rattle.josie_top.specs.World.{HasMoved, Moves, World, with_sink}
 use Rattle.script_laws.proofs.FetchFacts.{reads_fetches, script_fetches}
 use Rattle.josie_top.proofs.ReadFacts.{given_before, outcomes_size, fetched_so_far}
 use Rattle.josie_top.proofs.StreamFacts.{rose_since}
 use Rattle.josie_top.proofs.MadeFacts.{made_start, made_record_now, record_syncs}
 use Rattle.josie_top.proofs.TextFacts.{text_more}
-use Rattle.josie_top.proofs.RowFacts.{script_front, script_whole, whole_front, meets_between, cut_within, done, cut_at_end, refused, broken_off, read_synced, late_start, late_more, late_within}
+use Rattle.josie_top.proofs.RowFacts.{script_front, script_whole, whole_front, fetched_on, meets_between, cut_within, done, cut_at_end, refused, broken_off, read_synced, late_start, late_more, late_within}
+
+-- ---- what moved
+
+pub still : (world : World) → HasMoved world world
+still world = record { files = refl; reads = omega arith; writes = omega arith; fetches = omega arith }
+
+-- What moved in two steps.
+pub moved_on : {before mid now : World} → HasMoved before mid → HasMoved mid now → HasMoved before now
+moved_on first second = record {
+  files = second.files ∙ first.files;
+  reads = omega (arith, first.reads, second.reads);
+  writes = omega (arith, first.writes, second.writes);
+  fetches = omega (arith, first.fetches, second.fetches);
+}
+
+-- Only the sink moved.
+pub sink_moved : (written : Option (List ℕ)) (faults : ℕ) (world : World) → world.write_faults ≤ faults → HasMoved world (with_sink written faults world)
+sink_moved written faults world later = record { files = refl; reads = omega arith; writes = later; fetches = omega arith }
+
+-- Causes that came later.
+pub moves_since : {refused : Type 0} {before mid now : World} (result : Status) → HasMoved before mid → Moves refused result mid now → Moves refused result before now
+moves_since result moved since = record {
+  moved = moved_on moved since.moved;
+  usage = since.usage;
+  read_fault = λ is. rose_since _ _ _ moved.reads (since.read_fault is);
+  write_fault = λ is. rose_since _ _ _ moved.writes (since.write_fault is);
+}
+
+-- A status that has no cause.
+pub moves_freely : {refused : Type 0} {before now : World} (result : Status) → HasMoved before now → (result ≡ status.Usage → ⊥) → (result ≡ status.ReadFault → ⊥) → (result ≡ status.WriteFault → ⊥)
+    → Moves refused result before now
+moves_freely result moved usage read wrote = record { moved = moved; usage = λ is. absurd (usage is); read_fault = λ is. absurd (read is); write_fault = λ is. absurd (wrote is) }
+
+-- Running out of memory has no other cause.
+pub memory_moves : {refused : Type 0} {before now : World} → HasMoved before now → Moves refused status.NoMemory before now
+memory_moves moved = moves_freely status.NoMemory moved
+    (λ no. let e : status.NoMemory ≡ status.Usage = no in cc) (λ no. let e : status.NoMemory ≡ status.ReadFault = no in cc) (λ no. let e : status.NoMemory ≡ status.WriteFault = no in cc)
+
+-- Nor has a run that ends well.
+pub done_moves : {refused : Type 0} {before now : World} → HasMoved before now → Moves refused status.Done before now
+done_moves moved = moves_freely status.Done moved
+    (λ no. let e : status.Done ≡ status.Usage = no in cc) (λ no. let e : status.Done ≡ status.ReadFault = no in cc) (λ no. let e : status.Done ≡ status.WriteFault = no in cc)
 
 -- ---- the start
 
 -- Nothing was read, answered or written.
-pub starts : (limits : Counts) (options : Options) (left written : Option (List ℕ)) (files : Option (List shelf.File)) (faults : ℕ) (gathering : Gathering) (made : RunRecord) (lanes : ℕ)
-    → gathering ≡ gathering_with (start []) [] false standard lanes → lanes ≡ options.lanes → made ≡ empty options → IsUnderWay limits options left left written written files faults faults gathering made 0 1
+pub starts : (limits : Counts) (options : Options) (world : World) (gathering : Gathering) (made : RunRecord) (lanes : ℕ)
+    → gathering ≡ gathering_with (start []) [] false standard lanes → lanes ≡ options.lanes → made ≡ empty options → IsUnderWay limits options world world gathering made 0 1
 unfolding read
-starts limits options left written files faults gathering made lanes gathers are is =
-    subst (λ (g : Gathering). IsUnderWay limits options left left written written files faults faults g made 0 1) (sym gathers)
-    (subst (λ (m : RunRecord). IsUnderWay limits options left left written written files faults faults (gathering_with (start []) [] false standard lanes) m 0 1) (sym is) (record {
+starts limits options world gathering made lanes gathers are is =
+    subst (λ (g : Gathering). IsUnderWay limits options world world g made 0 1) (sym gathers)
+    (subst (λ (m : RunRecord). IsUnderWay limits options world world (gathering_with (start []) [] false standard lanes) m 0 1) (sym is) (record {
       batches = [];
-      been = record { given = []; asked = []; outcomes = []; gave = Consumes-nil left; fetched = refl; lines_read = record { lines = []; whole = tt; cut = refl; reads = λ later. refl } };
+      moved = still world;
+      been = record { given = []; asked = []; outcomes = []; gave = Consumes-nil world.left; fetched = refl; lines_read = record { lines = []; whole = tt; cut = refl; reads = λ later. refl } };
       goes = record { limits_are = refl; lanes_are = are; within = omega arith };
       is_made = made_start limits options;
-      writ = record { taken = []; took = Appends-nil written; text_is = refl };
+      writ = record { taken = []; took = Appends-nil world.written; text_is = refl };
       counted = record { number_is = refl; next_is = refl; few = omega arith };
       late = late_start options;
     }))
@@ -73,56 +115,67 @@ whole_fetches options outcomes given left batches asked is =
     subst (λ (script : Commands). sum_by fetches script.batches ≤ length script.asked) is (script_fetches standard options.lanes (given ++ left_of left) outcomes)
 
 -- All batches were answered and written, and the rest of the text as this status has it.
-finished : (limits : Counts) (options : Options) (ends : Status) (left0 left2 written0 written1 written2 : Option (List ℕ)) (files : Option (List shelf.File)) (f0 f2 : ℕ) (given : List ℕ) (outcomes : List File) (asked : List Text) (batches : List Batch) (made now : RunRecord)
-    → Consumes left0 left2 given → IsAtEnd left2 → AreFetched files f0 f2 asked outcomes → script_of options outcomes given left2 ≡ commands_with batches Whole asked
-    → IsMade limits options batches made → (writ : AreWritten options written0 written1 made) → now ≡ with_end true made → IsWritten ends written1 written2 (text_behind options.trace (length made.answers) (with_end true made))
-    → Meets limits options ends left0 left2 written0 written2 files f0 f2 now
-finished limits options status.Done left0 left2 written0 written1 written2 files f0 f2 given outcomes asked batches made now gave at_end fetched script is writ closed all =
-    subst (Meets limits options status.Done left0 left2 written0 written2 files f0 f2) (sym closed) (record {
+finished : (limits : Counts) (options : Options) (ends : Status) (before mid : World) (written : Option (List ℕ)) (faults : ℕ) (given : List ℕ) (outcomes : List File) (asked : List Text) (batches : List Batch) (made now : RunRecord)
+    → Consumes before.left mid.left given → IsAtEnd mid.left → AreFetched before.files before.fetch_faults mid.fetch_faults asked outcomes → script_of options outcomes given mid.left ≡ commands_with batches Whole asked
+    → IsMade limits options batches made → (writ : AreWritten options before mid made) → now ≡ with_end true made → IsWritten ends mid.written written (text_behind options.trace (length made.answers) (with_end true made))
+    → Meets limits options ends before (with_sink written faults mid) now
+finished limits options status.Done before mid written faults given outcomes asked batches made now gave at_end fetched script is writ closed all =
+    subst (Meets limits options status.Done before (with_sink written faults mid)) (sym closed) (record {
       given = given;
       taken = writ.taken ++ text_behind options.trace (length made.answers) (with_end true made);
       outcomes = outcomes;
       gave = gave;
-      took = Appends-trans written0 written1 written2 writ.taken _ writ.took all;
-      row = done limits options (λ paths. AreFetched files f0 f2 paths outcomes) _ left2 batches asked made writ.taken script fetched at_end is writ.text_is;
+      took = Appends-trans before.written mid.written written writ.taken _ writ.took all;
+      row = done limits options (λ paths. AreFetched before.files before.fetch_faults mid.fetch_faults paths outcomes) _ mid.left batches asked made writ.taken script fetched at_end is writ.text_is;
       late = tt;
     })
-finished limits options status.WriteFault left0 left2 written0 written1 written2 files f0 f2 given outcomes asked batches made now gave at_end fetched script is writ closed (part, beginning, took) =
-    subst (Meets limits options status.WriteFault left0 left2 written0 written2 files f0 f2) (sym closed) (record {
+finished limits options status.WriteFault before mid written faults given outcomes asked batches made now gave at_end fetched script is writ closed (part, beginning, took) =
+    subst (Meets limits options status.WriteFault before (with_sink written faults mid)) (sym closed) (record {
       given = given;
       taken = writ.taken ++ part;
       outcomes = outcomes;
       gave = gave;
-      took = Appends-trans written0 written1 written2 writ.taken part writ.took took;
-      row = cut_at_end limits options outcomes (λ paths. AreFetched files f0 f2 paths outcomes) _ left2 batches asked made writ.taken part script (outcomes_size files f0 f2 asked outcomes fetched) (whole_fetches options outcomes given left2 batches asked script) fetched at_end is writ.text_is beginning;
+      took = Appends-trans before.written mid.written written writ.taken part writ.took took;
+      row = cut_at_end limits options outcomes (λ paths. AreFetched before.files before.fetch_faults mid.fetch_faults paths outcomes) _ mid.left batches asked made writ.taken part script
+          (outcomes_size before.files before.fetch_faults mid.fetch_faults asked outcomes fetched) (whole_fetches options outcomes given mid.left batches asked script) fetched at_end is writ.text_is beginning;
       late = λ not_ended. absurd (let no : true ≡ false = not_ended in cc);
     })
-finished limits options status.NoMemory left0 left2 written0 written1 written2 files f0 f2 given outcomes asked batches made now gave at_end fetched script is writ closed (part, beginning, took) =
-    subst (Meets limits options status.NoMemory left0 left2 written0 written2 files f0 f2) (sym closed) (record {
+finished limits options status.NoMemory before mid written faults given outcomes asked batches made now gave at_end fetched script is writ closed (part, beginning, took) =
+    subst (Meets limits options status.NoMemory before (with_sink written faults mid)) (sym closed) (record {
       given = given;
       taken = writ.taken ++ part;
       outcomes = outcomes;
       gave = gave;
-      took = Appends-trans written0 written1 written2 writ.taken part writ.took took;
-      row = inr (cut_at_end limits options outcomes (λ paths. AreFetchedSoFar files f0 f2 paths outcomes) _ left2 batches asked made writ.taken part script (outcomes_size files f0 f2 asked outcomes fetched) (whole_fetches options outcomes given left2 batches asked script) (fetched_so_far files f0 f2 f2 asked outcomes fetched (omega arith)) at_end is writ.text_is beginning);
+      took = Appends-trans before.written mid.written written writ.taken part writ.took took;
+      row = inr (cut_at_end limits options outcomes (λ paths. AreFetchedSoFar before.files before.fetch_faults mid.fetch_faults paths outcomes) _ mid.left batches asked made writ.taken part script
+          (outcomes_size before.files before.fetch_faults mid.fetch_faults asked outcomes fetched) (whole_fetches options outcomes given mid.left batches asked script)
+          (fetched_so_far before.files before.fetch_faults mid.fetch_faults mid.fetch_faults asked outcomes fetched (omega arith)) at_end is writ.text_is beginning);
       late = tt;
     })
-finished limits options status.Usage left0 left2 written0 written1 written2 files f0 f2 given outcomes asked batches made now gave at_end fetched script is writ closed none = absurd none
-finished limits options status.ReadFault left0 left2 written0 written1 written2 files f0 f2 given outcomes asked batches made now gave at_end fetched script is writ closed none = absurd none
-finished limits options (status.Script line why) left0 left2 written0 written1 written2 files f0 f2 given outcomes asked batches made now gave at_end fetched script is writ closed none = absurd none
+finished limits options status.Usage before mid written faults given outcomes asked batches made now gave at_end fetched script is writ closed none = absurd none
+finished limits options status.ReadFault before mid written faults given outcomes asked batches made now gave at_end fetched script is writ closed none = absurd none
+finished limits options (status.Script line why) before mid written faults given outcomes asked batches made now gave at_end fetched script is writ closed none = absurd none
+
+-- what was written before stands, where nothing was written since
+still_written : (options : Options) (before mid now : World) (made : RunRecord) → now.written ≡ mid.written → AreWritten options before mid made → AreWritten options before now made
+still_written options before mid now made unwritten writ = record {
+  taken = writ.taken;
+  took = subst (λ (w : Option (List ℕ)). Appends before.written w writ.taken) (sym unwritten) writ.took;
+  text_is = writ.text_is;
+}
 
 -- The input ended behind a `sync`, or behind no command.
-pub ends_without : {number next : ℕ} {found : Option Batch} (limits : Counts) (options : Options) (ends : Status) (left0 left1 left2 written0 written1 written2 : Option (List ℕ)) (files : Option (List shelf.File)) (f0 f1 f2 : ℕ) (before after : Gathering) (made now : RunRecord)
-    → IsUnderWay limits options left0 left1 written0 written1 files f0 f1 before made number next → (took : Taken (Ok found) left1 left2 files f1 f2) → IsWhole before after left2 took.given took.asked took.outcomes []
-    → now ≡ with_end true made → IsWritten ends written1 written2 (text_behind options.trace (length made.answers) (with_end true made))
-    → Meets limits options ends left0 left2 written0 written2 files f0 f2 now
-ends_without limits options ends left0 left1 left2 written0 written1 written2 files f0 f1 f2 before after made now way took whole closed rest =
-    let script : script_of options (way.been.outcomes ++ took.outcomes) (way.been.given ++ took.given) left2 ≡ commands_with (way.batches ++ []) Whole (way.been.asked ++ took.asked) =
-    script_whole options left0 left1 left2 files f0 f1 before after way.batches [] took.given took.asked took.outcomes way.been way.goes whole in
-    finished limits options ends left0 left2 written0 written1 written2 files f0 f2 (way.been.given ++ took.given) (way.been.outcomes ++ took.outcomes) (way.been.asked ++ took.asked) way.batches made now
-    (Consumes-trans left0 left1 left2 way.been.given took.given way.been.gave took.gave) whole.at_end
-    (fetched_join files f0 f1 f2 way.been.asked took.asked way.been.outcomes took.outcomes way.been.fetched took.fetched)
-    (script ∙ ap (λ (b : List Batch). commands_with b Whole (way.been.asked ++ took.asked)) (append-nil way.batches)) way.is_made way.writ closed rest
+pub ends_without : {number next : ℕ} {found : Option Batch} (limits : Counts) (options : Options) (ends : Status) (first second third : World) (written : Option (List ℕ)) (faults : ℕ) (before after : Gathering) (made now : RunRecord)
+    → IsUnderWay limits options first second before made number next → (took : Taken (Ok found) second.left third.left second.files second.fetch_faults third.fetch_faults) → third.written ≡ second.written
+    → IsWhole before after third.left took.given took.asked took.outcomes [] → now ≡ with_end true made → IsWritten ends third.written written (text_behind options.trace (length made.answers) (with_end true made))
+    → Meets limits options ends first (with_sink written faults third) now
+ends_without limits options ends first second third written faults before after made now way took unwritten whole closed rest =
+    let script : script_of options (way.been.outcomes ++ took.outcomes) (way.been.given ++ took.given) third.left ≡ commands_with (way.batches ++ []) Whole (way.been.asked ++ took.asked) =
+    script_whole options first second third.left before after way.batches [] took.given took.asked took.outcomes way.been way.goes whole in
+    finished limits options ends first third written faults (way.been.given ++ took.given) (way.been.outcomes ++ took.outcomes) (way.been.asked ++ took.asked) way.batches made now
+    (Consumes-trans first.left second.left third.left way.been.given took.given way.been.gave took.gave) whole.at_end
+    (fetched_on first second third way.been.asked took.asked way.been.outcomes took.outcomes way.moved way.been.fetched took.fetched)
+    (script ∙ ap (λ (b : List Batch). commands_with b Whole (way.been.asked ++ took.asked)) (append-nil way.batches)) way.is_made (still_written options first second third made unwritten way.writ) closed rest
 
 -- ---- one batch more
 
@@ -142,13 +195,13 @@ batch_made {next = next} limits options batches before now batch merge merger sa
     subst (λ (o : Options). IsMade limits o (batches ++ batch ∷ []) now) is.options_are
     (more batches counted.number_is merges (subst (λ (o : Options). IsMade limits o batches before) (sym is.options_are) is))
 
-pub batch_written : (limits : Counts) (options : Options) (written0 written1 written2 : Option (List ℕ)) (batches : List Batch) (before now : RunRecord) (new : List Answered) → AreWritten options written0 written1 before → IsMade limits options batches now
-    → now.answers ≡ before.answers ++ new → Appends written1 written2 (text_behind options.trace (length before.answers) now) → AreWritten options written0 written2 now
-batch_written limits options written0 written1 written2 batches before now new writ is are took =
+pub batch_written : (limits : Counts) (options : Options) (first mid : World) (written : Option (List ℕ)) (faults : ℕ) (batches : List Batch) (before now : RunRecord) (new : List Answered) → AreWritten options first mid before
+    → IsMade limits options batches now → now.answers ≡ before.answers ++ new → Appends mid.written written (text_behind options.trace (length before.answers) now) → AreWritten options first (with_sink written faults mid) now
+batch_written limits options first mid written faults batches before now new writ is are took =
     let text : List ℕ = text_behind options.trace (length before.answers) now in
     record {
       taken = writ.taken ++ text;
-      took = Appends-trans written0 written1 written2 writ.taken text writ.took took;
+      took = Appends-trans first.written mid.written written writ.taken text writ.took took;
       text_is = ap (λ (t : List ℕ). t ++ text) writ.text_is ∙ sym (text_more options.trace before now new are (is.unended));
     }
 
@@ -193,41 +246,44 @@ merger_fits false merger next batch is fits = subst (λ (m : Option ℕ). MatchO
 pub standard_within : (limits : Counts) → limits ≡ standard_limits → IsWithin standard_limits limits
 standard_within limits is = subst (IsWithin standard_limits) (sym is) (record { live = omega arith; updates = omega arith; members = omega arith; key_bytes = omega arith })
 
+-- the source was read late, or not at all
+once : {Nothing Late : Type 0} → Nothing ⊎ Late → (⊤ × Nothing) ⊎ Late
+once (inl nothing) = inl (tt, nothing)
+once (inr late) = inr late
+
 -- The batch was answered and written, and the gatherer goes on.
-pub one_more : {number next : ℕ} {found : Option Batch} (limits : Counts) (options : Options) (left0 left1 left2 written0 written1 written2 : Option (List ℕ)) (files : Option (List shelf.File)) (f0 f1 f2 : ℕ) (before after : Gathering) (made now : RunRecord) (batch : Batch) (new : List Answered) (Idle : Type 0)
-    → (way : IsUnderWay limits options left0 left1 written0 written1 files f0 f1 before made number next) → (took : Taken (Ok found) left1 left2 files f1 f2) → ReadsLate Idle before took.given took.outcomes → after.ended ≡ false
-    → IsSynced before after took.given took.asked took.outcomes batch ⊎ IsWhole before after left2 took.given took.asked took.outcomes (batch ∷ [])
-    → after.limits ≡ before.limits → after.lanes ≡ before.lanes → after.reading.used ≤ after.limits.input
-    → IsMade limits options (way.batches ++ batch ∷ []) now → now.answers ≡ made.answers ++ new → Appends written1 written2 (text_behind options.trace (length made.answers) now)
-    → before.reading.used + length batch ≤ after.reading.used → IsUnderWay limits options left0 left2 written0 written2 files f0 f2 after now (number + 1) (next + updates batch)
+pub one_more : {number next : ℕ} (limits : Counts) (options : Options) (first second third : World) (written : Option (List ℕ)) (faults : ℕ) (before after : Gathering) (made now : RunRecord) (batch : Batch) (new : List Answered)
+    → (way : IsUnderWay limits options first second before made number next) → IsBegun second third before after batch → after.ended ≡ false → third.write_faults ≤ faults
+    → IsMade limits options (way.batches ++ batch ∷ []) now → now.answers ≡ made.answers ++ new → Appends third.written written (text_behind options.trace (length made.answers) now)
+    → IsUnderWay limits options first (with_sink written faults third) after now (number + 1) (next + updates batch)
 unfolding read_synced
-one_more {number = number} {next = next} limits options left0 left1 left2 written0 written1 written2 files f0 f1 f2 before after made now batch new Idle way took late on gathered limits_are lanes_are within is are written grows = record {
+one_more {number = number} {next = next} limits options first second third written faults before after made now batch new way has on later is are wrote = record {
   batches = way.batches ++ batch ∷ [];
-  been = read_synced options left0 left1 left2 files f0 f1 f2 before after way.batches batch took.given took.asked took.outcomes way.been way.goes took.gave took.fetched
-      (not_whole before after left2 took.given took.asked took.outcomes batch on gathered);
-  goes = goes_on options before after way.goes limits_are lanes_are within;
+  moved = moved_on (moved_on way.moved has.moved) (sink_moved written faults third later);
+  been = read_synced options first second (with_sink written faults third) before after way.batches batch has.taken.given has.taken.asked has.taken.outcomes way.moved way.been way.goes has.taken.gave has.taken.fetched
+      (not_whole before after third.left has.taken.given has.taken.asked has.taken.outcomes batch on has.gathered);
+  goes = goes_on options before after way.goes has.limits_are has.lanes_are has.within;
   is_made = is;
-  writ = batch_written limits options written0 written1 written2 (way.batches ++ batch ∷ []) made now new way.writ is are written;
-  counted = counted_more way.batches batch before.reading.used after.reading.used number next way.counted grows;
-  late = subst (IsLateSoFar options (way.been.given ++ took.given) (way.been.outcomes ++ took.outcomes))
+  writ = batch_written limits options first third written faults (way.batches ++ batch ∷ []) made now new (still_written options first second third made has.unwritten way.writ) is are wrote;
+  counted = counted_more way.batches batch before.reading.used after.reading.used number next way.counted has.grows;
+  late = subst (IsLateSoFar options (way.been.given ++ has.taken.given) (way.been.outcomes ++ has.taken.outcomes))
       (let many : length way.batches ≡ length (way.batches ++ batch ∷ []) - 1 = omega (arith, length-append way.batches (batch ∷ [])) in many)
-      (late_more options left0 left1 files f0 f1 before way.batches Idle took.given took.outcomes way.been way.goes way.late late);
+      (late_more options first second before way.batches ⊤ has.taken.given has.taken.outcomes way.been way.goes way.late (once has.late));
 }
 
 -- The last batch was answered and written.
-pub ends_with : {number next : ℕ} {found : Option Batch} (limits : Counts) (options : Options) (ends : Status) (left0 left1 left2 written0 written1 written2 written3 : Option (List ℕ)) (files : Option (List shelf.File)) (f0 f1 f2 : ℕ) (before after : Gathering) (made mid now : RunRecord) (batch : Batch) (new : List Answered)
-    → (way : IsUnderWay limits options left0 left1 written0 written1 files f0 f1 before made number next) → (took : Taken (Ok found) left1 left2 files f1 f2) → after.ended ≡ true
-    → IsSynced before after took.given took.asked took.outcomes batch ⊎ IsWhole before after left2 took.given took.asked took.outcomes (batch ∷ [])
-    → IsMade limits options (way.batches ++ batch ∷ []) mid → mid.answers ≡ made.answers ++ new → Appends written1 written2 (text_behind options.trace (length made.answers) mid)
-    → now ≡ with_end true mid → IsWritten ends written2 written3 (text_behind options.trace (length mid.answers) (with_end true mid))
-    → Meets limits options ends left0 left2 written0 written3 files f0 f2 now
-ends_with limits options ends left0 left1 left2 written0 written1 written2 written3 files f0 f1 f2 before after made mid now batch new way took last gathered is are written closed rest =
-    let whole = not_synced before after left2 took.given took.asked took.outcomes batch last gathered in
-    finished limits options ends left0 left2 written0 written2 written3 files f0 f2 (way.been.given ++ took.given) (way.been.outcomes ++ took.outcomes) (way.been.asked ++ took.asked) (way.batches ++ batch ∷ []) mid now
-    (Consumes-trans left0 left1 left2 way.been.given took.given way.been.gave took.gave) whole.at_end
-    (fetched_join files f0 f1 f2 way.been.asked took.asked way.been.outcomes took.outcomes way.been.fetched took.fetched)
-    (script_whole options left0 left1 left2 files f0 f1 before after way.batches (batch ∷ []) took.given took.asked took.outcomes way.been way.goes whole) is
-    (batch_written limits options written0 written1 written2 (way.batches ++ batch ∷ []) made mid new way.writ is are written) closed rest
+pub ends_with : {number next : ℕ} (limits : Counts) (options : Options) (ends : Status) (first second third : World) (written last : Option (List ℕ)) (faults later : ℕ) (before after : Gathering) (made mid now : RunRecord) (batch : Batch) (new : List Answered)
+    → (way : IsUnderWay limits options first second before made number next) → IsBegun second third before after batch → after.ended ≡ true
+    → IsMade limits options (way.batches ++ batch ∷ []) mid → mid.answers ≡ made.answers ++ new → Appends third.written written (text_behind options.trace (length made.answers) mid)
+    → now ≡ with_end true mid → IsWritten ends written last (text_behind options.trace (length mid.answers) (with_end true mid))
+    → Meets limits options ends first (with_sink last later third) now
+ends_with limits options ends first second third written last faults later before after made mid now batch new way has over is are wrote closed rest =
+    let whole = not_synced before after third.left has.taken.given has.taken.asked has.taken.outcomes batch over has.gathered in
+    finished limits options ends first (with_sink written faults third) last later (way.been.given ++ has.taken.given) (way.been.outcomes ++ has.taken.outcomes) (way.been.asked ++ has.taken.asked) (way.batches ++ batch ∷ []) mid now
+    (Consumes-trans first.left second.left third.left way.been.given has.taken.given way.been.gave has.taken.gave) whole.at_end
+    (fetched_on first second third way.been.asked has.taken.asked way.been.outcomes has.taken.outcomes way.moved way.been.fetched has.taken.fetched)
+    (script_whole options first second third.left before after way.batches (batch ∷ []) has.taken.given has.taken.asked has.taken.outcomes way.been way.goes whole) is
+    (batch_written limits options first third written faults (way.batches ++ batch ∷ []) made mid new (still_written options first second third made has.unwritten way.writ) is are wrote) closed rest
 
 -- ---- ends within a batch
 
@@ -237,34 +293,37 @@ record Begins (options : Options) (outcomes : List File) (given : List ℕ) (lef
   pub is : script_of options outcomes given left ≡ given_before batches asked rest
   pub few : sum_by fetches batches ≤ length asked
 
-begins : {number next : ℕ} {found : Option Batch} (limits : Counts) (options : Options) (left0 left1 left2 written0 written1 : Option (List ℕ)) (files : Option (List shelf.File)) (f0 f1 f2 : ℕ) (before after : Gathering) (made : RunRecord) (batch : Batch)
-    → (way : IsUnderWay limits options left0 left1 written0 written1 files f0 f1 before made number next) → (took : Taken (Ok found) left1 left2 files f1 f2) → after.limits ≡ before.limits → after.lanes ≡ before.lanes → after.reading.used ≤ after.limits.input
-    → IsSynced before after took.given took.asked took.outcomes batch ⊎ IsWhole before after left2 took.given took.asked took.outcomes (batch ∷ [])
-    → Begins options (way.been.outcomes ++ took.outcomes) (way.been.given ++ took.given) left2 (way.batches ++ batch ∷ []) (way.been.asked ++ took.asked)
+begins : {number next : ℕ} (limits : Counts) (options : Options) (first second third : World) (before after : Gathering) (made : RunRecord) (batch : Batch)
+    → (way : IsUnderWay limits options first second before made number next) → (has : IsBegun second third before after batch)
+    → IsSynced before after has.taken.given has.taken.asked has.taken.outcomes batch ⊎ IsWhole before after third.left has.taken.given has.taken.asked has.taken.outcomes (batch ∷ [])
+    → Begins options (way.been.outcomes ++ has.taken.outcomes) (way.been.given ++ has.taken.given) third.left (way.batches ++ batch ∷ []) (way.been.asked ++ has.taken.asked)
 unfolding read_synced
-begins limits options left0 left1 left2 written0 written1 files f0 f1 f2 before after made batch way took limits_are lanes_are within (inl synced) =
-    let been = read_synced options left0 left1 left2 files f0 f1 f2 before after way.batches batch took.given took.asked took.outcomes way.been way.goes took.gave took.fetched synced in
-    let front = script_front options left0 left2 left2 files f0 f2 after (way.batches ++ batch ∷ []) been (goes_on options before after way.goes limits_are lanes_are within) [] [] in
+begins limits options first second third before after made batch way has (inl synced) =
+    let took = has.taken in
+    let been = read_synced options first second third before after way.batches batch took.given took.asked took.outcomes way.moved way.been way.goes took.gave took.fetched synced in
+    let front = script_front options first third third.left after (way.batches ++ batch ∷ []) been (goes_on options before after way.goes has.limits_are has.lanes_are has.within) [] [] in
     record {
       rest = _;
-      is = ap (λ (o : List File). script_of options o (way.been.given ++ took.given) left2) (sym (append-nil (way.been.outcomes ++ took.outcomes)))
-          ∙ ap (λ (b : List ℕ). script_of options ((way.been.outcomes ++ took.outcomes) ++ []) b left2) (sym (append-nil (way.been.given ++ took.given))) ∙ front;
+      is = ap (λ (o : List File). script_of options o (way.been.given ++ took.given) third.left) (sym (append-nil (way.been.outcomes ++ took.outcomes)))
+          ∙ ap (λ (b : List ℕ). script_of options ((way.been.outcomes ++ took.outcomes) ++ []) b third.left) (sym (append-nil (way.been.given ++ took.given))) ∙ front;
       few = reads_fetches standard options.lanes after.reading (way.been.given ++ took.given) after.held (way.been.outcomes ++ took.outcomes) (way.batches ++ batch ∷ []) (way.been.asked ++ took.asked) been.lines_read;
     }
-begins limits options left0 left1 left2 written0 written1 files f0 f1 f2 before after made batch way took limits_are lanes_are within (inr whole) =
-    let script = script_whole options left0 left1 left2 files f0 f1 before after way.batches (batch ∷ []) took.given took.asked took.outcomes way.been way.goes whole in
+begins limits options first second third before after made batch way has (inr whole) =
+    let took = has.taken in
+    let script = script_whole options first second third.left before after way.batches (batch ∷ []) took.given took.asked took.outcomes way.been way.goes whole in
     record {
       rest = commands_with [] Whole [];
       is = whole_front _ (way.batches ++ batch ∷ []) (way.been.asked ++ took.asked) script;
-      few = whole_fetches options (way.been.outcomes ++ took.outcomes) (way.been.given ++ took.given) left2 (way.batches ++ batch ∷ []) (way.been.asked ++ took.asked) script;
+      few = whole_fetches options (way.been.outcomes ++ took.outcomes) (way.been.given ++ took.given) third.left (way.batches ++ batch ∷ []) (way.been.asked ++ took.asked) script;
     }
 
 -- a run that is cut for want of memory
-cut_so_far : (limits : Counts) (options : Options) (outcomes : List File) (files : Option (List shelf.File)) (f0 f2 : ℕ) (script : Commands) (left : Option (List ℕ)) (taken : List ℕ) (now : RunRecord)
-    → IsCutOff limits options outcomes (λ paths. AreFetched files f0 f2 paths outcomes) script left taken now → IsCutOff limits options outcomes (λ paths. AreFetchedSoFar files f0 f2 paths outcomes) script left taken now
-cut_so_far limits options outcomes files f0 f2 script left taken now row = record {
+cut_so_far : (limits : Counts) (options : Options) (outcomes : List File) (before now : World) (script : Commands) (left : Option (List ℕ)) (taken : List ℕ) (made : RunRecord)
+    → IsCutOff limits options outcomes (λ paths. AreFetched before.files before.fetch_faults now.fetch_faults paths outcomes) script left taken made
+    → IsCutOff limits options outcomes (λ paths. AreFetchedSoFar before.files before.fetch_faults now.fetch_faults paths outcomes) script left taken made
+cut_so_far limits options outcomes before now script left taken made row = record {
   count = row.count;
-  fetched = fetched_so_far files f0 f2 f2 _ outcomes row.fetched (omega arith);
+  fetched = fetched_so_far before.files before.fetch_faults now.fetch_faults now.fetch_faults _ outcomes row.fetched (omega arith);
   asked = row.asked;
   record_of = row.record_of;
   ended = row.ended;
@@ -273,38 +332,43 @@ cut_so_far limits options outcomes files f0 f2 script left taken now row = recor
 }
 
 -- a run that is cut, by why its text is not written whole
-cut_meets : (limits : Counts) (options : Options) (why : WriteStop) (left0 left2 written0 written2 : Option (List ℕ)) (files : Option (List shelf.File)) (f0 f2 : ℕ) (now : RunRecord) (given taken : List ℕ) (outcomes : List File)
-    → Consumes left0 left2 given → Appends written0 written2 taken → IsCutOff limits options outcomes (λ paths. AreFetched files f0 f2 paths outcomes) (script_of options outcomes given left2) left2 taken now
-    → IsReadLate options given outcomes now → Meets limits options (status_of_stop why) left0 left2 written0 written2 files f0 f2 now
-cut_meets limits options stop.Failed left0 left2 written0 written2 files f0 f2 now given taken outcomes gave wrote row late =
+cut_meets : (limits : Counts) (options : Options) (why : WriteStop) (before now : World) (made : RunRecord) (given taken : List ℕ) (outcomes : List File)
+    → Consumes before.left now.left given → Appends before.written now.written taken
+    → IsCutOff limits options outcomes (λ paths. AreFetched before.files before.fetch_faults now.fetch_faults paths outcomes) (script_of options outcomes given now.left) now.left taken made
+    → IsReadLate options given outcomes made → Meets limits options (status_of_stop why) before now made
+cut_meets limits options stop.Failed before now made given taken outcomes gave wrote row late =
     record { given = given; taken = taken; outcomes = outcomes; gave = gave; took = wrote; row = row; late = λ not_ended. late }
-cut_meets limits options stop.NoMemory left0 left2 written0 written2 files f0 f2 now given taken outcomes gave wrote row late =
-    record { given = given; taken = taken; outcomes = outcomes; gave = gave; took = wrote; row = inr (cut_so_far limits options outcomes files f0 f2 _ left2 taken now row); late = tt }
+cut_meets limits options stop.NoMemory before now made given taken outcomes gave wrote row late =
+    record { given = given; taken = taken; outcomes = outcomes; gave = gave; took = wrote; row = inr (cut_so_far limits options outcomes before now _ now.left taken made row); late = tt }
 
 -- The batch was answered, but its text not written whole.
-pub ends_writing : {number next : ℕ} {found : Option Batch} (limits : Counts) (options : Options) (why : WriteStop) (left0 left1 left2 written0 written1 written2 : Option (List ℕ)) (files : Option (List shelf.File)) (f0 f1 f2 : ℕ) (before after : Gathering) (made now : RunRecord) (batch : Batch) (new : List Answered) (part : List ℕ) (Idle : Type 0)
-    → (way : IsUnderWay limits options left0 left1 written0 written1 files f0 f1 before made number next) → (took : Taken (Ok found) left1 left2 files f1 f2) → ReadsLate Idle before took.given took.outcomes → after.limits ≡ before.limits → after.lanes ≡ before.lanes → after.reading.used ≤ after.limits.input
-    → IsSynced before after took.given took.asked took.outcomes batch ⊎ IsWhole before after left2 took.given took.asked took.outcomes (batch ∷ [])
-    → IsMade limits options (way.batches ++ batch ∷ []) now → now.answers ≡ made.answers ++ new → IsPrefix part (text_behind options.trace (length made.answers) now) → Appends written1 written2 part
-    → Meets limits options (status_of_stop why) left0 left2 written0 written2 files f0 f2 now
-ends_writing limits options why left0 left1 left2 written0 written1 written2 files f0 f1 f2 before after made now batch new part Idle way took late limits_are lanes_are within gathered is are beginning written =
-    let script = begins limits options left0 left1 left2 written0 written1 files f0 f1 f2 before after made batch way took limits_are lanes_are within gathered in
-    let fetched = fetched_join files f0 f1 f2 way.been.asked took.asked way.been.outcomes took.outcomes way.been.fetched took.fetched in
-    cut_meets limits options why left0 left2 written0 written2 files f0 f2 now (way.been.given ++ took.given) (way.writ.taken ++ part) (way.been.outcomes ++ took.outcomes)
-    (Consumes-trans left0 left1 left2 way.been.given took.given way.been.gave took.gave) (Appends-trans written0 written1 written2 way.writ.taken part way.writ.took written)
-    (cut_within limits options (way.been.outcomes ++ took.outcomes) (λ paths. AreFetched files f0 f2 paths (way.been.outcomes ++ took.outcomes)) _ script.rest left2 made now new way.batches batch (way.been.asked ++ took.asked) way.writ.taken part
-    script.is (outcomes_size files f0 f2 (way.been.asked ++ took.asked) (way.been.outcomes ++ took.outcomes) fetched) script.few fetched way.is_made is are way.writ.text_is beginning)
+pub ends_writing : {number next : ℕ} (limits : Counts) (options : Options) (why : WriteStop) (first second third : World) (written : Option (List ℕ)) (faults : ℕ) (before after : Gathering) (made now : RunRecord) (batch : Batch) (new : List Answered) (part : List ℕ)
+    → (way : IsUnderWay limits options first second before made number next) → IsBegun second third before after batch
+    → IsMade limits options (way.batches ++ batch ∷ []) now → now.answers ≡ made.answers ++ new → IsPrefix part (text_behind options.trace (length made.answers) now) → Appends third.written written part
+    → Meets limits options (status_of_stop why) first (with_sink written faults third) now
+ends_writing limits options why first second third written faults before after made now batch new part way has is are beginning wrote =
+    let took = has.taken in
+    let writ = still_written options first second third made has.unwritten way.writ in
+    let script = begins limits options first second third before after made batch way has has.gathered in
+    let fetched = fetched_on first second third way.been.asked took.asked way.been.outcomes took.outcomes way.moved way.been.fetched took.fetched in
+    cut_meets limits options why first (with_sink written faults third) now (way.been.given ++ took.given) (writ.taken ++ part) (way.been.outcomes ++ took.outcomes)
+    (Consumes-trans first.left second.left third.left way.been.given took.given way.been.gave took.gave) (Appends-trans first.written third.written written writ.taken part writ.took wrote)
+    (cut_within limits options (way.been.outcomes ++ took.outcomes) (λ paths. AreFetched first.files first.fetch_faults third.fetch_faults paths (way.been.outcomes ++ took.outcomes)) _ script.rest third.left made now new way.batches batch (way.been.asked ++ took.asked) writ.taken part
+    script.is (outcomes_size first.files first.fetch_faults third.fetch_faults (way.been.asked ++ took.asked) (way.been.outcomes ++ took.outcomes) fetched) script.few fetched way.is_made is are writ.text_is beginning)
     (late_within options (way.been.given ++ took.given) (way.been.outcomes ++ took.outcomes) (length way.batches) now
-    (late_more options left0 left1 files f0 f1 before way.batches Idle took.given took.outcomes way.been way.goes way.late late)
+    (late_more options first second before way.batches ⊤ took.given took.outcomes way.been way.goes way.late (once has.late))
     (omega (arith, record_syncs limits options (way.batches ++ batch ∷ []) now (made_record_now limits options (way.batches ++ batch ∷ []) now is), length-append way.batches (batch ∷ []))))
 
 -- ---- a batch that was gathered
 
-begun_with : {Idle : Type 0} (left1 left2 : Option (List ℕ)) (files : Option (List shelf.File)) (f1 f2 : ℕ) (before after : Gathering) (batch : Batch)
-    → (took : Taken (Ok (Some batch)) left1 left2 files f1 f2) → Gathers (Ok (Some batch)) before after left2 took.given took.asked took.outcomes → ReadsLate Idle before took.given took.outcomes
+begun_with : {Idle : Type 0} (first second : World) (before after : Gathering) (batch : Batch)
+    → HasMoved first second → second.written ≡ first.written → (took : Taken (Ok (Some batch)) first.left second.left first.files first.fetch_faults second.fetch_faults)
+    → Gathers (Ok (Some batch)) before after second.left took.given took.asked took.outcomes → ReadsLate Idle before took.given took.outcomes
     → after.limits ≡ before.limits → after.lanes ≡ before.lanes → IsOfLanes before.lanes batch → after.reading.used ≤ after.limits.input
-    → (before.reading.used < after.reading.used) × (before.reading.used + length batch ≤ after.reading.used) → IsBegun left1 left2 files f1 f2 before after batch
-begun_with left1 left2 files f1 f2 before after batch took gathers late limits_are lanes_are of_lanes within grows = record {
+    → (before.reading.used < after.reading.used) × (before.reading.used + length batch ≤ after.reading.used) → IsBegun first second before after batch
+begun_with first second before after batch moved unwritten took gathers late limits_are lanes_are of_lanes within grows = record {
+  moved = moved;
+  unwritten = unwritten;
   taken = took;
   gathered = gathers;
   late = idle late;
@@ -319,32 +383,32 @@ begun_with left1 left2 files f1 f2 before after batch took gathers late limits_a
     idle (inl (still, nothing)) = inl nothing
     idle (inr late) = inr late
 
-pub begun : {Idle : Type 0} (left1 left2 : Option (List ℕ)) (files : Option (List shelf.File)) (f1 f2 : ℕ) (before after : Gathering) (found : Option Batch) (batch : Batch) → found ≡ Some batch
-    → (took : Taken (Ok found) left1 left2 files f1 f2) → Gathers (Ok found) before after left2 took.given took.asked took.outcomes → ReadsLate Idle before took.given took.outcomes
+pub begun : {Idle : Type 0} (first second : World) (before after : Gathering) (found : Option Batch) (batch : Batch) → found ≡ Some batch
+    → HasMoved first second → second.written ≡ first.written → (took : Taken (Ok found) first.left second.left first.files first.fetch_faults second.fetch_faults)
+    → Gathers (Ok found) before after second.left took.given took.asked took.outcomes → ReadsLate Idle before took.given took.outcomes
     → after.limits ≡ before.limits → after.lanes ≡ before.lanes → IfSome found (IsOfLanes before.lanes) → after.reading.used ≤ after.limits.input
-    → IfSome found (λ (b : Batch). (before.reading.used < after.reading.used) × (before.reading.used + length b ≤ after.reading.used)) → IsBegun left1 left2 files f1 f2 before after batch
-begun {Idle = Idle} left1 left2 files f1 f2 before after found batch is =
-    subst (λ (found : Option Batch). (took : Taken (Ok found) left1 left2 files f1 f2) → Gathers (Ok found) before after left2 took.given took.asked took.outcomes → ReadsLate Idle before took.given took.outcomes
+    → IfSome found (λ (b : Batch). (before.reading.used < after.reading.used) × (before.reading.used + length b ≤ after.reading.used)) → IsBegun first second before after batch
+begun {Idle = Idle} first second before after found batch is moved unwritten =
+    subst (λ (found : Option Batch). (took : Taken (Ok found) first.left second.left first.files first.fetch_faults second.fetch_faults)
+    → Gathers (Ok found) before after second.left took.given took.asked took.outcomes → ReadsLate Idle before took.given took.outcomes
     → after.limits ≡ before.limits → after.lanes ≡ before.lanes → IfSome found (IsOfLanes before.lanes) → after.reading.used ≤ after.limits.input
-    → IfSome found (λ (b : Batch). (before.reading.used < after.reading.used) × (before.reading.used + length b ≤ after.reading.used)) → IsBegun left1 left2 files f1 f2 before after batch)
-    (sym is) (begun_with left1 left2 files f1 f2 before after batch)
+    → IfSome found (λ (b : Batch). (before.reading.used < after.reading.used) × (before.reading.used + length b ≤ after.reading.used)) → IsBegun first second before after batch)
+    (sym is) (begun_with first second before after batch moved unwritten)
 
--- A run that stands where it stood.
-pub stands_still : {number next : ℕ} (limits : Counts) (options : Options) (left0 left1 written0 written1 written2 : Option (List ℕ)) (files : Option (List shelf.File)) (f0 f1 : ℕ) (before : Gathering) (made now : RunRecord)
-    → IsUnderWay limits options left0 left1 written0 written1 files f0 f1 before made number next → (now ≡ made) × (written2 ≡ written1) → IsUnderWay limits options left0 left1 written0 written2 files f0 f1 before now number next
-stands_still {number = number} {next = next} limits options left0 left1 written0 written1 written2 files f0 f1 before made now way (same, nothing) =
-    subst (λ (w : Option (List ℕ)). IsUnderWay limits options left0 left1 written0 w files f0 f1 before now number next) (sym nothing)
-    (subst (λ (m : RunRecord). IsUnderWay limits options left0 left1 written0 written1 files f0 f1 before m number next) (sym same) way)
+-- A run whose record stands.
+pub stands_still : {number next : ℕ} (limits : Counts) (options : Options) (first second : World) (before : Gathering) (made now : RunRecord)
+    → now ≡ made → IsUnderWay limits options first second before made number next → IsUnderWay limits options first second before now number next
+stands_still {number = number} {next = next} limits options first second before made now same way =
+    subst (λ (m : RunRecord). IsUnderWay limits options first second before m number next) (sym same) way
 
 -- The batch that was gathered was answered too.
-pub is_answered : {number next : ℕ} (limits : Counts) (options : Options) (left0 left1 left2 written0 written1 : Option (List ℕ)) (files : Option (List shelf.File)) (f0 f1 f2 : ℕ) (before after : Gathering) (made now : RunRecord) (first : ℕ) (batch : Batch) (merge : Bool) (merger : Option ℕ)
-    → IsUnderWay limits options left0 left1 written0 written1 files f0 f1 before made number next → IsBegun left1 left2 files f1 f2 before after batch
-    → first ≡ length made.answers → merge ≡ made.options.merge → merger ≡ (if merge then Some next else None) → HasOneMore limits number merger batch made now → AddsAnswers made now
-    → IsAnswered limits options left0 left2 written0 written1 files f0 f2 after now first (number + 1) (next + updates batch)
-is_answered {number = number} {next = next} limits options left0 left1 left2 written0 written1 files f0 f1 f2 before after made now first batch merge merger way has first_is same merger_is more adds = record {
-  left = left1;
-  faults = f1;
-  before = before;
+pub is_answered : {number next : ℕ} (limits : Counts) (options : Options) (first second third : World) (before after : Gathering) (made now : RunRecord) (from : ℕ) (batch : Batch) (merge : Bool) (merger : Option ℕ)
+    → IsUnderWay limits options first second before made number next → IsBegun second third before after batch
+    → from ≡ length made.answers → merge ≡ made.options.merge → merger ≡ (if merge then Some next else None) → HasOneMore limits number merger batch made now → AddsAnswers made now
+    → IsAnswered limits options first third after now from (number + 1) (next + updates batch)
+is_answered {number = number} {next = next} limits options first second third before after made now from batch merge merger way has from_is same merger_is more adds = record {
+  mid = second;
+  gathering_before = before;
   record_before = made;
   number_before = number;
   next_before = next;
@@ -353,15 +417,10 @@ is_answered {number = number} {next = next} limits options left0 left1 left2 wri
   begun = has;
   is_made = batch_made limits options way.batches made now batch merge merger (same ∙ ap (λ (o : Options). o.merge) way.is_made.options_are) merger_is way.counted more way.is_made;
   adds = adds;
-  first_is = first_is;
+  first_is = from_is;
   number_is = refl;
   next_is = refl;
 }
-
--- the source was read late, or not at all
-once : {Nothing Late : Type 0} → Nothing ⊎ Late → (⊤ × Nothing) ⊎ Late
-once (inl nothing) = inl (tt, nothing)
-once (inr late) = inr late
 
 -- the text of the answers of a batch
 answers_behind : (limits : Counts) (options : Options) (batches : List Batch) (made now : RunRecord) (first : ℕ) → IsMade limits options batches now → first ≡ length made.answers
@@ -370,65 +429,68 @@ answers_behind limits options batches made now first is first_is =
     ap (λ (o : Options). text_behind o.trace first now) is.options_are ∙ ap (λ (n : ℕ). text_behind options.trace n now) first_is
 
 -- It was written, and the gatherer goes on.
-pub answered_goes : {first number next : ℕ} (limits : Counts) (options : Options) (left0 left2 written0 written1 written2 : Option (List ℕ)) (files : Option (List shelf.File)) (f0 f2 : ℕ) (after : Gathering) (now : RunRecord)
-    → IsAnswered limits options left0 left2 written0 written1 files f0 f2 after now first number next → after.ended ≡ false → Appends written1 written2 (text_behind now.options.trace first now)
-    → IsUnderWay limits options left0 left2 written0 written2 files f0 f2 after now number next
-answered_goes {first = first} {number = number} {next = next} limits options left0 left2 written0 written1 written2 files f0 f2 after now is on took =
-    let took_all = subst (Appends written1 written2) (answers_behind limits options (is.way.batches ++ is.batch ∷ []) is.record_before now first is.is_made is.first_is) took in
-    subst (λ (n : ℕ). IsUnderWay limits options left0 left2 written0 written2 files f0 f2 after now n next) (sym is.number_is)
-    (subst (λ (n : ℕ). IsUnderWay limits options left0 left2 written0 written2 files f0 f2 after now (is.number_before + 1) n) (sym is.next_is)
-    (one_more limits options left0 is.left left2 written0 written1 written2 files f0 is.faults f2 is.before after is.record_before now is.batch is.adds.new ⊤ is.way is.begun.taken (once is.begun.late) on is.begun.gathered
-    is.begun.limits_are is.begun.lanes_are is.begun.within is.is_made is.adds.are took_all is.begun.grows))
+pub answered_goes : {from number next : ℕ} (limits : Counts) (options : Options) (first third : World) (written : Option (List ℕ)) (faults : ℕ) (after : Gathering) (now : RunRecord)
+    → IsAnswered limits options first third after now from number next → after.ended ≡ false → third.write_faults ≤ faults → Appends third.written written (text_behind now.options.trace from now)
+    → IsUnderWay limits options first (with_sink written faults third) after now number next
+answered_goes {from = from} {number = number} {next = next} limits options first third written faults after now is on later took =
+    let took_all = subst (Appends third.written written) (answers_behind limits options (is.way.batches ++ is.batch ∷ []) is.record_before now from is.is_made is.first_is) took in
+    subst (λ (n : ℕ). IsUnderWay limits options first (with_sink written faults third) after now n next) (sym is.number_is)
+    (subst (λ (n : ℕ). IsUnderWay limits options first (with_sink written faults third) after now (is.number_before + 1) n) (sym is.next_is)
+    (one_more limits options first is.mid third written faults is.gathering_before after is.record_before now is.batch is.adds.new is.way is.begun on later is.is_made is.adds.are took_all))
 
 -- It was written, and was the last one.
-pub answered_ends : {first number next : ℕ} (limits : Counts) (options : Options) (ends : Status) (left0 left2 written0 written1 written2 written3 : Option (List ℕ)) (files : Option (List shelf.File)) (f0 f2 : ℕ) (after : Gathering) (mid now : RunRecord)
-    → IsAnswered limits options left0 left2 written0 written1 files f0 f2 after mid first number next → after.ended ≡ true → Appends written1 written2 (text_behind mid.options.trace first mid)
-    → now ≡ with_end true mid → IsWritten ends written2 written3 (text_behind mid.options.trace (length mid.answers) (with_end true mid)) → Meets limits options ends left0 left2 written0 written3 files f0 f2 now
-answered_ends {first = first} limits options ends left0 left2 written0 written1 written2 written3 files f0 f2 after mid now is over took closed rest =
-    let took_all = subst (Appends written1 written2) (answers_behind limits options (is.way.batches ++ is.batch ∷ []) is.record_before mid first is.is_made is.first_is) took in
-    ends_with limits options ends left0 is.left left2 written0 written1 written2 written3 files f0 is.faults f2 is.before after is.record_before mid now is.batch is.adds.new is.way is.begun.taken over is.begun.gathered is.is_made is.adds.are took_all closed
-    (subst (λ (o : Options). IsWritten ends written2 written3 (text_behind o.trace (length mid.answers) (with_end true mid))) is.is_made.options_are rest)
+pub answered_ends : {from number next : ℕ} (limits : Counts) (options : Options) (ends : Status) (first third : World) (written last : Option (List ℕ)) (faults later : ℕ) (after : Gathering) (mid now : RunRecord)
+    → IsAnswered limits options first third after mid from number next → after.ended ≡ true → Appends third.written written (text_behind mid.options.trace from mid)
+    → now ≡ with_end true mid → IsWritten ends written last (text_behind mid.options.trace (length mid.answers) (with_end true mid)) → Meets limits options ends first (with_sink last later third) now
+answered_ends {from = from} limits options ends first third written last faults later after mid now is over took closed rest =
+    let took_all = subst (Appends third.written written) (answers_behind limits options (is.way.batches ++ is.batch ∷ []) is.record_before mid from is.is_made is.first_is) took in
+    ends_with limits options ends first is.mid third written last faults later is.gathering_before after is.record_before mid now is.batch is.adds.new is.way is.begun over is.is_made is.adds.are took_all closed
+    (subst (λ (o : Options). IsWritten ends written last (text_behind o.trace (length mid.answers) (with_end true mid))) is.is_made.options_are rest)
 
 -- It was not written whole.
-pub answered_stops : {first number next : ℕ} (limits : Counts) (options : Options) (why : WriteStop) (left0 left2 written0 written1 written2 : Option (List ℕ)) (files : Option (List shelf.File)) (f0 f2 : ℕ) (after : Gathering) (now : RunRecord)
-    → IsAnswered limits options left0 left2 written0 written1 files f0 f2 after now first number next → (part : List ℕ) → IsPrefix part (text_behind now.options.trace first now) → Appends written1 written2 part
-    → Meets limits options (status_of_stop why) left0 left2 written0 written2 files f0 f2 now
-answered_stops {first = first} limits options why left0 left2 written0 written1 written2 files f0 f2 after now is part beginning took =
-    let begins_all = subst (IsPrefix part) (answers_behind limits options (is.way.batches ++ is.batch ∷ []) is.record_before now first is.is_made is.first_is) beginning in
-    ends_writing limits options why left0 is.left left2 written0 written1 written2 files f0 is.faults f2 is.before after is.record_before now is.batch is.adds.new part ⊤ is.way is.begun.taken (once is.begun.late)
-    is.begun.limits_are is.begun.lanes_are is.begun.within is.begun.gathered is.is_made is.adds.are begins_all took
+pub answered_stops : {from number next : ℕ} (limits : Counts) (options : Options) (why : WriteStop) (first third : World) (written : Option (List ℕ)) (faults : ℕ) (after : Gathering) (now : RunRecord)
+    → IsAnswered limits options first third after now from number next → (part : List ℕ) → IsPrefix part (text_behind now.options.trace from now) → Appends third.written written part
+    → Meets limits options (status_of_stop why) first (with_sink written faults third) now
+answered_stops {from = from} limits options why first third written faults after now is part beginning took =
+    let begins_all = subst (IsPrefix part) (answers_behind limits options (is.way.batches ++ is.batch ∷ []) is.record_before now from is.is_made is.first_is) beginning in
+    ends_writing limits options why first is.mid third written faults is.gathering_before after is.record_before now is.batch is.adds.new part is.way is.begun is.is_made is.adds.are begins_all took
 
 -- Memory was wanting between two batches.
-pub ends_between : {number next : ℕ} (limits : Counts) (options : Options) (left0 left1 left2 written0 written1 : Option (List ℕ)) (files : Option (List shelf.File)) (f0 f1 f2 : ℕ) (before : Gathering) (made : RunRecord) (given : List ℕ)
-    → IsUnderWay limits options left0 left1 written0 written1 files f0 f1 before made number next → Consumes left1 left2 given → f1 ≤ f2
-    → Meets limits options status.NoMemory left0 left2 written0 written1 files f0 f2 made
-ends_between limits options left0 left1 left2 written0 written1 files f0 f1 f2 before made given way gave later =
-    meets_between limits options left0 left1 left2 written0 written1 files f0 f1 f2 before way.batches made given way.been way.goes way.is_made way.writ gave later
+pub ends_between : {number next : ℕ} (limits : Counts) (options : Options) (first second third : World) (before : Gathering) (made : RunRecord) (given : List ℕ)
+    → IsUnderWay limits options first second before made number next → Consumes second.left third.left given → second.fetch_faults ≤ third.fetch_faults → third.written ≡ second.written
+    → Meets limits options status.NoMemory first third made
+ends_between limits options first second third before made given way gave later unwritten =
+    meets_between limits options first second third before way.batches made given way.been way.goes way.is_made way.writ gave later unwritten
 
 -- The gatherer gave no batch.
-pub ends_gathering : {number next : ℕ} (limits : Counts) (options : Options) (why : ScriptEnd) (left0 left1 left2 written0 written1 : Option (List ℕ)) (files : Option (List shelf.File)) (f0 f1 f2 : ℕ) (before after : Gathering) (made : RunRecord)
-    → IsUnderWay limits options left0 left1 written0 written1 files f0 f1 before made number next → (took : Taken (Err why) left1 left2 files f1 f2) → Gathers (Err why) before after left2 took.given took.asked took.outcomes → f1 ≤ f2
-    → Meets limits options (status_of_end why) left0 left2 written0 written1 files f0 f2 made
-ends_gathering limits options (end.Script line why) left0 left1 left2 written0 written1 files f0 f1 f2 before after made way took faulty later = record {
-  given = way.been.given ++ took.given;
-  taken = way.writ.taken;
-  outcomes = way.been.outcomes ++ took.outcomes;
-  gave = Consumes-trans left0 left1 left2 way.been.given took.given way.been.gave took.gave;
-  took = way.writ.took;
-  row = refused limits options left0 left1 left2 files f0 f1 f2 before way.batches made way.writ.taken took.given took.asked took.outcomes line why way.been way.goes way.is_made way.writ.text_is took.fetched faulty;
-  late = tt;
-}
-ends_gathering limits options end.ReadFault left0 left1 left2 written0 written1 files f0 f1 f2 before after made way took unfinished later = record {
-  given = way.been.given ++ took.given;
-  taken = way.writ.taken;
-  outcomes = way.been.outcomes ++ took.outcomes;
-  gave = Consumes-trans left0 left1 left2 way.been.given took.given way.been.gave took.gave;
-  took = way.writ.took;
-  row = broken_off limits options left0 left1 files f0 f1 f2 before way.batches made way.writ.taken took.given took.asked took.outcomes way.been way.goes way.is_made way.writ.text_is took.fetched unfinished;
-  late = tt;
-}
-ends_gathering limits options end.NoMemory left0 left1 left2 written0 written1 files f0 f1 f2 before after made way took nothing later =
-    ends_between limits options left0 left1 left2 written0 written1 files f0 f1 f2 before made took.given way took.gave later
+pub ends_gathering : {number next : ℕ} (limits : Counts) (options : Options) (why : ScriptEnd) (first second third : World) (before after : Gathering) (made : RunRecord)
+    → IsUnderWay limits options first second before made number next → (took : Taken (Err why) second.left third.left second.files second.fetch_faults third.fetch_faults)
+    → Gathers (Err why) before after third.left took.given took.asked took.outcomes → second.fetch_faults ≤ third.fetch_faults → third.written ≡ second.written
+    → Meets limits options (status_of_end why) first third made
+ends_gathering limits options (end.Script line why) first second third before after made way took faulty later unwritten =
+    let writ = still_written options first second third made unwritten way.writ in
+    record {
+      given = way.been.given ++ took.given;
+      taken = writ.taken;
+      outcomes = way.been.outcomes ++ took.outcomes;
+      gave = Consumes-trans first.left second.left third.left way.been.given took.given way.been.gave took.gave;
+      took = writ.took;
+      row = refused limits options first second third before way.batches made writ.taken took.given took.asked took.outcomes line why way.moved way.been way.goes way.is_made writ.text_is took.fetched faulty;
+      late = tt;
+    }
+ends_gathering limits options end.ReadFault first second third before after made way took unfinished later unwritten =
+    let writ = still_written options first second third made unwritten way.writ in
+    record {
+      given = way.been.given ++ took.given;
+      taken = writ.taken;
+      outcomes = way.been.outcomes ++ took.outcomes;
+      gave = Consumes-trans first.left second.left third.left way.been.given took.given way.been.gave took.gave;
+      took = writ.took;
+      row = broken_off limits options first second third before way.batches made writ.taken took.given took.asked took.outcomes way.moved way.been way.goes way.is_made writ.text_is took.fetched unfinished;
+      late = tt;
+    }
+ends_gathering limits options end.NoMemory first second third before after made way took nothing later unwritten =
+    ends_between limits options first second third before made took.given way took.gave later unwritten
 
 -- ---- completeness
 
@@ -441,108 +503,112 @@ whole_input (Some xs) (Some ys) given script gave told = let same : xs ≡ scrip
     same_some h = ap (λ (o : Option (List ℕ)). left_of o) h
 
 -- A script without a fault is not refused.
-pub not_refused : (limits : Counts) (options : Options) (line : ℕ) (why : Reason) (left0 left1 written0 written1 : Option (List ℕ)) (files : Option (List shelf.File)) (f0 f1 : ℕ) (made : RunRecord) (script : List ℕ)
-    → Meets limits options (status.Script line why) left0 left1 written0 written1 files f0 f1 made → left0 ≡ Some script → HasNoFault options script files f0 f1 → ⊥
-not_refused limits options line why left0 left1 written0 written1 files f0 f1 made script met told whole =
-    let input : script ≡ met.given ++ left_of left1 = whole_input left0 left1 met.given script met.gave told in
-    let fetched : AreFetched files f0 f1 (commands standard options.lanes script met.outcomes).asked met.outcomes =
-    subst (λ (bytes : List ℕ). AreFetched files f0 f1 (commands standard options.lanes bytes met.outcomes).asked met.outcomes) (sym input) met.row.fetched in
+pub not_refused : (limits : Counts) (options : Options) (line : ℕ) (why : Reason) (before now : World) (made : RunRecord) (script : List ℕ)
+    → Meets limits options (status.Script line why) before now made → before.left ≡ Some script → HasNoFault options script before now → ⊥
+not_refused limits options line why before now made script met told whole =
+    let input : script ≡ met.given ++ left_of now.left = whole_input before.left now.left met.given script met.gave told in
+    let fetched : AreFetched before.files before.fetch_faults now.fetch_faults (commands standard options.lanes script met.outcomes).asked met.outcomes =
+    subst (λ (bytes : List ℕ). AreFetched before.files before.fetch_faults now.fetch_faults (commands standard options.lanes bytes met.outcomes).asked met.outcomes) (sym input) met.row.fetched in
     let no : FaultAt line why ≡ Whole = sym met.row.fault ∙ ap (λ (bytes : List ℕ). (commands standard options.lanes bytes met.outcomes).end) (sym input) ∙ whole met.outcomes fetched in cc
 
 -- ---- which end gives which status
 
 -- Only a source that failed ends a run so, and none for its words.
-pub end_causes : {reads0 reads1 writes0 writes1 : ℕ} (why : ScriptEnd) → (why ≡ end.ReadFault → Rose reads0 reads1) → HasCauses (status_of_end why) reads0 reads1 writes0 writes1
-end_causes (end.Script line reason) read = record { usage = λ no. absurd (let e : status.Script line reason ≡ status.Usage = no in cc); read_fault = λ no. absurd (let e : status.Script line reason ≡ status.ReadFault = no in cc); write_fault = λ no. absurd (let e : status.Script line reason ≡ status.WriteFault = no in cc) }
-end_causes end.ReadFault read = record { usage = λ no. absurd (let e : status.ReadFault ≡ status.Usage = no in cc); read_fault = λ is. read refl; write_fault = λ no. absurd (let e : status.ReadFault ≡ status.WriteFault = no in cc) }
-end_causes end.NoMemory read = record { usage = λ no. absurd (let e : status.NoMemory ≡ status.Usage = no in cc); read_fault = λ no. absurd (let e : status.NoMemory ≡ status.ReadFault = no in cc); write_fault = λ no. absurd (let e : status.NoMemory ≡ status.WriteFault = no in cc) }
+pub end_moves : {refused : Type 0} {before now : World} (why : ScriptEnd) → HasMoved before now → (why ≡ end.ReadFault → Rose before.read_faults now.read_faults) → Moves refused (status_of_end why) before now
+end_moves (end.Script line reason) moved read = moves_freely (status.Script line reason) moved
+    (λ no. let e : status.Script line reason ≡ status.Usage = no in cc) (λ no. let e : status.Script line reason ≡ status.ReadFault = no in cc) (λ no. let e : status.Script line reason ≡ status.WriteFault = no in cc)
+end_moves end.ReadFault moved read = record {
+  moved = moved;
+  usage = λ no. absurd (let e : status.ReadFault ≡ status.Usage = no in cc);
+  read_fault = λ is. read refl;
+  write_fault = λ no. absurd (let e : status.ReadFault ≡ status.WriteFault = no in cc);
+}
+end_moves end.NoMemory moved read = memory_moves moved
 
 -- Only a sink that failed ends a run so.
-pub stop_causes : {reads0 reads1 writes0 writes1 : ℕ} (why : WriteStop) → (why ≡ stop.Failed → Rose writes0 writes1) → HasCauses (status_of_stop why) reads0 reads1 writes0 writes1
-stop_causes stop.Failed wrote = record { usage = λ no. absurd (let e : status.WriteFault ≡ status.Usage = no in cc); read_fault = λ no. absurd (let e : status.WriteFault ≡ status.ReadFault = no in cc); write_fault = λ is. wrote refl }
-stop_causes stop.NoMemory wrote = record { usage = λ no. absurd (let e : status.NoMemory ≡ status.Usage = no in cc); read_fault = λ no. absurd (let e : status.NoMemory ≡ status.ReadFault = no in cc); write_fault = λ no. absurd (let e : status.NoMemory ≡ status.WriteFault = no in cc) }
-
--- Want of memory has no other cause.
-pub memory_causes : {reads0 reads1 writes0 writes1 : ℕ} → HasCauses status.NoMemory reads0 reads1 writes0 writes1
-memory_causes = stop_causes stop.NoMemory (λ no. absurd (let e : stop.NoMemory ≡ stop.Failed = no in cc))
-
--- Causes that came later.
-pub causes_since : {reads0 reads1 reads2 writes0 writes1 writes2 : ℕ} (result : Status) → reads0 ≤ reads1 → writes0 ≤ writes1 → HasCauses result reads1 reads2 writes1 writes2 → HasCauses result reads0 reads2 writes0 writes2
-causes_since result reads writes has = record {
-  usage = has.usage;
-  read_fault = λ is. rose_since _ _ _ reads (has.read_fault is);
-  write_fault = λ is. rose_since _ _ _ writes (has.write_fault is);
+pub stop_moves : {refused : Type 0} {before now : World} (why : WriteStop) → HasMoved before now → (why ≡ stop.Failed → Rose before.write_faults now.write_faults) → Moves refused (status_of_stop why) before now
+stop_moves stop.Failed moved wrote = record {
+  moved = moved;
+  usage = λ no. absurd (let e : status.WriteFault ≡ status.Usage = no in cc);
+  read_fault = λ no. absurd (let e : status.WriteFault ≡ status.ReadFault = no in cc);
+  write_fault = λ is. wrote refl;
 }
+stop_moves stop.NoMemory moved wrote = memory_moves moved
 
--- What moved in two steps.
-pub moved_on : {files0 files1 files2 : Option (List shelf.File)} {r0 r1 r2 w0 w1 w2 f0 f1 f2 : ℕ} → HasMoved files0 files1 r0 r1 w0 w1 f0 f1 → HasMoved files1 files2 r1 r2 w1 w2 f1 f2 → HasMoved files0 files2 r0 r2 w0 w2 f0 f2
-moved_on first second = record {
-  files = second.files ∙ first.files;
-  reads = omega (arith, first.reads, second.reads);
-  writes = omega (arith, first.writes, second.writes);
-  fetches = omega (arith, first.fetches, second.fetches);
-}
-
-pub end_read : (why : ScriptEnd) → status_of_end why ≡ status.ReadFault → why ≡ end.ReadFault
-end_read (end.Script line reason) is = absurd (let no : status.Script line reason ≡ status.ReadFault = is in cc)
-end_read end.ReadFault is = refl
-end_read end.NoMemory is = absurd (let no : status.NoMemory ≡ status.ReadFault = is in cc)
-
-pub stop_failed : (why : WriteStop) → status_of_stop why ≡ status.WriteFault → why ≡ stop.Failed
-stop_failed stop.Failed is = refl
-stop_failed stop.NoMemory is = absurd (let no : status.NoMemory ≡ status.WriteFault = is in cc)
-
--- ---- nothing done
-
--- Memory was wanting before anything was read.
-pub nothing_done : (limits : Counts) (options : Options) (left written : Option (List ℕ)) (files : Option (List shelf.File)) (faults : ℕ) (made : RunRecord) → made ≡ empty plain
-    → Meets limits options status.NoMemory left left written written files faults faults made
-nothing_done limits options left written files faults made is = record { given = []; taken = []; outcomes = []; gave = Consumes-nil left; took = Appends-nil written; row = inl (refl, is); late = tt }
+-- Memory ran out before anything was read.
+pub nothing_done : (limits : Counts) (options : Options) (world : World) (made : RunRecord) → made ≡ empty plain → Meets limits options status.NoMemory world world made
+nothing_done limits options world made is = record { given = []; taken = []; outcomes = []; gave = Consumes-nil world.left; took = Appends-nil world.written; row = inl (refl, is); late = tt }
 
 -- The words are refused.
-pub nothing_asked : (limits : Counts) (options : Options) (left written : Option (List ℕ)) (files : Option (List shelf.File)) (faults : ℕ) (made : RunRecord) → made ≡ empty plain
-    → Meets limits options status.Usage left left written written files faults faults made
-nothing_asked limits options left written files faults made is = record { given = []; taken = []; outcomes = []; gave = Consumes-nil left; took = Appends-nil written; row = (refl, (refl, is)); late = tt }
+pub nothing_asked : (limits : Counts) (options : Options) (world : World) (made : RunRecord) → made ≡ empty plain → Meets limits options status.Usage world world made
+nothing_asked limits options world made is = record { given = []; taken = []; outcomes = []; gave = Consumes-nil world.left; took = Appends-nil world.written; row = (refl, (refl, is)); late = tt }
 
 -- ---- the words
 
--- Memory was wanting before anything was read, whatever the mode.
-pub nothing_made : (limits : Counts) (mode : Mode) (left written : Option (List ℕ)) (files : Option (List shelf.File)) (faults : ℕ) (made : RunRecord) → made ≡ empty plain
-    → MeetsMode limits mode status.NoMemory left left written written files faults faults made
-nothing_made limits (Run options) left written files faults made is = nothing_done limits options left written files faults made is
-nothing_made limits (Make seed tables rows) left written files faults made is = record { taken = []; took = Appends-nil written; row = inl (refl, is) }
+-- Memory ran out before anything was read, whatever the mode.
+pub nothing_made : (limits : Counts) (mode : Mode) (world : World) (made : RunRecord) → made ≡ empty plain → MeetsMode limits mode status.NoMemory world world made
+nothing_made limits (Run options) world made is = nothing_done limits options world made is
+nothing_made limits (Make seed tables rows) world made is = record { taken = []; took = Appends-nil world.written; row = inl (refl, is) }
 
 -- The mode that the words say; any, where they say none.
-record Said (limits : Counts) (said : Option Mode) (result : Status) (left written : Option (List ℕ)) (files : Option (List shelf.File)) (faults : ℕ) (made : RunRecord) : Type 0 where
+record Said (limits : Counts) (said : Option Mode) (result : Status) (world : World) (made : RunRecord) : Type 0 where
   pub mode : Mode
   pub is : IsSaid said mode
-  pub met : MeetsMode limits mode result left left written written files faults faults made
+  pub met : MeetsMode limits mode result world world made
 
-said_by : (limits : Counts) (said : Option Mode) (left written : Option (List ℕ)) (files : Option (List shelf.File)) (faults : ℕ) (made : RunRecord) → made ≡ empty plain → Said limits said status.NoMemory left written files faults made
-said_by limits None left written files faults made is = record { mode = Run plain; is = tt; met = nothing_done limits plain left written files faults made is }
-said_by limits (Some mode) left written files faults made is = record { mode = mode; is = refl; met = nothing_made limits mode left written files faults made is }
+said_by : (limits : Counts) (said : Option Mode) (world : World) (made : RunRecord) → made ≡ empty plain → Said limits said status.NoMemory world made
+said_by limits None world made is = record { mode = Run plain; is = tt; met = nothing_done limits plain world made is }
+said_by limits (Some mode) world made is = record { mode = mode; is = refl; met = nothing_made limits mode world made is }
 
--- The words are refused, or memory is wanting for them.
-pub words_refused : (limits : Counts) (said : Option Mode) (why : WordsRefused) (left written : Option (List ℕ)) (files : Option (List shelf.File)) (faults : ℕ) (made : RunRecord) → made ≡ empty plain
-    → (why ≡ words.NoMemory) ⊎ (said ≡ None) → (result : Status) → result ≡ status_of_refused why
-    → (mode : Mode) × IsSaid said mode × MeetsMode limits mode result left left written written files faults faults made
-words_refused limits said words.NoMemory left written files faults made is why result same =
-    let by = said_by limits said left written files faults made is in
-    (by.mode, by.is, subst (λ (s : Status). MeetsMode limits by.mode s left left written written files faults faults made) (sym same) by.met)
-words_refused limits said words.Usage left written files faults made is (inl same_word) result same = absurd (let e : words.Usage ≡ words.NoMemory = same_word in cc)
-words_refused limits said words.Usage left written files faults made is (inr none) result same =
-    (Run plain, subst (λ (s : Option Mode). IsSaid s (Run plain)) (sym none) tt, subst (λ (s : Status). Meets limits plain s left left written written files faults faults made) (sym same) (nothing_asked limits plain left written files faults made is))
+-- The words are refused, or memory ran out for them.
+pub words_refused : (limits : Counts) (said : Option Mode) (why : WordsRefused) (world : World) (made : RunRecord) → made ≡ empty plain
+    → (why ≡ words.NoMemory) ⊎ (said ≡ None) → (result : Status) → result ≡ status_of_refused why → (mode : Mode) × IsSaid said mode × MeetsMode limits mode result world world made
+words_refused limits said words.NoMemory world made is why result same =
+    let by = said_by limits said world made is in
+    (by.mode, by.is, subst (λ (s : Status). MeetsMode limits by.mode s world world made) (sym same) by.met)
+words_refused limits said words.Usage world made is (inl same_word) result same = absurd (let e : words.Usage ≡ words.NoMemory = same_word in cc)
+words_refused limits said words.Usage world made is (inr none) result same =
+    (Run plain, subst (λ (s : Option Mode). IsSaid s (Run plain)) (sym none) tt, subst (λ (s : Status). Meets limits plain s world world made) (sym same) (nothing_asked limits plain world made is))
+
+-- And nothing moved.
+pub refused_moves : (said : Option Mode) (why : WordsRefused) (world : World) → (why ≡ words.NoMemory) ⊎ (said ≡ None) → (result : Status) → result ≡ status_of_refused why → Moves (said ≡ None) result world world
+refused_moves said words.NoMemory world why result same = subst (λ (s : Status). Moves (said ≡ None) s world world) (sym same) (memory_moves (still world))
+refused_moves said words.Usage world (inl same_word) result same = absurd (let e : words.Usage ≡ words.NoMemory = same_word in cc)
+refused_moves said words.Usage world (inr none) result same = subst (λ (s : Status). Moves (said ≡ None) s world world) (sym same) (record {
+  moved = still world;
+  usage = λ is. none;
+  read_fault = λ no. absurd (let e : status.Usage ≡ status.ReadFault = no in cc);
+  write_fault = λ no. absurd (let e : status.Usage ≡ status.WriteFault = no in cc);
+})
+
+-- Words that say a mode are not refused.
+pub moves_said : {refused : Type 0} {before now : World} (result : Status) → Moves ⊥ result before now → Moves refused result before now
+moves_said result moves = record { moved = moves.moved; usage = λ is. absurd (moves.usage is); read_fault = moves.read_fault; write_fault = moves.write_fault }
 
 -- ---- completeness
 
--- Without a fault a script that has none ends well, or memory is wanting.
-pub ends_well : (limits : Counts) (options : Options) (result : Status) (left0 left1 written0 written1 : Option (List ℕ)) (files : Option (List shelf.File)) (f0 f1 : ℕ) (made : RunRecord) (script : List ℕ) (Read Wrote : Type 0)
-    → Meets limits options result left0 left1 written0 written1 files f0 f1 made → left0 ≡ Some script → HasNoFault options script files f0 f1
-    → (result ≡ status.Usage → ⊥) → (result ≡ status.ReadFault → Read) → (result ≡ status.WriteFault → Wrote) → (Read → ⊥) → (Wrote → ⊥) → (result ≡ status.Done) ⊎ (result ≡ status.NoMemory)
-ends_well limits options status.Done left0 left1 written0 written1 files f0 f1 made script Read Wrote met told whole usage read wrote quiet still = inl refl
-ends_well limits options status.NoMemory left0 left1 written0 written1 files f0 f1 made script Read Wrote met told whole usage read wrote quiet still = inr refl
-ends_well limits options status.Usage left0 left1 written0 written1 files f0 f1 made script Read Wrote met told whole usage read wrote quiet still = absurd (usage refl)
-ends_well limits options status.ReadFault left0 left1 written0 written1 files f0 f1 made script Read Wrote met told whole usage read wrote quiet still = absurd (quiet (read refl))
-ends_well limits options status.WriteFault left0 left1 written0 written1 files f0 f1 made script Read Wrote met told whole usage read wrote quiet still = absurd (still (wrote refl))
-ends_well limits options (status.Script line why) left0 left1 written0 written1 files f0 f1 made script Read Wrote met told whole usage read wrote quiet still =
-    absurd (not_refused limits options line why left0 left1 written0 written1 files f0 f1 made script met told whole)
+-- Without a fault a script that has none ends well, or memory runs out.
+pub ends_well : (limits : Counts) (options : Options) (result : Status) (before now : World) (made : RunRecord) → Meets limits options result before now made → Moves ⊥ result before now → EndsWell options result before now
+ends_well limits options status.Done before now made met moves = λ script told whole quiet still. inl refl
+ends_well limits options status.NoMemory before now made met moves = λ script told whole quiet still. inr refl
+ends_well limits options status.Usage before now made met moves = λ script told whole quiet still. absurd (moves.usage refl)
+ends_well limits options status.ReadFault before now made met moves = λ script told whole quiet still. absurd (quiet (moves.read_fault refl))
+ends_well limits options status.WriteFault before now made met moves = λ script told whole quiet still. absurd (still (moves.write_fault refl))
+ends_well limits options (status.Script line why) before now made met moves = λ script told whole quiet still. absurd (not_refused limits options line why before now made script met told whole)
+
+-- Words that are refused say no mode, or memory ran out for them.
+pub refused_ends_well : (said : Option Mode) (why : WordsRefused) (world : World) → (why ≡ words.NoMemory) ⊎ (said ≡ None) → (result : Status) → result ≡ status_of_refused why → (mode : Mode) → said ≡ Some mode → EndsModeWell mode result world world
+refused_ends_well said words.NoMemory world why result same mode says = subst (λ (s : Status). EndsModeWell mode s world world) (sym same) (memory_ends_well mode)
+  where
+    memory_ends_well : (mode : Mode) → EndsModeWell mode status.NoMemory world world
+    memory_ends_well (Run options) = λ script told whole quiet still. inr refl
+    memory_ends_well (Make seed tables rows) = λ still. inr refl
+refused_ends_well said words.Usage world (inl same_word) result same mode says = absurd (let e : words.Usage ≡ words.NoMemory = same_word in cc)
+refused_ends_well said words.Usage world (inr none) result same mode says = absurd (let no : None ≡ Some mode = sym none ∙ says in cc)
+
+-- A lake that is made ends well, or for its sink.
+pub make_ends_well : (result : Status) (before now : World) → (result ≡ status.Done) ⊎ (result ≡ status.WriteFault) ⊎ (result ≡ status.NoMemory) → Moves ⊥ result before now
+    → (Rose before.write_faults now.write_faults → ⊥) → (result ≡ status.Done) ⊎ (result ≡ status.NoMemory)
+make_ends_well result before now (inl done) moves still = inl done
+make_ends_well result before now (inr (inl failed)) moves still = absurd (still (moves.write_fault failed))
+make_ends_well result before now (inr (inr memory)) moves still = inr memory

@@ -1,7 +1,7 @@
 -- What a run comes to: what moved, and the row of its status.
-use Rattle.std.specs.Prelude.{ℕ, ◌≡◌, ◌<◌, ◌≤◌, ⊤, false, List, ◌++◌, length, Option, Some, None}
+use Rattle.std.specs.Prelude.{ℕ, ◌≡◌, ◌<◌, ◌≤◌, ◌⊎◌, ⊤, false, List, ◌++◌, length, Option, Some, None}
 use Rattle.std.specs.Io.KnownBytes.{Consumes, Appends}
-use Rattle.lake_io.specs.Files as shelf
+use Rattle.lake_io.specs.Causes.{Rose}
 use Rattle.lake_model.specs.declared.Counts.{Counts}
 use Rattle.lake_model.specs.Texts.{Text}
 use Rattle.script_model.specs.declared.Status.{Status}
@@ -12,15 +12,16 @@ use Rattle.script_model.specs.Script.{Commands, Whole, commands, standard}
 use Rattle.script_model.specs.Record.{Options, RunRecord}
 use Rattle.script_model.specs.Statuses.{IsStated, MakeRow, Row, begun}
 use Rattle.script_text.specs.Outcomes.{AreFetched, AreFetchedSoFar}
+use Rattle.josie_top.specs.World.{World}
 
 -- what came of the fetches of a run, by its status
-abbrev pub FetchedBy : Status → Option (List shelf.File) → ℕ → ℕ → List Text → List File → Type 0
-FetchedBy Done files before now asked outcomes = AreFetched files before now asked outcomes
-FetchedBy (Script line reason) files before now asked outcomes = AreFetched files before now asked outcomes
-FetchedBy Usage files before now asked outcomes = AreFetched files before now asked outcomes
-FetchedBy ReadFault files before now asked outcomes = AreFetched files before now asked outcomes
-FetchedBy WriteFault files before now asked outcomes = AreFetched files before now asked outcomes
-FetchedBy NoMemory files before now asked outcomes = AreFetchedSoFar files before now asked outcomes
+abbrev pub FetchedBy : Status → World → World → List Text → List File → Type 0
+FetchedBy Done before now asked outcomes = AreFetched before.files before.fetch_faults now.fetch_faults asked outcomes
+FetchedBy (Script line reason) before now asked outcomes = AreFetched before.files before.fetch_faults now.fetch_faults asked outcomes
+FetchedBy Usage before now asked outcomes = AreFetched before.files before.fetch_faults now.fetch_faults asked outcomes
+FetchedBy ReadFault before now asked outcomes = AreFetched before.files before.fetch_faults now.fetch_faults asked outcomes
+FetchedBy WriteFault before now asked outcomes = AreFetched before.files before.fetch_faults now.fetch_faults asked outcomes
+FetchedBy NoMemory before now asked outcomes = AreFetchedSoFar before.files before.fetch_faults now.fetch_faults asked outcomes
 
 -- The bytes that came before the last read, of at most 65,536 bytes, have fewer whole batches than were answered: the replies to a batch are written before
 -- the next one is read.
@@ -42,36 +43,45 @@ ReadsLate NoMemory options given outcomes made = ⊤
 
 -- The bytes that the source gave and those that the sink took, where they tell their content, and what came of the fetches; and of these the row of the
 -- status in the table.
-pub record Meets (limits : Counts) (options : Options) (status : Status) (left_before left_now written_before written_now : Option (List ℕ)) (files : Option (List shelf.File)) (faults_before faults_now : ℕ) (made : RunRecord) : Type 0 where
+pub record Meets (limits : Counts) (options : Options) (status : Status) (before now : World) (made : RunRecord) : Type 0 where
   pub given : List ℕ
   pub taken : List ℕ
   pub outcomes : List File
-  pub gave : Consumes left_before left_now given
-  pub took : Appends written_before written_now taken
-  pub row : Row limits options outcomes (λ asked. FetchedBy status files faults_before faults_now asked outcomes) status given left_now taken made
+  pub gave : Consumes before.left now.left given
+  pub took : Appends before.written now.written taken
+  pub row : Row limits options outcomes (λ asked. FetchedBy status before now asked outcomes) status given now.left taken made
   pub late : ReadsLate status options given outcomes made
 
 -- The bytes that the sink took of the summary of a lake that is made, where it tells its content, and of these the row of the status.
-pub record Makes (limits : Counts) (seed tables rows : ℕ) (status : Status) (written_before written_now : Option (List ℕ)) (made : RunRecord) : Type 0 where
+pub record Makes (limits : Counts) (seed tables rows : ℕ) (status : Status) (before now : World) (made : RunRecord) : Type 0 where
   pub taken : List ℕ
-  pub took : Appends written_before written_now taken
+  pub took : Appends before.written now.written taken
   pub row : MakeRow limits seed tables rows status taken made
 
 -- what a run of this mode comes to
-abbrev pub MeetsMode : Counts → Mode → Status → Option (List ℕ) → Option (List ℕ) → Option (List ℕ) → Option (List ℕ) → Option (List shelf.File) → ℕ → ℕ → RunRecord → Type 0
-MeetsMode limits (Run options) status left_before left_now written_before written_now files faults_before faults_now made =
-    Meets limits options status left_before left_now written_before written_now files faults_before faults_now made
-MeetsMode limits (Make seed tables rows) status left_before left_now written_before written_now files faults_before faults_now made =
-    Makes limits seed tables rows status written_before written_now made
+abbrev pub MeetsMode : Counts → Mode → Status → World → World → RunRecord → Type 0
+MeetsMode limits (Run options) status before now made = Meets limits options status before now made
+MeetsMode limits (Make seed tables rows) status before now made = Makes limits seed tables rows status before now made
 
 -- this mode is the one that the words say, where they say any
 abbrev pub IsSaid : Option Mode → Mode → Type 0
 IsSaid None mode = ⊤
 IsSaid (Some said) mode = mode ≡ said
 
--- whatever may come of the fetches of a script, from these files where they are told and by these counts of faults, it has no line at fault
-abbrev pub HasNoFault : Options → List ℕ → Option (List shelf.File) → ℕ → ℕ → Type 0
-HasNoFault options script files before now = (outcomes : List File) → let made : Commands = commands standard options.lanes script outcomes in AreFetched files before now made.asked outcomes → made.end ≡ Whole
+-- whatever may come of the fetches of a script between these two moments, it has no line at fault
+abbrev pub HasNoFault : Options → List ℕ → World → World → Type 0
+HasNoFault options script before now = (outcomes : List File) → let made : Commands = commands standard options.lanes script outcomes in
+    AreFetched before.files before.fetch_faults now.fetch_faults made.asked outcomes → made.end ≡ Whole
+
+-- A script that is told and has no line at fault ends well if neither the source nor the sink counts a fault, or memory runs out.
+abbrev pub EndsWell : Options → Status → World → World → Type 0
+EndsWell options status before now = (script : List ℕ) → before.left ≡ Some script → HasNoFault options script before now
+    → (Rose before.read_faults now.read_faults → ⊥) → (Rose before.write_faults now.write_faults → ⊥) → (status ≡ Done) ⊎ (status ≡ NoMemory)
+
+-- what a run of this mode comes to where nothing fails: a script has to be told, and a lake that is made asks for the sink alone
+abbrev pub EndsModeWell : Mode → Status → World → World → Type 0
+EndsModeWell (Run options) status before now = EndsWell options status before now
+EndsModeWell (Make seed tables rows) status before now = (Rose before.write_faults now.write_faults → ⊥) → (status ≡ Done) ⊎ (status ≡ NoMemory)
 
 -- a lake is made
 abbrev pub IsMaking : Mode → Type 0

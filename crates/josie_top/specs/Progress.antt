@@ -2,15 +2,11 @@
 use Rattle.std.specs.Prelude.{ℕ, ◌+◌, ◌-◌, ◌≡◌, ◌≤◌, ◌⊎◌, Bool, false, List, [], ◌∷◌, ◌++◌, length, sum_by, Option, Some, Ok}
 use Rattle.std.specs.List.{AllByRecursion}
 use Rattle.std.specs.Io.KnownBytes.{Consumes, Appends}
-use Rattle.lake_io.specs.Causes.{Rose}
-use Rattle.lake_io.specs.Files as shelf
 use Rattle.lake_model.specs.declared.Counts.{Counts}
 use Rattle.lake_model.specs.Texts.{Text}
 use Rattle.script_model.specs.Commands.{File, Batch}
 use Rattle.script_model.specs.Reading.{Reading}
 use Rattle.script_model.specs.Script.{grammar_of, standard, start}
-use Rattle.script_model.specs.declared.Status.{Status}
-use Rattle.script_model.specs.declared.Status.TheVariants as status
 use Rattle.script_model.specs.Record.{Answered, Options, RunRecord, empty}
 use Rattle.script_model.specs.Play.{merger_commands, merges_of, played_from, pieces_of, updates}
 use Rattle.script_model.specs.Lanes.{IsOfLanes}
@@ -21,6 +17,7 @@ use Rattle.script_model.specs.Words.{NoFeed}
 use Rattle.script_text.specs.Outcomes.{AreFetched}
 use Rattle.script_text.specs.Gathering.{Gathering, IsLate, IsSynced, IsWhole, ReadsOn}
 use Rattle.script_text.specs.Gathers.{Taken}
+use Rattle.josie_top.specs.World.{HasMoved, World}
 
 -- The record is that of these batches, played one after another in the stated order; at each turn of each, memory sufficed or did not.
 pub record IsPlayedSoFar (limits : Counts) (options : Options) (batches : List Batch) (made : RunRecord) : Type 0 where
@@ -43,12 +40,12 @@ pub record IsGoingOn (options : Options) (gathering : Gathering) : Type 0 where
   pub within : gathering.reading.used ≤ gathering.limits.input
 
 -- The batches were read from what the source gave, and stand in no fault.
-pub record AreRead (options : Options) (left_before left_now : Option (List ℕ)) (files : Option (List shelf.File)) (faults_before faults_now : ℕ) (gathering : Gathering) (batches : List Batch) : Type 0 where
+pub record AreRead (options : Options) (before now : World) (gathering : Gathering) (batches : List Batch) : Type 0 where
   pub given : List ℕ
   pub asked : List Text
   pub outcomes : List File
-  pub gave : Consumes left_before left_now given
-  pub fetched : AreFetched files faults_before faults_now asked outcomes
+  pub gave : Consumes before.left now.left given
+  pub fetched : AreFetched before.files before.fetch_faults now.fetch_faults asked outcomes
   pub lines_read : ReadsOn (grammar_of standard options.lanes) (start []) given outcomes batches gathering.reading gathering.held asked
 
 -- The bytes that came before the last read, of at most 65,536 bytes, have at most so many whole batches, and stand in no fault.
@@ -69,9 +66,9 @@ pub record IsLateSoFar (options : Options) (given : List ℕ) (outcomes : List F
   pub fewer : length batches ≤ most
 
 -- Their answers were written.
-pub record AreWritten (options : Options) (written_before written_now : Option (List ℕ)) (made : RunRecord) : Type 0 where
+pub record AreWritten (options : Options) (before now : World) (made : RunRecord) : Type 0 where
   pub taken : List ℕ
-  pub took : Appends written_before written_now taken
+  pub took : Appends before.written now.written taken
   pub text_is : taken ≡ answers_text options.trace made.answers
 
 -- So many batches were read, and the merger's next number is this: it has had a number for each load and drop of theirs, of which there are at most
@@ -82,12 +79,13 @@ pub record AreCounted (batches : List Batch) (used number next : ℕ) : Type 0 w
   pub few : sum_by updates batches ≤ used
 
 -- A run between two batches.
-pub record IsUnderWay (limits : Counts) (options : Options) (left_before left_now written_before written_now : Option (List ℕ)) (files : Option (List shelf.File)) (faults_before faults_now : ℕ) (gathering : Gathering) (made : RunRecord) (number next : ℕ) : Type 0 where
+pub record IsUnderWay (limits : Counts) (options : Options) (before now : World) (gathering : Gathering) (made : RunRecord) (number next : ℕ) : Type 0 where
   pub batches : List Batch
-  pub been : AreRead options left_before left_now files faults_before faults_now gathering batches
+  pub moved : HasMoved before now
+  pub been : AreRead options before now gathering batches
   pub goes : IsGoingOn options gathering
   pub is_made : IsMade limits options batches made
-  pub writ : AreWritten options written_before written_now made
+  pub writ : AreWritten options before now made
   pub counted : AreCounted batches gathering.reading.used number next
   pub late : IsLateSoFar options been.given been.outcomes (length batches - 1)
 
@@ -103,43 +101,31 @@ HasOneMore limits number merger batch before now = (batches : List Batch) → le
     → merges_of merger batch ≡ merger_commands before.options.merge (1 + sum_by updates batches) batch
     → IsMade limits before.options batches before → IsMade limits before.options (batches ++ batch ∷ []) now
 
--- A batch was gathered: what the source gave for it, what was fetched, and where the gatherer is.
-pub record IsBegun (left_before left_now : Option (List ℕ)) (files : Option (List shelf.File)) (faults_before faults_now : ℕ) (before now : Gathering) (batch : Batch) : Type 0 where
-  pub taken : Taken (Ok (Some batch)) left_before left_now files faults_before faults_now
-  pub gathered : IsSynced before now taken.given taken.asked taken.outcomes batch ⊎ IsWhole before now left_now taken.given taken.asked taken.outcomes (batch ∷ [])
-  pub late : (taken.given ≡ []) ⊎ IsLate before taken.given taken.outcomes
-  pub limits_are : now.limits ≡ before.limits
-  pub lanes_are : now.lanes ≡ before.lanes
-  pub of_lanes : IsOfLanes before.lanes batch
-  pub within : now.reading.used ≤ now.limits.input
-  pub grows : before.reading.used + length batch ≤ now.reading.used
+-- A batch was gathered: what the source gave for it, what was fetched, and where the gatherer is. Nothing was written.
+pub record IsBegun (before now : World) (gathering_before gathering_now : Gathering) (batch : Batch) : Type 0 where
+  pub moved : HasMoved before now
+  pub unwritten : now.written ≡ before.written
+  pub taken : Taken (Ok (Some batch)) before.left now.left before.files before.fetch_faults now.fetch_faults
+  pub gathered : IsSynced gathering_before gathering_now taken.given taken.asked taken.outcomes batch ⊎ IsWhole gathering_before gathering_now now.left taken.given taken.asked taken.outcomes (batch ∷ [])
+  pub late : (taken.given ≡ []) ⊎ IsLate gathering_before taken.given taken.outcomes
+  pub limits_are : gathering_now.limits ≡ gathering_before.limits
+  pub lanes_are : gathering_now.lanes ≡ gathering_before.lanes
+  pub of_lanes : IsOfLanes gathering_before.lanes batch
+  pub within : gathering_now.reading.used ≤ gathering_now.limits.input
+  pub grows : gathering_before.reading.used + length batch ≤ gathering_now.reading.used
 
--- A run behind a batch that was gathered and answered, but not written: its answers follow the first ones, so many in number.
-pub record IsAnswered (limits : Counts) (options : Options) (left_before left_now written_before written_now : Option (List ℕ)) (files : Option (List shelf.File)) (faults_before faults_now : ℕ) (gathering : Gathering) (made : RunRecord) (first number next : ℕ) : Type 0 where
-  pub left : Option (List ℕ)
-  pub faults : ℕ
-  pub before : Gathering
+-- A run behind a batch that was gathered and answered, but not written: its answers follow the first ones, so many in number. `mid` is the world before the batch.
+pub record IsAnswered (limits : Counts) (options : Options) (before now : World) (gathering : Gathering) (made : RunRecord) (first number next : ℕ) : Type 0 where
+  pub mid : World
+  pub gathering_before : Gathering
   pub record_before : RunRecord
   pub number_before : ℕ
   pub next_before : ℕ
   pub batch : Batch
-  pub way : IsUnderWay limits options left_before left written_before written_now files faults_before faults before record_before number_before next_before
-  pub begun : IsBegun left left_now files faults faults_now before gathering batch
+  pub way : IsUnderWay limits options before mid gathering_before record_before number_before next_before
+  pub begun : IsBegun mid now gathering_before gathering batch
   pub is_made : IsMade limits options (way.batches ++ batch ∷ []) made
   pub adds : AddsAnswers record_before made
   pub first_is : first ≡ length record_before.answers
   pub number_is : number ≡ number_before + 1
   pub next_is : next ≡ next_before + updates batch
-
--- No count of faults fell, and the files are the same.
-pub record HasMoved (files_before files_now : Option (List shelf.File)) (reads_before reads_now writes_before writes_now fetches_before fetches_now : ℕ) : Type 0 where
-  pub files : files_now ≡ files_before
-  pub reads : reads_before ≤ reads_now
-  pub writes : writes_before ≤ writes_now
-  pub fetches : fetches_before ≤ fetches_now
-
--- A run of a script does not end for its words, and where it ends for a read or a write, that failed.
-pub record HasCauses (result : Status) (reads_before reads_now writes_before writes_now : ℕ) : Type 0 where
-  pub usage : result ≡ status.Usage → ⊥
-  pub read_fault : result ≡ status.ReadFault → Rose reads_before reads_now
-  pub write_fault : result ≡ status.WriteFault → Rose writes_before writes_now

@@ -1,13 +1,13 @@
 //! The batches of a script, one after another: each is gathered, answered and written before the next is gathered.
-ghost use Rattle.std.specs.Prelude.{◌≡◌, ◌≤◌, ℕ, List, Option, [], false, if◌then◌else◌, length, true, None, Some, IfErr, IfOk, IfSome, MatchOption, OnOk};
+ghost use Rattle.std.specs.Prelude.{◌≡◌, ◌≤◌, ℕ, false, if◌then◌else◌, length, true, None, Some, IfErr, IfOk, IfSome, MatchOption, OnOk};
 ghost use Rattle.lake_io.specs.Causes.{Rose};
-ghost use Rattle.lake_io.specs.Files.{File as Told};
 ghost use Rattle.lake_model.specs.Journal.{standard_limits};
 ghost use Rattle.script_model.specs.Record.{Options as OptionsOf, with_end};
 ghost use Rattle.script_model.specs.Texts.{text_behind};
 ghost use Rattle.josie_top.specs.Ends.{IsWritten, status_of_end, status_of_stop};
 ghost use Rattle.josie_top.specs.Meets.{Meets};
-ghost use Rattle.josie_top.specs.Progress.{HasCauses, HasMoved, IsAnswered, IsBegun, IsUnderWay};
+ghost use Rattle.josie_top.specs.Progress.{IsAnswered, IsBegun, IsUnderWay};
+ghost use Rattle.josie_top.specs.World.{Moves, World, with_sink, world_of};
 
 use crate::writing::{WriteStop, write_record};
 use lake_io::{Shelf, Sink, Source};
@@ -70,13 +70,12 @@ pub(crate) fn begin_batch<S: Source, K: Sink, F: Shelf>(
     out: &mut RunRecord,
 ) -> Result<Batch, Status>
     requires { gather.old.ended ≡ false }
-    ensures begun { IfOk result (IsBegun (S.left source.old) (S.left source.new) (F.files shelf.old) (F.faults shelf.old) (F.faults shelf.new) gather.old gather.new) }
-    ensures stands { OnOk result ((out.new.made ≡ out.old.made) × (K.written sink.new ≡ K.written sink.old)) }
-    ensures ends { IfErr result (λ status. (options : OptionsOf) (left written : Option (List ℕ)) (faults number next : ℕ)
-        → IsUnderWay standard_limits options left (S.left source.old) written (K.written sink.old) (F.files shelf.old) faults (F.faults shelf.old) gather.old out.old.made number next
-        → Meets standard_limits options status left (S.left source.new) written (K.written sink.new) (F.files shelf.old) faults (F.faults shelf.new) out.new.made) }
-    ensures causes { IfErr result (λ status. HasCauses status (S.faults source.old) (S.faults source.new) (K.faults sink.old) (K.faults sink.new)) }
-    ensures moved { HasMoved (F.files shelf.old) (F.files shelf.new) (S.faults source.old) (S.faults source.new) (K.faults sink.old) (K.faults sink.new) (F.faults shelf.old) (F.faults shelf.new) }
+    ensures begun { IfOk result (IsBegun (world_of (S.left source.old) (S.faults source.old) (K.written sink.old) (K.faults sink.old) (F.files shelf.old) (F.faults shelf.old)) (world_of (S.left source.new) (S.faults source.new) (K.written sink.new) (K.faults sink.new) (F.files shelf.new) (F.faults shelf.new)) gather.old gather.new) }
+    ensures stands { OnOk result (out.new.made ≡ out.old.made) }
+    ensures ends { IfErr result (λ status. (options : OptionsOf) (before : World) (number next : ℕ)
+        → IsUnderWay standard_limits options before (world_of (S.left source.old) (S.faults source.old) (K.written sink.old) (K.faults sink.old) (F.files shelf.old) (F.faults shelf.old)) gather.old out.old.made number next
+        → Meets standard_limits options status before (world_of (S.left source.new) (S.faults source.new) (K.written sink.new) (K.faults sink.new) (F.files shelf.new) (F.faults shelf.new)) out.new.made) }
+    ensures moves { IfErr result (λ status. Moves ⊥ status (world_of (S.left source.old) (S.faults source.old) (K.written sink.old) (K.faults sink.old) (F.files shelf.old) (F.faults shelf.old)) (world_of (S.left source.new) (S.faults source.new) (K.written sink.new) (K.faults sink.new) (F.files shelf.new) (F.faults shelf.new))) }
 {
     match gather.batch(source, shelf) {
         Ok(Some(batch)) => Ok(batch),
@@ -95,13 +94,12 @@ pub(crate) fn end_batch<K: Sink>(
     out: &mut RunRecord,
 ) -> Option<Status>
     ensures goes { result ≡ None → (out.new.made ≡ out.old.made) × (gather.now.ended ≡ false) }
-    ensures answered { (options : OptionsOf) (left_before left_now written : Option (List ℕ)) (files : Option (List Told)) (faults_before faults_now number next : ℕ)
-        → IsAnswered standard_limits options left_before left_now written (K.written sink.old) files faults_before faults_now gather.now out.old.made first number next
+    ensures answered { (options : OptionsOf) (before outside : World) (number next : ℕ)
+        → IsAnswered standard_limits options before (with_sink (K.written sink.old) (K.faults sink.old) outside) gather.now out.old.made first number next
         → MatchOption result
-        (IsUnderWay standard_limits options left_before left_now written (K.written sink.new) files faults_before faults_now gather.now out.new.made number next)
-        (λ status. Meets standard_limits options status left_before left_now written (K.written sink.new) files faults_before faults_now out.new.made) }
-    ensures causes { IfSome result (λ status. HasCauses status 0 0 (K.faults sink.old) (K.faults sink.new)) }
-    ensures later { K.faults sink.old ≤ K.faults sink.new }
+        (IsUnderWay standard_limits options before (with_sink (K.written sink.new) (K.faults sink.new) outside) gather.now out.new.made number next)
+        (λ status. Meets standard_limits options status before (with_sink (K.written sink.new) (K.faults sink.new) outside) out.new.made) }
+    ensures moves { IfSome result (λ status. (outside : World) → Moves ⊥ status (with_sink (K.written sink.old) (K.faults sink.old) outside) (with_sink (K.written sink.new) (K.faults sink.new) outside)) }
 {
     if let Err(stop) = write_record(alloc, out, first, sink) {
         return Some(status_of_stop(stop));

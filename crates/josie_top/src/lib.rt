@@ -1,15 +1,15 @@
 //! The top call: it reads a script batch by batch, answers the commands of each, and writes the replies before it reads on.
 #![tactic(auto)]
 
-ghost use Rattle.std.specs.Prelude.{[], ◌≡◌, ◌≤◌, ◌⊎◌, false, ℕ, List, None, Some, map, string_bytes};
-ghost use Rattle.lake_io.specs.Causes.{Rose};
+ghost use Rattle.std.specs.Prelude.{◌≡◌, ◌⊎◌, None, Some, map, string_bytes};
 ghost use Rattle.lake_model.specs.Journal.{standard_limits};
 ghost use Rattle.script_model.specs.Plain.{plain_mode};
 ghost use Rattle.script_model.specs.Plain as said;
-ghost use Rattle.script_model.specs.Record.{Options, empty, plain};
+ghost use Rattle.script_model.specs.Record.{empty, plain};
 ghost use Rattle.script_text.specs.Words.{mode_of, mode_read, IsModeInRange};
 ghost use Rattle.josie_top.specs.Ends.{status_of_refused};
-ghost use Rattle.josie_top.specs.Meets.{HasNoFault, IsMaking, IsOrdered, IsSaid, MeetsMode};
+ghost use Rattle.josie_top.specs.Meets.{EndsModeWell, IsMaking, IsOrdered, IsSaid, MeetsMode};
+ghost use Rattle.josie_top.specs.World.{Moves, world_of};
 
 pub use lake_desk::LakeDesk;
 use lake_io::{Gate, Shelf, Sink, Source};
@@ -46,21 +46,13 @@ pub fn run_ordered<S: Source, K: Sink, F: Shelf>(
     requires mode { IsModeInRange (mode_of mode) }
     requires order { IsOrdered (mode_of mode) }
     // what was read, recorded and written
-    ensures table { MeetsMode standard_limits (mode_of mode) result (S.left source.old) (S.left source.new) (K.written sink.old) (K.written sink.new) (F.files shelf.old) (F.faults shelf.old) (F.faults shelf.new) out.new.made }
-    // when each status comes
-    ensures usage { ¬ (result ≡ Status.Usage) }
-    ensures read_fault { result ≡ Status.ReadFault → Rose (S.faults source.old) (S.faults source.new) }
-    ensures write_fault { result ≡ Status.WriteFault → Rose (K.faults sink.old) (K.faults sink.new) }
-    ensures later { (S.faults source.old ≤ S.faults source.new) × (K.faults sink.old ≤ K.faults sink.new) × (F.faults shelf.old ≤ F.faults shelf.new) }
-    ensures files { F.files shelf.new ≡ F.files shelf.old }
+    ensures table { MeetsMode standard_limits (mode_of mode) result (world_of (S.left source.old) (S.faults source.old) (K.written sink.old) (K.faults sink.old) (F.files shelf.old) (F.faults shelf.old)) (world_of (S.left source.new) (S.faults source.new) (K.written sink.new) (K.faults sink.new) (F.files shelf.new) (F.faults shelf.new)) out.new.made }
+    // when each status comes, and what moved
+    ensures moves { Moves ⊥ result (world_of (S.left source.old) (S.faults source.old) (K.written sink.old) (K.faults sink.old) (F.files shelf.old) (F.faults shelf.old)) (world_of (S.left source.new) (S.faults source.new) (K.written sink.new) (K.faults sink.new) (F.files shelf.new) (F.faults shelf.new)) }
     // where a lake is made, nothing is read and no file is fetched
     ensures making { IsMaking (mode_of mode) → (source.new ≡ source.old) × (shelf.new ≡ shelf.old) }
-    // nothing else comes but want of memory
-    ensures complete { (script : List ℕ) (options : Options) → mode_of mode ≡ said.Run options → S.left source.old ≡ Some script
-        → HasNoFault options script (F.files shelf.old) (F.faults shelf.old) (F.faults shelf.new)
-        → ¬ Rose (S.faults source.old) (S.faults source.new) → ¬ Rose (K.faults sink.old) (K.faults sink.new)
-        → (result ≡ Status.Done) ⊎ (result ≡ Status.NoMemory) }
-    ensures makes { IsMaking (mode_of mode) → ¬ Rose (K.faults sink.old) (K.faults sink.new) → (result ≡ Status.Done) ⊎ (result ≡ Status.NoMemory) }
+    // without a fault, nothing else comes but want of memory
+    ensures complete { EndsModeWell (mode_of mode) result (world_of (S.left source.old) (S.faults source.old) (K.written sink.old) (K.faults sink.old) (F.files shelf.old) (F.faults shelf.old)) (world_of (S.left source.new) (S.faults source.new) (K.written sink.new) (K.faults sink.new) (F.files shelf.new) (F.faults shelf.new)) }
 {
     match mode {
         Mode::Run(options) => run_in_order(alloc, options, source, sink, shelf, out),
@@ -82,21 +74,13 @@ fn run_mode<R: Threads + Wait + Sync, S: Source, K: Sink, F: Shelf, G: Gate + Sy
     requires empty { out.old.made ≡ empty plain }
     requires mode { IsModeInRange (mode_of mode) }
     // what was read, recorded and written
-    ensures table { MeetsMode standard_limits (mode_of mode) result (S.left source.old) (S.left source.new) (K.written sink.old) (K.written sink.new) (F.files shelf.old) (F.faults shelf.old) (F.faults shelf.new) out.new.made }
-    // when each status comes
-    ensures usage { ¬ (result ≡ Status.Usage) }
-    ensures read_fault { result ≡ Status.ReadFault → Rose (S.faults source.old) (S.faults source.new) }
-    ensures write_fault { result ≡ Status.WriteFault → Rose (K.faults sink.old) (K.faults sink.new) }
-    ensures later { (S.faults source.old ≤ S.faults source.new) × (K.faults sink.old ≤ K.faults sink.new) × (F.faults shelf.old ≤ F.faults shelf.new) }
-    ensures files { F.files shelf.new ≡ F.files shelf.old }
+    ensures table { MeetsMode standard_limits (mode_of mode) result (world_of (S.left source.old) (S.faults source.old) (K.written sink.old) (K.faults sink.old) (F.files shelf.old) (F.faults shelf.old)) (world_of (S.left source.new) (S.faults source.new) (K.written sink.new) (K.faults sink.new) (F.files shelf.new) (F.faults shelf.new)) out.new.made }
+    // when each status comes, and what moved
+    ensures moves { Moves ⊥ result (world_of (S.left source.old) (S.faults source.old) (K.written sink.old) (K.faults sink.old) (F.files shelf.old) (F.faults shelf.old)) (world_of (S.left source.new) (S.faults source.new) (K.written sink.new) (K.faults sink.new) (F.files shelf.new) (F.faults shelf.new)) }
     // where a lake is made, nothing is read and no file is fetched
     ensures making { IsMaking (mode_of mode) → (source.new ≡ source.old) × (shelf.new ≡ shelf.old) }
-    // nothing else comes but want of memory
-    ensures complete { (script : List ℕ) (options : Options) → mode_of mode ≡ said.Run options → S.left source.old ≡ Some script
-        → HasNoFault options script (F.files shelf.old) (F.faults shelf.old) (F.faults shelf.new)
-        → ¬ Rose (S.faults source.old) (S.faults source.new) → ¬ Rose (K.faults sink.old) (K.faults sink.new)
-        → (result ≡ Status.Done) ⊎ (result ≡ Status.NoMemory) }
-    ensures makes { IsMaking (mode_of mode) → ¬ Rose (K.faults sink.old) (K.faults sink.new) → (result ≡ Status.Done) ⊎ (result ≡ Status.NoMemory) }
+    // without a fault, nothing else comes but want of memory
+    ensures complete { EndsModeWell (mode_of mode) result (world_of (S.left source.old) (S.faults source.old) (K.written sink.old) (K.faults sink.old) (F.files shelf.old) (F.faults shelf.old)) (world_of (S.left source.new) (S.faults source.new) (K.written sink.new) (K.faults sink.new) (F.files shelf.new) (F.faults shelf.new)) }
 {
     match mode {
         Mode::Run(options) => run_script(rt, alloc, options, source, sink, shelf, gate, out),
@@ -131,26 +115,17 @@ pub fn run<R: Threads + Wait + Sync, S: Source, K: Sink, F: Shelf, G: Gate + Syn
     requires empty { out.old.made ≡ empty plain }
     // what was read, recorded and written, in the mode that the words say
     ensures table { (mode : said.Mode) × IsSaid (mode_read (map string_bytes words.now)) mode
-        × MeetsMode standard_limits mode result (S.left source.old) (S.left source.new) (K.written sink.old) (K.written sink.new) (F.files shelf.old) (F.faults shelf.old) (F.faults shelf.new) out.new.made }
+        × MeetsMode standard_limits mode result (world_of (S.left source.old) (S.faults source.old) (K.written sink.old) (K.faults sink.old) (F.files shelf.old) (F.faults shelf.old)) (world_of (S.left source.new) (S.faults source.new) (K.written sink.new) (K.faults sink.new) (F.files shelf.new) (F.faults shelf.new)) out.new.made }
     // plain words are read as they say
     ensures plain { (mode : said.Mode) → plain_mode (map string_bytes words.now) ≡ Some mode → mode_read (map string_bytes words.now) ≡ Some mode }
-    // when each status comes
-    ensures usage { result ≡ Status.Usage → mode_read (map string_bytes words.now) ≡ None }
+    // when each status comes, and what moved
+    ensures moves { Moves (mode_read (map string_bytes words.now) ≡ None) result (world_of (S.left source.old) (S.faults source.old) (K.written sink.old) (K.faults sink.old) (F.files shelf.old) (F.faults shelf.old)) (world_of (S.left source.new) (S.faults source.new) (K.written sink.new) (K.faults sink.new) (F.files shelf.new) (F.faults shelf.new)) }
     ensures refused { mode_read (map string_bytes words.now) ≡ None → (result ≡ Status.Usage) ⊎ (result ≡ Status.NoMemory) }
     ensures untouched { mode_read (map string_bytes words.now) ≡ None → (source.new ≡ source.old) × (sink.new ≡ sink.old) × (shelf.new ≡ shelf.old) × (out.new.made ≡ out.old.made) }
-    ensures read_fault { result ≡ Status.ReadFault → Rose (S.faults source.old) (S.faults source.new) }
-    ensures write_fault { result ≡ Status.WriteFault → Rose (K.faults sink.old) (K.faults sink.new) }
-    ensures later { (S.faults source.old ≤ S.faults source.new) × (K.faults sink.old ≤ K.faults sink.new) × (F.faults shelf.old ≤ F.faults shelf.new) }
-    ensures files { F.files shelf.new ≡ F.files shelf.old }
     // where a lake is made, nothing is read and no file is fetched
     ensures making { (mode : said.Mode) → mode_read (map string_bytes words.now) ≡ Some mode → IsMaking mode → (source.new ≡ source.old) × (shelf.new ≡ shelf.old) }
-    // nothing else comes but want of memory
-    ensures complete { (script : List ℕ) (options : Options) → mode_read (map string_bytes words.now) ≡ Some (said.Run options) → S.left source.old ≡ Some script
-        → HasNoFault options script (F.files shelf.old) (F.faults shelf.old) (F.faults shelf.new)
-        → ¬ Rose (S.faults source.old) (S.faults source.new) → ¬ Rose (K.faults sink.old) (K.faults sink.new)
-        → (result ≡ Status.Done) ⊎ (result ≡ Status.NoMemory) }
-    ensures makes { (mode : said.Mode) → mode_read (map string_bytes words.now) ≡ Some mode → IsMaking mode
-        → ¬ Rose (K.faults sink.old) (K.faults sink.new) → (result ≡ Status.Done) ⊎ (result ≡ Status.NoMemory) }
+    // without a fault, nothing else comes but want of memory
+    ensures complete { (mode : said.Mode) → mode_read (map string_bytes words.now) ≡ Some mode → EndsModeWell mode result (world_of (S.left source.old) (S.faults source.old) (K.written sink.old) (K.faults sink.old) (F.files shelf.old) (F.faults shelf.old)) (world_of (S.left source.new) (S.faults source.new) (K.written sink.new) (K.faults sink.new) (F.files shelf.new) (F.faults shelf.new)) }
 {
     match read_words(alloc, words) {
         Ok(mode) => run_mode(rt, alloc, mode, source, sink, shelf, gate, out),

@@ -7,6 +7,7 @@ ghost use Rattle.script_model.specs.Generator.{made_options as the_options, summ
 ghost use Rattle.script_model.specs.Record.{empty, plain};
 ghost use Rattle.script_model.specs.Statuses.{IsLakeMade, IsPrefix};
 ghost use Rattle.josie_top.specs.Meets.{Makes};
+ghost use Rattle.josie_top.specs.World.{Moves, World, with_sink};
 
 use crate::batches::status_of_stop;
 use crate::writing::{WriteStop, write_all};
@@ -94,9 +95,8 @@ pub fn make_lake<K: Sink>(
     requires few_tables { tables ≤ 1000 }
     requires some_rows { 1 ≤ rows }
     requires few_rows { rows ≤ 5000 }
-    ensures table { Makes standard_limits seed tables rows result (K.written sink.old) (K.written sink.new) out.new.made }
-    ensures write_fault { result ≡ Status.WriteFault → Rose (K.faults sink.old) (K.faults sink.new) }
-    ensures later { K.faults sink.old ≤ K.faults sink.new }
+    ensures table { (outside : World) → Makes standard_limits seed tables rows result (with_sink (K.written sink.old) (K.faults sink.old) outside) (with_sink (K.written sink.new) (K.faults sink.new) outside) out.new.made }
+    ensures moves { (outside : World) → Moves ⊥ result (with_sink (K.written sink.old) (K.faults sink.old) outside) (with_sink (K.written sink.new) (K.faults sink.new) outside) }
     ensures ends { (result ≡ Status.Done) ⊎ (result ≡ Status.WriteFault) ⊎ (result ≡ Status.NoMemory) }
 {
     if fill_record(alloc, seed, tables, rows, out).is_err() {

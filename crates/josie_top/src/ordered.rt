@@ -1,6 +1,5 @@
 //! The run of a script whose lanes take turns in a stated order, on one thread.
 ghost use Rattle.std.specs.Prelude.{◌≡◌, ◌≤◌, ◌<◌, ◌+◌, ◌^◌, ◌⊎◌, ⊤, ℕ, [], false, get_or, List, IfOk, MatchOption, OnErr, OnOk, Some};
-ghost use Rattle.lake_io.specs.Causes.{Rose};
 ghost use Rattle.lake_model.specs.Journal.{standard_limits};
 ghost use Rattle.catalogue.specs.Kept.{catalogue_with};
 ghost use Rattle.script_model.specs.Lanes.{IsOfLanes};
@@ -9,8 +8,9 @@ ghost use Rattle.script_model.specs.Record.{empty, plain};
 ghost use Rattle.script_model.specs.Script.{standard, start};
 ghost use Rattle.script_model.specs.Statuses.{IsStated};
 ghost use Rattle.script_text.specs.Gathering.{gathering_with};
-ghost use Rattle.josie_top.specs.Meets.{HasNoFault, Meets};
-ghost use Rattle.josie_top.specs.Progress.{AddsAnswers, HasCauses, HasMoved, HasOneMore};
+ghost use Rattle.josie_top.specs.Meets.{EndsWell, Meets};
+ghost use Rattle.josie_top.specs.Progress.{AddsAnswers, HasOneMore};
+ghost use Rattle.josie_top.specs.World.{Moves, world_of};
 
 use crate::batches::{begin_batch, end_batch, merger_from};
 use catalogue::{Catalogue, Limits};
@@ -75,9 +75,8 @@ fn run_batches<S: Source, K: Sink, F: Shelf>(
     requires lake { catalogue.old ≡ catalogue_with standard_limits [] }
     requires empty { out.old.made ≡ empty out.old.made.options }
     requires order { IsStated out.old.made.options }
-    ensures table { Meets standard_limits out.old.made.options result (S.left source.old) (S.left source.new) (K.written sink.old) (K.written sink.new) (F.files shelf.old) (F.faults shelf.old) (F.faults shelf.new) out.new.made }
-    ensures causes { HasCauses result (S.faults source.old) (S.faults source.new) (K.faults sink.old) (K.faults sink.new) }
-    ensures moved { HasMoved (F.files shelf.old) (F.files shelf.new) (S.faults source.old) (S.faults source.new) (K.faults sink.old) (K.faults sink.new) (F.faults shelf.old) (F.faults shelf.new) }
+    ensures table { Meets standard_limits out.old.made.options result (world_of (S.left source.old) (S.faults source.old) (K.written sink.old) (K.faults sink.old) (F.files shelf.old) (F.faults shelf.old)) (world_of (S.left source.new) (S.faults source.new) (K.written sink.new) (K.faults sink.new) (F.files shelf.new) (F.faults shelf.new)) out.new.made }
+    ensures moves { Moves ⊥ result (world_of (S.left source.old) (S.faults source.old) (K.written sink.old) (K.faults sink.old) (F.files shelf.old) (F.faults shelf.old)) (world_of (S.left source.new) (S.faults source.new) (K.written sink.new) (K.faults sink.new) (F.files shelf.new) (F.faults shelf.new)) }
 {
     let mut next = 1;
     for number in 0..u64::MAX {
@@ -110,12 +109,9 @@ pub(crate) fn run_in_order<S: Source, K: Sink, F: Shelf>(
     requires empty { out.old.made ≡ empty plain }
     requires lanes { 1 ≤ options.lanes }
     requires order { IsStated options }
-    ensures table { Meets standard_limits options result (S.left source.old) (S.left source.new) (K.written sink.old) (K.written sink.new) (F.files shelf.old) (F.faults shelf.old) (F.faults shelf.new) out.new.made }
-    ensures causes { HasCauses result (S.faults source.old) (S.faults source.new) (K.faults sink.old) (K.faults sink.new) }
-    ensures moved { HasMoved (F.files shelf.old) (F.files shelf.new) (S.faults source.old) (S.faults source.new) (K.faults sink.old) (K.faults sink.new) (F.faults shelf.old) (F.faults shelf.new) }
-    ensures complete { (script : List ℕ) → S.left source.old ≡ Some script → HasNoFault options script (F.files shelf.old) (F.faults shelf.old) (F.faults shelf.new)
-        → ¬ Rose (S.faults source.old) (S.faults source.new) → ¬ Rose (K.faults sink.old) (K.faults sink.new)
-        → (result ≡ Status.Done) ⊎ (result ≡ Status.NoMemory) }
+    ensures table { Meets standard_limits options result (world_of (S.left source.old) (S.faults source.old) (K.written sink.old) (K.faults sink.old) (F.files shelf.old) (F.faults shelf.old)) (world_of (S.left source.new) (S.faults source.new) (K.written sink.new) (K.faults sink.new) (F.files shelf.new) (F.faults shelf.new)) out.new.made }
+    ensures moves { Moves ⊥ result (world_of (S.left source.old) (S.faults source.old) (K.written sink.old) (K.faults sink.old) (F.files shelf.old) (F.faults shelf.old)) (world_of (S.left source.new) (S.faults source.new) (K.written sink.new) (K.faults sink.new) (F.files shelf.new) (F.faults shelf.new)) }
+    ensures complete { EndsWell options result (world_of (S.left source.old) (S.faults source.old) (K.written sink.old) (K.faults sink.old) (F.files shelf.old) (F.faults shelf.old)) (world_of (S.left source.new) (S.faults source.new) (K.written sink.new) (K.faults sink.new) (F.files shelf.new) (F.faults shelf.new)) }
 {
     let Ok(mut gather) = Gather::new(alloc, options.lanes, ScriptLimits::standard()) else {
         return Status::NoMemory;

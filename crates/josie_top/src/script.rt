@@ -1,10 +1,9 @@
 //! The run of a script.
 ghost use Rattle.std.specs.Prelude.{◌≡◌, ◌≤◌, ◌⊎◌, ℕ, List, Some};
-ghost use Rattle.lake_io.specs.Causes.{Rose};
 ghost use Rattle.lake_model.specs.Journal.{standard_limits};
 ghost use Rattle.script_model.specs.Record.{empty, plain};
-ghost use Rattle.josie_top.specs.Meets.{HasNoFault, Meets};
-ghost use Rattle.josie_top.specs.Progress.{HasCauses, HasMoved};
+ghost use Rattle.josie_top.specs.Meets.{EndsWell, Meets};
+ghost use Rattle.josie_top.specs.World.{Moves, world_of};
 
 use crate::lanes::run_lanes;
 use crate::ordered::run_in_order;
@@ -31,12 +30,9 @@ pub(crate) fn run_script<R: Threads + Wait + Sync, S: Source, K: Sink, F: Shelf,
     requires empty { out.old.made ≡ empty plain }
     requires lanes { 1 ≤ options.lanes }
     requires few { options.lanes ≤ 16 }
-    ensures table { Meets standard_limits options result (S.left source.old) (S.left source.new) (K.written sink.old) (K.written sink.new) (F.files shelf.old) (F.faults shelf.old) (F.faults shelf.new) out.new.made }
-    ensures causes { HasCauses result (S.faults source.old) (S.faults source.new) (K.faults sink.old) (K.faults sink.new) }
-    ensures moved { HasMoved (F.files shelf.old) (F.files shelf.new) (S.faults source.old) (S.faults source.new) (K.faults sink.old) (K.faults sink.new) (F.faults shelf.old) (F.faults shelf.new) }
-    ensures complete { (script : List ℕ) → S.left source.old ≡ Some script → HasNoFault options script (F.files shelf.old) (F.faults shelf.old) (F.faults shelf.new)
-        → ¬ Rose (S.faults source.old) (S.faults source.new) → ¬ Rose (K.faults sink.old) (K.faults sink.new)
-        → (result ≡ Status.Done) ⊎ (result ≡ Status.NoMemory) }
+    ensures table { Meets standard_limits options result (world_of (S.left source.old) (S.faults source.old) (K.written sink.old) (K.faults sink.old) (F.files shelf.old) (F.faults shelf.old)) (world_of (S.left source.new) (S.faults source.new) (K.written sink.new) (K.faults sink.new) (F.files shelf.new) (F.faults shelf.new)) out.new.made }
+    ensures moves { Moves ⊥ result (world_of (S.left source.old) (S.faults source.old) (K.written sink.old) (K.faults sink.old) (F.files shelf.old) (F.faults shelf.old)) (world_of (S.left source.new) (S.faults source.new) (K.written sink.new) (K.faults sink.new) (F.files shelf.new) (F.faults shelf.new)) }
+    ensures complete { EndsWell options result (world_of (S.left source.old) (S.faults source.old) (K.written sink.old) (K.faults sink.old) (F.files shelf.old) (F.faults shelf.old)) (world_of (S.left source.new) (S.faults source.new) (K.written sink.new) (K.faults sink.new) (F.files shelf.new) (F.faults shelf.new)) }
 {
     if options.order.is_some() {
         run_in_order(alloc, options, source, sink, shelf, out)

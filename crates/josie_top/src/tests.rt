@@ -12,32 +12,58 @@ const SCRIPT: &str =
 const WRITTEN: &str =
     "1 loaded stations columns 3 members 9 at 1\n2 answer 1 of 3 at 1\n  2 stations 2 \"city\"\n3 answer 1 of 2 at 1\n  2 stations 3 \"country\"\n";
 
-// How a run of the words ends, and whether it wrote this. The shelf has one file.
-fn ends_with<R: Threads + Wait + Sync>(
-    rt: &R,
-    alloc: Global,
-    texts: &[&str],
-    script: &str,
+// Streams in memory: the source gives pieces of so many bytes and the sink takes such; and of each stream and of the store the number of the call that fails, or 0.
+// The store has one file.
+#[derive(Clone, Copy)]
+struct Streams {
     piece: usize,
     failing_read: u64,
     sink_piece: usize,
     failing_write: u64,
     failing_fetch: u64,
-    written: &[u8],
+}
+
+// None of the calls fails.
+const SOUND: Streams = Streams {
+    piece: 64,
+    failing_read: 0,
+    sink_piece: 64,
+    failing_write: 0,
+    failing_fetch: 0,
+};
+
+// How a run of the words ends, and whether it wrote this.
+fn ends_with<R: Threads + Wait + Sync>(
+    rt: &R,
+    alloc: Global,
+    texts: &[&str],
+    script: &str,
+    streams: Streams,
+    written: &str,
 ) -> Result<(Status, bool), Fail> {
     let mut words = Vec::new(alloc);
     for text in texts {
         words.push(String::from_str(alloc, text)?)?;
     }
-    let mut source = MemorySource::new(alloc, script.as_bytes(), piece.max(1), &[failing_read])
-        .ok()
-        .ok_or("memory")?;
-    let mut sink = MemorySink::new(alloc, 4096, sink_piece.max(1), &[failing_write])
-        .ok()
-        .ok_or("memory")?;
+    let mut source = MemorySource::new(
+        alloc,
+        script.as_bytes(),
+        streams.piece.max(1),
+        &[streams.failing_read],
+    )
+    .ok()
+    .ok_or("memory")?;
+    let mut sink = MemorySink::new(
+        alloc,
+        4096,
+        streams.sink_piece.max(1),
+        &[streams.failing_write],
+    )
+    .ok()
+    .ok_or("memory")?;
     let mut shelf = MemoryShelf::new(alloc);
     shelf.add("here.csv", b"c\nx\n").ok().ok_or("memory")?;
-    shelf.fail_at(failing_fetch).ok().ok_or("memory")?;
+    shelf.fail_at(streams.failing_fetch).ok().ok_or("memory")?;
     let mut record = RunRecord::new(alloc);
     let status = run(
         rt,
@@ -49,47 +75,29 @@ fn ends_with<R: Threads + Wait + Sync>(
         &NoGate,
         &mut record,
     );
-    Ok((status, sink.written() == written))
+    Ok((status, sink.written() == written.as_bytes()))
 }
 
-// The same of the word `run`, with no fetch that fails.
+// The same of the word `run`.
 fn ends<R: Threads + Wait + Sync>(
     rt: &R,
     alloc: Global,
     script: &str,
-    piece: usize,
-    failing_read: u64,
-    sink_piece: usize,
-    failing_write: u64,
-    written: &[u8],
+    streams: Streams,
+    written: &str,
 ) -> Result<(Status, bool), Fail> {
-    ends_with(
-        rt,
-        alloc,
-        &["run"],
-        script,
-        piece,
-        failing_read,
-        sink_piece,
-        failing_write,
-        0,
-        written,
-    )
+    ends_with(rt, alloc, &["run"], script, streams, written)
 }
 
 #[test]
 fn answers_a_script(rt: HostRuntime) -> Result<(), Fail> {
     for piece in [1usize, 7, 64, 4096] {
-        let (status, same) = ends(
-            &rt,
-            rt.alloc(),
-            SCRIPT,
+        let streams = Streams {
             piece,
-            0,
-            piece,
-            0,
-            WRITTEN.as_bytes(),
-        )?;
+            sink_piece: piece,
+            ..SOUND
+        };
+        let (status, same) = ends(&rt, rt.alloc(), SCRIPT, streams, WRITTEN)?;
         assert!(rt; status == Status::Done && same);
     }
     Ok(())
@@ -97,7 +105,16 @@ fn answers_a_script(rt: HostRuntime) -> Result<(), Fail> {
 
 #[test]
 fn writes_nothing_for_an_empty_input(rt: HostRuntime) -> Result<(), Fail> {
-    let (status, same) = ends(&rt, rt.alloc(), "", 1, 0, 1, 1, b"")?;
+    let (status, same) = ends(
+        &rt,
+        rt.alloc(),
+        "",
+        Streams {
+            failing_write: 1,
+            ..SOUND
+        },
+        "",
+    )?;
     assert!(rt; status == Status::Done && same);
     Ok(())
 }
@@ -107,10 +124,20 @@ fn writes_nothing_for_an_empty_input(rt: HostRuntime) -> Result<(), Fail> {
 fn ends_at_each_failing_read_with_nothing_written(rt: HostRuntime) -> Result<(), Fail> {
     for (piece, calls) in [(1usize, 163u64), (7, 25), (64, 4)] {
         for failing in 1..=calls {
-            let (status, same) = ends(&rt, rt.alloc(), SCRIPT, piece, failing, 64, 0, b"")?;
+            let streams = Streams {
+                piece,
+                failing_read: failing,
+                ..SOUND
+            };
+            let (status, same) = ends(&rt, rt.alloc(), SCRIPT, streams, "")?;
             assert!(rt; status == Status::ReadFault && same);
         }
-        let (status, _) = ends(&rt, rt.alloc(), SCRIPT, piece, calls + 1, 64, 0, b"")?;
+        let streams = Streams {
+            piece,
+            failing_read: calls.saturating_add(1),
+            ..SOUND
+        };
+        let (status, _) = ends(&rt, rt.alloc(), SCRIPT, streams, "")?;
         assert!(rt; status == Status::Done);
     }
     Ok(())
@@ -118,12 +145,16 @@ fn ends_at_each_failing_read_with_nothing_written(rt: HostRuntime) -> Result<(),
 
 #[test]
 fn ends_at_each_failing_write_with_what_was_taken(rt: HostRuntime) -> Result<(), Fail> {
-    let written = WRITTEN.as_bytes();
     for (piece, calls) in [(1usize, 132u64), (7, 19), (64, 3)] {
         let mut taken = 0usize;
         for failing in 1..=calls {
-            let first = written.get(..taken).ok_or("the text is shorter")?;
-            let (status, same) = ends(&rt, rt.alloc(), SCRIPT, 4096, 0, piece, failing, first)?;
+            let first = WRITTEN.get(..taken).ok_or("the text is shorter")?;
+            let streams = Streams {
+                sink_piece: piece,
+                failing_write: failing,
+                ..SOUND
+            };
+            let (status, same) = ends(&rt, rt.alloc(), SCRIPT, streams, first)?;
             assert!(rt; status == Status::WriteFault && same);
             taken = taken.saturating_add(piece);
         }
@@ -134,19 +165,31 @@ fn ends_at_each_failing_write_with_what_was_taken(rt: HostRuntime) -> Result<(),
 #[test]
 fn writes_each_batch_before_it_reads_the_next(rt: HostRuntime) -> Result<(), Fail> {
     let script = "tables\nsync\ntables";
-    let (status, same) = ends(&rt, rt.alloc(), script, 12, 3, 64, 0, b"1 tables 0 at 0\n")?;
+    let third_read = Streams {
+        piece: 12,
+        failing_read: 3,
+        ..SOUND
+    };
+    let (status, same) = ends(&rt, rt.alloc(), script, third_read, "1 tables 0 at 0\n")?;
     assert!(rt; status == Status::ReadFault && same);
-    let (status, same) = ends(&rt, rt.alloc(), script, 64, 0, 5, 2, b"1 tab")?;
+    let second_write = Streams {
+        sink_piece: 5,
+        failing_write: 2,
+        ..SOUND
+    };
+    let (status, same) = ends(&rt, rt.alloc(), script, second_write, "1 tab")?;
     assert!(rt; status == Status::WriteFault && same);
+    let second_read = Streams {
+        piece: 17,
+        failing_read: 2,
+        ..SOUND
+    };
     let (status, same) = ends(
         &rt,
         rt.alloc(),
         "tables\nsync\nfind\ntables\n",
-        17,
-        2,
-        64,
-        0,
-        b"1 tables 0 at 0\n",
+        second_read,
+        "1 tables 0 at 0\n",
     )?;
     assert!(rt;
         same && status
@@ -211,18 +254,12 @@ fn loads_from_files(rt: HostRuntime) -> Result<(), Fail> {
         ),
         (2, "1 refused file missing\n2 refused file failed\n"),
     ] {
-        let (status, same) = ends_with(
-            &rt,
-            rt.alloc(),
-            &["run"],
-            script,
-            9,
-            0,
-            64,
-            0,
+        let streams = Streams {
+            piece: 9,
             failing_fetch,
-            written.as_bytes(),
-        )?;
+            ..SOUND
+        };
+        let (status, same) = ends(&rt, rt.alloc(), script, streams, written)?;
         assert!(rt; status == Status::Done && same);
     }
     Ok(())
@@ -238,12 +275,8 @@ fn traces_a_run(rt: HostRuntime) -> Result<(), Fail> {
         rt.alloc(),
         &["run", "--trace"],
         script,
-        64,
-        0,
-        64,
-        0,
-        0,
-        written.as_bytes(),
+        SOUND,
+        written,
     )?;
     assert!(rt; status == Status::Done && same);
     Ok(())
@@ -259,12 +292,8 @@ fn runs_lanes_in_a_stated_order(rt: HostRuntime) -> Result<(), Fail> {
         rt.alloc(),
         &["run", "--lanes", "2", "--order", "1,1,1,2,1,2"],
         script,
-        64,
-        0,
-        64,
-        0,
-        0,
-        written.as_bytes(),
+        SOUND,
+        written,
     )?;
     assert!(rt; status == Status::Done && same);
     Ok(())
@@ -280,12 +309,11 @@ fn makes_a_lake_without_reading(rt: HostRuntime) -> Result<(), Fail> {
         rt.alloc(),
         &["make", "0", "1", "2"],
         "",
-        1,
-        1,
-        64,
-        0,
-        0,
-        written.as_bytes(),
+        Streams {
+            failing_read: 1,
+            ..SOUND
+        },
+        written,
     )?;
     assert!(rt; status == Status::Done && same);
     Ok(())
@@ -299,7 +327,8 @@ fn names_the_first_line_at_fault(rt: HostRuntime) -> Result<(), Fail> {
         ("search 10001\n", 1, Reason::Words),
         ("# no command\n\n \n@2 tables\n", 4, Reason::Lane),
     ] {
-        let (status, same) = ends(&rt, rt.alloc(), script, 5, 0, 64, 0, b"")?;
+        let streams = Streams { piece: 5, ..SOUND };
+        let (status, same) = ends(&rt, rt.alloc(), script, streams, "")?;
         assert!(rt; status == Status::Script { line, reason } && same);
     }
     Ok(())
@@ -318,12 +347,12 @@ fn refuses_words(rt: HostRuntime) -> Result<(), Fail> {
             rt.alloc(),
             &texts,
             "search 1\n.\n",
-            1,
-            1,
-            1,
-            1,
-            0,
-            b"",
+            Streams {
+                failing_read: 1,
+                failing_write: 1,
+                ..SOUND
+            },
+            "",
         )?;
         assert!(rt; status == Status::Usage && same);
     }

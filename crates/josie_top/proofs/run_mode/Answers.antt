@@ -1,13 +1,29 @@
-use Rattle.std.proofs.Common.{◌≡◌, ◌∙◌, ap, subst, sym}
+use Rattle.std.proofs.Common.{ap, subst, sym}
+use Rattle.lake_model.specs.Journal.{standard_limits}
 use Rattle.script_model.specs.Plain as said
-use Rattle.script_model.specs.Record.{Options}
 use Rattle.script_text.specs.Words.{mode_of}
-use Rattle.josie_top.specs.Meets.{HasNoFault}
+use Rattle.josie_top.specs.Meets.{EndsModeWell, MeetsMode}
+use Rattle.josie_top.specs.World.{World, with_sink, world_of}
+use Rattle.josie_top.proofs.RunFacts.{make_ends_well}
 use Rattle.josie_top.proofs.run_mode.Goals as goal
 
 pub returns-in-Run-clause-complete : goal.returns-in-Run-clause-complete
-returns-in-Run-clause-complete g c = λ script options is told whole quiet still.
-    let run : said.Run c.in-Run.options ≡ said.Run options = sym (ap mode_of c.in-Run.is) ∙ is in
-    let same : options ≡ c.in-Run.options = cc run in
-    c.run_script.ensures.complete script told
-    (subst (λ (o : Options). HasNoFault o script (g.F.Shelf.files c.args.shelf.now) (g.F.Shelf.faults c.args.shelf.now) (g.F.Shelf.faults c.run_script.new.shelf)) same whole) quiet still
+returns-in-Run-clause-complete g c =
+    let before : World = world_of (g.S.Source.left c.args.source.now) (g.S.Source.faults c.args.source.now) (g.K.Sink.written c.args.sink.now) (g.K.Sink.faults c.args.sink.now) (g.F.Shelf.files c.args.shelf.now) (g.F.Shelf.faults c.args.shelf.now) in
+    let now : World = world_of (g.S.Source.left c.run_script.new.source) (g.S.Source.faults c.run_script.new.source) (g.K.Sink.written c.run_script.new.sink) (g.K.Sink.faults c.run_script.new.sink) (g.F.Shelf.files c.run_script.new.shelf) (g.F.Shelf.faults c.run_script.new.shelf) in
+    subst (λ (m : said.Mode). EndsModeWell m c.run_script.result before now) (sym (ap mode_of c.in-Run.is)) c.run_script.ensures.complete
+
+pub returns-in-Make-clause-table : goal.returns-in-Make-clause-table
+returns-in-Make-clause-table g c =
+    let outside : World = world_of (g.S.Source.left c.args.source.now) (g.S.Source.faults c.args.source.now) (g.K.Sink.written c.args.sink.now) (g.K.Sink.faults c.args.sink.now) (g.F.Shelf.files c.args.shelf.now) (g.F.Shelf.faults c.args.shelf.now) in
+    subst (λ (m : said.Mode). MeetsMode standard_limits m c.make_lake.result outside (with_sink (g.K.Sink.written c.make_lake.new.sink) (g.K.Sink.faults c.make_lake.new.sink) outside) c.make_lake.new.out.made) (sym (ap mode_of c.in-Make.is)) (c.make_lake.ensures.table outside)
+
+pub returns-in-Make-clause-moves : goal.returns-in-Make-clause-moves
+returns-in-Make-clause-moves g c =
+    let outside : World = world_of (g.S.Source.left c.args.source.now) (g.S.Source.faults c.args.source.now) (g.K.Sink.written c.args.sink.now) (g.K.Sink.faults c.args.sink.now) (g.F.Shelf.files c.args.shelf.now) (g.F.Shelf.faults c.args.shelf.now) in
+    c.make_lake.ensures.moves outside
+
+pub returns-in-Make-clause-complete : goal.returns-in-Make-clause-complete
+returns-in-Make-clause-complete g c =
+    let outside : World = world_of (g.S.Source.left c.args.source.now) (g.S.Source.faults c.args.source.now) (g.K.Sink.written c.args.sink.now) (g.K.Sink.faults c.args.sink.now) (g.F.Shelf.files c.args.shelf.now) (g.F.Shelf.faults c.args.shelf.now) in
+    subst (λ (m : said.Mode). EndsModeWell m c.make_lake.result outside (with_sink (g.K.Sink.written c.make_lake.new.sink) (g.K.Sink.faults c.make_lake.new.sink) outside)) (sym (ap mode_of c.in-Make.is)) (make_ends_well c.make_lake.result outside (with_sink (g.K.Sink.written c.make_lake.new.sink) (g.K.Sink.faults c.make_lake.new.sink) outside) c.make_lake.ensures.ends (c.make_lake.ensures.moves outside))

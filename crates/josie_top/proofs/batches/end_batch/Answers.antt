@@ -1,26 +1,29 @@
-use Rattle.std.proofs.Common.{rules, ◌≡◌, subst, sym, true, false}
+use Rattle.std.proofs.Common.{rules, ◌≡◌, ◌≤◌, subst, sym, true, false}
 use Rattle.std.specs.Io.KnownBytes.{Appends}
 use Rattle.lake_model.specs.Journal.{standard_limits}
 use Rattle.script_model.specs.declared.Status.{Status}
 use Rattle.script_model.specs.Texts.{text_behind}
 use Rattle.josie_top.specs.Meets.{Meets}
+use Rattle.josie_top.specs.World.{with_sink}
 use Rattle.josie_top.proofs.RunFacts.{answered_goes, answered_ends, answered_stops}
 use Rattle.josie_top.proofs.batches.end_batch.Goals as goal
 
 pub returns-in-Err-clause-answered : goal.returns-in-Err-clause-answered
-returns-in-Err-clause-answered g c = λ options left_before left_now written files faults_before faults_now number next is.
+returns-in-Err-clause-answered g c = λ options before outside number next is.
     let (part, beginning, took) = c.in-Err.ensures.part in
-    subst (λ (s : Status). Meets standard_limits options s left_before left_now written (g.K.Sink.written c.write_record.new.sink) files faults_before faults_now c.args.out.now.made) (sym c.status_of_stop.ensures)
-    (answered_stops standard_limits options c.in-Err.stop left_before left_now written _ _ files faults_before faults_now c.args.gather.now c.args.out.now.made is part beginning took)
+    subst (λ (s : Status). Meets standard_limits options s before (with_sink (g.K.Sink.written c.write_record.new.sink) (g.K.Sink.faults c.write_record.new.sink) outside) c.args.out.now.made) (sym c.status_of_stop.ensures)
+    (answered_stops standard_limits options c.in-Err.stop before (with_sink (g.K.Sink.written c.args.sink.now) (g.K.Sink.faults c.args.sink.now) outside) (g.K.Sink.written c.write_record.new.sink) (g.K.Sink.faults c.write_record.new.sink) c.args.gather.now c.args.out.now.made is part beginning took)
 
 pub returns-then-ended-clause-answered : goal.returns-then-ended-clause-answered
-returns-then-ended-clause-answered g c = λ options left_before left_now written files faults_before faults_now number next is.
+returns-then-ended-clause-answered g c = λ options before outside number next is.
     let took : Appends (g.K.Sink.written c.args.sink.now) (g.K.Sink.written c.write_record.new.sink) (text_behind c.args.out.now.made.options.trace c.args.first c.args.out.now.made) = search rules in
     let over : c.args.gather.now.ended ≡ true = search rules in
-    answered_ends standard_limits options c.finish.result left_before left_now written _ _ _ files faults_before faults_now c.args.gather.now c.args.out.now.made c.finish.new.out.made is over took c.finish.ensures.closed c.finish.ensures.written
+    answered_ends standard_limits options c.finish.result before (with_sink (g.K.Sink.written c.args.sink.now) (g.K.Sink.faults c.args.sink.now) outside) (g.K.Sink.written c.write_record.new.sink) (g.K.Sink.written c.finish.new.sink)
+    (g.K.Sink.faults c.write_record.new.sink) (g.K.Sink.faults c.finish.new.sink) c.args.gather.now c.args.out.now.made c.finish.new.out.made is over took c.finish.ensures.closed c.finish.ensures.written
 
 pub returns-clause-answered : goal.returns-clause-answered
-returns-clause-answered g c = λ options left_before left_now written files faults_before faults_now number next is.
+returns-clause-answered g c = λ options before outside number next is.
     let took : Appends (g.K.Sink.written c.args.sink.now) (g.K.Sink.written c.write_record.new.sink) (text_behind c.args.out.now.made.options.trace c.args.first c.args.out.now.made) = search rules in
     let on : c.args.gather.now.ended ≡ false = search rules in
-    answered_goes standard_limits options left_before left_now written _ _ files faults_before faults_now c.args.gather.now c.args.out.now.made is on took
+    answered_goes standard_limits options before (with_sink (g.K.Sink.written c.args.sink.now) (g.K.Sink.faults c.args.sink.now) outside) (g.K.Sink.written c.write_record.new.sink) (g.K.Sink.faults c.write_record.new.sink) c.args.gather.now c.args.out.now.made
+    is on c.write_record.ensures.later took
