@@ -1,15 +1,17 @@
 -- What a load is answered, and what it adds to a record.
-use Rattle.std.specs.Prelude.{◌≡◌, ◌⊎◌, List, [], ◌∷◌, ◌++◌, map, if◌then◌else◌}
+use Rattle.std.specs.Prelude.{◌≡◌, ◌≤◌, ◌+◌, ◌⊎◌, List, [], ◌∷◌, ◌++◌, map, if◌then◌else◌}
 use Rattle.lake_model.specs.declared.Who.{Who}
 use Rattle.lake_model.specs.Texts.{Text}
 use Rattle.lake_model.specs.Tables.{Table}
 use Rattle.lake_model.specs.Journal.{What, entry_with}
 use Rattle.lake_model.specs.Journal as journal
+use Rattle.catalogue.specs.Kept.{CatalogueOf}
 use Rattle.catalogue.specs.declared.refusal.LoadRefused.{LoadRefused}
 use Rattle.catalogue.specs.declared.refusal.LoadRefused.TheVariants as refused
 use Rattle.script_model.specs.Replies.{Reply, Repeated, Full, NoMemory, Fault, fault_reply}
 use Rattle.script_model.specs.Answered.{TableRead, NoTable, is_accepted, standing}
 use Rattle.script_model.specs.Record.{RunRecord}
+use Rattle.reply_text.specs.Rooms.{RecordOf}
 
 -- the reply refuses what was read: for want of memory, or for its fault
 abbrev pub IsRefusal : TableRead → Reply → Type 0
@@ -28,3 +30,13 @@ loaded_by table reply = if is_accepted (standing reply) then journal.Loaded tabl
 -- the record with what a command added to the journal
 abbrev pub with_added : Who → List What → RunRecord → RunRecord
 with_added who whats made = record made { journal = made.journal ++ map (entry_with who) whats }
+
+-- What the answer to a command leaves behind: these things were added to the journal of the catalogue and to that of the record, which took room for one entry
+-- at most; and nothing else is different.
+pub record Adds (who : Who) (whats : List What) (before after : CatalogueOf) (record_before record_after : RecordOf) : Type 0 where
+  pub made : record_after.made ≡ with_added who whats record_before.made
+  pub journal : record_after.made.journal ≡ after.journal
+  pub limits : after.limits ≡ before.limits
+  pub answers_room : record_after.answers_room ≡ record_before.answers_room
+  pub entries_room : record_before.entries_room ≤ record_after.entries_room + 1
+  pub syncs_room : record_after.syncs_room ≡ record_before.syncs_room

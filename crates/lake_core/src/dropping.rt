@@ -6,7 +6,7 @@ ghost use Rattle.script_model.specs.Answered.{adds};
 ghost use Rattle.script_model.specs.Play.{reply_or_denied};
 ghost use Rattle.reply_text.specs.Replies.{reply_of};
 ghost use Rattle.lake_core.specs.Drops.{drop_refusal_reply};
-ghost use Rattle.lake_core.specs.Loads.{with_added};
+ghost use Rattle.lake_core.specs.Loads.{Adds};
 
 use catalogue::{Catalogue, DropRefused, Entry, Who};
 use column_set::Name;
@@ -44,12 +44,7 @@ pub(crate) fn drop_table(
     requires journal { out.old.made.journal ≡ catalogue.old.journal }
     requires room { 0 < out.old.entries_room }
     ensures answered { (denied : Bool) × (reply_of result ≡ reply_or_denied denied (drop_reply catalogue.old.limits name.now catalogue.old.journal)) }
-    ensures made { out.new.made ≡ with_added who (adds (DropTable name.now) out.old.made.journal (reply_of result)) out.old.made }
-    ensures journal { out.new.made.journal ≡ catalogue.new.journal }
-    ensures limits { catalogue.new.limits ≡ catalogue.old.limits }
-    ensures answers_room { out.new.answers_room ≡ out.old.answers_room }
-    ensures entries_room { out.old.entries_room ≤ out.new.entries_room + 1 }
-    ensures syncs_room { out.new.syncs_room ≡ out.old.syncs_room }
+    ensures adds { Adds who (adds (DropTable name.now) out.old.made.journal (reply_of result)) catalogue.old catalogue.new out.old out.new }
 {
     match catalogue.drop_table(who, name) {
         Ok(at) => {

@@ -9,7 +9,7 @@ ghost use Rattle.script_model.specs.Replies.{tables_reply};
 ghost use Rattle.script_model.specs.Play.{answers_of, done_with, reply_or_denied, step, who_of};
 ghost use Rattle.reply_text.specs.Replies.{reply_of};
 ghost use Rattle.lake_core.specs.Lanes.{alone, lane_from, position_of, IsHeld, IsHeldAt};
-ghost use Rattle.lake_core.specs.Loads.{with_added};
+ghost use Rattle.lake_core.specs.Loads.{Adds};
 ghost use Rattle.lake_core.specs.Searches.{IsPinOf};
 ghost use Rattle.batch_work.specs.Works.{merge_policy, work_of};
 
@@ -120,12 +120,7 @@ fn reply_when_held(
     requires journal { out.old.made.journal ≡ catalogue.old.journal }
     requires entries { 0 < out.old.entries_room }
     ensures answered { (denied : Bool) × (reply_of result ≡ reply_or_denied denied (answer_to catalogue.old.limits (work_of work.now).task (take (position_of held) catalogue.old.journal) catalogue.old.journal)) }
-    ensures made { out.new.made ≡ with_added (who_of (work_of work.now)) (adds (work_of work.now).task (take (position_of held) out.old.made.journal) (reply_of result)) out.old.made }
-    ensures journal { out.new.made.journal ≡ catalogue.new.journal }
-    ensures limits { catalogue.new.limits ≡ catalogue.old.limits }
-    ensures answers_room { out.new.answers_room ≡ out.old.answers_room }
-    ensures entries_room { out.old.entries_room ≤ out.new.entries_room + 1 }
-    ensures syncs_room { out.new.syncs_room ≡ out.old.syncs_room }
+    ensures adds { Adds (who_of (work_of work.now)) (adds (work_of work.now).task (take (position_of held) out.old.made.journal) (reply_of result)) catalogue.old catalogue.new out.old out.new }
 {
     match held {
         Held::At(pin) => reply_at_pin(alloc, pin, work),
@@ -155,12 +150,7 @@ fn reply_now(
     requires journal { out.old.made.journal ≡ catalogue.old.journal }
     requires entries { 0 < out.old.entries_room }
     ensures answered { (denied : Bool) × (reply_of result ≡ reply_or_denied denied (answer_to catalogue.old.limits (work_of work.now).task catalogue.old.journal catalogue.old.journal)) }
-    ensures made { out.new.made ≡ with_added (who_of (work_of work.now)) (adds (work_of work.now).task out.old.made.journal (reply_of result)) out.old.made }
-    ensures journal { out.new.made.journal ≡ catalogue.new.journal }
-    ensures limits { catalogue.new.limits ≡ catalogue.old.limits }
-    ensures answers_room { out.new.answers_room ≡ out.old.answers_room }
-    ensures entries_room { out.old.entries_room ≤ out.new.entries_room + 1 }
-    ensures syncs_room { out.new.syncs_room ≡ out.old.syncs_room }
+    ensures adds { Adds (who_of (work_of work.now)) (adds (work_of work.now).task out.old.made.journal (reply_of result)) catalogue.old catalogue.new out.old out.new }
 {
     let who = work.who();
     let Work::Given(command) = work else {

@@ -7,7 +7,7 @@ ghost use Rattle.script_model.specs.Answered.{IsTable, file_read, table_read, lo
 ghost use Rattle.script_model.specs.Play.{reply_or_denied};
 ghost use Rattle.reply_text.specs.Replies.{reply_of};
 ghost use Rattle.script_text.specs.Tasks.{file_of};
-ghost use Rattle.lake_core.specs.Loads.{IsRefusal, refusal_reply, with_added, loaded_by};
+ghost use Rattle.lake_core.specs.Loads.{Adds, IsRefusal, refusal_reply, loaded_by};
 
 use catalogue::{Catalogue, Entry, LoadRefused, Who};
 use column_set::{Name, SetRefused, SharedTable, TableSets};
@@ -147,12 +147,7 @@ fn accept(
     requires journal { out.old.made.journal ≡ catalogue.old.journal }
     requires room { 0 < out.old.entries_room }
     ensures answered { (denied : Bool) × (reply_of result ≡ reply_or_denied denied (load_reply catalogue.old.limits table catalogue.old.journal)) }
-    ensures made { out.new.made ≡ with_added who (loaded_by table (reply_of result)) out.old.made }
-    ensures journal { out.new.made.journal ≡ catalogue.new.journal }
-    ensures limits { catalogue.new.limits ≡ catalogue.old.limits }
-    ensures answers_room { out.new.answers_room ≡ out.old.answers_room }
-    ensures entries_room { out.old.entries_room ≤ out.new.entries_room + 1 }
-    ensures syncs_room { out.new.syncs_room ≡ out.old.syncs_room }
+    ensures adds { Adds who (loaded_by table (reply_of result)) catalogue.old catalogue.new out.old out.new }
 {
     let Ok(kept) = table.share() else {
         return Reply::NoMemory;
@@ -187,12 +182,7 @@ pub(crate) fn load(
     requires journal { out.old.made.journal ≡ catalogue.old.journal }
     requires room { 0 < out.old.entries_room }
     ensures answered { (denied : Bool) × (reply_of result ≡ reply_or_denied denied (load_answer catalogue.old.limits (table_read name.now body.now) catalogue.old.journal)) }
-    ensures made { out.new.made ≡ with_added who (adds (Load name.now body.now) out.old.made.journal (reply_of result)) out.old.made }
-    ensures journal { out.new.made.journal ≡ catalogue.new.journal }
-    ensures limits { catalogue.new.limits ≡ catalogue.old.limits }
-    ensures answers_room { out.new.answers_room ≡ out.old.answers_room }
-    ensures entries_room { out.old.entries_room ≤ out.new.entries_room + 1 }
-    ensures syncs_room { out.new.syncs_room ≡ out.old.syncs_room }
+    ensures adds { Adds who (adds (Load name.now body.now) out.old.made.journal (reply_of result)) catalogue.old catalogue.new out.old out.new }
 {
     match make_table(alloc, name, body) {
         Ok(Loadable { table, segment }) => accept(catalogue, who, table, segment, out),
@@ -212,12 +202,7 @@ pub(crate) fn load_file(
     requires journal { out.old.made.journal ≡ catalogue.old.journal }
     requires room { 0 < out.old.entries_room }
     ensures answered { (denied : Bool) × (reply_of result ≡ reply_or_denied denied (load_answer catalogue.old.limits (file_read name.now (file_of file.now)) catalogue.old.journal)) }
-    ensures made { out.new.made ≡ with_added who (adds (LoadFile name.now (file_of file.now)) out.old.made.journal (reply_of result)) out.old.made }
-    ensures journal { out.new.made.journal ≡ catalogue.new.journal }
-    ensures limits { catalogue.new.limits ≡ catalogue.old.limits }
-    ensures answers_room { out.new.answers_room ≡ out.old.answers_room }
-    ensures entries_room { out.old.entries_room ≤ out.new.entries_room + 1 }
-    ensures syncs_room { out.new.syncs_room ≡ out.old.syncs_room }
+    ensures adds { Adds who (adds (LoadFile name.now (file_of file.now)) out.old.made.journal (reply_of result)) catalogue.old catalogue.new out.old out.new }
 {
     match make_table_of_file(alloc, name, file) {
         Ok(Loadable { table, segment }) => accept(catalogue, who, table, segment, out),

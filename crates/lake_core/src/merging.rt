@@ -9,7 +9,7 @@ ghost use Rattle.catalogue.specs.Kept.{IsWithin};
 ghost use Rattle.catalogue.specs.Swaps.{numbers_in};
 ghost use Rattle.script_model.specs.Play.{reply_or_denied};
 ghost use Rattle.reply_text.specs.Replies.{reply_of};
-ghost use Rattle.lake_core.specs.Loads.{with_added};
+ghost use Rattle.lake_core.specs.Loads.{Adds};
 ghost use Rattle.lake_core.specs.Merging.{merge_of, swap_reply, swapped_by, CanSwap, IsPlanned};
 
 use catalogue::{Catalogue, Entry, SwapRefused, Who};
@@ -95,12 +95,7 @@ pub(crate) fn swap(
     requires journal { out.old.made.journal ≡ catalogue.old.journal }
     requires room { 0 < out.old.entries_room }
     ensures answered { (denied : Bool) × (reply_of result ≡ reply_or_denied denied (swap_reply planned.layout planned.merged catalogue.old.journal)) }
-    ensures made { out.new.made ≡ with_added who (swapped_by planned.merged (reply_of result)) out.old.made }
-    ensures journal { out.new.made.journal ≡ catalogue.new.journal }
-    ensures limits { catalogue.new.limits ≡ catalogue.old.limits }
-    ensures answers_room { out.new.answers_room ≡ out.old.answers_room }
-    ensures entries_room { out.old.entries_room ≤ out.new.entries_room + 1 }
-    ensures syncs_room { out.new.syncs_room ≡ out.old.syncs_room }
+    ensures adds { Adds who (swapped_by planned.merged (reply_of result)) catalogue.old catalogue.new out.old out.new }
 {
     let Planned { layout, merged } = planned;
     let Some(merged) = merged else {

@@ -27,8 +27,8 @@ returns-in-Swap-clause-answered c =
     subst (λ held. Answers reply (answer_to limits task (take (position_of held) journal) journal)) (sym c.in-Swap.is)
     (held_swap limits task journal c.in-Swap.planned reply (subst (IsHeldAt journal (merge_policy task)) c.in-Swap.is c.requires.held) c.swap.ensures.answered)
 
-pub returns-in-Swap-clause-made : goal.returns-in-Swap-clause-made
-returns-in-Swap-clause-made c =
+pub returns-in-Swap-clause-adds : goal.returns-in-Swap-clause-adds
+returns-in-Swap-clause-adds c =
     let journal = c.args.catalogue.now.journal in
     let made = c.args.out.now.made in
     let task = (work_of c.args.work.now).task in
@@ -37,4 +37,12 @@ returns-in-Swap-clause-made c =
     let same : swapped_by planned.merged reply ≡ adds task (take (position_of c.args.held) made.journal) reply =
     held_adds task journal made.journal planned reply (subst (IsHeldAt journal (merge_policy task)) c.in-Swap.is c.requires.held) c.requires.journal
     ∙ ap (λ held. adds task (take (position_of held) made.journal) reply) (sym c.in-Swap.is) in
-    c.swap.ensures.made ∙ (λ i. with_added (c.who.ensures i) (same i) made)
+    let adds = c.swap.ensures.adds in
+    record {
+      made = adds.made ∙ (λ i. with_added (c.who.ensures i) (same i) made);
+      journal = adds.journal;
+      limits = adds.limits;
+      answers_room = adds.answers_room;
+      entries_room = adds.entries_room;
+      syncs_room = adds.syncs_room;
+    }

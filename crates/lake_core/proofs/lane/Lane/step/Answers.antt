@@ -17,7 +17,7 @@ returns-then-not-has_pin-clause-steps c =
     let (denied, said) = c.reply_now-reply.ensures.answered in
     let kind : has_pin command.task ≡ false = sym c.has_pin.ensures ∙ c.if-not-has_pin.true in
     let goes : c.reply_now-reply.new.catalogue.journal ≡ c.args.catalogue.now.journal ++ entries_of c.args.catalogue.now.journal command reply =
-    sym c.reply_now-reply.ensures.journal ∙ ap (λ (m : RunRecord). m.journal) c.reply_now-reply.ensures.made
+    sym c.reply_now-reply.ensures.adds.journal ∙ ap (λ (m : RunRecord). m.journal) c.reply_now-reply.ensures.adds.made
     ∙ ap (λ (j : List Entry). j ++ map (entry_with (who_of command)) (adds command.task j reply)) c.requires.journal in (
       denied,
       answered_now c.args.catalogue.now.limits denied c.args.catalogue.now.journal c.reply_now-reply.new.catalogue.journal command todo reply c.args.self.now c.answer.new.self c.in-Some.ensures kind said goes
@@ -34,7 +34,7 @@ returns-then-not-has_pin-clause-entries_room c =
     let todo = drop 1 c.args.self.now.todo in
     omega (
       arith,
-      c.reply_now-reply.ensures.entries_room,
+      c.reply_now-reply.ensures.adds.entries_room,
       one_less c.args.self.now c.answer.new.self command todo c.in-Some.ensures (ap (λ (lane : LaneOf). lane.todo) (c.answer.ensures command todo c.in-Some.ensures)),
     )
 
@@ -51,7 +51,7 @@ returns-in-Some-take-clause-steps c =
     let holds : c.args.self.now.held ≡ Some held = search rules in
     let (denied, said) = c.reply_when_held.ensures.answered in
     let goes : c.reply_when_held.new.catalogue.journal ≡ journal ++ entries_of (take (position_of held) journal) command reply =
-    sym c.reply_when_held.ensures.journal ∙ ap (λ (m : RunRecord). m.journal) c.reply_when_held.ensures.made
+    sym c.reply_when_held.ensures.adds.journal ∙ ap (λ (m : RunRecord). m.journal) c.reply_when_held.ensures.adds.made
     ∙ ap (λ (j : List Entry). j ++ map (entry_with (who_of command)) (adds command.task (take (position_of held) j) reply)) c.requires.journal in (
       denied,
       answered_then c.args.catalogue.now.limits denied journal c.reply_when_held.new.catalogue.journal command todo held reply c.args.self.now c.answer-in-Some-take.new.self c.in-Some.ensures kind holds said goes
@@ -69,6 +69,6 @@ returns-in-Some-take-clause-entries_room c =
     let todo = drop 1 c.args.self.now.todo in
     omega (
       arith,
-      c.reply_when_held.ensures.entries_room,
+      c.reply_when_held.ensures.adds.entries_room,
       one_less c.args.self.now c.answer-in-Some-take.new.self command todo c.in-Some.ensures (ap (λ (lane : LaneOf). lane.todo) (c.answer-in-Some-take.ensures command todo (ap (λ (lane : LaneOf). lane.todo) c.self.view_is ∙ c.in-Some.ensures))),
     )
