@@ -125,10 +125,7 @@ impl Catalogue {
         if let Some(refused) = self.load_refused(table.table()) {
             return Err(refused);
         }
-        match self.accept_load(who, table, segment) {
-            Ok(at) => Ok(at),
-            Err(NoMemory) => Err(LoadRefused::NoMemory),
-        }
+        Ok(self.accept_load(who, table, segment)?)
     }
 
     // What refuses a load of this table.
@@ -204,10 +201,7 @@ impl Catalogue {
         if let Some(refused) = self.drop_refused(name) {
             return Err(refused);
         }
-        match self.accept_drop(who, name) {
-            Ok(at) => Ok(at),
-            Err(NoMemory) => Err(DropRefused::NoMemory),
-        }
+        Ok(self.accept_drop(who, name)?)
     }
 
     // What refuses a drop of the table of this name.

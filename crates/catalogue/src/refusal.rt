@@ -1,5 +1,6 @@
 //! Why a load, a drop or a swap is refused.
 use lake_model::Which;
+use no_memory::NoMemory;
 
 /// Why a load is refused. In each of the first two, `at` is how many entries the journal has.
 #[derive(Clone, Copy, Debug, PartialEq, Eq)]
@@ -46,4 +47,37 @@ pub enum SwapRefused {
     Stale { gone: u64, at: u64 },
     /// Memory was wanting.
     NoMemory,
+}
+
+impl From<NoMemory> for LoadRefused {
+    ghost use Rattle.std.specs.Prelude.{◌≡◌};
+    ghost use Rattle.catalogue.specs.declared.refusal.LoadRefused.TheVariants as refused;
+
+    ghost from_gives = { λ _ e. e ≡ refused.NoMemory };
+
+    fn from(_error: NoMemory) -> LoadRefused {
+        LoadRefused::NoMemory
+    }
+}
+
+impl From<NoMemory> for DropRefused {
+    ghost use Rattle.std.specs.Prelude.{◌≡◌};
+    ghost use Rattle.catalogue.specs.declared.refusal.DropRefused.TheVariants as refused;
+
+    ghost from_gives = { λ _ e. e ≡ refused.NoMemory };
+
+    fn from(_error: NoMemory) -> DropRefused {
+        DropRefused::NoMemory
+    }
+}
+
+impl From<NoMemory> for SwapRefused {
+    ghost use Rattle.std.specs.Prelude.{◌≡◌};
+    ghost use Rattle.catalogue.specs.declared.refusal.SwapRefused.TheVariants as refused;
+
+    ghost from_gives = { λ _ e. e ≡ refused.NoMemory };
+
+    fn from(_error: NoMemory) -> SwapRefused {
+        SwapRefused::NoMemory
+    }
 }

@@ -37,10 +37,7 @@ impl Catalogue {
         if let Some(refused) = self.swap_refused(&merged.from) {
             return Err(refused);
         }
-        match self.accept_swap(who, merged) {
-            Ok(at) => Ok(at),
-            Err(NoMemory) => Err(SwapRefused::NoMemory),
-        }
+        Ok(self.accept_swap(who, merged)?)
     }
 
     // What refuses a swap of these parts.
