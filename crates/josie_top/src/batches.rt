@@ -3,17 +3,19 @@ ghost use Rattle.std.specs.Prelude.{◌≡◌, ◌≤◌, ℕ, List, Option, [],
 ghost use Rattle.lake_io.specs.Causes.{Rose};
 ghost use Rattle.lake_io.specs.Files.{File as Told};
 ghost use Rattle.lake_model.specs.Journal.{standard_limits};
-ghost use Rattle.script_model.specs.Record.{Options as OptionsOf, with_end};
-ghost use Rattle.script_model.specs.Texts.{text_behind};
+ghost use Rattle.script_model.specs.Options.{Options as OptionsOf};
+ghost use Rattle.record_model.specs.Record.{with_end};
+ghost use Rattle.record_model.specs.Texts.{text_behind};
 ghost use Rattle.josie_top.specs.Ends.{IsWritten, status_of_end, status_of_stop};
 ghost use Rattle.josie_top.specs.Meets.{Meets};
 ghost use Rattle.josie_top.specs.Progress.{HasCauses, HasMoved, IsAnswered, IsBegun, IsUnderWay};
 
 use crate::writing::{WriteStop, write_record};
+use commands::{Batch, Options};
 use lake_io::{Shelf, Sink, Source};
-use reply_text::RunRecord;
-use script_model::Status;
-use script_text::{Batch, Gather, Options, ScriptEnd};
+use record_model::Status;
+use run_record::RunRecord;
+use script_text::{Gather, ScriptEnd};
 use std::alloc::Global;
 
 /// The status of a run whose gatherer gives no batch.

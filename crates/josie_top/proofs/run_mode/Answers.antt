@@ -1,7 +1,7 @@
 use Rattle.std.proofs.Common.{◌≡◌, ◌∙◌, ap, subst, sym}
-use Rattle.script_model.specs.Plain as said
-use Rattle.script_model.specs.Record.{Options}
-use Rattle.script_text.specs.Words.{mode_of}
+use Rattle.option_model.specs.Plain as said
+use Rattle.script_model.specs.Options.{Options}
+use Rattle.command_line.specs.Words.{mode_of}
 use Rattle.josie_top.specs.Meets.{HasNoFault}
 use Rattle.josie_top.proofs.run_mode.Goals as goal
 

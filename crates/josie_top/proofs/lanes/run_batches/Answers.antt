@@ -3,12 +3,14 @@ use Rattle.std.specs.Prelude.{Option, is_err}
 use Rattle.std.proofs.KnownBytes.{Consumes-nil}
 use Rattle.lake_io.specs.Files as shelf
 use Rattle.lake_model.specs.Journal.{standard_limits}
-use Rattle.script_model.specs.declared.Status.TheVariants as status
+use Rattle.record_model.specs.declared.Status.TheVariants as status
 use Rattle.script_model.specs.Lanes.{IsOfLanes}
-use Rattle.script_model.specs.Play.{merges_of, updates}
-use Rattle.script_model.specs.Statuses.{IsStated}
+use Rattle.record_model.specs.Play.{merges_of}
+use Rattle.script_model.specs.Commands.{updates}
+use Rattle.record_model.specs.Statuses.{IsStated}
 use Rattle.lake_desk.specs.Together.{AreTogether, IsOneBatchMore}
-use Rattle.script_model.specs.Record.{Answered, Options, RunRecord}
+use Rattle.record_model.specs.Record.{Answered, RunRecord}
+use Rattle.script_model.specs.Options.{Options}
 use Rattle.josie_top.specs.Meets.{Meets}
 use Rattle.josie_top.specs.Progress.{IsUnderWay}
 use Rattle.josie_top.proofs.RunFacts.{starts, ends_between, is_answered, stands_still, causes_since, moved_on}

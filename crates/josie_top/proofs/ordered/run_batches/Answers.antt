@@ -3,9 +3,10 @@ use Rattle.std.specs.Prelude.{Option, is_err}
 use Rattle.std.proofs.KnownBytes.{Consumes-nil}
 use Rattle.lake_io.specs.Files as shelf
 use Rattle.lake_model.specs.Journal.{standard_limits}
-use Rattle.script_model.specs.declared.Status.TheVariants as status
-use Rattle.script_model.specs.Play.{updates}
-use Rattle.script_model.specs.Record.{Answered, Options, RunRecord}
+use Rattle.record_model.specs.declared.Status.TheVariants as status
+use Rattle.script_model.specs.Commands.{updates}
+use Rattle.record_model.specs.Record.{Answered, RunRecord}
+use Rattle.script_model.specs.Options.{Options}
 use Rattle.josie_top.specs.Meets.{Meets}
 use Rattle.josie_top.specs.Progress.{IsUnderWay}
 use Rattle.josie_top.proofs.RunFacts.{starts, ends_between, is_answered, stands_still, causes_since, moved_on}

@@ -1,6 +1,6 @@
 use Rattle.std.proofs.Common.{rules, ◌≡◌, subst, sym}
 use Rattle.lake_model.specs.Journal.{standard_limits}
-use Rattle.script_model.specs.Record.{Options}
+use Rattle.script_model.specs.Options.{Options}
 use Rattle.josie_top.specs.Meets.{HasNoFault}
 use Rattle.josie_top.proofs.RunFacts.{nothing_done, ends_well}
 use Rattle.josie_top.proofs.ordered.run_in_order.Goals as goal
