@@ -4,8 +4,8 @@ use Rattle.std.specs.Prelude.{slice_set, option_to_list}
 use Rattle.std.proofs.Math.Seq.{drop-cons}
 use Rattle.std.proofs.lemmas.List.{map-append}
 use Rattle.script_model.specs.Commands.{Command}
-use Rattle.script_model.specs.Record.{Answered}
-use Rattle.script_model.specs.Play.{Done, answers_of, gathered}
+use Rattle.record_model.specs.Record.{Answered}
+use Rattle.record_model.specs.Play.{Done, answers_of, gathered}
 use Rattle.batch_work.specs.declared.work.Work.{Work}
 use Rattle.batch_work.specs.Works.{work_of, works_of}
 use Rattle.batch_work.proofs.WorkLemmas.{work_at, works_long}

@@ -3,7 +3,7 @@ use Rattle.std.specs.Prelude.{ℕ, ◌≤◌, false, List, map, Option, Some, No
 use Rattle.std.specs.List.{AllByRecursion}
 use Rattle.lake_model.specs.declared.Policy.{Policy}
 use Rattle.script_model.specs.Commands.{Command, command_with, Task, Load, LoadFile, DropTable, Tables, Search, Like, Merge, Batch}
-use Rattle.script_model.specs.Answered.{policy_of}
+use Rattle.record_model.specs.Answered.{policy_of}
 use Rattle.batch_work.specs.declared.work.Work.{Work}
 use Rattle.batch_work.specs.declared.work.Work.TheVariants as work
 

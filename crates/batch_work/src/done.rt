@@ -1,12 +1,12 @@
 //! Work that was done.
 ghost use Rattle.std.specs.Prelude.{◌≡◌, drop, option_to_list, take};
 ghost use Rattle.std.specs.VecDeque.{deque_capacity};
-ghost use Rattle.script_model.specs.Play.{answers_of, done_with};
-ghost use Rattle.reply_text.specs.Replies.{reply_of};
+ghost use Rattle.record_model.specs.Play.{answers_of, done_with};
+ghost use Rattle.run_record.specs.Replies.{reply_of};
 ghost use Rattle.batch_work.specs.Works.{work_of};
 
 use crate::work::Work;
-use reply_text::{Answered, Reply};
+use run_record::{Answered, Reply};
 use std::collections::VecDeque;
 use std::marker::Model;
 
@@ -18,8 +18,8 @@ pub struct Done<'a> {
 }
 
 impl<'a> Model for Done<'a> {
-    ghost use Rattle.script_model.specs.Play.{Done as DoneOf, done_with};
-    ghost use Rattle.reply_text.specs.Replies.{reply_of};
+    ghost use Rattle.record_model.specs.Play.{Done as DoneOf, done_with};
+    ghost use Rattle.run_record.specs.Replies.{reply_of};
     ghost use Rattle.batch_work.specs.Works.{work_of};
 
     ghost Value = { DoneOf };

@@ -1,18 +1,18 @@
 //! What the lanes of a batch have to do: its commands, and the merges of the merger.
 ghost use Rattle.std.specs.Prelude.{◌≡◌, ◌<◌, ◌+◌, ◌^◌, ◌++◌, ⊤, false, map, IfOk, MatchOption, OnOk};
 ghost use Rattle.std.specs.List.{range_with_len};
-ghost use Rattle.script_model.specs.Answered.{has_pin};
-ghost use Rattle.script_model.specs.Commands.{command_with, Merge};
-ghost use Rattle.script_model.specs.Play.{merges_of, updates, who_of};
-ghost use Rattle.script_text.specs.Tasks.{task_of};
-ghost use Rattle.reply_text.specs.Callers.{who_by};
+ghost use Rattle.record_model.specs.Answered.{has_pin};
+ghost use Rattle.script_model.specs.Commands.{command_with, Merge, updates};
+ghost use Rattle.record_model.specs.Play.{merges_of, who_of};
+ghost use Rattle.commands.specs.Tasks.{task_of};
+ghost use Rattle.run_record.specs.Callers.{who_by};
 ghost use Rattle.batch_work.specs.Works.{merge_policy, work_of, works_of};
 
 use catalogue::Who;
+use commands::{Batch, Command, Task};
 use lake_model::Policy;
 use no_memory::NoMemory;
-use reply_text::By;
-use script_text::{Batch, Command, Task};
+use run_record::By;
 use std::alloc::Global;
 
 /// What a lane has to do.

@@ -2,7 +2,7 @@
 use Rattle.std.proofs.Common.{◌≡◌, refl, ap, sym, ◌∙◌, subst, ℕ, ◌+◌, ◌-◌, ◌<◌, ◌≤◌, List, [], ◌∷◌, ◌++◌, Bool, true, false, not, ◌||◌, cond, map, length, Option, Some, None, arith, length-append, append-nil}
 use Rattle.std.specs.Prelude.{bytes_eq, sum_by, count_by, find, option_map}
 use Rattle.std.specs.List.{AllByRecursion, list_any, filter}
-use Rattle.std.proofs.lemmas.List.{map-append, length-map}
+use Rattle.std.proofs.lemmas.List.{length-map}
 use Rattle.std.proofs.lemmas.List.Concat.{flat_map-append}
 use Rattle.std.proofs.lemmas.List.Sums.{sum_by_push}
 use Rattle.lake_model.specs.declared.Counts.{Counts}
@@ -19,21 +19,11 @@ use Rattle.catalogue.specs.declared.refusal.DropRefused.TheVariants.{Unknown, Fu
 use Rattle.catalogue.specs.Kept.{IsKept}
 use Rattle.catalogue.specs.Parts.{load_of, is_of, Rises}
 use Rattle.catalogue.specs.Refusals.{drop_refusal}
-use Rattle.catalogue.proofs.ListLemmas.{le_from, all_weaker, distinct_filter, map_none, find_none}
-use Rattle.catalogue.proofs.PlaceLemmas.{places_of, unmarked, positions_in, HasPlaces, name_same, name_is, name_differs, names_of_tables}
+use Rattle.list_laws.proofs.ListLemmas.{all_weaker, find_none}
+use Rattle.catalogue.proofs.ListLemmas.{le_from, distinct_filter, map_none}
+use Rattle.catalogue.proofs.PlaceLemmas.{places_of, unmarked, HasPlaces, name_same, name_is, name_differs, names_of_tables}
 use Rattle.catalogue.proofs.KeptLemmas.{counts_with, is_legal_behind-push, merging-push}
-
-places_mark : (name : Text) (parts : List Part) → places_of (map (mark name) parts) ≡ map (mark_place name) (places_of parts)
-places_mark name [] = refl
-places_mark name (part ∷ parts) = ap (λ ps. map (mark_place name) part.places ++ ps) (places_mark name parts) ∙ sym (map-append (mark_place name) part.places (places_of parts))
-
--- the positions stay
-positions_mark : (name : Text) (places : List Place) → positions_in (map (mark_place name) places) ≡ positions_in places
-positions_mark name [] = refl
-positions_mark name (place ∷ places) = ap (λ ns. place.position ∷ ns) (positions_mark name places)
-
-positions_drop : (name : Text) (parts : List Part) → positions_of (map (mark name) parts) ≡ positions_of parts
-positions_drop name parts = ap (λ (places : List Place). positions_in places) (places_mark name parts) ∙ positions_mark name (places_of parts)
+use Rattle.layout_laws.proofs.LiveLemmas.{places_marked, positions_dropped as marked_positions}
 
 filled_mark : (name : Text) (parts : List Part) → AllByRecursion HasPlaces parts → AllByRecursion HasPlaces (map (mark name) parts)
 filled_mark name [] h = tt
@@ -79,7 +69,7 @@ load_mark name q (place ∷ places) =
     ∙ ap (cond (bytes_eq name q) None) (sym (load_step q place places))
 
 load_drop : (name q : Text) (parts : List Part) → load_of (map (mark name) parts) q ≡ cond (bytes_eq name q) None (load_of parts q)
-load_drop name q parts = ap (load_in q) (places_mark name parts) ∙ load_mark name q (places_of parts)
+load_drop name q parts = ap (load_in q) (places_marked name parts) ∙ load_mark name q (places_of parts)
 
 -- one table less
 filter_same : (name : Text) (tables : List Table) → Lacks (map (λ table. table.name) tables) name → filter (λ table. not (has_name name table)) tables ≡ tables
@@ -150,7 +140,7 @@ module _ (limits : Counts) (journal : List Entry) (version : VersionOf) (counted
     count_bytes = ap (λ (c : Counts). c.key_bytes) kept.count ∙ ap (sum_by key_bytes) (sym loads)
 
     positions_stay : positions_of (layout longer) ≡ positions_of (layout journal)
-    positions_stay = ap (λ (parts : List Part). positions_of parts) laid ∙ positions_drop name (layout journal)
+    positions_stay = ap (λ (parts : List Part). positions_of parts) laid ∙ marked_positions name (layout journal)
 
     names_left : AreDistinct (map (λ table. table.name) (live longer))
     names_left = subst (λ (ts : List Table). AreDistinct (map (λ (t : Table). t.name) ts)) (sym lived) (distinct_filter (λ (t : Table). t.name) (λ t. not (has_name name t)) (live journal) kept.names)
@@ -189,4 +179,4 @@ module _ (limits : Counts) (journal : List Entry) (version : VersionOf) (counted
         subst (λ (parts : List Part). AreDistinct (unmarked_names parts)) laid (subst AreDistinct (sym names) names_left)
 
 pub positions_dropped : (name : Text) (parts : List Part) → AreDistinct (positions_of parts) → AreDistinct (positions_of (map (mark name) parts))
-positions_dropped name parts h = subst AreDistinct (sym (positions_drop name parts)) h
+positions_dropped name parts h = subst AreDistinct (sym (marked_positions name parts)) h

@@ -11,7 +11,8 @@ use Rattle.segment_core.specs.Distinct.{AreDistinct, unmarked_names}
 use Rattle.segment_core.specs.Versions.{VersionOf}
 use Rattle.catalogue.specs.Kept.{IsKept}
 use Rattle.catalogue.specs.Parts.{load_of}
-use Rattle.catalogue.proofs.ListLemmas.{both, joined, rises_distinct}
+use Rattle.list_laws.proofs.ListLemmas.{both, joined}
+use Rattle.catalogue.proofs.ListLemmas.{rises_distinct}
 use Rattle.catalogue.proofs.PlaceLemmas.{load_is_named, names_of_tables}
 
 abbrev pub counts_with : ℕ → ℕ → ℕ → ℕ → Counts

@@ -1,76 +1,20 @@
 -- Lists whose numbers rise, lists in which nothing stands twice, and what a search finds.
-use Rattle.std.proofs.Common.{◌≡◌, refl, ap, sym, ◌∙◌, subst, ℕ, zero, suc, ◌+◌, ◌<◌, ◌≤◌, List, [], ◌∷◌, ◌++◌, Bool, true, false, ◌&&◌, cond, map, length, get_or, Option, Some, None, is_some, arith}
+use Rattle.std.proofs.Common.{◌≡◌, refl, ap, sym, ◌∙◌, subst, ℕ, zero, suc, ◌+◌, ◌<◌, ◌≤◌, List, [], ◌∷◌, ◌++◌, Bool, true, false, cond, map, length, get_or, Option, Some, None, is_some, arith}
 use Rattle.std.specs.Prelude.{find, option_map, nat_lt, slice_index}
 use Rattle.std.specs.List.{AllByRecursion, filter}
 use Rattle.std.specs.List.Sorted.{IsStrictlyIncreasing}
 use Rattle.std.proofs.lemmas.Bool.Decides.{nat_tests}
 use Rattle.segment_core.specs.Distinct.{AreDistinct, Lacks}
 use Rattle.catalogue.specs.Parts.{Rises}
-
-pub both : (a b : Bool) → (a && b) ≡ true → (a ≡ true) × (b ≡ true)
-both true b h = (refl, h)
-both false b h = cc
-
-pub joined : (a b : Bool) → a ≡ true → b ≡ true → (a && b) ≡ true
-joined a b h k = ap (λ (x : Bool). x && b) h ∙ k
+use Rattle.list_laws.proofs.ListLemmas.{all_append, all_left, all_right, all_weaker}
 
 pub le_from : (a b : ℕ) → nat_lt a b ≡ false → b ≤ a
 le_from a b h = grind (arith, nat_tests)
-
--- what holds of each element
-pub all_append : {X : Type 0} (P : X → Type 0) (xs ys : List X) → AllByRecursion P xs → AllByRecursion P ys → AllByRecursion P (xs ++ ys)
-all_append P [] ys h k = k
-all_append P (x ∷ xs) ys h k = (h.0, all_append P xs ys h.1 k)
-
-pub all_left : {X : Type 0} (P : X → Type 0) (xs ys : List X) → AllByRecursion P (xs ++ ys) → AllByRecursion P xs
-all_left P [] ys h = tt
-all_left P (x ∷ xs) ys h = (h.0, all_left P xs ys h.1)
-
-pub all_right : {X : Type 0} (P : X → Type 0) (xs ys : List X) → AllByRecursion P (xs ++ ys) → AllByRecursion P ys
-all_right P [] ys h = h
-all_right P (x ∷ xs) ys h = all_right P xs ys h.1
-
-pub all_weaker : {X : Type 0} (P Q : X → Type 0) (xs : List X) → ((x : X) → P x → Q x) → AllByRecursion P xs → AllByRecursion Q xs
-all_weaker P Q [] f h = tt
-all_weaker P Q (x ∷ xs) f h = (f x h.0, all_weaker P Q xs f h.1)
-
-pub all_map : {X Y : Type 0} (P : Y → Type 0) (f : X → Y) (xs : List X) → AllByRecursion P (map f xs) → AllByRecursion (λ x. P (f x)) xs
-all_map P f [] h = tt
-all_map P f (x ∷ xs) h = (h.0, all_map P f xs h.1)
-
-pub map_all : {X Y : Type 0} (P : Y → Type 0) (f : X → Y) (xs : List X) → AllByRecursion (λ x. P (f x)) xs → AllByRecursion P (map f xs)
-map_all P f [] h = tt
-map_all P f (x ∷ xs) h = (h.0, map_all P f xs h.1)
 
 pub all_at : {X : Type 0} (P : X → Type 0) (xs : List X) (i : ℕ) (d : X) → AllByRecursion P xs → i < length xs → P (get_or xs i d)
 all_at P [] i d h b = absurd (omega arith)
 all_at P (x ∷ xs) zero d h b = h.0
 all_at P (x ∷ xs) (suc i) d h b = all_at P xs i d h.1 (omega arith)
-
-all_cond : {X : Type 0} (P : X → Type 0) (b : Bool) (x : X) (xs : List X) → P x → AllByRecursion P xs → AllByRecursion P (cond b (x ∷ xs) xs)
-all_cond P true x xs h k = (h, k)
-all_cond P false x xs h k = k
-
-pub all_filter : {X : Type 0} (P : X → Type 0) (p : X → Bool) (xs : List X) → AllByRecursion P xs → AllByRecursion P (filter p xs)
-all_filter P p [] h = tt
-all_filter P p (x ∷ xs) h = all_cond P (p x) x (filter p xs) h.0 (all_filter P p xs h.1)
-
-passed_cond : {X : Type 0} (P : X → Type 0) (b : Bool) (x : X) (xs : List X) → (b ≡ true → P x) → AllByRecursion P xs → AllByRecursion P (cond b (x ∷ xs) xs)
-passed_cond P true x xs h k = (h refl, k)
-passed_cond P false x xs h k = k
-
--- what a filter keeps has passed
-pub all_passed : {X : Type 0} (p : X → Bool) (xs : List X) → AllByRecursion (λ x. p x ≡ true) (filter p xs)
-all_passed p [] = tt
-all_passed p (x ∷ xs) = passed_cond (λ x. p x ≡ true) (p x) x (filter p xs) (λ h. h) (all_passed p xs)
-
-pub filter-append : {X : Type 0} (p : X → Bool) (xs ys : List X) → filter p (xs ++ ys) ≡ filter p xs ++ filter p ys
-filter-append p [] ys = refl
-filter-append p (x ∷ xs) ys = ap (λ us. cond (p x) (x ∷ us) us) (filter-append p xs ys) ∙ by (p x)
-  where
-    by : (b : Bool) → cond b (x ∷ (filter p xs ++ filter p ys)) (filter p xs ++ filter p ys) ≡ cond b (x ∷ filter p xs) (filter p xs) ++ filter p ys
-    by true = refl
-    by false = refl
 
 -- lists in which nothing stands twice
 pub distinct_push : {X : Type 0} (xs : List X) (x : X) → AreDistinct xs → Lacks xs x → AreDistinct (xs ++ x ∷ [])
@@ -133,10 +77,6 @@ map_none f (Some x) h = cc
 pub map_some : {X Y : Type 0} (f : X → Y) (o : Option X) (y : Y) → option_map f o ≡ Some y → (x : X) × (o ≡ Some x) × (f x ≡ y)
 map_some f None y h = cc
 map_some f (Some x) y h = let same : f x ≡ y = cc in (x, refl, same)
-
-pub find_none : {X : Type 0} (p : X → Bool) (xs : List X) → find p xs ≡ None → AllByRecursion (λ x. p x ≡ false) xs
-find_none p [] h = tt
-find_none p (x ∷ xs) h = let o = open_by (p x) x (find p xs) h in (o.0, find_none p xs o.1)
 
 found_by : {X : Type 0} (P : X → Type 0) (b : Bool) (x found : X) (rest : Option X) → (b ≡ true → P x) → (rest ≡ Some found → P found) → cond b (Some x) rest ≡ Some found → P found
 found_by P true x found rest h k e = let same : x ≡ found = cc in subst P same (h refl)

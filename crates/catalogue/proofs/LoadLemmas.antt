@@ -19,7 +19,8 @@ use Rattle.catalogue.specs.declared.refusal.LoadRefused.TheVariants.{Full}
 use Rattle.catalogue.specs.Kept.{IsKept, IsWithin}
 use Rattle.catalogue.specs.Parts.{load_of, is_of, Rises}
 use Rattle.catalogue.specs.Refusals.{load_refusal}
-use Rattle.catalogue.proofs.ListLemmas.{le_from, all_append, all_weaker, filter-append, distinct_push, rises_push, open_by, map_none, find_none, find_push, none_from}
+use Rattle.list_laws.proofs.ListLemmas.{all_append, all_weaker, filter-append, find_none}
+use Rattle.catalogue.proofs.ListLemmas.{le_from, distinct_push, rises_push, open_by, map_none, find_push, none_from}
 use Rattle.catalogue.proofs.PlaceLemmas.{places_of, unmarked, HasPlaces, names_append, name_same, name_is, names_in}
 use Rattle.catalogue.proofs.KeptLemmas.{counts_with, is_legal_behind-push, merging-push, parts_kept, named_kept, names_kept, names_differ, positions_differ}
 

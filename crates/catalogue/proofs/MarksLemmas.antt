@@ -11,7 +11,7 @@ use Rattle.segment_core.specs.Positions.{loads_of}
 use Rattle.segment_core.specs.Versions.{marks_of}
 use Rattle.catalogue.specs.Carried.{is_first, marks_along, run_marks}
 use Rattle.catalogue.specs.Swaps.{kept_marks}
-use Rattle.catalogue.proofs.ListLemmas.{all_weaker}
+use Rattle.list_laws.proofs.ListLemmas.{all_weaker, filter_agree}
 use Rattle.catalogue.proofs.PlaceLemmas.{places_of, positions_in}
 
 abbrev pub marks_in : List Place → List Bool
@@ -89,10 +89,6 @@ run_more kept run i part positions marks all new whole h at loads marked many be
     ∙ ap (λ ms. all ++ ms) (sym (ap (run_marks left) cons ∙ run_marks_cons left part rest equal)) ∙ before
 
 -- ---- what the walk gives
-
-pub filter_agree : {X : Type 0} (p q : X → Bool) (xs : List X) → AllByRecursion (λ x. p x ≡ q x) xs → filter p xs ≡ filter q xs
-filter_agree p q [] h = refl
-filter_agree p q (x ∷ xs) h = λ i. cond (h.0 i) (x ∷ filter_agree p q xs h.1 i) (filter_agree p q xs h.1 i)
 
 abbrev pub kept_in : List ℕ → List Place → List Place
 kept_in kept places = filter (λ place. is_among kept place.position) places

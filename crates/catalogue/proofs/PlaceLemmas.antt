@@ -13,7 +13,8 @@ use Rattle.segment_core.specs.Distinct.{AreDistinct, Lacks, unmarked_names}
 use Rattle.segment_core.specs.Positions.{StandsAt}
 use Rattle.segment_core.specs.Versions.{place_with, part_with, part_at, mark_nth, marked_at}
 use Rattle.catalogue.specs.Parts.{load_of, is_of}
-use Rattle.catalogue.proofs.ListLemmas.{all_left, all_right, all_weaker, all_map, all_at, all_filter, all_passed, filter-append, distinct_left, distinct_right, distinct_apart, find_all, find_passed, map_some}
+use Rattle.list_laws.proofs.ListLemmas.{all_left, all_right, all_weaker, all_unmap, all_filter, all_passed, filter-append}
+use Rattle.catalogue.proofs.ListLemmas.{all_at, distinct_left, distinct_right, distinct_apart, find_all, find_passed, map_some}
 
 abbrev pub places_of : List Part → List Place
 places_of parts = flat_map (λ (part : Part). part.places) parts
@@ -74,9 +75,9 @@ found_or name place found places false e = by (is_of name place) e
 only_by : (name : Text) (place found : Place) (places : List Place) → Lacks (positions_in places) place.position → (find (is_of name) (unmarked places) ≡ Some found → AllByRecursion (Only found) places)
     → (place ≡ found) ⊎ (find (is_of name) (unmarked places) ≡ Some found) → AllByRecursion (Only found) (place ∷ places)
 only_by name place found places lacks rest (inl same) =
-    ((λ e. same), all_weaker (λ (other : Place). other.position ≡ place.position → ⊥) (Only found) places (λ other no e. absurd (no (e ∙ sym (ap (λ (p : Place). p.position) same)))) (all_map (λ (n : ℕ). n ≡ place.position → ⊥) (λ (p : Place). p.position) places lacks))
+    ((λ e. same), all_weaker (λ (other : Place). other.position ≡ place.position → ⊥) (Only found) places (λ other no e. absurd (no (e ∙ sym (ap (λ (p : Place). p.position) same)))) (all_unmap (λ (n : ℕ). n ≡ place.position → ⊥) (λ (p : Place). p.position) places lacks))
 only_by name place found places lacks rest (inr e) =
-    let differs : found.position ≡ place.position → ⊥ = find_all (λ (p : Place). p.position ≡ place.position → ⊥) (is_of name) (unmarked places) found (all_filter (λ (p : Place). p.position ≡ place.position → ⊥) (λ (p : Place). not p.marked) places (all_map (λ (n : ℕ). n ≡ place.position → ⊥) (λ (p : Place). p.position) places lacks)) e in
+    let differs : found.position ≡ place.position → ⊥ = find_all (λ (p : Place). p.position ≡ place.position → ⊥) (is_of name) (unmarked places) found (all_filter (λ (p : Place). p.position ≡ place.position → ⊥) (λ (p : Place). not p.marked) places (all_unmap (λ (n : ℕ). n ≡ place.position → ⊥) (λ (p : Place). p.position) places lacks)) e in
     ((λ same. absurd (differs (sym same))), rest e)
 
 pub found_only : (name : Text) (places : List Place) (found : Place) → AreDistinct (positions_in places) → find (is_of name) (unmarked places) ≡ Some found → AllByRecursion (Only found) places
@@ -175,4 +176,4 @@ drop_marks name parts i j position positions names loaded stands =
 pub load_lacks : (parts : List Part) (name : Text) (n : ℕ) → Lacks (positions_of parts) n → load_of parts name ≡ Some n → ⊥
 load_lacks parts name n lacks e =
     let f = map_some (λ (p : Place). p.position) (find (is_of name) (unmarked (places_of parts))) n e in
-    find_all (λ (p : Place). p.position ≡ n → ⊥) (is_of name) (unmarked (places_of parts)) f.0 (all_filter (λ (p : Place). p.position ≡ n → ⊥) (λ (p : Place). not p.marked) (places_of parts) (all_map (λ (m : ℕ). m ≡ n → ⊥) (λ (p : Place). p.position) (places_of parts) lacks)) f.1 f.2
+    find_all (λ (p : Place). p.position ≡ n → ⊥) (is_of name) (unmarked (places_of parts)) f.0 (all_filter (λ (p : Place). p.position ≡ n → ⊥) (λ (p : Place). not p.marked) (places_of parts) (all_unmap (λ (m : ℕ). m ≡ n → ⊥) (λ (p : Place). p.position) (places_of parts) lacks)) f.1 f.2

@@ -8,16 +8,15 @@ use Rattle.lake_model.specs.Layout.{Place, Part, is_among, is_legal, layout, may
 use Rattle.layout_laws.specs.Steps.{numbers_of}
 use Rattle.layout_laws.specs.Weight.{does_merge}
 use Rattle.layout_laws.proofs.LaidLemmas.{laid_out, positions_split}
-use Rattle.layout_laws.proofs.ListLemmas.{rises_distinct, distinct_left, distinct_right}
+use Rattle.list_laws.proofs.ListLemmas.{rises_distinct, distinct_left, distinct_right, filter_agree}
 use Rattle.layout_laws.proofs.PlanLemmas.{kept_as, run_does_merge, run_is_planned, run_may_swap, marked_in}
 use Rattle.layout_laws.proofs.RunLemmas.{Run}
-use Rattle.layout_laws.specs.Distinct.{AreDistinct}
+use Rattle.list_laws.specs.Distinct.{AreDistinct}
 use Rattle.segment_core.specs.Plans.{MergedOf, kept_loads, named}
 use Rattle.catalogue.specs.Swaps.{IsMergeOf, kept_tables, numbers_in}
-use Rattle.catalogue.proofs.MarksLemmas.{filter_agree}
 use Rattle.catalogue.proofs.PlaceLemmas.{places_of, positions_in}
 
-numbers_named : (run : List Part) → numbers_in (named run) ≡ numbers_of run
+pub numbers_named : (run : List Part) → numbers_in (named run) ≡ numbers_of run
 numbers_named [] = refl
 numbers_named (part ∷ parts) = ap (λ ns. part.number ∷ ns) (numbers_named parts)
 

@@ -11,14 +11,14 @@ use Rattle.lake_model.specs.Tables.{Table}
 use Rattle.lake_model.specs.Journal.{Entry, Swapped, entry_with, live, counts}
 use Rattle.lake_model.specs.Layout.{Place, Part, layout, is_among, is_legal, may_swap, merged, positions_of, run_of, unmarked_of}
 use Rattle.lake_model.proofs.LayoutLemmas.{layout_more}
-use Rattle.layout_laws.specs.Distinct as laws
+use Rattle.list_laws.specs.Distinct as laws
 use Rattle.layout_laws.specs.LayoutLaws.{IsLaidOut}
 use Rattle.layout_laws.specs.Steps.{ArePlaces, numbers_of}
 use Rattle.layout_laws.specs.Weight.{does_merge}
 use Rattle.layout_laws.proofs.IndexLemmas.{first_of, swapped_at, run_within, positions_fewer}
 use Rattle.layout_laws.proofs.LaidLemmas.{laid_out, positions_split}
 use Rattle.layout_laws.proofs.LawLemmas.{live_swap, counts_swap, stays}
-use Rattle.layout_laws.proofs.ListLemmas.{map_filter}
+use Rattle.list_laws.proofs.ListLemmas.{map_filter}
 use Rattle.layout_laws.proofs.LiveLemmas.{loads_more}
 use Rattle.layout_laws.proofs.RunLemmas.{places_same}
 use Rattle.layout_laws.proofs.SwapLemmas.{kept_places, one_part, swapped}

@@ -6,16 +6,16 @@ use Rattle.std.proofs.Math.Seq.{drop-cons}
 use Rattle.std.proofs.lemmas.Bool.{eqb-true, eq-eqb, not-false, or_cases, or_left, or_right}
 use Rattle.std.proofs.lemmas.List.{get_or-map, map-append, length-map}
 use Rattle.lake_model.specs.Layout.{Part, Place, is_among, may_swap, positions_of}
-use Rattle.layout_laws.specs.Distinct as laws
+use Rattle.list_laws.specs.Distinct as laws
 use Rattle.layout_laws.specs.Steps.{numbers_of}
 use Rattle.layout_laws.proofs.IndexLemmas.{first_of}
-use Rattle.layout_laws.proofs.ListLemmas.{test_all}
+use Rattle.list_laws.proofs.ListLemmas.{test_all, both, all_left, all_right, all_weaker, all_map, find_none}
 use Rattle.layout_laws.proofs.RunLemmas.{opened}
 use Rattle.segment_core.specs.Distinct.{AreDistinct, Lacks}
 use Rattle.segment_core.specs.Positions.{StandsAt, loads_of}
 use Rattle.segment_core.specs.Versions.{part_at, part_with}
 use Rattle.catalogue.specs.Swaps.{is_there, numbers_in}
-use Rattle.catalogue.proofs.ListLemmas.{both, all_left, all_right, all_weaker, all_at, map_all, distinct_right, distinct_apart, find_none}
+use Rattle.catalogue.proofs.ListLemmas.{all_at, distinct_right, distinct_apart}
 use Rattle.catalogue.proofs.PlaceLemmas.{HasPlaces, places_of, name_differs}
 
 abbrev pub is_it : ℕ → List ℕ → Part → Bool
@@ -128,7 +128,7 @@ all_there parts from h =
 
 pub numbers_there : (parts : List Part) (from : List (ℕ × List ℕ)) → find (λ planned. not (is_there parts planned)) from ≡ None → list_all (is_among (numbers_of parts)) (numbers_in from) ≡ true
 numbers_there parts from h =
-    test_all (is_among (numbers_of parts)) (numbers_in from) (map_all (λ (n : ℕ). is_among (numbers_of parts) n ≡ true) (λ (planned : ℕ × List ℕ). planned.0) from
+    test_all (is_among (numbers_of parts)) (numbers_in from) (all_map (λ (n : ℕ). is_among (numbers_of parts) n ≡ true) (λ (planned : ℕ × List ℕ). planned.0) from
     (all_weaker (λ (planned : ℕ × List ℕ). is_there parts planned ≡ true) (λ planned. is_among (numbers_of parts) planned.0 ≡ true) from (λ planned e. there_number parts planned e) (all_there parts from h)))
 
 -- ---- where a run begins

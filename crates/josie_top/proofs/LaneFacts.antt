@@ -7,13 +7,13 @@ use Rattle.std.proofs.lemmas.List.Sums.{sum_by-cons}
 use Rattle.lake_model.specs.declared.Counts.{Counts}
 use Rattle.lake_model.specs.declared.Who.{Who}
 use Rattle.lake_model.specs.Journal.{Entry}
-use Rattle.script_model.specs.Commands.{Command, Batch}
-use Rattle.script_model.specs.Record.{Answered, RunRecord}
-use Rattle.script_model.specs.Play.{merger_commands, merges_of, updates, who_of}
-use Rattle.script_model.specs.Right.{AreBatchesRight, IsBatchRight, IsRight, between, done_of}
+use Rattle.script_model.specs.Commands.{Command, Batch, updates}
+use Rattle.record_model.specs.Record.{Answered, RunRecord}
+use Rattle.record_model.specs.Play.{merger_commands, merges_of, who_of}
+use Rattle.record_model.specs.Right.{AreBatchesRight, IsBatchRight, IsRight, between, done_of}
 use Rattle.script_model.specs.Lanes.{IsOfLanes}
-use Rattle.script_model.specs.Statuses.{IsStated}
-use Rattle.script_model.proofs.RightLemmas.{all_append}
+use Rattle.record_model.specs.Statuses.{IsStated}
+use Rattle.list_laws.proofs.ListLemmas.{all_append}
 use Rattle.lake_desk.specs.Together.{IsOneBatchMore}
 use Rattle.josie_top.specs.Progress.{AddsAnswers, HasOneMore}
 

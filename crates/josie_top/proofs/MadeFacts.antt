@@ -8,16 +8,17 @@ use Rattle.std.proofs.lemmas.List.Sums.{sum_by-cons}
 use Rattle.lake_model.specs.declared.Counts.{Counts}
 use Rattle.lake_model.specs.declared.Who.{Who}
 use Rattle.lake_model.specs.Journal.{Entry}
-use Rattle.script_model.specs.Commands.{Command, command_with, Merge, Batch}
-use Rattle.script_model.specs.Record.{Options, Answered, RunRecord, empty, with_end}
-use Rattle.script_model.specs.Play.{batch_after, merger_commands, merges_of, played_from, pieces_of, updates, head_or_empty, played, who_of}
-use Rattle.script_model.specs.Right.{AreBatchesRight}
+use Rattle.script_model.specs.Commands.{Command, command_with, Merge, Batch, updates}
+use Rattle.script_model.specs.Options.{Options}
+use Rattle.record_model.specs.Record.{Answered, RunRecord, empty, with_end}
+use Rattle.record_model.specs.Play.{batch_after, merger_commands, merges_of, played_from, pieces_of, head_or_empty, played, who_of}
+use Rattle.record_model.specs.Right.{AreBatchesRight}
 use Rattle.script_model.specs.Lanes.{IsOfLanes}
-use Rattle.script_model.specs.Statuses.{IsRecordOf, IsStated, answer_count}
+use Rattle.record_model.specs.Statuses.{IsRecordOf, IsStated, answer_count}
 use Rattle.layout_laws.proofs.LawLemmas.{plans_stay}
-use Rattle.script_model.proofs.RightLemmas.{all_append}
-use Rattle.script_model.proofs.PlayedLemmas.{batches_go_on}
-use Rattle.script_model.proofs.LegalLemmas.{record_right}
+use Rattle.list_laws.proofs.ListLemmas.{all_append}
+use Rattle.record_model.proofs.PlayedLemmas.{batches_go_on}
+use Rattle.record_model.proofs.LegalLemmas.{record_right}
 use Rattle.josie_top.specs.Progress.{HasOneMore, IsMade, IsPlayedSoFar}
 
 -- ---- what stays

@@ -5,14 +5,16 @@ use Rattle.std.specs.Io.KnownBytes.{Appends}
 use Rattle.std.proofs.KnownBytes.{Appends-nil}
 use Rattle.layout_laws.proofs.LawLemmas.{plans_stay}
 use Rattle.lake_model.specs.declared.Counts.{Counts}
-use Rattle.script_model.specs.declared.Status.TheVariants as status
+use Rattle.record_model.specs.declared.Status.TheVariants as status
 use Rattle.script_model.specs.Commands.{Batch}
-use Rattle.script_model.specs.Generator.{made_batch, made_options, summary}
+use Rattle.option_model.specs.Generator.{made_batch, made_options, summary}
 use Rattle.script_model.specs.Lanes.{IsOfLanes}
-use Rattle.script_model.specs.Play.{batch_after, played, played_from}
-use Rattle.script_model.specs.Record.{RunRecord, empty, plain, with_end}
-use Rattle.script_model.specs.Statuses.{IsLakeMade, IsPrefix, IsRecordOf}
-use Rattle.script_model.proofs.LegalLemmas.{record_right}
+use Rattle.record_model.specs.Play.{batch_after, played, played_from}
+use Rattle.record_model.specs.Record.{RunRecord, empty, with_end}
+use Rattle.script_model.specs.Options.{plain}
+use Rattle.option_model.specs.Makes.{IsLakeMade}
+use Rattle.record_model.specs.Statuses.{IsPrefix, IsRecordOf}
+use Rattle.record_model.proofs.LegalLemmas.{record_right}
 use Rattle.josie_top.specs.declared.writing.WriteStop.{WriteStop}
 use Rattle.josie_top.specs.declared.writing.WriteStop.TheVariants as stop
 use Rattle.josie_top.specs.Ends.{status_of_stop}

@@ -6,14 +6,13 @@ use Rattle.std.proofs.lemmas.Grind.{flat_map-append}
 use Rattle.lake_io.specs.Files as shelf
 use Rattle.lake_model.specs.Texts.{Text}
 use Rattle.script_model.specs.Commands.{File, Batch}
-use Rattle.script_model.specs.Words.{NoFeed}
+use Rattle.script_model.specs.Words.{NoFeed, line_text}
 use Rattle.script_model.specs.Reading.{Grammar, Reading, Stands, LinesRead, read_with, read}
 use Rattle.script_model.specs.Script.{Commands, commands_with, commands_from}
-use Rattle.script_model.specs.Texts.{line_text}
 use Rattle.script_model.proofs.ScriptLemmas.{read_on, behind_batches, read_behind, with_batches}
 use Rattle.script_model.proofs.AskedLemmas.{asking, lines_asking, reached_asking, read_asking, commands_from_asking}
 use Rattle.script_model.proofs.LinesLemmas.{commands_lines}
-use Rattle.script_model.proofs.RightLemmas.{all_append}
+use Rattle.list_laws.proofs.ListLemmas.{all_append}
 use Rattle.script_text.specs.Outcomes.{AreFetched, AreFetchedSoFar}
 use Rattle.script_text.specs.Gathering.{ReadsOn, reading_at}
 

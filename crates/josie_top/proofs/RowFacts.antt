@@ -10,14 +10,15 @@ use Rattle.lake_model.specs.declared.Counts.{Counts}
 use Rattle.lake_model.specs.Texts.{Text, Lines, lines_of}
 use Rattle.script_model.specs.declared.Reason.{Reason}
 use Rattle.script_model.specs.declared.ScriptLimits.{ScriptLimits}
-use Rattle.script_model.specs.declared.Status.TheVariants as status
-use Rattle.script_model.specs.Commands.{File, Batch}
-use Rattle.script_model.specs.Words.{NoFeed}
+use Rattle.record_model.specs.declared.Status.TheVariants as status
+use Rattle.script_model.specs.Commands.{File, Batch, fetches}
+use Rattle.script_model.specs.Words.{NoFeed, line_text}
 use Rattle.script_model.specs.Reading.{Grammar, Reading, Stands, LinesRead, read, read_with}
-use Rattle.script_model.specs.Script.{Commands, Whole, FaultAt, commands_with, commands_from, grammar_of, standard, start}
-use Rattle.script_model.specs.Record.{Options, Answered, RunRecord, with_end}
-use Rattle.script_model.specs.Statuses.{left_of, script_of, begun, answer_count, fetches, IsPrefix, IsRecordOf, IsDone, IsRefused, IsBrokenOff, IsCutOff}
-use Rattle.script_model.specs.Texts.{answers_text, line_text, text, text_behind}
+use Rattle.script_model.specs.Script.{Commands, Whole, FaultAt, commands_with, commands_from, grammar_of, standard, start, left_of}
+use Rattle.script_model.specs.Options.{Options}
+use Rattle.record_model.specs.Record.{Answered, RunRecord, with_end}
+use Rattle.record_model.specs.Statuses.{script_of, begun, answer_count, IsPrefix, IsRecordOf, IsDone, IsRefused, IsBrokenOff, IsCutOff}
+use Rattle.record_model.specs.Texts.{answers_text, text, text_behind}
 use Rattle.script_model.proofs.ScriptLemmas.{lines_none}
 use Rattle.script_model.proofs.LinesLemmas.{lines_whole}
 use Rattle.script_text.specs.Outcomes.{AreFetched, AreFetchedSoFar}

@@ -13,22 +13,22 @@ use Rattle.lake_model.specs.Journal.{standard_limits}
 use Rattle.catalogue.specs.Kept.{IsWithin}
 use Rattle.script_model.specs.declared.Reason.{Reason}
 use Rattle.script_model.specs.declared.ScriptLimits.{ScriptLimits}
-use Rattle.script_model.specs.declared.Status.{Status}
-use Rattle.script_model.specs.declared.Status.TheVariants as status
-use Rattle.script_model.specs.Commands.{File, Batch}
+use Rattle.record_model.specs.declared.Status.{Status}
+use Rattle.record_model.specs.declared.Status.TheVariants as status
+use Rattle.script_model.specs.Commands.{File, Batch, is_update_task, updates, fetches}
 use Rattle.script_model.specs.Reading.{read}
-use Rattle.script_model.specs.Plain.{Mode, Run, Make}
-use Rattle.script_model.specs.Script.{Commands, Whole, FaultAt, commands, commands_with, standard, start}
-use Rattle.script_model.specs.Record.{Options, Answered, RunRecord, plain, empty, with_end}
-use Rattle.script_model.specs.Answered.{is_update_task}
-use Rattle.script_model.specs.Play.{gathered, merger_commands, merges_of, updates}
+use Rattle.option_model.specs.Plain.{Mode, Run, Make}
+use Rattle.script_model.specs.Script.{Commands, Whole, FaultAt, commands, commands_with, standard, start, left_of}
+use Rattle.script_model.specs.Options.{Options, plain}
+use Rattle.record_model.specs.Record.{Answered, RunRecord, empty, with_end}
+use Rattle.record_model.specs.Play.{gathered, merger_commands, merges_of}
 use Rattle.script_model.specs.Lanes.{IsOfLanes}
-use Rattle.script_model.specs.Statuses.{fetches, left_of, script_of, IsPrefix, IsCutOff}
-use Rattle.script_model.specs.Texts.{text_behind}
+use Rattle.record_model.specs.Statuses.{script_of, IsPrefix, IsCutOff}
+use Rattle.record_model.specs.Texts.{text_behind}
 use Rattle.script_text.specs.declared.refused.ScriptEnd.{ScriptEnd}
 use Rattle.script_text.specs.declared.refused.ScriptEnd.TheVariants as end
-use Rattle.script_text.specs.declared.words.WordsRefused.{WordsRefused}
-use Rattle.script_text.specs.declared.words.WordsRefused.TheVariants as words
+use Rattle.command_line.specs.declared.words.WordsRefused.{WordsRefused}
+use Rattle.command_line.specs.declared.words.WordsRefused.TheVariants as words
 use Rattle.script_text.specs.Outcomes.{AreFetched, AreFetchedSoFar}
 use Rattle.script_text.specs.Gathering.{Gathering, gathering_with, IsSynced, IsWhole}
 use Rattle.script_text.specs.Gathers.{Gathers, Taken}

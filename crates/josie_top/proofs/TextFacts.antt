@@ -4,13 +4,12 @@ use Rattle.std.specs.Prelude.{◌&&◌}
 use Rattle.std.proofs.lemmas.List.{append-nil, take-append-drop}
 use Rattle.std.proofs.lemmas.Grind.{flat_map-append}
 use Rattle.lake_model.specs.Texts.{Text}
-use Rattle.script_model.specs.Record.{Options, Answered, RunRecord, with_end}
-use Rattle.script_model.specs.Statuses.{IsPrefix}
-use Rattle.script_model.specs.Texts.{answers_text, journal_text, line_text, written_lines, text, text_behind}
-
-drop_seam : {X : Type 0} (xs ys : List X) → drop (length xs) (xs ++ ys) ≡ ys
-drop_seam [] ys = refl
-drop_seam (x ∷ xs) ys = drop_seam xs ys
+use Rattle.script_model.specs.Options.{Options}
+use Rattle.record_model.specs.Record.{Answered, RunRecord, with_end}
+use Rattle.record_model.specs.Statuses.{IsPrefix}
+use Rattle.record_model.specs.Texts.{answers_text, journal_text, written_lines, text, text_behind}
+use Rattle.script_model.specs.Words.{line_text}
+use Rattle.list_laws.proofs.ListLemmas.{drop_seam}
 
 not_due : (trace : Bool) → (trace && false) ≡ false
 not_due true = refl

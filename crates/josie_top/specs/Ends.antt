@@ -1,13 +1,13 @@
 -- The status of a run whose words are refused, whose gatherer gives no batch, or whose text is not written whole.
 use Rattle.std.specs.Prelude.{ℕ, List, Option}
 use Rattle.std.specs.Io.KnownBytes.{Appends}
-use Rattle.script_model.specs.Statuses.{IsPrefix}
-use Rattle.script_model.specs.declared.Status.{Status}
-use Rattle.script_model.specs.declared.Status.TheVariants as status
+use Rattle.record_model.specs.Statuses.{IsPrefix}
+use Rattle.record_model.specs.declared.Status.{Status}
+use Rattle.record_model.specs.declared.Status.TheVariants as status
 use Rattle.script_text.specs.declared.refused.ScriptEnd.{ScriptEnd}
 use Rattle.script_text.specs.declared.refused.ScriptEnd.TheVariants as end
-use Rattle.script_text.specs.declared.words.WordsRefused.{WordsRefused}
-use Rattle.script_text.specs.declared.words.WordsRefused.TheVariants as words
+use Rattle.command_line.specs.declared.words.WordsRefused.{WordsRefused}
+use Rattle.command_line.specs.declared.words.WordsRefused.TheVariants as words
 use Rattle.josie_top.specs.declared.writing.WriteStop.{WriteStop}
 use Rattle.josie_top.specs.declared.writing.WriteStop.TheVariants as stop
 

@@ -4,13 +4,15 @@ use Rattle.std.specs.Io.KnownBytes.{Consumes, Appends}
 use Rattle.lake_io.specs.Causes.{Rose}
 use Rattle.lake_model.specs.declared.Counts.{Counts}
 use Rattle.lake_model.specs.Texts.{Text}
-use Rattle.script_model.specs.declared.Status.{Status}
-use Rattle.script_model.specs.declared.Status.TheVariants.{Done, Script, Usage, ReadFault, WriteFault, NoMemory}
+use Rattle.record_model.specs.declared.Status.{Status}
+use Rattle.record_model.specs.declared.Status.TheVariants.{Done, Script, Usage, ReadFault, WriteFault, NoMemory}
 use Rattle.script_model.specs.Commands.{File}
-use Rattle.script_model.specs.Plain.{Mode, Run, Make}
+use Rattle.option_model.specs.Plain.{Mode, Run, Make}
 use Rattle.script_model.specs.Script.{Commands, Whole, commands, standard}
-use Rattle.script_model.specs.Record.{Options, RunRecord}
-use Rattle.script_model.specs.Statuses.{IsStated, MakeRow, Row, begun}
+use Rattle.script_model.specs.Options.{Options}
+use Rattle.record_model.specs.Record.{RunRecord}
+use Rattle.record_model.specs.Statuses.{IsStated, Row, begun}
+use Rattle.option_model.specs.Makes.{MakeRow}
 use Rattle.script_text.specs.Outcomes.{AreFetched, AreFetchedSoFar}
 use Rattle.josie_top.specs.World.{World}
 

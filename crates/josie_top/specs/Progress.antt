@@ -4,15 +4,17 @@ use Rattle.std.specs.List.{AllByRecursion}
 use Rattle.std.specs.Io.KnownBytes.{Consumes, Appends}
 use Rattle.lake_model.specs.declared.Counts.{Counts}
 use Rattle.lake_model.specs.Texts.{Text}
-use Rattle.script_model.specs.Commands.{File, Batch}
+use Rattle.script_model.specs.Commands.{File, Batch, updates}
 use Rattle.script_model.specs.Reading.{Reading}
 use Rattle.script_model.specs.Script.{grammar_of, standard, start}
-use Rattle.script_model.specs.Record.{Answered, Options, RunRecord, empty}
-use Rattle.script_model.specs.Play.{merger_commands, merges_of, played_from, pieces_of, updates}
+use Rattle.record_model.specs.Record.{Answered, RunRecord, empty}
+use Rattle.script_model.specs.Options.{Options}
+use Rattle.record_model.specs.Play.{merger_commands, merges_of, played_from, pieces_of}
+use Rattle.script_model.specs.Commands.{updates}
 use Rattle.script_model.specs.Lanes.{IsOfLanes}
-use Rattle.script_model.specs.Right.{IsRecordRight}
-use Rattle.script_model.specs.Statuses.{IsStated}
-use Rattle.script_model.specs.Texts.{answers_text}
+use Rattle.record_model.specs.Right.{IsRecordRight}
+use Rattle.record_model.specs.Statuses.{IsStated}
+use Rattle.record_model.specs.Texts.{answers_text}
 use Rattle.script_model.specs.Words.{NoFeed}
 use Rattle.script_text.specs.Outcomes.{AreFetched}
 use Rattle.script_text.specs.Gathering.{Gathering, IsLate, IsSynced, IsWhole, ReadsOn}

@@ -2,8 +2,8 @@
 use Rattle.std.specs.Prelude.{ℕ, ◌≡◌, ◌≤◌, List, Option}
 use Rattle.lake_io.specs.Causes.{Rose}
 use Rattle.lake_io.specs.Files as shelf
-use Rattle.script_model.specs.declared.Status.{Status}
-use Rattle.script_model.specs.declared.Status.TheVariants.{ReadFault, Usage, WriteFault}
+use Rattle.record_model.specs.declared.Status.{Status}
+use Rattle.record_model.specs.declared.Status.TheVariants.{ReadFault, Usage, WriteFault}
 
 -- What the source has left, what the sink was given, and the files of the store, where they tell these; and how many faults each of the three has counted.
 pub record World : Type 0 where

@@ -2,18 +2,20 @@
 ghost use Rattle.std.specs.Prelude.{◌≡◌, ◌≤◌, ℕ, false, if◌then◌else◌, length, true, None, Some, IfErr, IfOk, IfSome, MatchOption, OnOk};
 ghost use Rattle.lake_io.specs.Causes.{Rose};
 ghost use Rattle.lake_model.specs.Journal.{standard_limits};
-ghost use Rattle.script_model.specs.Record.{Options as OptionsOf, with_end};
-ghost use Rattle.script_model.specs.Texts.{text_behind};
+ghost use Rattle.script_model.specs.Options.{Options as OptionsOf};
+ghost use Rattle.record_model.specs.Record.{with_end};
+ghost use Rattle.record_model.specs.Texts.{text_behind};
 ghost use Rattle.josie_top.specs.Ends.{IsWritten, status_of_end, status_of_stop};
 ghost use Rattle.josie_top.specs.Meets.{Meets};
 ghost use Rattle.josie_top.specs.Progress.{IsAnswered, IsBegun, IsUnderWay};
 ghost use Rattle.josie_top.specs.World.{Moves, World, with_sink, world_of};
 
 use crate::writing::{WriteStop, write_record};
+use commands::{Batch, Options};
 use lake_io::{Shelf, Sink, Source};
-use reply_text::RunRecord;
-use script_model::Status;
-use script_text::{Batch, Gather, Options, ScriptEnd};
+use record_model::Status;
+use run_record::RunRecord;
+use script_text::{Gather, ScriptEnd};
 use std::alloc::Global;
 
 /// The status of a run whose gatherer gives no batch.

@@ -1,9 +1,10 @@
 //! The run of a script whose lanes run at the same time.
 ghost use Rattle.std.specs.Prelude.{◌≡◌, ◌≤◌, ◌⊎◌, ℕ, [], false, List, Some};
 ghost use Rattle.lake_model.specs.Journal.{standard_limits};
-ghost use Rattle.script_model.specs.Record.{empty, plain};
+ghost use Rattle.record_model.specs.Record.{empty};
+ghost use Rattle.script_model.specs.Options.{plain};
 ghost use Rattle.script_model.specs.Script.{standard, start};
-ghost use Rattle.script_model.specs.Statuses.{IsStated};
+ghost use Rattle.record_model.specs.Statuses.{IsStated};
 ghost use Rattle.script_text.specs.Gathering.{gathering_with};
 ghost use Rattle.lake_desk.specs.Together.{AreTogether};
 ghost use Rattle.josie_top.specs.Meets.{EndsWell, Meets};
@@ -11,12 +12,14 @@ ghost use Rattle.josie_top.specs.World.{Moves, world_of};
 
 use crate::batches::{begin_batch, end_batch, merger_from};
 use catalogue::Limits;
+use commands::Options;
 use lake::Lake;
 use lake_desk::{LakeDesk, Standard, answer_batch, open_desks};
 use lake_io::{Gate, Shelf, Sink, Source};
-use reply_text::RunRecord;
-use script_model::Status;
-use script_text::{Gather, Options, ScriptLimits};
+use record_model::Status;
+use run_record::RunRecord;
+use script_model::ScriptLimits;
+use script_text::Gather;
 use std::alloc::Global;
 use std::sync::Wait;
 use std::thread::Threads;

@@ -3,22 +3,24 @@
 
 ghost use Rattle.std.specs.Prelude.{◌≡◌, ◌⊎◌, None, Some, map, string_bytes};
 ghost use Rattle.lake_model.specs.Journal.{standard_limits};
-ghost use Rattle.script_model.specs.Plain.{plain_mode};
-ghost use Rattle.script_model.specs.Plain as said;
-ghost use Rattle.script_model.specs.Record.{empty, plain};
-ghost use Rattle.script_text.specs.Words.{mode_of, mode_read, IsModeInRange};
+ghost use Rattle.option_model.specs.Plain.{plain_mode};
+ghost use Rattle.option_model.specs.Plain as said;
+ghost use Rattle.record_model.specs.Record.{empty};
+ghost use Rattle.script_model.specs.Options.{plain};
+ghost use Rattle.command_line.specs.Words.{mode_of, mode_read, IsModeInRange};
 ghost use Rattle.josie_top.specs.Ends.{status_of_refused};
 ghost use Rattle.josie_top.specs.Meets.{EndsModeWell, IsMaking, IsOrdered, IsSaid, MeetsMode};
 ghost use Rattle.josie_top.specs.World.{Moves, world_of};
 
+use command_line::{Mode, WordsRefused, read_words};
 pub use lake_desk::LakeDesk;
 use lake_io::{Gate, Shelf, Sink, Source};
 use making::make_lake;
 use ordered::run_in_order;
-pub use reply_text::RunRecord;
+pub use record_model::Status;
+pub use run_record::RunRecord;
 use script::run_script;
-pub use script_model::{Reason, Status};
-use script_text::{Mode, WordsRefused, read_words};
+pub use script_model::Reason;
 use std::alloc::Global;
 use std::sync::Wait;
 use std::thread::Threads;

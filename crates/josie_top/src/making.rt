@@ -3,22 +3,24 @@ ghost use Rattle.std.specs.Prelude.{◌≡◌, ◌≤◌, ◌⊎◌, [], List, �
 ghost use Rattle.std.specs.Io.KnownBytes.{Appends};
 ghost use Rattle.lake_io.specs.Causes.{Rose};
 ghost use Rattle.lake_model.specs.Journal.{standard_limits};
-ghost use Rattle.script_model.specs.Generator.{made_options as the_options, summary};
-ghost use Rattle.script_model.specs.Record.{empty, plain};
-ghost use Rattle.script_model.specs.Statuses.{IsLakeMade, IsPrefix};
+ghost use Rattle.option_model.specs.Generator.{made_options as the_options, summary};
+ghost use Rattle.record_model.specs.Record.{empty};
+ghost use Rattle.script_model.specs.Options.{plain};
+ghost use Rattle.option_model.specs.Makes.{IsLakeMade};
+ghost use Rattle.record_model.specs.Statuses.{IsPrefix};
 ghost use Rattle.josie_top.specs.Meets.{Makes};
 ghost use Rattle.josie_top.specs.World.{Moves, World, with_sink};
 
 use crate::batches::status_of_stop;
 use crate::writing::{WriteStop, write_all};
 use catalogue::{Catalogue, Limits};
+use commands::{Options, Order, Piece};
 use lake_core::drive;
 use lake_io::Sink;
 use lake_maker::{made_batch, write_summary};
 use no_memory::NoMemory;
-use reply_text::RunRecord;
-use script_model::Status;
-use script_text::{Options, Order, Piece};
+use record_model::Status;
+use run_record::RunRecord;
 use std::alloc::Global;
 
 /// One lane, and an order of two empty pieces.

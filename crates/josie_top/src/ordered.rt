@@ -3,10 +3,12 @@ ghost use Rattle.std.specs.Prelude.{◌≡◌, ◌≤◌, ◌<◌, ◌+◌, ◌^
 ghost use Rattle.lake_model.specs.Journal.{standard_limits};
 ghost use Rattle.catalogue.specs.Kept.{catalogue_with};
 ghost use Rattle.script_model.specs.Lanes.{IsOfLanes};
-ghost use Rattle.script_model.specs.Play.{pieces_of, updates};
-ghost use Rattle.script_model.specs.Record.{empty, plain};
+ghost use Rattle.record_model.specs.Play.{pieces_of};
+ghost use Rattle.script_model.specs.Commands.{updates};
+ghost use Rattle.record_model.specs.Record.{empty};
+ghost use Rattle.script_model.specs.Options.{plain};
 ghost use Rattle.script_model.specs.Script.{standard, start};
-ghost use Rattle.script_model.specs.Statuses.{IsStated};
+ghost use Rattle.record_model.specs.Statuses.{IsStated};
 ghost use Rattle.script_text.specs.Gathering.{gathering_with};
 ghost use Rattle.josie_top.specs.Meets.{EndsWell, Meets};
 ghost use Rattle.josie_top.specs.Progress.{AddsAnswers, HasOneMore};
@@ -14,12 +16,14 @@ ghost use Rattle.josie_top.specs.World.{Moves, world_of};
 
 use crate::batches::{begin_batch, end_batch, merger_from};
 use catalogue::{Catalogue, Limits};
+use commands::{Batch, Options};
 use lake_core::drive;
 use lake_io::{Shelf, Sink, Source};
 use no_memory::NoMemory;
-use reply_text::RunRecord;
-use script_model::Status;
-use script_text::{Batch, Gather, Options, ScriptLimits};
+use record_model::Status;
+use run_record::RunRecord;
+use script_model::ScriptLimits;
+use script_text::Gather;
 use std::alloc::Global;
 
 /// The piece of the stated order for the batch of a number, which counts from 0: empty where the order has none.

@@ -1,16 +1,17 @@
 //! The run of a script.
 ghost use Rattle.std.specs.Prelude.{◌≡◌, ◌≤◌, ◌⊎◌, ℕ, List, Some};
 ghost use Rattle.lake_model.specs.Journal.{standard_limits};
-ghost use Rattle.script_model.specs.Record.{empty, plain};
+ghost use Rattle.record_model.specs.Record.{empty};
+ghost use Rattle.script_model.specs.Options.{plain};
 ghost use Rattle.josie_top.specs.Meets.{EndsWell, Meets};
 ghost use Rattle.josie_top.specs.World.{Moves, world_of};
 
 use crate::lanes::run_lanes;
 use crate::ordered::run_in_order;
+use commands::Options;
 use lake_io::{Gate, Shelf, Sink, Source};
-use reply_text::RunRecord;
-use script_model::Status;
-use script_text::Options;
+use record_model::Status;
+use run_record::RunRecord;
 use std::alloc::Global;
 use std::sync::Wait;
 use std::thread::Threads;

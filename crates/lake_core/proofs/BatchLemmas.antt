@@ -7,11 +7,11 @@ use Rattle.std.proofs.lemmas.Grind.{flat_map-append, replicate_next}
 use Rattle.lake_model.specs.declared.Counts.{Counts}
 use Rattle.lake_model.specs.Journal.{Entry, standard_limits}
 use Rattle.catalogue.specs.Kept.{CatalogueOf, IsWithin}
-use Rattle.reply_text.specs.Rooms.{RecordOf}
+use Rattle.run_record.specs.Rooms.{RecordOf}
 use Rattle.script_model.specs.Commands.{Command, Batch}
 use Rattle.script_model.specs.Lanes.{IsOfLanes}
-use Rattle.script_model.specs.Record.{RunRecord}
-use Rattle.script_model.specs.Play.{Lane, play_with, play, whole_order, lane_of, lanes_of, merges_of, gathered, answers_of, record_after, batch_after}
+use Rattle.record_model.specs.Record.{RunRecord}
+use Rattle.record_model.specs.Play.{Lane, play_with, play, whole_order, lane_of, lanes_of, merges_of, gathered, answers_of, record_after, batch_after}
 use Rattle.lake_core.specs.Lanes.{LaneOf, played, play_of, AreHeld, AreNew, AreShared, IsHeld, left}
 use Rattle.lake_core.specs.Plays.{state_with, IsReady, Goes}
 use Rattle.lake_core.proofs.GatherLemmas.{with_answers, lists_of}

@@ -2,10 +2,10 @@
 use Rattle.std.proofs.Common.{◌≡◌, refl, ap, sym, ◌∙◌, ℕ, ◌+◌, ◌<◌, ◌≤◌, List, [], ◌++◌, append_assoc, append-nil, length, take, drop, map, get_or, Option, arith}
 use Rattle.std.specs.Prelude.{slice_set, option_to_list}
 use Rattle.std.proofs.lemmas.List.{drop_all}
-use Rattle.reply_text.specs.Rooms.{RecordOf}
+use Rattle.run_record.specs.Rooms.{RecordOf}
 use Rattle.script_model.specs.Commands.{Command}
-use Rattle.script_model.specs.Record.{Answered, RunRecord}
-use Rattle.script_model.specs.Play.{Done, answers_of, gathered}
+use Rattle.record_model.specs.Record.{Answered, RunRecord}
+use Rattle.record_model.specs.Play.{Done, answers_of, gathered}
 use Rattle.batch_work.specs.declared.work.Work.{Work}
 use Rattle.batch_work.specs.Works.{work_of, works_of}
 use Rattle.lake_core.specs.Lanes.{LaneOf, done_in}

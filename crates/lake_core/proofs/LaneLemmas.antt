@@ -7,20 +7,21 @@ use Rattle.lake_model.specs.declared.Policy.{Policy}
 use Rattle.lake_model.specs.declared.Who.{Who}
 use Rattle.lake_model.specs.Journal.{What, Entry}
 use Rattle.script_model.specs.Commands.{Command, Task, Load, LoadFile, DropTable, Tables, Search, Like, Merge}
-use Rattle.script_model.specs.Replies.{Reply, NoMemory}
-use Rattle.script_model.specs.Answered.{answer_to, adds, change_of, has_pin, is_accepted, policy_of, standing}
-use Rattle.script_model.specs.Play.{done_with, lane_with, play_with, reply_or_denied, entries_of, lane_step, step_of, step}
+use Rattle.record_model.specs.Replies.{Reply, NoMemory}
+use Rattle.record_model.specs.Answered.{answer_to, adds, change_of, has_pin, is_accepted, policy_of, standing}
+use Rattle.record_model.specs.Play.{done_with, lane_with, play_with, reply_or_denied, entries_of, lane_step, step_of, step}
 use Rattle.lake_core.specs.declared.lane.Held.{Held}
 use Rattle.lake_core.specs.declared.lane.Held.TheVariants.{At, Swap, Denied}
 use Rattle.lake_core.specs.Searches.{IsPinOf}
-use Rattle.lake_core.proofs.LoadLemmas.{Answers, added_none, either_none}
+use Rattle.lake_core.proofs.LoadLemmas.{Answers, added_none}
 use Rattle.lake_core.proofs.MergeLemmas.{planned_change, planned_later, planned_reply}
 use Rattle.lake_core.specs.declared.merging.Planned.{Planned}
 use Rattle.lake_core.specs.Loads.{with_added}
 use Rattle.lake_core.specs.Merging.{CanSwap, swap_reply, swapped_by}
 use Rattle.batch_work.specs.Works.{merge_policy}
-use Rattle.script_model.specs.Record.{RunRecord}
+use Rattle.record_model.specs.Record.{RunRecord}
 use Rattle.lake_core.specs.Lanes.{LaneOf, lane_from, position_of, pin_of, played, alone, IsHeldAt, IsHeld}
+use Rattle.record_model.proofs.LegalLemmas.{either_none}
 
 -- a lane that has nothing to do
 pub none_left : (limits : Counts) (journal : List Entry) (lane : LaneOf) → lane.todo ≡ [] → alone journal lane ≡ step limits (alone journal lane) (0, false)

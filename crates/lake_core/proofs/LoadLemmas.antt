@@ -23,13 +23,14 @@ use Rattle.catalogue.specs.declared.refusal.DropRefused.TheVariants as dropping
 use Rattle.catalogue.specs.Refusals.{load_refusal, drop_refusal}
 use Rattle.catalogue.specs.Kept.{CatalogueOf, catalogue_with}
 use Rattle.script_model.specs.Commands.{Load, DropTable, Tables, Search}
-use Rattle.script_model.specs.Replies.{Reply, Loaded, Unknown, Repeated, OfCsv, OfSets, csv_reply, sets_reply, query_reply, load_reply, drop_reply, search_reply, unless_lake_full}
-use Rattle.script_model.specs.Answered.{plain_query, TableRead, IsTable, IsQuery, table_read, query_read, records_read, sets_read, keys_read, load_answer, search_answer, loads, adds, is_accepted, standing}
-use Rattle.script_model.specs.Play.{reply_or_denied}
-use Rattle.script_model.specs.Record.{RunRecord}
-use Rattle.script_model.proofs.PlayLemmas.{fault_nowhere}
+use Rattle.record_model.specs.Replies.{Reply, Loaded, Unknown, Repeated, OfCsv, OfSets, csv_reply, sets_reply, query_reply, load_reply, drop_reply, search_reply, unless_lake_full}
+use Rattle.record_model.specs.Answered.{plain_query, TableRead, IsTable, IsQuery, table_read, query_read, records_read, sets_read, keys_read, load_answer, search_answer, loads, adds, is_accepted, standing}
+use Rattle.record_model.specs.Play.{reply_or_denied}
+use Rattle.record_model.specs.Record.{RunRecord}
+use Rattle.record_model.proofs.PlayLemmas.{fault_nowhere}
 use Rattle.lake_core.specs.Drops.{drop_refusal_reply}
 use Rattle.lake_core.specs.Loads.{IsRefusal, refusal_reply, loaded_by, with_added}
+use Rattle.record_model.proofs.LegalLemmas.{either_none}
 
 -- the reply is this one, or the one for want of memory
 abbrev pub Answers : Reply → Reply → Type 0
@@ -90,7 +91,7 @@ table_made name bytes rows none same small =
 
 -- ---- a load that its bytes refuse
 
-refused_nowhere : (read : TableRead) (reply : Reply) → IsRefusal read reply → is_accepted (standing reply) ≡ false
+pub refused_nowhere : (read : TableRead) (reply : Reply) → IsRefusal read reply → is_accepted (standing reply) ≡ false
 refused_nowhere read reply (inl none) = ap (λ r. is_accepted (standing r)) none
 refused_nowhere read reply (inr (fault, is, said)) = ap (λ r. is_accepted (standing r)) said ∙ ap is_accepted (fault_nowhere fault)
 
@@ -127,10 +128,6 @@ pub query_found : (k : ℕ) (bytes : List ℕ) (journal : List Entry) (keys : Li
 unfolding query_read
 query_found k bytes journal keys none same =
     (false, ap (λ ks. search_answer k (IsQuery ks) journal) same ∙ ap (λ fault. search_answer k (keys_read bytes fault) journal) (sym none))
-
-pub either_none : (b : Bool) → cond {A = List What} b [] [] ≡ []
-either_none true = refl
-either_none false = refl
 
 pub search_adds : (who : Who) (k : ℕ) (bytes : List ℕ) (reply : Reply) (made : RunRecord) → made ≡ with_added who (adds (Search k bytes) made.journal reply) made
 search_adds who k bytes reply made = added_none who made ∙ ap (λ whats. with_added who whats made) (sym (either_none (is_accepted (standing reply))))

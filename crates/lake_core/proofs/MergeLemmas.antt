@@ -14,28 +14,25 @@ use Rattle.lake_model.specs.Tables.{Table, members}
 use Rattle.lake_model.specs.Journal.{Entry, What, Loaded, Dropped, Swapped, live, live_after, loads_of, counts, entry_with, has_name}
 use Rattle.lake_model.specs.Layout.{Place, Part, Shown, layout, is_legal, shown, shown_with, shown_layout, unmarked_of}
 use Rattle.lake_model.specs.Plan.{plan, plan_of, planned_parts}
-use Rattle.layout_laws.specs.Steps.{numbers_of, positions_in}
+use Rattle.layout_laws.specs.Steps.{positions_in}
 use Rattle.layout_laws.proofs.SwapLemmas.{places_of}
 use Rattle.layout_laws.proofs.RunLemmas.{Run}
 use Rattle.layout_laws.proofs.LiveLemmas.{unmarked, places_split, unmarked_three}
 use Rattle.layout_laws.proofs.LaidLemmas.{laid_out}
 use Rattle.layout_laws.proofs.PlanLemmas.{is_planned_run}
-use Rattle.segment_core.specs.Plans.{MergedOf, PlanOf, kept_loads, named, plan_run}
+use Rattle.segment_core.specs.Plans.{MergedOf, PlanOf, kept_loads, plan_run}
 use Rattle.segment_core.specs.Positions as positions
 use Rattle.segment_core.specs.Versions.{VersionOf, live_of, version_with}
 use Rattle.segment_merge.specs.Planned.{load_positions, load_tables, plan_at, plan_parts}
 use Rattle.catalogue.specs.Kept.{IsWithin}
-use Rattle.catalogue.proofs.PlannedLemmas.{run_merges}
-use Rattle.catalogue.specs.Swaps.{IsMergeOf, is_there, numbers_in}
-use Rattle.script_model.specs.Answered.{swaps}
-use Rattle.script_model.specs.Replies.{Merged, merge_gone, merge_planned, merge_reply}
+use Rattle.catalogue.proofs.PlannedLemmas.{run_merges, numbers_named}
+use Rattle.catalogue.specs.Swaps.{IsMergeOf, is_there}
+use Rattle.record_model.specs.Answered.{swaps}
+use Rattle.record_model.specs.Replies.{Merged, merge_gone, merge_planned, merge_reply}
 use Rattle.lake_core.specs.declared.merging.Planned.{Planned}
 use Rattle.lake_core.specs.Merging.{CanSwap, IsPlanned, merge_of, planned_at, swap_of, swap_reply, unless_gone}
 
 -- ---- what a plan says of the planned parts
-
-numbers_named : (parts : List Part) → numbers_in (named parts) ≡ numbers_of parts
-numbers_named parts = map-map (λ (q : ℕ × List ℕ). q.0) (λ (p : Part). (p.number, positions.loads_of p)) parts
 
 positions_kept : (parts : List Part) → load_positions (kept_loads parts) ≡ positions_in (unmarked_of parts)
 positions_kept parts = map-map (λ (load : ℕ × Table). load.0) (λ (p : Place). (p.position, p.table)) (unmarked_of parts)

@@ -17,8 +17,8 @@ use Rattle.segment_core.specs.declared.column.ColumnRefused.TheVariants as refus
 use Rattle.segment_core.specs.Lines.{live_lines}
 use Rattle.segment_core.specs.LiveColumn.{column_fault, column_keys, column_of, fault_in, fault_of, keys_in, keys_of}
 use Rattle.segment_core.specs.Versions.{VersionOf, live_of}
-use Rattle.script_model.specs.Replies.{Found, Listed, search_reply, tables_reply, excepting, like_column, like_table, like_reply}
-use Rattle.script_model.specs.Work.{lists_read, sets_probed}
+use Rattle.record_model.specs.Replies.{Found, Listed, search_reply, tables_reply, excepting, like_column, like_table, like_reply}
+use Rattle.record_model.specs.Work.{lists_read, sets_probed}
 use Rattle.lake_core.specs.Searches.{IsPinOf, found_at, column_reply}
 use Rattle.lake_core.proofs.LoadLemmas.{Answers}
 

@@ -9,7 +9,7 @@ use Rattle.std.proofs.lemmas.List.FromFn.{length-map-range_with_len, map-range_w
 use Rattle.std.proofs.lemmas.List.Sums.{sum_by_push, sum_by-set}
 use Rattle.std.proofs.lemmas.Option.{slice_get-map, slice_get_read}
 use Rattle.script_model.specs.Commands.{Command}
-use Rattle.script_model.specs.Play.{Done, Lane, lane_with, lane_of}
+use Rattle.record_model.specs.Play.{Done, Lane, lane_with, lane_of}
 use Rattle.batch_work.specs.Works.{IsWithinLanes}
 use Rattle.lake_core.specs.Lanes.{LaneOf, lane_from, pin_of, played, left_in, left, AreNew, AreShared}
 

@@ -8,11 +8,11 @@ use Rattle.std.proofs.lemmas.Option.{slice_get-map, slice_get_read}
 use Rattle.lake_model.specs.declared.Counts.{Counts}
 use Rattle.lake_model.specs.Journal.{Entry, standard_limits}
 use Rattle.script_model.specs.Commands.{Command}
-use Rattle.script_model.specs.Record.{RunRecord}
-use Rattle.script_model.specs.Answered.{has_pin}
-use Rattle.script_model.specs.Play.{Lane, Play, play_with, lane_step, step_of, step_at, step, with_denials, play}
+use Rattle.record_model.specs.Record.{RunRecord}
+use Rattle.record_model.specs.Answered.{has_pin}
+use Rattle.record_model.specs.Play.{Lane, Play, play_with, lane_step, step_of, step_at, step, with_denials, play}
 use Rattle.catalogue.specs.Kept.{CatalogueOf, IsWithin}
-use Rattle.reply_text.specs.Rooms.{RecordOf}
+use Rattle.run_record.specs.Rooms.{RecordOf}
 use Rattle.lake_core.specs.Lanes.{LaneOf, lane_from, played, play_of, alone, IsHeld, AreHeld, left_in, left}
 use Rattle.lake_core.specs.Plays.{StateOf, state_with, play_at, IsReady, Leads, Goes}
 use Rattle.lake_core.proofs.LaneLemmas.{held_grows}

@@ -4,10 +4,10 @@ use Rattle.std.specs.Prelude.{◌==◌, filter}
 use Rattle.std.specs.List.{AllByRecursion, range_with_len}
 use Rattle.std.proofs.lemmas.Bool.Decides.{nat_tests}
 use Rattle.std.proofs.lemmas.List.Elements.{filter-append}
-use Rattle.layout_laws.proofs.ListLemmas.{all_append, all_weaker}
-use Rattle.script_model.specs.Commands.{Command, command_with, Batch, Merge}
+use Rattle.list_laws.proofs.ListLemmas.{all_append, all_weaker}
+use Rattle.script_model.specs.Commands.{Command, command_with, Batch, Merge, updates}
 use Rattle.script_model.specs.Lanes.{IsOfLanes}
-use Rattle.script_model.specs.Play.{lane_with, lane_of, lanes_of, merges_of, updates}
+use Rattle.record_model.specs.Play.{lane_with, lane_of, lanes_of, merges_of}
 use Rattle.batch_work.specs.Works.{IsWithinLanes}
 
 -- ---- the merger's commands

@@ -2,7 +2,7 @@
 use Rattle.lake_model.specs.Texts.{Text}
 use Rattle.catalogue.specs.declared.refusal.DropRefused.{DropRefused}
 use Rattle.catalogue.specs.declared.refusal.DropRefused.TheVariants as refused
-use Rattle.script_model.specs.Replies.{Reply, Unknown, Full, NoMemory}
+use Rattle.record_model.specs.Replies.{Reply, Unknown, Full, NoMemory}
 
 abbrev pub drop_refusal_reply : Text → DropRefused → Reply
 drop_refusal_reply name (refused.Unknown at) = Unknown name at

@@ -4,7 +4,7 @@ use Rattle.std.specs.List.{AllByRecursion, range_with_len}
 use Rattle.lake_model.specs.declared.Policy.{Policy}
 use Rattle.lake_model.specs.Journal.{Entry}
 use Rattle.script_model.specs.Commands.{Command}
-use Rattle.script_model.specs.Play.{Done, Lane, lane_with, lane_of, Play, play_with}
+use Rattle.record_model.specs.Play.{Done, Lane, lane_with, lane_of, Play, play_with}
 use Rattle.lake_core.specs.declared.lane.Held.{Held}
 use Rattle.lake_core.specs.declared.lane.Held.TheVariants.{At, Swap, Denied}
 use Rattle.lake_core.specs.Merging.{IsPlanned}

@@ -8,10 +8,10 @@ use Rattle.lake_model.specs.Journal as journal
 use Rattle.catalogue.specs.Kept.{CatalogueOf}
 use Rattle.catalogue.specs.declared.refusal.LoadRefused.{LoadRefused}
 use Rattle.catalogue.specs.declared.refusal.LoadRefused.TheVariants as refused
-use Rattle.script_model.specs.Replies.{Reply, Repeated, Full, NoMemory, Fault, fault_reply}
-use Rattle.script_model.specs.Answered.{TableRead, NoTable, is_accepted, standing}
-use Rattle.script_model.specs.Record.{RunRecord}
-use Rattle.reply_text.specs.Rooms.{RecordOf}
+use Rattle.record_model.specs.Replies.{Reply, Repeated, Full, NoMemory, Fault, fault_reply}
+use Rattle.record_model.specs.Answered.{TableRead, NoTable, is_accepted, standing}
+use Rattle.record_model.specs.Record.{RunRecord}
+use Rattle.run_record.specs.Rooms.{RecordOf}
 
 -- the reply refuses what was read: for want of memory, or for its fault
 abbrev pub IsRefusal : TableRead → Reply → Type 0

@@ -7,8 +7,8 @@ use Rattle.segment_core.specs.Plans.{MergedOf, merged_with, PlanOf}
 use Rattle.segment_core.specs.Versions.{version_with}
 use Rattle.segment_merge.specs.Planned.{load_positions, load_tables, plan_at}
 use Rattle.catalogue.specs.Swaps.{IsMergeOf, is_there, numbers_in}
-use Rattle.script_model.specs.Answered.{is_accepted, standing}
-use Rattle.script_model.specs.Replies.{Reply, Merged, NothingToMerge, Stale}
+use Rattle.record_model.specs.Answered.{is_accepted, standing}
+use Rattle.record_model.specs.Replies.{Reply, Merged, NothingToMerge, Stale}
 use Rattle.lake_core.specs.declared.merging.Planned.{Planned}
 
 -- what a plan is merged into

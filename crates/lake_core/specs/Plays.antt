@@ -3,8 +3,8 @@ use Rattle.std.specs.Prelude.{◌≡◌, ◌≤◌, ℕ, Bool, List, length}
 use Rattle.lake_model.specs.declared.Counts.{Counts}
 use Rattle.lake_model.specs.Journal.{standard_limits}
 use Rattle.catalogue.specs.Kept.{CatalogueOf, IsWithin}
-use Rattle.reply_text.specs.Rooms.{RecordOf}
-use Rattle.script_model.specs.Play.{Play, play}
+use Rattle.run_record.specs.Rooms.{RecordOf}
+use Rattle.record_model.specs.Play.{Play, play}
 use Rattle.lake_core.specs.Lanes.{LaneOf, AreHeld, left, play_of}
 
 -- the lake, the lanes, and the record that is made

@@ -7,8 +7,8 @@ use Rattle.lake_model.specs.Texts.{Text}
 use Rattle.segment_core.specs.declared.column.ColumnRefused.{ColumnRefused}
 use Rattle.segment_core.specs.declared.column.ColumnRefused.TheVariants as refused
 use Rattle.segment_core.specs.Versions.{VersionOf, version_with, live_of}
-use Rattle.script_model.specs.Replies.{Reply, Found, Unknown, NoColumn, NoMemory}
-use Rattle.script_model.specs.Work.{lists_read, sets_probed}
+use Rattle.record_model.specs.Replies.{Reply, Found, Unknown, NoColumn, NoMemory}
+use Rattle.record_model.specs.Work.{lists_read, sets_probed}
 
 -- the version is that of the journal
 pub record IsPinOf (journal : List Entry) (version : VersionOf) : Type 0 where

@@ -2,7 +2,8 @@
 ghost use Rattle.std.specs.Prelude.{◌≡◌, ◌<◌, ◌≤◌, ◌+◌, ◌*◌, ◌++◌, ◌^◌, [], ◌∷◌, ⊤, Bool, List, length, map, replicate, flat_map, drop, get_or, slice_set, take, true, None, OnOk, OnErr, IfOk, MatchOption, option_to_list};
 ghost use Rattle.std.specs.List.{range_with_len};
 ghost use Rattle.script_model.specs.Lanes.{IsOfLanes};
-ghost use Rattle.script_model.specs.Play.{answers_of, batch_after, gathered, merges_of, play, record_after, updates, whole_order};
+ghost use Rattle.record_model.specs.Play.{answers_of, batch_after, gathered, merges_of, play, record_after, whole_order};
+ghost use Rattle.script_model.specs.Commands.{updates};
 ghost use Rattle.lake_core.specs.Lanes.{AreShared, done_in, lane_from, play_of};
 ghost use Rattle.lake_core.specs.Plays.{Goes, IsReady, state_with};
 ghost use Rattle.batch_work.specs.Works.{works_of, IsWithinLanes};
@@ -12,9 +13,9 @@ ghost use Rattle.catalogue.specs.Kept.{IsWithin};
 use crate::lane::Lane;
 use batch_work::{Work, works_of};
 use catalogue::Catalogue;
+use commands::Batch;
 use no_memory::NoMemory;
-use reply_text::{Answered, RunRecord};
-use script_text::Batch;
+use run_record::{Answered, RunRecord};
 use std::alloc::Global;
 
 // So many lanes besides the merger's, all of them idle. The merger's is the first.

@@ -1,16 +1,16 @@
 //! Drops: the entry that takes a table out of the lake.
 ghost use Rattle.std.specs.Prelude.{◌≡◌, ◌<◌, ◌+◌, ◌≤◌, Bool};
 ghost use Rattle.script_model.specs.Commands.{DropTable};
-ghost use Rattle.script_model.specs.Replies.{drop_reply};
-ghost use Rattle.script_model.specs.Answered.{adds};
-ghost use Rattle.script_model.specs.Play.{reply_or_denied};
-ghost use Rattle.reply_text.specs.Replies.{reply_of};
+ghost use Rattle.record_model.specs.Replies.{drop_reply};
+ghost use Rattle.record_model.specs.Answered.{adds};
+ghost use Rattle.record_model.specs.Play.{reply_or_denied};
+ghost use Rattle.run_record.specs.Replies.{reply_of};
 ghost use Rattle.lake_core.specs.Drops.{drop_refusal_reply};
 ghost use Rattle.lake_core.specs.Loads.{Adds};
 
 use catalogue::{Catalogue, DropRefused, Entry, Who};
 use column_set::Name;
-use reply_text::{Reply, RunRecord};
+use run_record::{Reply, RunRecord};
 
 /// The reply to the drop of this name that the catalogue refuses.
 pub fn reply_to_drop(refused: DropRefused, name: Name) -> Reply

@@ -2,19 +2,19 @@
 ghost use Rattle.std.specs.Prelude.{◌≡◌, ◌<◌, ◌+◌, ◌≤◌, ◌∷◌, [], Bool, IfOk, IfErr};
 ghost use Rattle.lake_model.specs.Tables.{members};
 ghost use Rattle.script_model.specs.Commands.{Load, LoadFile};
-ghost use Rattle.script_model.specs.Replies.{csv_reply, sets_reply, load_reply};
-ghost use Rattle.script_model.specs.Answered.{IsTable, file_read, table_read, load_answer, adds};
-ghost use Rattle.script_model.specs.Play.{reply_or_denied};
-ghost use Rattle.reply_text.specs.Replies.{reply_of};
-ghost use Rattle.script_text.specs.Tasks.{file_of};
+ghost use Rattle.record_model.specs.Replies.{csv_reply, sets_reply, load_reply};
+ghost use Rattle.record_model.specs.Answered.{IsTable, file_read, table_read, load_answer, adds};
+ghost use Rattle.record_model.specs.Play.{reply_or_denied};
+ghost use Rattle.run_record.specs.Replies.{reply_of};
+ghost use Rattle.commands.specs.Tasks.{file_of};
 ghost use Rattle.lake_core.specs.Loads.{Adds, IsRefusal, refusal_reply, loaded_by};
 
 use catalogue::{Catalogue, Entry, LoadRefused, Who};
 use column_set::{Name, SetRefused, SharedTable, TableSets};
+use commands::{Body, FileBody};
 use csv_table::{CsvRefused, read_table};
 use no_memory::NoMemory;
-use reply_text::{Reply, RunRecord};
-use script_text::{Body, FileBody};
+use run_record::{Reply, RunRecord};
 use segment_build::build;
 use segment_core::Segment;
 use std::alloc::Global;

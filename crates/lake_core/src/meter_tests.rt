@@ -5,8 +5,8 @@ ghost use Rattle.script_model.specs.Lanes.{IsOfLanes};
 use super::drive;
 use crate::tests::{body, command, name};
 use catalogue::{Catalogue, Limits};
-use reply_text::{Reply, RunRecord};
-use script_text::{Batch, Command, Task};
+use commands::{Batch, Command, Task};
+use run_record::{Reply, RunRecord};
 use std::alloc::Global;
 use std::test::Fail;
 

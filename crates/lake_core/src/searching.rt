@@ -3,20 +3,21 @@ ghost use Rattle.std.specs.Prelude.{◌≡◌, ◌≤◌, Bool, List, false, Non
 ghost use Rattle.josie_search.specs.Search.{query_with};
 ghost use Rattle.lake_model.specs.declared.Counts.{Counts};
 ghost use Rattle.lake_model.specs.Journal.{Entry};
-ghost use Rattle.script_model.specs.Replies.{like_reply, query_reply, tables_reply};
-ghost use Rattle.script_model.specs.Answered.{answer_to, is_update_task, query_read, search_answer};
-ghost use Rattle.script_model.specs.Play.{reply_or_denied};
-ghost use Rattle.script_text.specs.Tasks.{IsTaskInRange, task_of};
+ghost use Rattle.record_model.specs.Replies.{like_reply, query_reply, tables_reply};
+ghost use Rattle.record_model.specs.Answered.{answer_to, query_read, search_answer};
+ghost use Rattle.script_model.specs.Commands.{is_update_task};
+ghost use Rattle.record_model.specs.Play.{reply_or_denied};
+ghost use Rattle.commands.specs.Tasks.{IsTaskInRange, task_of};
 ghost use Rattle.lake_core.specs.Searches.{column_reply, found_at, IsPinOf};
 ghost use Rattle.batch_work.specs.Works.{merge_policy};
-ghost use Rattle.reply_text.specs.Replies.{reply_of};
+ghost use Rattle.run_record.specs.Replies.{reply_of};
 
 use column_set::{Name, QueryRefused, QuerySet};
+use commands::{Body, Task};
 use cost_model::Profile;
 use josie_search::prepare;
 use no_memory::NoMemory;
-use reply_text::Reply;
-use script_text::{Body, Task};
+use run_record::Reply;
 use segment_core::{ColumnRefused, Pin};
 use std::alloc::Global;
 

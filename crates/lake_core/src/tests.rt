@@ -1,13 +1,13 @@
 //! Lanes whose steps are taken in several orders, and merges among them.
 ghost use Rattle.std.specs.Prelude.{◌≡◌, ◌≤◌, IfOk};
 ghost use Rattle.script_model.specs.Lanes.{IsOfLanes};
-ghost use Rattle.script_text.specs.Tasks.{IsTaskInRange};
+ghost use Rattle.commands.specs.Tasks.{IsTaskInRange};
 
 use super::drive;
 use catalogue::{Catalogue, Limits};
 use column_set::Name;
-use reply_text::{Reply, RunRecord};
-use script_text::{Batch, Body, Command, Task};
+use commands::{Batch, Body, Command, Task};
+use run_record::{Reply, RunRecord};
 use std::alloc::Global;
 use std::test::Fail;
 

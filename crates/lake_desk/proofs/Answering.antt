@@ -1,5 +1,5 @@
 -- From what was made to what was answered, and from there to a step.
-use Rattle.std.proofs.Common.{◌≡◌, refl, ap, sym, ◌∙◌, subst, ℕ, ◌≤◌, List, [], ◌∷◌, ◌++◌, append-nil, append_assoc, length, length-append, Bool, true, false, cond, map, inl, inr, Option, None, Some, arith, take}
+use Rattle.std.proofs.Common.{◌≡◌, refl, ap, sym, ◌∙◌, subst, ℕ, ◌≤◌, List, [], ◌∷◌, ◌++◌, append-nil, append_assoc, length, length-append, Bool, true, false, cond, map, inl, Option, None, Some, arith, take}
 use Rattle.std.proofs.lemmas.List.{take_all, take-append-le}
 use Rattle.std.specs.Prelude.{IfOk, Ok, Err, option_map}
 use Rattle.std.specs.declared.result.Result.{Result}
@@ -12,16 +12,13 @@ use Rattle.turn_lock.specs.History.{Grows}
 use Rattle.turn_lock.specs.Passes.{Known, after_seeing, callers_of}
 use Rattle.turn_lock.proofs.Histories.{grows_self, grows_trans}
 use Rattle.lake.specs.Lawful.{caller_of}
-use Rattle.script_model.specs.Commands.{Command, Task, command_with, Load, LoadFile, DropTable, Tables, Search, Like, Merge, File}
-use Rattle.script_model.specs.Replies.{Reply, NoMemory, load_reply}
-use Rattle.script_model.specs.Answered.{TableRead, IsTable, answer_to, adds, is_accepted, standing, load_answer, loads, table_read, file_read, change_of, policy_of}
-use Rattle.script_model.specs.Play.{done_with, entries_of, reply_or_denied, who_of}
-use Rattle.script_model.specs.Right.{IsRight}
-use Rattle.script_model.proofs.RightLemmas.{right_stays}
-use Rattle.script_model.proofs.PlayLemmas.{reply_fits, right_step, Fits}
-use Rattle.script_model.specs.Replies.{NothingToMerge, merge_reply}
-use Rattle.script_model.specs.Answered.{is_update_task, swaps}
-use Rattle.script_model.proofs.PlayLemmas.{fault_nowhere}
+use Rattle.script_model.specs.Commands.{Command, Task, command_with, Load, LoadFile, DropTable, Tables, Search, Like, Merge, File, is_update_task}
+use Rattle.record_model.specs.Replies.{Reply, NoMemory, load_reply, NothingToMerge, merge_reply}
+use Rattle.record_model.specs.Answered.{TableRead, IsTable, answer_to, adds, is_accepted, standing, load_answer, loads, table_read, file_read, change_of, policy_of, swaps}
+use Rattle.record_model.specs.Play.{done_with, entries_of, reply_or_denied, who_of}
+use Rattle.record_model.specs.Right.{IsRight}
+use Rattle.record_model.proofs.RightLemmas.{right_stays}
+use Rattle.record_model.proofs.PlayLemmas.{reply_fits, right_step, Fits}
 use Rattle.lake_model.specs.Layout.{layout, is_legal, shown, shown_with}
 use Rattle.lake_model.specs.Plan.{plan}
 use Rattle.segment_core.specs.Plans.{MergedOf}
@@ -29,12 +26,13 @@ use Rattle.segment_core.specs.Versions.{VersionOf, version_with}
 use Rattle.segment_merge.specs.Planned.{plan_at}
 use Rattle.batch_work.specs.Works.{merge_policy}
 use Rattle.lake_core.specs.Loads.{IsRefusal, loaded_by}
-use Rattle.lake_core.proofs.LoadLemmas.{Answers, refused_answer, either_none}
+use Rattle.lake_core.proofs.LoadLemmas.{Answers, refused_answer, refused_nowhere}
 use Rattle.lake_core.proofs.MergeLemmas.{planned_later, planned_now, planned_reply, planned_change}
 use Rattle.lake_core.specs.Merging.{IsPlanned, merge_of, swap_reply, swapped_by}
 use Rattle.lake_core.specs.declared.merging.Planned.{Planned}
 use Rattle.lake_desk.proofs.Lanes.{none_right, not_own}
 use Rattle.lake_desk.specs.Answering.{IsMade, IsAnswered, IsStep}
+use Rattle.record_model.proofs.LegalLemmas.{either_none}
 
 self_prefix : (now : List Entry) → (length now ≤ length now) × (take (length now) now ≡ now)
 self_prefix now = (omega arith, take_all (length now) now (omega arith))
@@ -113,10 +111,6 @@ pub file_answered : (limits : Counts) (number : ℕ) (name : Text) (file : File)
 file_answered limits number name file table before reply after is made =
     made_answered limits number (LoadFile name file) (load_reply limits table) (loaded_by table) before reply after
     (λ found. ap (λ (r : TableRead). load_answer limits r found) (sym is)) (λ found. ap (λ (r : TableRead). cond (is_accepted (standing reply)) (loads r) []) (sym is)) made
-
-refused_nowhere : (read : TableRead) (reply : Reply) → IsRefusal read reply → is_accepted (standing reply) ≡ false
-refused_nowhere read reply (inl none) = ap (λ (r : Reply). is_accepted (standing r)) none
-refused_nowhere read reply (inr (fault, is, said)) = ap (λ (r : Reply). is_accepted (standing r)) said ∙ ap is_accepted (fault_nowhere fault)
 
 -- a reply that adds nothing, at what the pass had seen
 unmoved : (limits : Counts) (command : Command) (before : Known Entry) (reply : Reply) → Answers reply (answer_to limits command.task before.seen before.seen) → is_accepted (standing reply) ≡ false

@@ -9,15 +9,15 @@ use mathlib.Core.List.{IsPrefix}
 use Rattle.atomic_table.specs.Seated.{TableId}
 use Rattle.lake_model.specs.declared.Counts.{Counts}
 use Rattle.lake_model.specs.Journal.{Entry}
-use Rattle.layout_laws.proofs.ListLemmas.{all_append, all_weaker}
+use Rattle.list_laws.proofs.ListLemmas.{all_append, all_weaker}
 use Rattle.turn_lock.specs.History.{Grows, IsOfGiven}
 use Rattle.turn_lock.specs.Passes.{Known, after_seeing, callers_of}
 use Rattle.lake.specs.Lawful.{caller_of, IsLawful}
-use Rattle.script_model.specs.Commands.{Batch, Command, Merge, command_with}
+use Rattle.script_model.specs.Commands.{Batch, Command, Merge, command_with, updates}
 use Rattle.script_model.specs.Lanes.{IsOfLanes}
-use Rattle.script_model.specs.Play.{merges_of, updates}
-use Rattle.script_model.specs.Record.{Answered, RunRecord}
-use Rattle.script_model.specs.Right.{IsBatchRight, IsRight, between, done_of}
+use Rattle.record_model.specs.Play.{merges_of}
+use Rattle.record_model.specs.Record.{Answered, RunRecord}
+use Rattle.record_model.specs.Right.{IsBatchRight, IsRight, between, done_of}
 use Rattle.lane_run.specs.Chains.{AreServed, AreWithin}
 use Rattle.lake_desk.specs.Answering.{IsStep}
 use Rattle.lake_desk.specs.Gathered.{AllMeet, AreApart}

@@ -8,10 +8,10 @@ use Rattle.turn_lock.specs.History.{Grows}
 use Rattle.turn_lock.specs.Passes.{Known, after_seeing, callers_of}
 use Rattle.lake.specs.Lawful.{caller_of}
 use Rattle.script_model.specs.Commands.{Command}
-use Rattle.script_model.specs.Play.{Done, done_with}
-use Rattle.script_model.specs.Record.{Answered}
-use Rattle.script_model.specs.Right.{IsRight, done_of}
-use Rattle.script_model.proofs.RightLemmas.{right_on, right_stays}
+use Rattle.record_model.specs.Play.{Done, done_with}
+use Rattle.record_model.specs.Record.{Answered}
+use Rattle.record_model.specs.Right.{IsRight, done_of}
+use Rattle.record_model.proofs.RightLemmas.{right_on, right_stays}
 use Rattle.lane_run.specs.Chains.{Chain}
 use Rattle.lake_desk.specs.Answering.{IsStep}
 use Rattle.lake_desk.proofs.Lanes.{kept_own, none_right, not_own}

@@ -7,8 +7,8 @@ use Rattle.lake_model.specs.declared.Counts.{Counts}
 use Rattle.lake_model.specs.Journal.{Entry}
 use Rattle.turn_lock.specs.History.{Has, IsOfOthers}
 use Rattle.lake.specs.Lawful.{caller_of}
-use Rattle.script_model.specs.Play.{Done}
-use Rattle.script_model.specs.Right.{IsRight}
+use Rattle.record_model.specs.Play.{Done}
+use Rattle.record_model.specs.Right.{IsRight}
 
 -- entries of callers other than these are none of a lane's own, where the lane is one of them
 pub not_own : (lane : ℕ) (callers : List ℕ) (entries : List Entry) → Has callers lane → IsOfOthers caller_of callers entries → AllByRecursion (λ e. (e.who.caller == lane) ≡ false) entries

@@ -14,7 +14,7 @@ use Rattle.catalogue.specs.declared.refusal.DropRefused.{DropRefused}
 use Rattle.catalogue.specs.declared.refusal.DropRefused.TheVariants as dropping
 use Rattle.catalogue.specs.Refusals.{load_refusal, drop_refusal}
 use Rattle.lake.specs.Lawful.{caller_of, IsAccepted}
-use Rattle.script_model.specs.Replies.{Reply, Loaded, Dropped, Unknown, unless_lake_full, load_reply, drop_reply}
+use Rattle.record_model.specs.Replies.{Reply, Loaded, Dropped, Unknown, unless_lake_full, load_reply, drop_reply}
 use Rattle.lake_core.specs.Loads.{loaded_by, refusal_reply}
 use Rattle.lake_core.specs.Drops.{drop_refusal_reply}
 use Rattle.lake_core.proofs.LoadLemmas.{refused_load, accepted_load, refused_drop}

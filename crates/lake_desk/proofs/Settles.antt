@@ -9,7 +9,7 @@ use Rattle.turn_lock.specs.History.{Grows, IsOfGiven}
 use Rattle.turn_lock.specs.Passes.{Known, after_seeing, callers_of}
 use Rattle.turn_lock.proofs.Histories.{grows_trans, prefix_length}
 use Rattle.lake.specs.Lawful.{caller_of}
-use Rattle.script_model.specs.Record.{Answered, RunRecord}
+use Rattle.record_model.specs.Record.{Answered, RunRecord}
 use Rattle.lake_desk.specs.Gathered.{AllBegin, AllMeet, AreApart, AreFree, AreHandedOut, AreOfOneLock, IsBehindAll, IsGathered}
 use Rattle.lake_desk.specs.Together.{with_batch}
 use Rattle.lake_desk.proofs.Gathers.{begin_on, prefix_on}

@@ -7,10 +7,10 @@ use Rattle.turn_lock.specs.History.{Grows}
 use Rattle.turn_lock.specs.Passes.{Known, after_seeing, callers_of}
 use Rattle.lake.specs.Lawful.{caller_of}
 use Rattle.script_model.specs.Commands.{Command}
-use Rattle.script_model.specs.Replies.{Reply}
-use Rattle.script_model.specs.Answered.{answer_to, has_pin, is_accepted, standing}
-use Rattle.script_model.specs.Play.{done_with, entries_of, reply_or_denied}
-use Rattle.script_model.specs.Right.{IsRight}
+use Rattle.record_model.specs.Replies.{Reply}
+use Rattle.record_model.specs.Answered.{answer_to, has_pin, is_accepted, standing}
+use Rattle.record_model.specs.Play.{done_with, entries_of, reply_or_denied}
+use Rattle.record_model.specs.Right.{IsRight}
 
 -- The pass saw entries of others, and then what the reply adds, under its caller and this number. The reply is what this function says of
 -- what was seen just before, or that of a command that ran out of memory.

@@ -7,9 +7,9 @@ use Rattle.lake_model.specs.Journal.{Entry}
 use Rattle.lake_model.specs.Layout.{is_legal}
 use Rattle.turn_lock.specs.Passes.{Known}
 use Rattle.script_model.specs.Commands.{Command}
-use Rattle.script_model.specs.Record.{Answered, RunRecord}
-use Rattle.script_model.specs.InTurn.{with_sync}
-use Rattle.script_model.specs.Right.{IsBatchRight}
+use Rattle.record_model.specs.Record.{Answered, RunRecord}
+use Rattle.record_model.specs.InTurn.{with_sync}
+use Rattle.record_model.specs.Right.{IsBatchRight}
 
 -- The desks are of one lock and numbered from 0, hold no turn, and have each seen this whole journal. The first is that of the pass that gave
 -- the others their numbers.

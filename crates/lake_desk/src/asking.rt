@@ -1,20 +1,19 @@
 //! Loads of what was read, and what is asked of the lake at a pin.
 ghost use Rattle.std.specs.Prelude.{◌≡◌, false, None};
 ghost use Rattle.turn_lock.specs.Passes.{after_seeing};
-ghost use Rattle.script_model.specs.Answered.{is_update_task};
-ghost use Rattle.script_model.specs.Commands.{command_with, Load, LoadFile, DropTable};
-ghost use Rattle.reply_text.specs.Replies.{reply_of};
-ghost use Rattle.script_text.specs.Tasks.{file_of, task_of, IsTaskInRange};
+ghost use Rattle.script_model.specs.Commands.{is_update_task, command_with, Load, LoadFile, DropTable};
+ghost use Rattle.run_record.specs.Replies.{reply_of};
+ghost use Rattle.commands.specs.Tasks.{file_of, task_of, IsTaskInRange};
 ghost use Rattle.batch_work.specs.Works.{merge_policy};
 ghost use Rattle.lake_desk.specs.Answering.{IsAnswered};
 
 use crate::changing::{drop_table, load};
 use column_set::Name;
+use commands::{Body, FileBody, Task};
 use lake::{Bounds, Lake, Pass};
 use lake_core::{Loadable, finish, make_table, make_table_of_file};
 use lake_io::{Gate, Point};
-use reply_text::Reply;
-use script_text::{Body, FileBody, Task};
+use run_record::Reply;
 use std::alloc::Global;
 use std::sync::Wait;
 

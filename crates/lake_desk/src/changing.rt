@@ -1,15 +1,15 @@
 //! Loads and drops at a lake.
 ghost use Rattle.std.specs.Prelude.{◌≡◌, ◌∷◌, [], false};
 ghost use Rattle.turn_lock.specs.Passes.{after_seeing};
-ghost use Rattle.script_model.specs.Replies.{drop_reply, load_reply};
-ghost use Rattle.reply_text.specs.Replies.{reply_of};
+ghost use Rattle.record_model.specs.Replies.{drop_reply, load_reply};
+ghost use Rattle.run_record.specs.Replies.{reply_of};
 ghost use Rattle.lake_core.specs.Loads.{loaded_by};
 ghost use Rattle.lake_desk.specs.Answering.{dropped_by, IsMade};
 
 use column_set::{Name, SharedTable};
 use lake::{Bounds, Lake, Pass};
 use lake_core::{reply_to_drop, reply_to_load};
-use reply_text::Reply;
+use run_record::Reply;
 use segment_core::Segment;
 use std::sync::{Arc, Wait};
 

@@ -5,9 +5,9 @@ ghost use Rattle.turn_lock.specs.History.{Grows};
 ghost use Rattle.turn_lock.specs.Passes.{after_seeing, callers_of};
 ghost use Rattle.catalogue.specs.Kept.{IsWithin};
 ghost use Rattle.lake.specs.Lawful.{caller_of};
-ghost use Rattle.script_model.specs.Answered.{policy_of};
+ghost use Rattle.record_model.specs.Answered.{policy_of};
 ghost use Rattle.script_model.specs.Commands.{command_with, Merge};
-ghost use Rattle.reply_text.specs.Replies.{reply_of};
+ghost use Rattle.run_record.specs.Replies.{reply_of};
 ghost use Rattle.lake_core.specs.Merging.{swap_reply, swapped_by, CanSwap, IsPlanned};
 ghost use Rattle.lake_desk.specs.Answering.{IsAnswered, IsMade};
 
@@ -17,7 +17,7 @@ use lake_core::{Planned, plan_pinned};
 use lake_io::{Gate, Point};
 use lake_model::Policy;
 use no_memory::NoMemory;
-use reply_text::Reply;
+use run_record::Reply;
 use std::alloc::Global;
 use std::sync::Wait;
 

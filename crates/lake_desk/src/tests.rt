@@ -1,16 +1,17 @@
 //! Two lanes that must overlap, on threads of their own, and batches one after another. No clause says that a thread runs, nor that memory is there.
 ghost use Rattle.std.specs.Prelude.{◌≡◌, ◌≤◌, false, true, IfOk, None};
 ghost use Rattle.script_model.specs.Lanes.{IsOfLanes};
-ghost use Rattle.script_model.specs.Record.{empty, options_with};
-ghost use Rattle.script_text.specs.Tasks.{IsTaskInRange};
+ghost use Rattle.record_model.specs.Record.{empty};
+ghost use Rattle.script_model.specs.Options.{options_with};
+ghost use Rattle.commands.specs.Tasks.{IsTaskInRange};
 
 use crate::{Standard, answer_batch, open_desks};
 use catalogue::Limits;
 use column_set::Name;
+use commands::{Batch, Body, Command, FileBody, Options, Task};
 use lake::Lake;
 use lake_io::{Gate, NoGate, Point};
-use reply_text::{Reply, RunRecord};
-use script_text::{Batch, Body, Command, FileBody, Options, Task};
+use run_record::{Reply, RunRecord};
 use std::alloc::Global;
 use std::sync::Wait;
 use std::sync::atomic::{AtomicBool, Ordering};

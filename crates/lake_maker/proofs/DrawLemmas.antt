@@ -3,7 +3,7 @@ use Rattle.std.proofs.Common.{◌≡◌, refl, ap, sym, ◌∙◌, ℕ, zero, su
 use Rattle.std.specs.List.{range_with_len}
 use Rattle.lake_model.specs.Texts.{Text}
 use Rattle.script_model.specs.Commands.{Task, Like}
-use Rattle.script_model.specs.Generator.{cell, draw, load_tasks, next_state, record_text, search_task, state_at, table_name, table_text}
+use Rattle.option_model.specs.Generator.{cell, draw, load_tasks, next_state, record_text, search_task, state_at, table_name, table_text}
 use Rattle.lake_maker.specs.Made.{load_with, search_at}
 use Rattle.lake_maker.proofs.RangeLemmas.{flat_range_more}
 

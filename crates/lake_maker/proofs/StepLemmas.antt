@@ -4,7 +4,7 @@ use Rattle.std.specs.List.{range_with_len}
 use Rattle.std.proofs.lemmas.List.FromFn.{map-range_with_len_more}
 use Rattle.lake_model.specs.Texts.{Text}
 use Rattle.script_model.specs.Commands.{Task, Like}
-use Rattle.script_model.specs.Generator.{cell, draw, load_tasks, record_text, search_task, state_at, table_name, table_text}
+use Rattle.option_model.specs.Generator.{cell, draw, load_tasks, record_text, search_task, state_at, table_name, table_text}
 use Rattle.lake_maker.specs.Made.{load_with, search_at}
 use Rattle.lake_maker.proofs.DrawLemmas.{cell_there, draw_behind, loads_more, search_there, state_at-zero, state_there, table_more}
 

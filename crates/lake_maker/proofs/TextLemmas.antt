@@ -7,7 +7,7 @@ use Rattle.std.proofs.lemmas.Fmt.{decimal_by_steps, length-decimal-le}
 use Rattle.std.proofs.lemmas.List.Folds.{list_all-append}
 use Rattle.lake_model.specs.Tables.{is_name}
 use Rattle.lake_model.specs.Texts.{Text}
-use Rattle.script_model.specs.Generator.{cell, draw, record_text, table_name, table_text}
+use Rattle.option_model.specs.Generator.{cell, draw, record_text, table_name, table_text}
 
 abbrev is_printable : ℕ → Bool
 is_printable byte = nat_le 0x21 byte && nat_le byte 0x7E

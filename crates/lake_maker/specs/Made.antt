@@ -3,7 +3,7 @@ use Rattle.std.specs.Prelude.{ℕ, ◌+◌, ◌%◌, ◌==◌, if◌then◌else�
 use Rattle.std.specs.List.{enumerate_from}
 use Rattle.lake_model.specs.Texts.{Text}
 use Rattle.script_model.specs.Commands.{Batch, Task, Load, Like, Merge, command_with}
-use Rattle.script_model.specs.Generator.{draw, table_name}
+use Rattle.option_model.specs.Generator.{draw, table_name}
 
 -- the commands of lane 1 that these tasks are, numbered from 1
 abbrev pub numbered : List Task → Batch

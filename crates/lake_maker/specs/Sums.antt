@@ -1,10 +1,11 @@
 -- The sums of a summary.
 use Rattle.std.specs.Prelude.{◌+◌, List, [], ◌∷◌, codes, decimal, flat_map}
 use Rattle.lake_model.specs.Texts.{Text}
-use Rattle.script_model.specs.Generator.{answers_in, loads_in, members_in, merges_in, overlap_in, probes_in, reads_in, rows_in, summed}
-use Rattle.script_model.specs.Record.{Answered}
-use Rattle.script_model.specs.Replies.{Reply}
-use Rattle.script_model.specs.Texts.{line_text, spaced}
+use Rattle.option_model.specs.Generator.{answers_in, loads_in, members_in, merges_in, overlap_in, probes_in, reads_in, rows_in, summed}
+use Rattle.record_model.specs.Record.{Answered}
+use Rattle.record_model.specs.Replies.{Reply}
+use Rattle.script_model.specs.Words.{line_text}
+use Rattle.record_model.specs.Texts.{spaced}
 use Rattle.lake_maker.specs.declared.sums.Sums.{Sums}
 
 -- what a reply adds to each sum

@@ -1,15 +1,15 @@
 //! The batch of a made lake: its loads, the merges between them, and its searches.
 ghost use Rattle.std.specs.Prelude.{◌≡◌, ◌≤◌, ◌<◌, ◌+◌, ◌*◌, ◌++◌, ◌∷◌, [], flat_map, map, IfOk, OnOk};
 ghost use Rattle.std.specs.List.{range_with_len};
-ghost use Rattle.script_model.specs.Generator.{load_tasks, made_batch as the_batch, state_at, table_text};
+ghost use Rattle.option_model.specs.Generator.{load_tasks, made_batch as the_batch, state_at, table_text};
 ghost use Rattle.script_model.specs.Lanes.{IsOfLanes};
 ghost use Rattle.lake_maker.specs.Made.{load_with, merge_behind, search_at};
 
 use crate::draws::Draws;
 use crate::numbered::Numbered;
 use crate::table::{table_body, table_name};
+use commands::{Batch, Task};
 use no_memory::NoMemory;
-use script_text::{Batch, Task};
 use std::alloc::Global;
 
 // How many searches there are.

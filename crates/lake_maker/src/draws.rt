@@ -1,6 +1,6 @@
 //! Draws of a linear congruential generator.
 ghost use Rattle.std.specs.Prelude.{◌≡◌, ◌<◌};
-ghost use Rattle.script_model.specs.Generator.{draw, state_at};
+ghost use Rattle.option_model.specs.Generator.{draw, state_at};
 
 use std::marker::Model;
 

@@ -1,11 +1,11 @@
 //! Commands of one lane, numbered as they come.
 ghost use Rattle.std.specs.Prelude.{◌≡◌, ◌++◌, ◌∷◌, [], OnOk};
 ghost use Rattle.script_model.specs.Lanes.{IsOfLanes};
-ghost use Rattle.script_text.specs.Tasks.{IsTaskInRange, task_of};
+ghost use Rattle.commands.specs.Tasks.{IsTaskInRange, task_of};
 ghost use Rattle.lake_maker.specs.Made.{numbered};
 
+use commands::{Batch, Command, Task};
 use no_memory::NoMemory;
-use script_text::{Batch, Command, Task};
 use std::alloc::Global;
 use std::marker::Model;
 

@@ -2,12 +2,13 @@
 ghost use Rattle.std.specs.Prelude.{◌≡◌, ◌++◌, decimal, OnErr, OnOk};
 ghost use Rattle.lake_maker.specs.Sums.{sums_text};
 ghost use Rattle.reply_text.specs.Keeping.{Keeps};
-ghost use Rattle.script_model.specs.Generator.{summary};
+ghost use Rattle.option_model.specs.Generator.{summary};
 
 use crate::sums::{Sums, sums_of};
 use itoa::Buffer;
 use no_memory::NoMemory;
-use reply_text::{RunRecord, push_bytes};
+use reply_text::push_bytes;
+use run_record::RunRecord;
 
 // Appends these words and a sum.
 fn push_sum(words: &str, sum: u128, into: &mut Vec<u8>) -> Result<(), NoMemory>

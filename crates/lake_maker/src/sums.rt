@@ -1,11 +1,11 @@
 //! The sums of a summary.
 ghost use Rattle.std.specs.Prelude.{◌≡◌, ◌+◌, sum_by, IfOk};
 ghost use Rattle.lake_maker.specs.Sums.{added, sums_in, sums_of};
-ghost use Rattle.reply_text.specs.Replies.{reply_of};
+ghost use Rattle.run_record.specs.Replies.{reply_of};
 
 use column_set::KeptRow;
 use no_memory::NoMemory;
-use reply_text::{Answered, Reply};
+use run_record::{Answered, Reply};
 
 // What came of a made lake: accepted loads and their members, accepted swaps, the searches that were answered, their rows and the
 // overlaps of these, and the posting lists that these searches read and the sets that they probed.

@@ -1,12 +1,12 @@
 //! The tables of a made lake: their names and their bytes.
 ghost use Rattle.std.specs.Prelude.{◌≡◌, ◌≤◌, ◌<◌, ◌*◌, ◌++◌, ◌∷◌, [], IfOk, OnOk};
-ghost use Rattle.script_model.specs.Generator.{cell, record_text, state_at, table_name, table_text};
+ghost use Rattle.option_model.specs.Generator.{cell, record_text, state_at, table_name, table_text};
 
 use crate::draws::Draws;
 use column_set::Name;
+use commands::Body;
 use no_memory::NoMemory;
 use reply_text::{push_bytes, push_number};
-use script_text::Body;
 use std::alloc::Global;
 
 // The name of the table of a number: `g` and the number.

@@ -1,7 +1,7 @@
 //! A small lake, and the summary of nothing.
 use crate::{made_batch, write_summary};
-use reply_text::RunRecord;
-use script_text::Task;
+use commands::Task;
+use run_record::RunRecord;
 use std::test::Fail;
 
 #[test]

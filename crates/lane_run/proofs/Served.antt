@@ -7,16 +7,16 @@ use Rattle.std.proofs.lemmas.List.{length-map, get_or-map, map-append}
 use Rattle.std.specs.declared.alloc.Global.{Global}
 use Rattle.std.specs.declared.collections.VecDeque.{VecDeque}
 use Rattle.lane_run.specs.declared.seat.Seat.{Seat}
-use Rattle.lake_model.specs.declared.Who.{Who}
 use Rattle.script_model.specs.Commands.{Command}
-use Rattle.script_model.specs.Replies.{Reply}
-use Rattle.script_model.specs.Record.{Answered}
-use Rattle.script_model.specs.Play.{Done, done_with, answers_of, who_of, gathered}
-use Rattle.script_model.specs.Right.{done_of}
+use Rattle.record_model.specs.Replies.{Reply}
+use Rattle.record_model.specs.Record.{Answered}
+use Rattle.record_model.specs.Play.{Done, done_with, answers_of, who_of, gathered}
+use Rattle.record_model.specs.Right.{done_of}
 use Rattle.lane_run.specs.Chains.{lane_commands, commands_in, Chain, AreServed, AreWithin}
 use Rattle.lane_run.specs.Seats.{HaveAnswered, HaveServed, IsFresh, IsRoom, desk_in, done_in}
 use Rattle.lane_run.proofs.Serving.{any_default}
-use Rattle.script_model.proofs.GatherLemmas.{AreLists, gathered_commands, gathered_lane}
+use Rattle.record_model.proofs.GatherLemmas.{AreLists, gathered_commands, gathered_lane}
+use Rattle.record_model.proofs.ProgressLemmas.{whos}
 
 -- ---- what is at a place
 
@@ -45,10 +45,6 @@ none_beyond n l (command ∷ commands) within le =
 zip_again : (done : List Done) → map (λ (pair : Command × Answered). done_with pair.0 pair.1.reply) (zip (commands_in done) (answers_of done)) ≡ done
 zip_again [] = refl
 zip_again (d ∷ done) = ap (λ (ds : List Done). d ∷ ds) (zip_again done)
-
-whos : (done : List Done) → map (λ (a : Answered). a.who) (answers_of done) ≡ map who_of (commands_in done)
-whos [] = refl
-whos (d ∷ done) = ap (λ (ws : List Who). who_of d.command ∷ ws) (whos done)
 
 -- ---- sitting down
 

@@ -8,8 +8,8 @@ use Rattle.std.specs.VecDeque.{deque_capacity}
 use Rattle.batch_work.specs.declared.work.Work.{Work}
 use Rattle.lane_run.specs.declared.seat.Seat.{Seat}
 use Rattle.script_model.specs.Commands.{Command}
-use Rattle.script_model.specs.Replies.{Reply}
-use Rattle.script_model.specs.Play.{Done, done_with}
+use Rattle.record_model.specs.Replies.{Reply}
+use Rattle.record_model.specs.Play.{Done, done_with}
 use Rattle.batch_work.specs.Works.{work_of, works_of}
 use Rattle.batch_work.proofs.WorkLemmas.{work_at, works_long}
 use Rattle.lane_run.specs.Chains.{Chain, Serves, lane_commands}

@@ -1,7 +1,8 @@
 //! The lanes of a batch, which all run at once.
 ghost use Rattle.std.specs.Prelude.{◌≡◌, ◌≤◌, ◌<◌, ◌+◌, ◌++◌, ◌^◌, ⊤, MatchOption, [], drop, get_or, option_to_list, slice_set, take, length, map, IfOk, OnErr, vec_capacity, vec_len};
 ghost use Rattle.std.specs.List.{AllByRecursion};
-ghost use Rattle.script_model.specs.Play.{answers_of, gathered, merges_of, updates};
+ghost use Rattle.record_model.specs.Play.{answers_of, gathered, merges_of};
+ghost use Rattle.script_model.specs.Commands.{updates};
 ghost use Rattle.batch_work.specs.Works.{works_of};
 ghost use Rattle.lane_run.specs.Chains.{AreServed, AreWithin, Serves};
 ghost use Rattle.lane_run.specs.Seats.{HaveAnswered, HaveServed, IsFresh, IsRoom, desk_in, done_in};
@@ -10,10 +11,10 @@ use crate::desk::Desk;
 use crate::fork::for_each_busy;
 use crate::seat::{Seat, serve};
 use batch_work::{Done, Work, works_of};
+use commands::Batch;
 use lake_io::Gate;
 use no_memory::NoMemory;
-use reply_text::Answered;
-use script_text::Batch;
+use run_record::Answered;
 use std::alloc::Global;
 use std::collections::VecDeque;
 use std::mem;

@@ -1,16 +1,16 @@
 //! A desk with what it has done.
 ghost use Rattle.std.specs.Prelude.{◌≡◌, ◌≤◌, [], length, drop, option_to_list, take};
 ghost use Rattle.std.specs.VecDeque.{deque_capacity};
-ghost use Rattle.script_model.specs.Play.{answers_of};
-ghost use Rattle.reply_text.specs.Replies.{reply_of};
+ghost use Rattle.record_model.specs.Play.{answers_of};
+ghost use Rattle.run_record.specs.Replies.{reply_of};
 ghost use Rattle.batch_work.specs.Works.{work_of, works_of};
 ghost use Rattle.lane_run.specs.Chains.{Serves};
 
 use crate::desk::Desk;
 use batch_work::{Done, Work, next_answer};
+use commands::Task;
 use lake_io::Gate;
-use reply_text::{Answered, Reply};
-use script_text::Task;
+use run_record::{Answered, Reply};
 use std::collections::VecDeque;
 use std::sync::Wait;
 use std::thread::Threads;

@@ -1,13 +1,13 @@
 -- A swap by the index of the first part that it takes.
-use Rattle.std.proofs.Common.{◌≡◌, ap, sym, ◌∙◌, subst, ℕ, ◌+◌, ◌<◌, ◌≤◌, List, [], ◌∷◌, ◌++◌, true, length, take, drop, arith}
+use Rattle.std.proofs.Common.{◌≡◌, ap, sym, ◌∙◌, subst, ℕ, ◌+◌, ◌<◌, ◌≤◌, List, ◌++◌, true, length, take, drop, arith}
 use Rattle.std.specs.Prelude.{nat_eq}
 use Rattle.std.specs.List.{filter, position_or_len}
 use Rattle.std.proofs.lemmas.Bool.{eqb-false}
 use Rattle.std.proofs.lemmas.List.{take-append-drop, drop-drop, length-append, length-map, length-take, length-drop}
 use Rattle.lake_model.specs.Layout.{Part, is_among, run_of, may_swap, positions_of}
-use Rattle.layout_laws.specs.Distinct.{AreDistinct}
+use Rattle.list_laws.specs.Distinct.{AreDistinct}
 use Rattle.layout_laws.specs.Steps.{numbers_of}
-use Rattle.layout_laws.proofs.ListLemmas.{length_filter_le}
+use Rattle.list_laws.proofs.ListLemmas.{length_filter_le}
 use Rattle.layout_laws.proofs.SwapLemmas.{kept_places, one_part, swapped}
 use Rattle.layout_laws.proofs.RunLemmas.{opened, swapped_is}
 use Rattle.layout_laws.proofs.LaidLemmas.{swaps_run, positions_split, positions_swapped}

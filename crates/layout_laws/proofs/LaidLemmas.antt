@@ -10,10 +10,10 @@ use Rattle.lake_model.specs.Tables.{Table}
 use Rattle.lake_model.specs.Journal.{What, Loaded, Dropped, Swapped, Entry, entry_with, has_name, is_live, live}
 use Rattle.lake_model.specs.Layout.{Place, Part, layout, mark, positions_of, unmarked_of, run_of, is_among, may_swap, may_follow, is_legal, is_legal_behind}
 use Rattle.lake_model.proofs.LayoutLemmas.{live_more, layout_more}
-use Rattle.layout_laws.specs.Distinct.{AreDistinct, Rises}
+use Rattle.list_laws.specs.Distinct.{AreDistinct, Rises}
 use Rattle.layout_laws.specs.Steps.{numbers_of, positions_in, live_loads}
 use Rattle.layout_laws.specs.LayoutLaws.{IsLaidOut}
-use Rattle.layout_laws.proofs.ListLemmas.{both, all_append, all_left, all_right, all_weaker, all_map, all_filter, filter-append, map_filter, distinct_push, distinct_filter, rises_push, rises_thinner}
+use Rattle.list_laws.proofs.ListLemmas.{both, all_append, all_left, all_right, all_weaker, all_map, all_filter, filter-append, map_filter, distinct_push, distinct_filter, rises_push, rises_thinner, and_assoc}
 use Rattle.layout_laws.proofs.SwapLemmas.{part_of, loaded_place, places_of, kept_places, one_part, swapped}
 use Rattle.layout_laws.proofs.StayLemmas.{layout_numbers, layout_before}
 use Rattle.layout_laws.proofs.RunLemmas.{MaySwap, opened, run_stands, swapped_is}
@@ -176,11 +176,7 @@ laid_behind before (entry ∷ entries) h k =
     let s = both (may_follow before entry.what) (is_legal_behind (before ++ entry ∷ []) entries) k in
     subst IsLaidOut (append_assoc before (entry ∷ []) entries) (laid_behind (before ++ entry ∷ []) entries (laid_more before entry.who entry.what h s.0) s.1)
 
-and_assoc : (a b c : Bool) → (a && (b && c)) ≡ ((a && b) && c)
-and_assoc true b c = refl
-and_assoc false b c = refl
-
-legal_behind-append : (before entries behind : List Entry) → is_legal_behind before (entries ++ behind) ≡ (is_legal_behind before entries && is_legal_behind (before ++ entries) behind)
+pub legal_behind-append : (before entries behind : List Entry) → is_legal_behind before (entries ++ behind) ≡ (is_legal_behind before entries && is_legal_behind (before ++ entries) behind)
 legal_behind-append before [] behind = ap (λ j. is_legal_behind j behind) (sym (append-nil before))
 legal_behind-append before (entry ∷ entries) behind =
     ap (λ b. may_follow before entry.what && b) (legal_behind-append (before ++ entry ∷ []) entries behind ∙ ap (λ j. is_legal_behind (before ++ entry ∷ []) entries && is_legal_behind j behind) (append_assoc before (entry ∷ []) entries))

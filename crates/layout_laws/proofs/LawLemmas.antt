@@ -18,7 +18,7 @@ use Rattle.lake_model.proofs.LayoutLemmas.{live_more, layout_more}
 use Rattle.layout_laws.specs.Steps.{numbers_of, positions_in, has_part}
 use Rattle.layout_laws.specs.Weight.{weight, does_merge}
 use Rattle.layout_laws.specs.LayoutLaws.{PassesOverSwaps, AnswersStay, SwapsStay, PlansMaySwap, PlansStay, SwapsLower, SwapsAreFew}
-use Rattle.layout_laws.proofs.ListLemmas.{both, all_weaker, all_map, test_all, find_none, rises_distinct}
+use Rattle.list_laws.proofs.ListLemmas.{both, all_weaker, all_map, test_all, find_none, rises_distinct}
 use Rattle.layout_laws.proofs.StayLemmas.{has_number, layout_numbers}
 use Rattle.layout_laws.proofs.RunLemmas.{swap_later, positions_same, places_same}
 use Rattle.layout_laws.proofs.SwapLemmas.{places_of}

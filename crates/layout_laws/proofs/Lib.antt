@@ -1,4 +1,3 @@
-pub mod ListLemmas
 pub mod SwapLemmas
 pub mod StayLemmas
 pub mod RunLemmas

@@ -7,9 +7,9 @@ use Rattle.lake_model.specs.Texts.{Text}
 use Rattle.lake_model.specs.Tables.{Table}
 use Rattle.lake_model.specs.Journal.{Entry, has_name}
 use Rattle.lake_model.specs.Layout.{Place, Part, mark, mark_place, positions_of, is_among}
-use Rattle.layout_laws.specs.Distinct.{Lacks}
+use Rattle.list_laws.specs.Distinct.{Lacks}
 use Rattle.layout_laws.specs.Steps.{positions_in, loads_after, loads_from, live_loads}
-use Rattle.layout_laws.proofs.ListLemmas.{not_both, texts_same, all_weaker, all_map, none_any, filter-append, filter_filter}
+use Rattle.list_laws.proofs.ListLemmas.{not_both, texts_same, all_weaker, all_map, none_any, filter-append, filter_filter}
 use Rattle.layout_laws.proofs.SwapLemmas.{places_of, kept_places, one_part}
 
 -- ---- one more entry
@@ -35,7 +35,7 @@ pub places_marked : (name : Text) (parts : List Part) → places_of (map (mark n
 places_marked name [] = refl
 places_marked name (part ∷ parts) = ap (λ ps. map (mark_place name) part.places ++ ps) (places_marked name parts) ∙ sym (map-append (mark_place name) part.places (places_of parts))
 
-positions_marked : (name : Text) (places : List Place) → positions_in (map (mark_place name) places) ≡ positions_in places
+pub positions_marked : (name : Text) (places : List Place) → positions_in (map (mark_place name) places) ≡ positions_in places
 positions_marked name [] = refl
 positions_marked name (place ∷ places) = ap (λ ns. place.position ∷ ns) (positions_marked name places)
 

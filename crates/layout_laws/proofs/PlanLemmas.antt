@@ -10,10 +10,10 @@ use Rattle.lake_model.specs.declared.Policy.{Policy}
 use Rattle.lake_model.specs.declared.Policy.TheVariants.{Tier, All}
 use Rattle.lake_model.specs.Layout.{Place, Part, is_among, run_of, may_swap, positions_of, unmarked_of}
 use Rattle.lake_model.specs.Plan.{tier, first_run, marks, is_half_marked, at_most_one, planned_parts}
-use Rattle.layout_laws.specs.Distinct.{Lacks, AreDistinct}
+use Rattle.list_laws.specs.Distinct.{Lacks, AreDistinct}
 use Rattle.layout_laws.specs.Steps.{numbers_of, positions_in}
 use Rattle.layout_laws.specs.Weight.{does_merge}
-use Rattle.layout_laws.proofs.ListLemmas.{both, all_weaker, all_both, all_map, all_unmap, all_filter, map_filter, distinct_left, distinct_right}
+use Rattle.list_laws.proofs.ListLemmas.{both, all_weaker, all_both, all_map, all_unmap, all_filter, map_filter, distinct_left, distinct_right, filter_agree}
 use Rattle.layout_laws.proofs.SwapLemmas.{places_of}
 use Rattle.layout_laws.proofs.RunLemmas.{MaySwap, closed, Run, run_is, lacks_among}
 use Rattle.layout_laws.proofs.LiveLemmas.{unmarked}
@@ -91,10 +91,6 @@ is_planned_run All (p ∷ []) part rest f h = by (nat_eq (marks p) 0) refl h
 is_planned_run All (p ∷ q ∷ parts) part rest f h = subst (Planned (p ∷ q ∷ parts)) h (whole_planned (p ∷ q ∷ parts) (inl (omega arith)))
 
 -- ---- the positions that are kept
-
-filter_agree : {X : Type 0} (p q : X → Bool) (xs : List X) → AllByRecursion (λ x. p x ≡ q x) xs → filter p xs ≡ filter q xs
-filter_agree p q [] h = refl
-filter_agree p q (x ∷ xs) h = λ i. cond (h.0 i) (x ∷ filter_agree p q xs h.1 i) (filter_agree p q xs h.1 i)
 
 abbrev IsKeptAs : List ℕ → Place → Type 0
 IsKeptAs kept place = is_among kept place.position ≡ not place.marked

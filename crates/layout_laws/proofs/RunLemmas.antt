@@ -6,9 +6,9 @@ use Rattle.std.proofs.lemmas.Bool.{eq-eqb, ne_eqb, or_right, not-true}
 use Rattle.std.proofs.lemmas.List.{map-append, take-append-drop, take_at, length-map}
 use Rattle.lake_model.specs.Journal.{Entry}
 use Rattle.lake_model.specs.Layout.{Place, Part, layout, parts_from, is_among, run_of, may_swap, positions_of}
-use Rattle.layout_laws.specs.Distinct.{Lacks, AreDistinct}
+use Rattle.list_laws.specs.Distinct.{Lacks, AreDistinct}
 use Rattle.layout_laws.specs.Steps.{numbers_of, positions_in, ArePlaces, AreParts}
-use Rattle.layout_laws.proofs.ListLemmas.{both, joined, same_texts, texts_same, all_left, all_right, all_weaker, all_both, all_of, all_unmap, all_tested, test_all, any_none, filter-append, filter_all, filter_none, distinct_right, distinct_apart}
+use Rattle.list_laws.proofs.ListLemmas.{both, joined, same_texts, texts_same, all_left, all_right, all_weaker, all_both, all_of, all_unmap, all_tested, test_all, any_none, filter-append, filter_all, filter_none, distinct_right, distinct_apart}
 use Rattle.layout_laws.proofs.SwapLemmas.{places_of, is_planned, kept_places, one_part, swapped, swapped_here}
 use Rattle.layout_laws.proofs.StayLemmas.{swapped_run, numbers_same, stay_from, layout-append, layout_numbers, layout_before, has_number}
 

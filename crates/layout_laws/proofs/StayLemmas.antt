@@ -7,9 +7,9 @@ use Rattle.std.proofs.lemmas.List.{map-append}
 use Rattle.lake_model.specs.Texts.{Text}
 use Rattle.lake_model.specs.Journal.{What, Loaded, Dropped, Swapped, Entry, has_name}
 use Rattle.lake_model.specs.Layout.{Place, Part, layout, parts_from, parts_after, mark, mark_place, is_among}
-use Rattle.layout_laws.specs.Distinct.{Lacks, AreDistinct}
+use Rattle.list_laws.specs.Distinct.{Lacks, AreDistinct}
 use Rattle.layout_laws.specs.Steps.{numbers_of, IsSamePlace, ArePlaces, IsSamePart, AreParts}
-use Rattle.layout_laws.proofs.ListLemmas.{split_bool, not_both, all_append, all_weaker, all_both, all_map, all_unmap, all_filter, all_passed, any_none, none_any, filter-append, filter_all, distinct_push, distinct_filter}
+use Rattle.list_laws.proofs.ListLemmas.{split_bool, not_both, all_append, all_weaker, all_both, all_map, all_unmap, all_filter, all_passed, any_none, none_any, filter-append, filter_all, distinct_push, distinct_filter}
 use Rattle.layout_laws.proofs.SwapLemmas.{is_planned, kept_places, one_part, all_one, swapped, swapped_here, swapped_next, all_swapped, all_after}
 
 -- ---- a journal that goes on

@@ -5,7 +5,7 @@ use Rattle.lake_model.specs.Texts.{Text}
 use Rattle.lake_model.specs.Tables.{Table}
 use Rattle.lake_model.specs.Journal.{What, Loaded, Dropped, Swapped}
 use Rattle.lake_model.specs.Layout.{Place, Part, parts_after, mark, merged, is_among}
-use Rattle.layout_laws.proofs.ListLemmas.{split_bool, all_append, all_filter}
+use Rattle.list_laws.proofs.ListLemmas.{split_bool, all_append, all_filter}
 
 abbrev pub part_of : ℕ → List Place → Part
 part_of number places = record { number = number; places = places }

@@ -12,11 +12,11 @@ use Rattle.lake_model.specs.Journal.{What, Loaded, Dropped, Swapped, Entry, entr
 use Rattle.lake_model.specs.Layout.{Place, Part, layout, parts_after, mark, mark_place, positions_of, run_of, is_among, may_swap, may_follow, is_legal_behind}
 use Rattle.lake_model.specs.Plan.{marks}
 use Rattle.lake_model.proofs.LayoutLemmas.{layout_more}
-use Rattle.layout_laws.specs.Distinct.{Lacks, AreDistinct}
+use Rattle.list_laws.specs.Distinct.{Lacks, AreDistinct}
 use Rattle.layout_laws.specs.Steps.{numbers_of}
 use Rattle.layout_laws.specs.Weight.{weight, swaps, does_merge, merges, do_merge_behind}
 use Rattle.layout_laws.specs.LayoutLaws.{IsLaidOut}
-use Rattle.layout_laws.proofs.ListLemmas.{both, same_texts, length_filter_le, map_filter}
+use Rattle.list_laws.proofs.ListLemmas.{both, same_texts, length_filter_le, map_filter}
 use Rattle.layout_laws.proofs.SwapLemmas.{part_of, loaded_place, places_of, kept_places, one_part, swapped}
 use Rattle.layout_laws.proofs.LiveLemmas.{unmarked, places_marked, places_swapped, places_split}
 use Rattle.layout_laws.proofs.PlanLemmas.{marked_in}

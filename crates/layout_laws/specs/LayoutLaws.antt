@@ -8,7 +8,7 @@ use Rattle.lake_model.specs.Answer.{answer}
 use Rattle.lake_model.specs.Journal.{Swapped, Entry, entry_with, live, counts}
 use Rattle.lake_model.specs.Layout.{Part, layout, positions_of, unmarked_of, run_of, is_legal, is_among, may_swap}
 use Rattle.lake_model.specs.Plan.{plan, planned_parts}
-use Rattle.layout_laws.specs.Distinct.{AreDistinct, Rises}
+use Rattle.list_laws.specs.Distinct.{AreDistinct, Rises}
 use Rattle.layout_laws.specs.Steps.{numbers_of, live_loads, IsSamePart, AreParts, has_part}
 use Rattle.layout_laws.specs.Weight.{weight, swaps, does_merge, do_merge}
 

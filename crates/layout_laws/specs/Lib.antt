@@ -1,4 +1,3 @@
-pub mod Distinct
 pub mod Steps
 pub mod Weight
 pub mod LayoutLaws

@@ -2,7 +2,7 @@
 use Rattle.std.proofs.Common.{◌≡◌, ◌==◌, ◌∷◌, [], Bool, true, false, List, ℕ, length, flat_map}
 use Rattle.std.proofs.lemmas.List.Folds.{flat_map-map}
 use Rattle.lake_model.specs.Texts.{Text}
-use Rattle.script_model.specs.Texts.{part_text, parts_text}
+use Rattle.record_model.specs.Texts.{part_text, parts_text}
 
 pub parts_words : (parts : List (ℕ × List (ℕ × Bool))) → (length parts == 0) ≡ false
     → flat_map (λ (word : Text). 0x20 ∷ word) (parts_text parts) ≡ flat_map (λ (part : ℕ × List (ℕ × Bool)). 0x20 ∷ part_text part) parts

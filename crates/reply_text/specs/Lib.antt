@@ -1,5 +1,3 @@
-pub mod Callers
 pub mod Keeping
-pub mod Replies
-pub mod Rooms
+pub mod Lines
 pub mod Words

@@ -1,7 +1,7 @@
 -- The text of a word.
 use Rattle.std.specs.Prelude.{decimal}
 use Rattle.lake_model.specs.Texts.{Text}
-use Rattle.script_model.specs.Texts.{command_text, listed, quoted}
+use Rattle.record_model.specs.Texts.{command_text, listed, quoted}
 use Rattle.reply_text.specs.declared.words.Word.{Word}
 use Rattle.reply_text.specs.declared.words.Word.TheVariants.{Text as Plain, Number, Numbers, Quoted, Command}
 

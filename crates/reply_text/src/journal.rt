@@ -1,7 +1,8 @@
 //! The text of a journal: how many entries it has, and a line for each.
 ghost use Rattle.std.specs.Prelude.{◌≡◌, ◌++◌, ◌∷◌, [], codes, decimal, flat_map, map, OnOk};
 ghost use Rattle.std.specs.List.{enumerate_from};
-ghost use Rattle.script_model.specs.Texts.{command_text, entry_line, journal_lines, line_text, listed, spaced};
+ghost use Rattle.record_model.specs.Texts.{command_text, entry_line, journal_lines, listed, spaced};
+ghost use Rattle.script_model.specs.Words.{line_text};
 ghost use Rattle.reply_text.specs.Keeping.{Keeps};
 
 use crate::words::Word::{Command, Number, Numbers, Text};

@@ -1,7 +1,8 @@
 //! The line of a layout: its position, and its parts with the load positions of each, where a mark says what was dropped.
 ghost use Rattle.std.specs.Prelude.{◌≡◌, ◌++◌, ◌∷◌, [], Bool, List, ℕ, flat_map, if◌then◌else◌, OnOk};
 ghost use Rattle.std.specs.List.{join_by};
-ghost use Rattle.script_model.specs.Texts.{layout_line, line_text, part_text, parts_text, position_text};
+ghost use Rattle.record_model.specs.Texts.{layout_line, part_text, parts_text, position_text};
+ghost use Rattle.script_model.specs.Words.{line_text};
 ghost use Rattle.reply_text.specs.Keeping.{Keeps};
 
 use crate::words::Word::Text;

@@ -1,18 +1,15 @@
-//! Replies as they are written: the record of a run, and its text.
+//! The text of a record: replies as they are written, what a trace adds to them, and the journal.
 #![tactic(auto)]
 
 mod journal;
 mod layout;
 mod lines;
 mod quoted;
-mod record;
 mod refusals;
-mod reply;
 mod text;
 mod words;
 
-pub use record::{Answered, By, RunRecord};
-pub use reply::Reply;
+pub use run_record::{Answered, By, Reply, RunRecord};
 pub use text::write_replies;
 pub use words::{push_bytes, push_number};
 

@@ -1,18 +1,19 @@
 //! The first line of each reply: the number of its command, and the words that say what it is answered.
 ghost use Rattle.std.specs.Prelude.{◌≡◌, ◌++◌, ℕ, OnOk};
-ghost use Rattle.script_model.specs.Replies as model;
+ghost use Rattle.record_model.specs.Replies as model;
 ghost use Rattle.reply_text.specs.Keeping.{Keeps};
-ghost use Rattle.reply_text.specs.Replies.{first_line, reply_of};
+ghost use Rattle.reply_text.specs.Lines.{first_line};
+ghost use Rattle.run_record.specs.Replies.{reply_of};
 
 use crate::refusals::{
     push_full, push_no_column, push_not_utf8, push_nothing_to_merge, push_query_not_utf8,
     push_refused, push_repeated, push_stale, push_unequal, push_unknown,
 };
-use crate::reply::Reply;
 use crate::words::Word::{Number, Text};
 use crate::words::push_line;
 use column_set::{KeptRows, Name};
 use no_memory::NoMemory;
+use run_record::Reply;
 use segment_core::{Layout, TableLines};
 
 // `N loaded NAME columns C members M at P`

@@ -1,6 +1,6 @@
 //! A column's name between quotes, with escapes for what would break its line.
 ghost use Rattle.std.specs.Prelude.{◌≡◌, ◌<◌, ◌++◌, flat_map, OnOk};
-ghost use Rattle.script_model.specs.Texts.{escaped_byte, hexadecimal, quoted};
+ghost use Rattle.record_model.specs.Texts.{escaped_byte, hexadecimal, quoted};
 ghost use Rattle.reply_text.specs.Keeping.{Keeps};
 
 use crate::words::push_bytes;

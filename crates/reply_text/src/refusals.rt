@@ -1,9 +1,10 @@
 //! The first line of each refusal: the number of its command, `refused`, and the words that say why.
 ghost use Rattle.std.specs.Prelude.{◌≡◌, ◌++◌, ◌∷◌, decimal, map, OnOk};
-ghost use Rattle.script_model.specs.Replies as model;
-ghost use Rattle.script_model.specs.Texts.{line_text, refused, spaced, which_text};
+ghost use Rattle.record_model.specs.Replies as model;
+ghost use Rattle.script_model.specs.Words.{line_text};
+ghost use Rattle.record_model.specs.Texts.{refused, spaced, which_text};
 ghost use Rattle.reply_text.specs.Keeping.{Keeps};
-ghost use Rattle.reply_text.specs.Replies.{first_line};
+ghost use Rattle.reply_text.specs.Lines.{first_line};
 ghost use Rattle.reply_text.specs.Words.{word_text};
 
 use crate::words::Word::{self, Number, Text};

@@ -2,10 +2,10 @@
 use crate::{Answered, By, Reply, RunRecord, write_replies};
 use catalogue::Entry;
 use column_set::{KeptRow, KeptRows, Name, Row, SharedTable, TableSets, Titles};
+use commands::{Options, Order};
 use csv_table::read_table;
 use lake_model::{Which, Who};
 use no_memory::NoMemory;
-use script_text::{Options, Order};
 use segment_core::{Layout, Numbers, Places, TableLines};
 use std::alloc::Global;
 use std::process::Abort;

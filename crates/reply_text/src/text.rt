@@ -1,20 +1,20 @@
 //! The text of a record: of its answers, of what a trace adds to them, and of its journal.
 ghost use Rattle.std.specs.Prelude.{◌≡◌, ◌++◌, false, flat_map, map, true, OnErr, OnOk};
-ghost use Rattle.script_model.specs.Texts.{answer_lines, answers_text, layout_line, line_text, more_lines, row_line, table_line, text_behind, trace_lines, work_line, written_lines};
+ghost use Rattle.record_model.specs.Texts.{answer_lines, answers_text, layout_line, more_lines, row_line, table_line, text_behind, trace_lines, work_line, written_lines};
+ghost use Rattle.script_model.specs.Words.{line_text};
 ghost use Rattle.lake_model.specs.Tables.{line_with};
 ghost use Rattle.segment_core.specs.Lines.{line_from};
 ghost use Rattle.reply_text.specs.Keeping.{Keeps};
-ghost use Rattle.reply_text.specs.Replies.{reply_of};
+ghost use Rattle.run_record.specs.Replies.{reply_of};
 
 use crate::journal::push_journal;
 use crate::layout::push_layout;
 use crate::lines::push_first_line;
-use crate::record::{Answered, RunRecord};
-use crate::reply::Reply;
 use crate::words::Word::{Number, Quoted, Text};
 use crate::words::{merger_mark, push_bytes, push_line, push_words};
 use column_set::{KeptRow, Name};
 use no_memory::NoMemory;
+use run_record::{Answered, Reply, RunRecord};
 use segment_core::Layout;
 
 // `  OVERLAP TABLE PLACE "COLUMN"`

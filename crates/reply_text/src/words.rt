@@ -1,7 +1,8 @@
 //! Numbers, words and lines, put behind what a text has already. Where memory is wanting, the text keeps what it had.
 ghost use Rattle.std.specs.Prelude.{◌≡◌, ◌==◌, ◌++◌, ◌∷◌, [], decimal, flat_map, if◌then◌else◌, map, OnOk};
 ghost use Rattle.std.specs.List.{join_by};
-ghost use Rattle.script_model.specs.Texts.{command_text, line_text, listed, spaced};
+ghost use Rattle.record_model.specs.Texts.{command_text, listed, spaced};
+ghost use Rattle.script_model.specs.Words.{line_text};
 ghost use Rattle.reply_text.specs.Keeping.{Keeps};
 ghost use Rattle.reply_text.specs.Words.{word_text};
 

@@ -13,10 +13,9 @@ use Rattle.script_model.specs.Lanes.{IsOfLanes}
 use Rattle.script_model.specs.Reading.{Fails, Goes, Grammar, LinesRead, Open, Reading, Stands, Turn, block_ended, body_fault, does, fetched, file_size, is_end, opened, read, read_with, turn_of, turned, unless_fault, with_command}
 use Rattle.script_model.specs.Saying.{Does, Front, LoadBlock, Opens, Said, SearchBlock, closed, said}
 use Rattle.script_model.specs.Script.{Commands, Whole, commands, commands_from, commands_with, grammar_of, start, unless_begun_fault}
-use Rattle.script_model.specs.Texts.{line_text}
-use Rattle.script_model.specs.Words.{NoFeed, without_return}
+use Rattle.script_model.specs.Words.{line_text, NoFeed, without_return}
 use Rattle.script_model.proofs.LinesLemmas.{commands_lines, lines_use}
-use Rattle.script_model.proofs.RightLemmas.{all_append}
+use Rattle.list_laws.proofs.ListLemmas.{all_append}
 use Rattle.script_model.proofs.ScriptLemmas.{read_on}
 use Rattle.script_text.proofs.EndLemmas.{commands_end}
 use Rattle.script_laws.specs.Printed.{AreNumberedFrom, AreTasks, IsBody, IsTask, batch_lines, block_lines, body_lines, command_line, dotted, files_in, files_of, first_path, paths_behind, paths_in, printed, task_size, task_text, with_word}

@@ -1,19 +1,16 @@
 -- The batches of a script have no more fetches than it asks for paths.
 use Rattle.std.proofs.Common.{◌≡◌, refl, subst, ap, ℕ, ◌+◌, ◌≤◌, List, [], ◌∷◌, ◌++◌, Bool, true, false, cond, length, sum_by, arith, length-append}
-use Rattle.std.specs.Prelude.{◌==◌, ◌&&◌, ⊤, Option, None, Some, bytes_eq, codes, drop, find, get_or, if◌then◌else◌, nat_lt}
-use Rattle.std.specs.Str.{is_utf8}
+use Rattle.std.specs.Prelude.{⊤, Option, None, Some, if◌then◌else◌}
 use Rattle.std.proofs.lemmas.List.Sums.{sum_by-append, sum_by_push}
-use Rattle.lake_model.specs.Tables.{is_name}
 use Rattle.lake_model.specs.Texts.{Text, lines_of}
 use Rattle.script_model.specs.declared.Reason.{Reason}
 use Rattle.script_model.specs.declared.Reason.TheVariants as reason
 use Rattle.script_model.specs.declared.ScriptLimits.{ScriptLimits}
-use Rattle.script_model.specs.Commands.{Batch, Command, DropTable, File, Like, LoadFile, Merge, Task, command_with}
+use Rattle.script_model.specs.Commands.{Batch, Command, File, LoadFile, Task, command_with, fetches, is_fetch}
 use Rattle.script_model.specs.Reading.{AtFault, Fails, Gives, Goes, Grammar, LinesRead, Open, Reached, Reading, Stands, Turn, block_ended, body_after, body_fault, counted, does, fetched, file_size, is_end, line_fault, line_in, next_file, opened, read, read_more, read_with, turn_of, turned, unless_fault, with_body, with_command}
-use Rattle.script_model.specs.Saying.{Does, Fetches, Form, Front, LoadBlock, SearchBlock, Nothing, Opens, Said, Sync, Wrong, LoadForm, LoadFileForm, DropForm, TablesForm, SearchForm, LikeForm, MergeForm, SyncForm, closed, command_said, forms, is_skipped, lane_said, of_form, said, said_if, said_with, says}
+use Rattle.script_model.specs.Saying.{Does, Fetches, Front, LoadBlock, SearchBlock, Nothing, Opens, Said, Sync, Wrong, closed, said}
 use Rattle.script_model.specs.Script.{Commands, FaultAt, at_end, begun_fault, commands, commands_with, end_turned, ended, grammar_of, last_batch, last_turn, start, unless_begun_fault, within}
-use Rattle.script_model.specs.Statuses.{fetches, is_fetch}
-use Rattle.script_model.specs.Words.{before_spaces, behind_word, first_word, number, number_of, without_return, words}
+use Rattle.script_model.specs.Words.{number, without_return}
 use Rattle.script_text.specs.Gathering.{ReadsOn, reading_at}
 use Rattle.script_laws.specs.ScriptLaws.{AskForFiles}
 use Rattle.script_laws.proofs.SaidFacts.{said_holds}

@@ -8,4 +8,3 @@ mod SayFacts
 mod LineFacts
 mod BackFacts
 mod StayFacts
-mod WorkedRuns

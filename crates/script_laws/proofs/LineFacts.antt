@@ -11,13 +11,13 @@ use Rattle.lake_model.specs.Texts.{Text, Lines, lines_of, lines_with, onto_first
 use Rattle.script_model.specs.Commands.{Task, Load, LoadFile, DropTable, Tables, Search, Like, Merge}
 use Rattle.script_model.specs.declared.ScriptLimits.{ScriptLimits}
 use Rattle.script_model.specs.Reading.{is_end, undotted}
-use Rattle.script_model.specs.Texts.{line_text}
-use Rattle.script_model.specs.Words.{NoFeed, without_return}
-use Rattle.script_model.proofs.RightLemmas.{all_append}
+use Rattle.script_model.specs.Words.{line_text, NoFeed, without_return}
+use Rattle.list_laws.proofs.ListLemmas.{all_append}
 use Rattle.script_text.proofs.FeedLemmas.{no_feed_join}
 use Rattle.script_laws.specs.Printed.{IsTask, block_lines, body_lines, dotted, task_text, with_word}
 use Rattle.script_laws.proofs.DigitFacts.{number_no_feed, number_no_return}
 use Rattle.script_laws.proofs.SayFacts.{name_no_feed, name_no_return, name_word}
+use Rattle.script_text.proofs.RunLemmas.{no_end}
 
 -- ---- the lines of a text
 
@@ -84,14 +84,6 @@ kept_end text e = by_return (get_or text (length text - 1) 0 == 0x0D) refl
     by_return : (b : Bool) → (get_or text (length text - 1) 0 == 0x0D) ≡ b → get_or text 0 0 ≡ 0x2E
     by_return true t = first_kept (length text - 1) text (sym (ap (λ (b : Bool). cond b (take (length text - 1) text) text) t) ∙ e)
     by_return false f = ap (λ (t : Text). get_or t 0 0) (sym (ap (λ (b : Bool). cond b (take (length text - 1) text) text) f) ∙ e)
-
--- a line that begins with no dot
-no_end : (line : Text) → (get_or line 0 0 == 0x2E) ≡ false → is_end line ≡ false
-no_end line f =
-    false_from_ne_true (is_end line) (λ e.
-    let first : get_or line 0 0 ≡ 0x2E = kept_end line ((bytes_eq-Decides (without_return line) (codes ".")).0 e) in
-    let dot : (get_or line 0 0 == 0x2E) ≡ true = ap (λ (b : ℕ). b == 0x2E) first in
-    absurd (let no : true ≡ false = sym dot ∙ f in cc))
 
 -- a line that begins with two
 no_end_twice : (line : Text) → is_end (0x2E ∷ 0x2E ∷ line) ≡ false

@@ -5,12 +5,11 @@ use Rattle.std.proofs.lemmas.Bool.{ltb-false}
 use Rattle.lake_model.specs.Tables.{is_name}
 use Rattle.lake_model.specs.Texts.{Text}
 use Rattle.script_model.specs.declared.Reason.{Reason}
-use Rattle.script_model.specs.Commands.{Task, DropTable, Tables, Like, Merge}
+use Rattle.script_model.specs.Commands.{Task, DropTable, Tables, Like, Merge, is_fetch}
 use Rattle.script_model.specs.Saying.{Does, Fetches, Form, Front, Nothing, Opens, Said, Sync, Wrong, LoadForm, LoadFileForm, DropForm, TablesForm, SearchForm, LikeForm, MergeForm, SyncForm, LoadBlock, SearchBlock, command_said, lane_said, of_form, said, said_if, said_with, says}
 use Rattle.script_model.specs.declared.Reason.TheVariants as reason
-use Rattle.script_model.specs.Statuses.{is_fetch}
 use Rattle.script_model.specs.Words.{behind_word, digits_value, first_word, is_number, number, number_of}
-use Rattle.script_text.proofs.FormLemmas.{positive}
+use Rattle.script_model.proofs.NumberLemmas.{positive}
 
 -- What holds of all that a line may say whose lane is such a one: a whole command that it says is no fetch of a file.
 pub record HoldsOf (P : Said → Type 0) (L : ℕ → Type 0) : Type 0 where

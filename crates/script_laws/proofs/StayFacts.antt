@@ -15,7 +15,7 @@ use Rattle.script_model.specs.Saying.{Said, Sync, Wrong, said}
 use Rattle.script_model.specs.Script.{Commands, at_end, begun_fault, commands, end_turned, ended, grammar_of, last_turn, start, last_batch, unless_begun_fault}
 use Rattle.script_model.specs.Words.{NoFeed, without_return}
 use Rattle.script_model.proofs.LinesLemmas.{lines_whole}
-use Rattle.script_model.proofs.RightLemmas.{all_append}
+use Rattle.list_laws.proofs.ListLemmas.{all_append}
 use Rattle.script_model.proofs.ScriptLemmas.{batches_first, read_on}
 use Rattle.script_laws.specs.ScriptLaws.{BatchesStay, SyncedStay, line_batches, lines_text}
 

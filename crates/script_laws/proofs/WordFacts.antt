@@ -1,11 +1,12 @@
 -- Words with a space behind each, as they read back.
-use Rattle.std.proofs.Common.{◌≡◌, refl, ap, ◌∙◌, ℕ, ◌+◌, ◌<◌, List, [], ◌∷◌, ◌++◌, Bool, false, cond, drop, take, length, get_or, arith}
+use Rattle.std.proofs.Common.{◌≡◌, refl, ap, ◌∙◌, ℕ, ◌+◌, ◌<◌, List, [], ◌∷◌, Bool, false, cond, drop, take, length, get_or, arith}
 use Rattle.std.specs.Prelude.{◌==◌, not, filter, take_while}
 use Rattle.std.specs.List.{AllByRecursion, onto_first, prefix_len, slice_split}
 use Rattle.std.proofs.Math.Seq.{take-append_seam}
 use Rattle.lake_model.specs.Texts.{Text}
 use Rattle.script_model.specs.Words.{behind_spaces, behind_word, first_word, is_space, words}
 use Rattle.script_laws.specs.Printed.{with_word}
+use Rattle.list_laws.proofs.ListLemmas.{drop_seam}
 
 -- a word has bytes, and no space
 abbrev pub IsWord : Text → Type 0
@@ -38,10 +39,6 @@ word_begins (byte ∷ word) rest h = h.1.0
 pub word_begins_alone : (word : Text) → IsWord word → BeginsWell word
 word_begins_alone [] h = absurd (omega (arith, h.0))
 word_begins_alone (byte ∷ word) h = h.1.0
-
-drop_seam : (xs ys : Text) → drop (length xs) (xs ++ ys) ≡ ys
-drop_seam [] ys = refl
-drop_seam (x ∷ xs) ys = drop_seam xs ys
 
 take_all : (xs : Text) → take (length xs) xs ≡ xs
 take_all [] = refl

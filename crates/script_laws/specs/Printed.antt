@@ -7,8 +7,7 @@ use Rattle.script_model.specs.declared.ScriptLimits.{ScriptLimits}
 use Rattle.script_model.specs.Commands.{Batch, Command, File, Task, Load, LoadFile, DropTable, Tables, Search, Like, Merge}
 use Rattle.script_model.specs.Lanes.{IsOfLanes}
 use Rattle.script_model.specs.Reading.{file_size}
-use Rattle.script_model.specs.Texts.{line_text}
-use Rattle.script_model.specs.Words.{NoFeed, before_spaces, is_space}
+use Rattle.script_model.specs.Words.{line_text, NoFeed, before_spaces, is_space}
 
 -- ---- the writer
 

@@ -3,14 +3,12 @@ use Rattle.std.specs.Prelude.{ℕ, ◌≡◌, ◌≤◌, List, [], ◌∷◌, �
 use Rattle.std.specs.List.{AllByRecursion}
 use Rattle.lake_model.specs.Texts.{Text, lines_of}
 use Rattle.script_model.specs.declared.ScriptLimits.{ScriptLimits}
-use Rattle.script_model.specs.Commands.{Batch, File}
+use Rattle.script_model.specs.Commands.{Batch, File, fetches}
 use Rattle.script_model.specs.Lanes.{IsOfLanes}
 use Rattle.script_model.specs.Reading.{Stands, read, read_with}
 use Rattle.script_model.specs.Saying.{Sync, said}
 use Rattle.script_model.specs.Script.{Whole, commands, commands_with, grammar_of, start}
-use Rattle.script_model.specs.Statuses.{fetches}
-use Rattle.script_model.specs.Texts.{line_text}
-use Rattle.script_model.specs.Words.{NoFeed, without_return}
+use Rattle.script_model.specs.Words.{line_text, NoFeed, without_return}
 use Rattle.script_laws.specs.Printed.{AreNumberedFrom, IsPrintable, files_of, printed}
 
 -- the commands of all batches, in their order

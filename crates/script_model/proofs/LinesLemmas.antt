@@ -4,10 +4,9 @@ use Rattle.std.specs.List.{AllByRecursion}
 use Rattle.lake_model.specs.Texts.{Text, Lines, lines_with, lines_of}
 use Rattle.script_model.specs.declared.Reason.{Reason}
 use Rattle.script_model.specs.Commands.{Batch}
-use Rattle.script_model.specs.Words.{NoFeed}
+use Rattle.script_model.specs.Words.{NoFeed, line_text}
 use Rattle.script_model.specs.Reading.{Grammar, Reading, Reached, Stands, AtFault, LinesRead, read_with, Turn, Goes, Gives, Fails, turned, turn_of, read}
 use Rattle.script_model.specs.Script.{commands_from}
-use Rattle.script_model.specs.Texts.{line_text}
 use Rattle.script_model.proofs.ScriptLemmas.{lines_first, behind_batches, read_behind, read_fault, turn_uses, UsesUpTo, after_turn, commands_line, with_batches}
 
 -- ---- the lines of whole lines

@@ -1,5 +1,5 @@
 -- Commands: what a script asks for.
-use Rattle.std.specs.Prelude.{ℕ, Bool, List}
+use Rattle.std.specs.Prelude.{ℕ, Bool, true, false, List, count_by}
 use Rattle.lake_model.specs.Texts.{Text}
 
 -- what came of the fetch of a file
@@ -28,3 +28,31 @@ command_with number lane task = record { number = number; lane = lane; task = ta
 
 abbrev pub Batch : Type 0
 Batch = List Command
+
+-- ---- loads and drops, and files
+
+abbrev pub is_update_task : Task → Bool
+is_update_task (Load name body) = true
+is_update_task (LoadFile name file) = true
+is_update_task (DropTable name) = true
+is_update_task Tables = false
+is_update_task (Search k body) = false
+is_update_task (Like k name place) = false
+is_update_task (Merge all) = false
+
+-- how many loads and drops a batch has
+abbrev pub updates : Batch → ℕ
+updates batch = count_by (λ command. is_update_task command.task) batch
+
+abbrev pub is_fetch : Task → Bool
+is_fetch (Load name body) = false
+is_fetch (LoadFile name file) = true
+is_fetch (DropTable name) = false
+is_fetch Tables = false
+is_fetch (Search k body) = false
+is_fetch (Like k name place) = false
+is_fetch (Merge all) = false
+
+-- how many files a batch asks for
+abbrev pub fetches : Batch → ℕ
+fetches batch = count_by (λ command. is_fetch command.task) batch

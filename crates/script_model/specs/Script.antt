@@ -90,3 +90,8 @@ commands limits lanes bytes files = commands_from (grammar_of limits lanes) (sta
 
 abbrev pub standard : ScriptLimits
 standard = record { line = 4096; block = 67108864; commands = 4096; bytes = 536870912; input = 68719476736 }
+
+-- what a source has left, where it tells
+abbrev pub left_of : Option (List ℕ) → List ℕ
+left_of None = []
+left_of (Some bytes) = bytes

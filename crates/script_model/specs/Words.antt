@@ -1,5 +1,5 @@
 -- The words of a line, and numbers as they are written.
-use Rattle.std.specs.Prelude.{ℕ, ◌+◌, ◌-◌, ◌*◌, ◌==◌, ◌≡◌, Bool, false, ◌&&◌, not, if◌then◌else◌, List, length, take, drop, filter, fold, get_or, nat_le, take_while, [], ◌∷◌, bytes_eq, Option, Some, None}
+use Rattle.std.specs.Prelude.{ℕ, ◌+◌, ◌-◌, ◌*◌, ◌==◌, ◌≡◌, Bool, false, ◌&&◌, not, if◌then◌else◌, List, length, take, drop, filter, fold, get_or, nat_le, take_while, [], ◌∷◌, ◌++◌, bytes_eq, Option, Some, None}
 use Rattle.std.specs.List.{AllByRecursion, list_all, slice_split, prefix_len, suffix_len}
 use Rattle.lake_model.specs.Texts.{Text}
 
@@ -55,3 +55,7 @@ NoFeed line = AllByRecursion (λ byte. (byte == 0x0A) ≡ false) line
 -- a line without one carriage return at its end
 abbrev pub without_return : Text → Text
 without_return line = if get_or line (length line - 1) 0 == 0x0D then take (length line - 1) line else line
+
+-- a line, and the line feed that ends it
+abbrev pub line_text : Text → Text
+line_text line = line ++ 0x0A ∷ []

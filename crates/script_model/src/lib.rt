@@ -1,14 +1,9 @@
-//! The definitions of the script and of what a run makes of it: lines, commands and the reasons for which a line is refused;
-//! replies, the record of a run, the play of batches in a stated order, right records, the texts that are written, and the table
-//! of statuses. There is no code here but the plain types that both the code and the definitions use, and the laws of the definitions.
+//! The definitions of the script: its commands and the options of its run, what a line says and why it is refused, and how lines are read
+//! into batches. There is no code here but the plain types that both the code and the definitions use.
 #![tactic(auto)]
 
 ghost use Rattle.std.specs.Prelude.{◌≡◌};
 ghost use Rattle.script_model.specs.Script.{standard};
-
-mod laws;
-
-pub use laws::{batches_law, in_turn_law, played_is_right_law, right_lanes_law};
 
 /// Why a line of a script is refused.
 #[derive(Clone, Copy, Debug, PartialEq, Eq)]
@@ -53,21 +48,4 @@ impl ScriptLimits {
             input: 68_719_476_736,
         }
     }
-}
-
-/// How a run ended.
-#[derive(Clone, Copy, Debug, PartialEq, Eq)]
-pub enum Status {
-    /// The source was read to its end, and all text was written.
-    Done,
-    /// The line, counted from 1, is the first that is at fault.
-    Script { line: u64, reason: Reason },
-    /// The words of the command line are refused, and nothing was read or written.
-    Usage,
-    /// The source failed.
-    ReadFault,
-    /// The sink failed.
-    WriteFault,
-    /// Memory was wanting.
-    NoMemory,
 }

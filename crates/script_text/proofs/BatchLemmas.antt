@@ -9,8 +9,7 @@ use Rattle.script_model.specs.declared.Reason.{Reason}
 use Rattle.script_model.specs.declared.ScriptLimits.{ScriptLimits}
 use Rattle.script_model.specs.Commands.{Batch, File}
 use Rattle.script_model.specs.Reading.{Grammar, Reading, Stands, Turn, read, read_with, turn_of, turned}
-use Rattle.script_model.specs.Script.{Commands, FaultAt, commands_from, commands_with, ended, grammar_of}
-use Rattle.script_model.specs.Statuses.{left_of}
+use Rattle.script_model.specs.Script.{Commands, FaultAt, commands_from, commands_with, ended, grammar_of, left_of}
 use Rattle.script_model.specs.Words.{NoFeed}
 use Rattle.script_text.specs.declared.refused.ScriptEnd.{ScriptEnd}
 use Rattle.script_text.specs.declared.refused.ScriptEnd.TheVariants.{NoMemory, ReadFault, Script}

@@ -1,32 +1,15 @@
 -- What the words of a line say.
-use Rattle.std.proofs.Common.{◌≡◌, refl, ap, sym, subst, ◌∙◌, ℕ, ◌+◌, ◌-◌, ◌*◌, ◌<◌, ◌≤◌, List, [], ◌∷◌, Bool, true, false, cond, length, min, arith, inl, inr}
-use Rattle.std.specs.Prelude.{◌==◌, ◌&&◌, fold, nat_le, nat_lt, not, bytes_eq, codes, Option, Some, None, option_map}
-use Rattle.std.specs.List.{list_all}
-use Rattle.std.proofs.lemmas.Bool.{and_parts, cases_Bool, cases_lt, eqb-false, le-ltb, leb-true, lt-ltb, ltb-false, not-true, true_from_ne_false}
+use Rattle.std.proofs.Common.{◌≡◌, refl, ap, sym, subst, ◌∙◌, ℕ, ◌<◌, ◌≤◌, List, [], ◌∷◌, Bool, true, false, cond, length, min, arith, inl, inr}
+use Rattle.std.specs.Prelude.{◌==◌, ◌&&◌, nat_lt, bytes_eq, codes, Option, Some, None, option_map}
+use Rattle.std.proofs.lemmas.Bool.{cases_Bool, cases_lt, le-ltb, lt-ltb, ltb-false, true_from_ne_false}
 use Rattle.std.specs.Str.{is_utf8}
 use Rattle.lake_model.specs.Tables.{is_name}
 use Rattle.lake_model.specs.Texts.{Text}
 use Rattle.script_model.specs.declared.Reason.TheVariants as reason
 use Rattle.script_model.specs.Saying.{DropForm, Form, LikeForm, LoadFileForm, LoadForm, SearchForm, SyncForm, TablesForm, Fetches, Said, Wrong, command_said, fetch_said, lane_said, like_said, of_form, said_if, says}
-use Rattle.script_model.specs.Words.{before_spaces, behind_word, digits_value, first_word, is_digit, is_number, words}
+use Rattle.script_model.specs.Words.{before_spaces, behind_word, first_word, words}
 use Rattle.script_text.specs.Fronts.{IsNotOne, has_none}
 use Rattle.script_text.proofs.WordLemmas.{words_more, words_none, words_one, words_some}
-
--- ---- numbers
-
-more_digits : (n : ℕ) (digits : Text) → n ≤ fold (λ n digit. n * 10 + (digit - 48)) n digits
-more_digits n [] = omega arith
-more_digits n (digit ∷ digits) = omega (arith, more_digits (n * 10 + (digit - 48)) digits)
-
-pub positive : (text : Text) → is_number text ≡ true → 1 ≤ digits_value text
-positive [] h = cc h
-positive (digit ∷ digits) h =
-    let parts = and_parts (list_all is_digit (digit ∷ digits)) (not (digit == 48)) h in
-    let digit_is = (and_parts (is_digit digit) (list_all is_digit digits) parts.0).0 in
-    let low : 48 ≤ digit = leb-true 48 digit (and_parts (nat_le 48 digit) (nat_le digit 57) digit_is).0 in
-    let other = eqb-false digit 48 (not-true (digit == 48) parts.1) in
-    let some : 48 < digit = omega (arith, low, other) in
-    omega (arith, some, more_digits (0 * 10 + (digit - 48)) digits)
 
 -- ---- the command word
 

@@ -6,14 +6,4 @@ pub mod EndLemmas
 pub mod ProgressLemmas
 pub mod TurnLemmas
 pub mod BatchLemmas
-pub mod NumberLemmas
-pub mod RowLemmas
-pub mod RunWordLemmas
-pub mod PlainLemmas
-pub mod OptionLemmas
-pub mod MakeLemmas
-pub mod CommandLemmas
-pub mod OrderLemmas
-pub mod ParsedLemmas
-pub mod ModeLemmas
 pub mod RunLemmas

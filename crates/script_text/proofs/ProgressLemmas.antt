@@ -10,8 +10,7 @@ use Rattle.lake_model.specs.Texts.{Text}
 use Rattle.script_model.specs.Commands.{Batch, File}
 use Rattle.script_model.specs.Reading.{Fails, Gives, Goes, Grammar, LinesRead, Reading, Stands, Turn, read, read_with, turn_of, turned}
 use Rattle.script_model.specs.Script.{Commands, FaultAt, commands_from, commands_with}
-use Rattle.script_model.specs.Texts.{line_text}
-use Rattle.script_model.specs.Words.{NoFeed}
+use Rattle.script_model.specs.Words.{line_text, NoFeed}
 use Rattle.script_model.proofs.LinesLemmas.{commands_lines}
 use Rattle.script_model.proofs.ScriptLemmas.{commands_line, read_on}
 use Rattle.script_text.specs.Gathering.{grammar, lines_text, reading_at}

@@ -12,8 +12,7 @@ use Rattle.script_model.specs.declared.ScriptLimits.{ScriptLimits}
 use Rattle.script_model.specs.Commands.{File}
 use Rattle.script_model.specs.Reading.{Grammar, Open, Reading, Stands, Turn, Goes, body_after, body_fault, counted, is_end, line_in, read, read_with, turn_of, turned, unless_fault, with_body}
 use Rattle.script_model.specs.Script.{grammar_of}
-use Rattle.script_model.specs.Texts.{line_text}
-use Rattle.script_model.specs.Words.{NoFeed}
+use Rattle.script_model.specs.Words.{line_text, NoFeed}
 use Rattle.script_model.proofs.LinesLemmas.{lines_whole}
 use Rattle.script_text.specs.Gathering.{lines_text, reading_at}
 use Rattle.script_text.specs.Runs.{EndsInFeed, IsPlain, IsRun, Leads, LeadsOn, NoDotBehind}
@@ -159,7 +158,7 @@ no_end_in : (line : Text) → (get_or line 0 0 == 0x2E) ≡ false → bytes_eq l
 no_end_in [] e = refl
 no_end_in (byte ∷ line) e = ap (λ (b : Bool). b && bytes_eq line []) e
 
-no_end : (line : Text) → (get_or line 0 0 == 0x2E) ≡ false → is_end line ≡ false
+pub no_end : (line : Text) → (get_or line 0 0 == 0x2E) ≡ false → is_end line ≡ false
 no_end line e =
     no_end_either (get_or line (length line - 1) 0 == 0x0D) (take (length line - 1) line) line (no_end_in (take (length line - 1) line) (no_dot_first line (length line - 1) e)) (no_end_in line e)
 

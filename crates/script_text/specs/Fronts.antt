@@ -3,7 +3,7 @@ use Rattle.std.specs.Prelude.{ℕ, ◌≡◌, ◌<◌, ◌≤◌, ⊤, Bool, tru
 use Rattle.lake_model.specs.Texts.{Text}
 use Rattle.script_model.specs.declared.Reason.{Reason}
 use Rattle.script_model.specs.Saying as model
-use Rattle.script_text.specs.Tasks.{IsTaskInRange, task_of}
+use Rattle.commands.specs.Tasks.{IsTaskInRange, task_of}
 use Rattle.script_text.specs.Readings.{body_size}
 use Rattle.script_text.specs.declared.front.Form.{Form}
 use Rattle.script_text.specs.declared.front.Form.TheVariants as form

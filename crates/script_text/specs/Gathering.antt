@@ -7,10 +7,8 @@ use Rattle.script_model.specs.declared.Reason.{Reason}
 use Rattle.script_model.specs.declared.ScriptLimits.{ScriptLimits}
 use Rattle.script_model.specs.Commands.{File, Batch}
 use Rattle.script_model.specs.Reading.{Grammar, Reading, Stands, read, read_with}
-use Rattle.script_model.specs.Script.{Whole, FaultAt, commands_with, commands_from, grammar_of}
-use Rattle.script_model.specs.Statuses.{left_of}
-use Rattle.script_model.specs.Texts.{line_text}
-use Rattle.script_model.specs.Words.{NoFeed}
+use Rattle.script_model.specs.Script.{Whole, FaultAt, commands_with, commands_from, grammar_of, left_of}
+use Rattle.script_model.specs.Words.{line_text, NoFeed}
 
 -- what was read, the bytes at hand behind that, whether no further batch may be asked for, the limits, and the number of lanes
 pub record Gathering : Type 0 where

@@ -1,4 +1,3 @@
-pub mod Tasks
 pub mod Outcomes
 pub mod Gathering
 pub mod Gathers
@@ -8,4 +7,3 @@ pub mod Endings
 pub mod Inputs
 pub mod Parts
 pub mod Runs
-pub mod Words

@@ -5,11 +5,11 @@ ghost use Rattle.script_model.specs.Saying.{command_said, forms, lane_said, like
 ghost use Rattle.script_model.specs.Words.{number_of, words};
 ghost use Rattle.script_text.specs.Fronts.{IsSaidInRange, Says, form_of};
 
-use crate::command::Task;
 use crate::line::is_skipped;
-use crate::numbers::{read_any_number, read_number};
 use crate::spaces::{before_spaces, behind_word, first_word, has_no_word, only_word};
 use column_set::Name;
+use command_line::{read_any_number, read_number};
+use commands::Task;
 use script_model::Reason;
 use std::str;
 

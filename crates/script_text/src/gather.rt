@@ -14,11 +14,11 @@ ghost use Rattle.script_text.specs.Parts.{HasSameRules, IsHeldFault};
 ghost use Rattle.script_text.specs.Readings.{GrowsByOne, Turns};
 ghost use Rattle.script_text.specs.Runs.{LeadsOn};
 
-use crate::command::Batch;
 use crate::input::Input;
 use crate::reader::Reader;
 use crate::refused::ScriptEnd;
 use crate::rules::Rules;
+use commands::Batch;
 use lake_io::{Shelf, Source};
 use no_memory::NoMemory;
 use script_model::{Reason, ScriptLimits};

@@ -1,141 +1,34 @@
 //! How far a script was read, and what each line does.
-ghost use Rattle.std.specs.Prelude.{◌<◌, ◌≡◌, ◌≢◌, ◌+◌, ◌-◌, ◌++◌, ◌∷◌, ◌≤◌, ℕ, IfErr, IfOk, IfSome, IsSome, List, None, OnOk, Some, [], drop, false, length};
+ghost use Rattle.std.specs.Prelude.{◌<◌, ◌≡◌, ◌≢◌, ◌+◌, ◌-◌, ◌≤◌, ℕ, IfErr, IfOk, IfSome, IsSome, List, None, OnOk, Some, [], drop, false, length};
 ghost use Rattle.lake_io.specs.Refusals.{Refuses};
 ghost use Rattle.lake_model.specs.Texts.{Text, lines_of};
 ghost use Rattle.script_model.specs.Commands.{File};
 ghost use Rattle.script_model.specs.Lanes.{IsOfLanes};
-ghost use Rattle.script_model.specs.Reading.{Reading, Stands, batch_ended, block_ended, body_fault, does, line_fault, line_in, turn_of, with_command};
+ghost use Rattle.script_model.specs.Reading.{Reading, Stands, batch_ended, block_ended, does, line_fault, line_in, turn_of, with_command};
 ghost use Rattle.script_model.specs.Saying as model;
-ghost use Rattle.script_model.specs.Saying.{closed, said};
 ghost use Rattle.script_model.specs.Script.{at_end, begun_fault, ended, last_turn, start};
+ghost use Rattle.commands.specs.Tasks.{IsTaskInRange, task_of};
 ghost use Rattle.script_text.specs.Endings.{Ends, EndsAs, IsGiven, IsLast};
 ghost use Rattle.script_text.specs.Fronts.{IsFrontInRange, IsLane, IsSaidInRange, front_of, said_of};
 ghost use Rattle.script_text.specs.Gathering.{reading_at};
-ghost use Rattle.script_text.specs.Outcomes.{CameOf};
-ghost use Rattle.script_text.specs.Readings.{AreRules, GoesOn, GrowsAtEnd, GrowsByOne, Turns, added, batches_of, body_size, grammar_by, none_given, open_with, state_with, too_long};
+ghost use Rattle.script_text.specs.Readings.{AreRules, GoesOn, GrowsAtEnd, GrowsByOne, Turns, added, batches_of, grammar_by, none_given, state_with, too_long};
 ghost use Rattle.script_text.specs.Runs.{HasRoom, IsRun, Leads, LeadsOn};
-ghost use Rattle.script_text.specs.Tasks.{IsTaskInRange, file_of, task_of};
 
-use crate::body::Body;
-use crate::command::{Batch, Command, FileBody, Task};
+use crate::block::OpenBlock;
+use crate::fetch::fetch_file;
 use crate::front::{Front, Said, read_said};
 use crate::line::{is_end, undotted, without_return};
 use crate::refused::ScriptEnd;
-use crate::rules::Rules;
+use crate::rules::{Rules, size_fault};
 use crate::runs::{line_count, run_of};
 use column_set::Name;
-use lake_io::{Shelf, ShelfRefused};
+use commands::{Batch, Command, Task};
+use lake_io::Shelf;
 use no_memory::NoMemory;
 use script_model::Reason;
 use std::alloc::Global;
 use std::marker::Model;
 use std::mem;
-
-/// How many bytes a file has at most: 64 MiB.
-const MOST_FILE_BYTES: usize = 67108864;
-
-/// A block whose end is still to come. A contract sees the line of its command, its lane, what that line said, and the body so far.
-#[derive(Drop)]
-pub(crate) struct OpenBlock {
-    /// The line of the command, counted from 1.
-    line: u64,
-    lane: u32,
-    front: Front,
-    /// The lines of the block so far, each with its line feed.
-    body: Vec<u8>,
-}
-
-impl Model for OpenBlock {
-    ghost use Rattle.script_model.specs.Reading.{Open};
-
-    ghost Value = { Open };
-
-    ghost use Rattle.script_text.specs.Fronts.{IsFrontInRange, front_of};
-    ghost use Rattle.script_text.specs.Readings.{open_with};
-
-    ghost view = { λ b. open_with b.line b.lane (front_of b.front) b.body.items };
-
-    ghost invariant = { λ b. IsFrontInRange b.front };
-}
-
-impl OpenBlock {
-    // A block that the line of this number opens.
-    fn new(alloc: Global, line: u64, lane: u32, front: Front) -> OpenBlock
-        requires { IsFrontInRange front }
-        ensures { result ≡ open_with line lane (front_of front) [] }
-    {
-        OpenBlock {
-            line,
-            lane,
-            front,
-            body: Vec::new(alloc),
-        }
-    }
-
-    // The line of the command.
-    fn line(&self) -> u64
-        ensures { result ≡ self.now.line }
-    {
-        self.line
-    }
-
-    // The lane of the command.
-    fn lane(&self) -> u32
-        ensures { result ≡ self.now.lane }
-    {
-        self.lane
-    }
-
-    // How many bytes the body has so far.
-    fn size(&self) -> u64
-        ensures { result ≡ length self.now.body }
-    {
-        self.body.len() as u64
-    }
-
-    // Adds a line of the block without the dot that it begins with, and the line feed that ended it.
-    fn push_line(&mut self, text: &[u8]) -> Result<(), NoMemory>
-        ensures added { OnOk result (self.new ≡ record self.old { body = self.old.body ++ text.now ++ 0x0A ∷ [] }) }
-        ensures size { length self.new.body ≤ length self.old.body + (length text.now + 1) }
-        ensures same { self.new.lane ≡ self.old.lane }
-    {
-        self.body.extend_from_slice(text)?;
-        self.body.push(b'\n')?;
-        Ok(())
-    }
-
-    // Adds lines of the block, each with its line feed, of which none begins with a dot.
-    fn push_lines(&mut self, lines: &[u8]) -> Result<(), NoMemory>
-        ensures added { OnOk result (self.new ≡ record self.old { body = self.old.body ++ lines.now }) }
-        ensures size { length self.new.body ≤ length self.old.body + length lines.now }
-        ensures same { self.new.lane ≡ self.old.lane }
-    {
-        self.body.extend_from_slice(lines)?;
-        Ok(())
-    }
-
-    // What the command asks for, with the body so far.
-    fn into_task(self) -> Task
-        requires { length self.body ≤ 67108864 }
-        ensures task { task_of result ≡ closed self.front self.body }
-        ensures in_range { IsTaskInRange result }
-        ensures size { body_size (task_of result) ≡ length self.body }
-    {
-        let OpenBlock {
-            front,
-            mut body,
-            ..
-        } = self;
-        body.shrink_to_fit();
-        let Some(body) = Body::new(body) else {
-            unreachable!()
-        };
-        match front {
-            Front::Load { name } => Task::Load { name, body },
-            Front::Search { k } => Task::Search { k, body },
-        }
-    }
-}
 
 /// How far a script was read, and by which rules. A contract sees the reading of the definitions, which keeps no paths that were asked for,
 /// and the rules. After a refusal nothing is known of the reading.
@@ -648,39 +541,5 @@ impl Reader {
             return Some(Reason::LineTooLong);
         }
         None
-    }
-}
-
-// What is wrong with the body of a block of so many bytes, where the other bodies and files of the batch have `bytes`.
-fn size_fault(rules: &Rules, bytes: u64, size: u64) -> Option<Reason>
-    requires rules { AreRules rules.now }
-    requires bytes { bytes ≤ rules.now.limits.bytes }
-    ensures { (body : List ℕ) → length body ≡ size → result ≡ body_fault (grammar_by rules.now) bytes body }
-{
-    if size > rules.limits.block {
-        return Some(Reason::BlockTooLong);
-    }
-    if size > rules.limits.bytes - bytes {
-        return Some(Reason::BatchBytes);
-    }
-    None
-}
-
-// What comes of the fetch of the path.
-fn fetch_file<F: Shelf>(alloc: Global, shelf: &mut F, path: &str) -> Result<FileBody, ScriptEnd>
-    ensures came { IfOk result (λ file. CameOf (F.files shelf.old) (F.faults shelf.old) (F.faults shelf.new) path.now (file_of file)) }
-    ensures refused { IfErr result (λ e. e ≡ ScriptEnd.NoMemory) }
-    ensures later { F.faults shelf.old ≤ F.faults shelf.new }
-    ensures files { F.files shelf.new ≡ F.files shelf.old }
-{
-    match shelf.fetch(alloc, path, MOST_FILE_BYTES) {
-        Ok(bytes) => match Body::new(bytes) {
-            Some(body) => Ok(FileBody::Bytes(body)),
-            None => unreachable!(),
-        },
-        Err(ShelfRefused::Failed) => Ok(FileBody::Failed),
-        Err(ShelfRefused::Missing) => Ok(FileBody::Missing),
-        Err(ShelfRefused::TooLong) => Ok(FileBody::TooLong),
-        Err(ShelfRefused::NoMemory) => Err(ScriptEnd::NoMemory),
     }
 }

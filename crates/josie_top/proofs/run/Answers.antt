@@ -1,9 +1,9 @@
 use Rattle.std.proofs.Common.{◌≡◌, ◌∙◌, map, string_bytes, subst, sym}
 use Rattle.std.specs.Prelude.{Some}
 use Rattle.lake_model.specs.Journal.{standard_limits}
-use Rattle.script_model.specs.Plain as said
-use Rattle.script_text.specs.Words.{mode_of}
-use Rattle.script_text.proofs.ModeLemmas.{plain_is_read}
+use Rattle.option_model.specs.Plain as said
+use Rattle.command_line.specs.Words.{mode_of}
+use Rattle.command_line.proofs.ModeLemmas.{plain_is_read}
 use Rattle.josie_top.specs.Meets.{EndsModeWell}
 use Rattle.josie_top.specs.World.{World, world_of}
 use Rattle.josie_top.proofs.RunFacts.{words_refused, refused_moves, refused_ends_well, moves_said}

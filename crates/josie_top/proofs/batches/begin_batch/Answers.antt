@@ -1,9 +1,10 @@
 use Rattle.std.proofs.Common.{refl, subst, sym, List, [], Ok, length, true, arith}
 use Rattle.std.specs.Prelude.{Option}
 use Rattle.lake_model.specs.Journal.{standard_limits}
-use Rattle.script_model.specs.declared.Status.{Status}
-use Rattle.script_model.specs.Record.{Options, with_end}
-use Rattle.script_model.specs.Texts.{text_behind}
+use Rattle.record_model.specs.declared.Status.{Status}
+use Rattle.script_model.specs.Options.{Options}
+use Rattle.record_model.specs.Record.{with_end}
+use Rattle.record_model.specs.Texts.{text_behind}
 use Rattle.script_text.specs.Gathering.{IsWhole}
 use Rattle.script_text.specs.Gathers.{Gathers}
 use Rattle.josie_top.specs.Ends.{IsWritten}

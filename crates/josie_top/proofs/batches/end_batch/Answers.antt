@@ -1,8 +1,8 @@
 use Rattle.std.proofs.Common.{rules, ◌≡◌, ◌≤◌, subst, sym, true, false}
 use Rattle.std.specs.Io.KnownBytes.{Appends}
 use Rattle.lake_model.specs.Journal.{standard_limits}
-use Rattle.script_model.specs.declared.Status.{Status}
-use Rattle.script_model.specs.Texts.{text_behind}
+use Rattle.record_model.specs.declared.Status.{Status}
+use Rattle.record_model.specs.Texts.{text_behind}
 use Rattle.josie_top.specs.Meets.{Meets}
 use Rattle.josie_top.specs.World.{with_sink}
 use Rattle.josie_top.proofs.RunFacts.{answered_goes, answered_ends, answered_stops}

@@ -3,10 +3,11 @@ use Rattle.std.specs.Prelude.{is_err}
 use Rattle.std.proofs.KnownBytes.{Consumes-nil}
 use Rattle.lake_model.specs.Journal.{standard_limits}
 use Rattle.script_model.specs.Lanes.{IsOfLanes}
-use Rattle.script_model.specs.Play.{merges_of}
-use Rattle.script_model.specs.Statuses.{IsStated}
+use Rattle.record_model.specs.Play.{merges_of}
+use Rattle.record_model.specs.Statuses.{IsStated}
 use Rattle.lake_desk.specs.Together.{AreTogether, IsOneBatchMore}
-use Rattle.script_model.specs.Record.{Answered, Options, RunRecord}
+use Rattle.record_model.specs.Record.{Answered, RunRecord}
+use Rattle.script_model.specs.Options.{Options}
 use Rattle.josie_top.specs.Progress.{IsUnderWay}
 use Rattle.josie_top.specs.World.{World, with_sink, world_of}
 use Rattle.josie_top.proofs.LaneFacts.{lanes_answers, lanes_more}

@@ -2,9 +2,10 @@ use Rattle.std.proofs.Common.{rules, ◌≡◌, ◌∙◌, ap, true, false, []}
 use Rattle.std.specs.Prelude.{is_err}
 use Rattle.lake_model.specs.declared.Counts.{Counts}
 use Rattle.lake_model.specs.Journal.{standard_limits}
-use Rattle.script_model.specs.Generator.{made_options}
-use Rattle.script_model.specs.Play.{batch_after}
-use Rattle.script_model.specs.Record.{empty, plain, with_end}
+use Rattle.option_model.specs.Generator.{made_options}
+use Rattle.record_model.specs.Play.{batch_after}
+use Rattle.record_model.specs.Record.{empty, with_end}
+use Rattle.script_model.specs.Options.{plain}
 use Rattle.josie_top.proofs.MakingFacts.{lake_made}
 use Rattle.josie_top.proofs.StreamFacts.{on_err, on_ok}
 use Rattle.josie_top.proofs.making.fill_record.Goals as goal

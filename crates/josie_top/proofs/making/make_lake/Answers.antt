@@ -1,9 +1,10 @@
 use Rattle.std.proofs.Common.{rules, ◌≡◌, sym, subst, false}
 use Rattle.std.specs.Prelude.{is_err}
 use Rattle.lake_model.specs.Journal.{standard_limits}
-use Rattle.script_model.specs.declared.Status.{Status}
-use Rattle.script_model.specs.Record.{empty, plain}
-use Rattle.script_model.specs.Statuses.{IsLakeMade}
+use Rattle.record_model.specs.declared.Status.{Status}
+use Rattle.record_model.specs.Record.{empty}
+use Rattle.script_model.specs.Options.{plain}
+use Rattle.option_model.specs.Makes.{IsLakeMade}
 use Rattle.josie_top.specs.Meets.{Makes}
 use Rattle.josie_top.specs.World.{with_sink}
 use Rattle.josie_top.proofs.MakingFacts.{nothing_made_of, whole_summary, part_of_summary}

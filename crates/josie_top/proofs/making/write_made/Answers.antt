@@ -1,7 +1,7 @@
 use Rattle.std.proofs.Common.{rules, ◌≡◌, ◌∙◌, ℕ, List, ap, subst, take, ◌++◌, false}
 use Rattle.std.specs.Prelude.{is_err}
-use Rattle.script_model.specs.Generator.{summary}
-use Rattle.script_model.specs.Statuses.{IsPrefix}
+use Rattle.option_model.specs.Generator.{summary}
+use Rattle.record_model.specs.Statuses.{IsPrefix}
 use Rattle.josie_top.proofs.StreamFacts.{on_ok}
 use Rattle.josie_top.proofs.TextFacts.{prefix_take}
 use Rattle.josie_top.proofs.making.write_made.Goals as goal

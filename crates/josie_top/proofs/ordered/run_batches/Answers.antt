@@ -2,7 +2,8 @@ use Rattle.std.proofs.Common.{rules, ◌≡◌, refl, ap, sym, ◌∙◌, subst,
 use Rattle.std.specs.Prelude.{is_err}
 use Rattle.std.proofs.KnownBytes.{Consumes-nil}
 use Rattle.lake_model.specs.Journal.{standard_limits}
-use Rattle.script_model.specs.Record.{Answered, Options, RunRecord}
+use Rattle.record_model.specs.Record.{Answered, RunRecord}
+use Rattle.script_model.specs.Options.{Options}
 use Rattle.josie_top.specs.Progress.{IsUnderWay}
 use Rattle.josie_top.specs.World.{World, with_sink, world_of}
 use Rattle.josie_top.proofs.RunFacts.{starts, ends_between, is_answered, stands_still, moves_since, memory_moves, moved_on}

@@ -1,6 +1,6 @@
 use Rattle.std.proofs.Common.{rules, ◌≡◌, inr, refl, subst, sym}
 use Rattle.lake_model.specs.Journal.{standard_limits}
-use Rattle.script_model.specs.Record.{Options}
+use Rattle.script_model.specs.Options.{Options}
 use Rattle.josie_top.specs.Meets.{EndsWell}
 use Rattle.josie_top.specs.World.{World, world_of}
 use Rattle.josie_top.proofs.RunFacts.{nothing_done, memory_moves, still, ends_well}

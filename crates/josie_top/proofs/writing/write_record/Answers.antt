@@ -1,6 +1,6 @@
 use Rattle.std.proofs.Common.{rules, ◌≡◌, [], subst, take}
-use Rattle.script_model.specs.Statuses.{IsPrefix}
-use Rattle.script_model.specs.Texts.{text_behind}
+use Rattle.record_model.specs.Statuses.{IsPrefix}
+use Rattle.record_model.specs.Texts.{text_behind}
 use Rattle.josie_top.proofs.TextFacts.{prefix_take}
 use Rattle.josie_top.proofs.writing.write_record.Goals as goal
 

@@ -1,6 +1,6 @@
 use Rattle.std.proofs.Common.{◌≡◌, ◌++◌, ap, sym, subst, ◌∙◌, length, arith}
 use Rattle.script_model.specs.Commands.{Batch}
-use Rattle.script_model.specs.Play.{merges_of}
+use Rattle.record_model.specs.Play.{merges_of}
 use Rattle.lake_core.specs.Lanes.{AreShared}
 use Rattle.batch_work.specs.Works.{works_of}
 use Rattle.lake_core.proofs.BatchLemmas.{batch_played, ready_shared}

@@ -1,6 +1,6 @@
 use Rattle.std.proofs.Common.{ap, sym, ◌∙◌, arith}
 use Rattle.std.specs.Prelude.{option_to_list}
-use Rattle.reply_text.specs.Rooms.{RecordOf}
+use Rattle.run_record.specs.Rooms.{RecordOf}
 use Rattle.lake_core.proofs.GatherLemmas.{gathers_work, with_answers, with_none}
 use Rattle.lake_core.proofs.driving.gather.Goals as goal
 use Rattle.lake_core.proofs.driving.gather.Goals.{in-Some, in_default}

@@ -1,6 +1,6 @@
 use Rattle.std.proofs.Common.{ap, sym, ◌∙◌}
-use Rattle.script_model.specs.Answered.{answer_to}
-use Rattle.script_model.specs.Play.{reply_or_denied}
+use Rattle.record_model.specs.Answered.{answer_to}
+use Rattle.record_model.specs.Play.{reply_or_denied}
 use Rattle.batch_work.specs.Works.{work_of}
 use Rattle.lake_core.proofs.lane.reply_at_pin.Goals as goal
 

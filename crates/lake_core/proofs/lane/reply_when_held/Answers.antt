@@ -1,6 +1,6 @@
 use Rattle.std.proofs.Common.{◌≡◌, ap, sym, subst, ◌∙◌, take}
-use Rattle.script_model.specs.Answered.{adds, answer_to}
-use Rattle.reply_text.specs.Replies.{reply_of}
+use Rattle.record_model.specs.Answered.{adds, answer_to}
+use Rattle.run_record.specs.Replies.{reply_of}
 use Rattle.lake_core.specs.Lanes.{IsHeldAt, position_of}
 use Rattle.lake_core.specs.Loads.{with_added}
 use Rattle.lake_core.specs.Merging.{swapped_by}

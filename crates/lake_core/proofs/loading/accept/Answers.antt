@@ -1,7 +1,7 @@
 use Rattle.std.proofs.Common.{◌≡◌, ap, sym, ◌∙◌, subst, rules, ◌+◌, length, false}
 use Rattle.lake_model.specs.Journal.{Loaded as LoadedWhat, entry_with}
 use Rattle.lake_model.specs.Tables.{members}
-use Rattle.script_model.specs.Replies.{Loaded, load_reply}
+use Rattle.record_model.specs.Replies.{Loaded, load_reply}
 use Rattle.lake_core.specs.Loads.{refusal_reply}
 use Rattle.lake_core.proofs.LoadLemmas.{Answers, refused_load, accepted_load, added_at}
 use Rattle.lake_core.proofs.loading.accept.Goals as goal

@@ -1,7 +1,7 @@
 use Rattle.std.proofs.Common.{refl, inr, subst, sym}
-use Rattle.script_model.specs.Replies.{FileFailed, FileMissing, FileTooLong, OfFile, FailedFault, MissingFault, TooLongFault}
-use Rattle.script_model.specs.Answered.{file_read}
-use Rattle.script_text.specs.Tasks.{file_of}
+use Rattle.record_model.specs.Replies.{FileFailed, FileMissing, FileTooLong, OfFile, FailedFault, MissingFault, TooLongFault}
+use Rattle.record_model.specs.Answered.{file_read}
+use Rattle.commands.specs.Tasks.{file_of}
 use Rattle.lake_core.specs.Loads.{IsRefusal}
 use Rattle.lake_core.proofs.loading.make_table_of_file.Goals as goal
 

@@ -1,7 +1,7 @@
 use Rattle.std.proofs.Common.{◌≡◌, ap, sym, ◌∙◌, subst}
 use Rattle.lake_model.specs.Records.{table_of}
-use Rattle.script_model.specs.Replies.{csv_reply, sets_reply}
-use Rattle.script_model.specs.Answered.{table_read, IsTable}
+use Rattle.record_model.specs.Replies.{csv_reply, sets_reply}
+use Rattle.record_model.specs.Answered.{table_read, IsTable}
 use Rattle.lake_core.specs.Loads.{IsRefusal}
 use Rattle.lake_core.proofs.LoadLemmas.{csv_refusal, sets_refusal, table_made}
 use Rattle.lake_core.proofs.loading.read_sets.Goals as goal

@@ -1,6 +1,6 @@
 use Rattle.std.proofs.Common.{Some, false, sym, subst, ◌∙◌}
 use Rattle.josie_search.specs.Search.{query_with}
-use Rattle.script_model.specs.Replies.{like_reply}
+use Rattle.record_model.specs.Replies.{like_reply}
 use Rattle.lake_core.proofs.LoadLemmas.{Answers}
 use Rattle.lake_core.proofs.SearchLemmas.{found_now, like_found, like_refused}
 use Rattle.lake_core.proofs.searching.like.Goals as goal

@@ -1,7 +1,7 @@
 use Rattle.std.proofs.Common.{None, sym, subst, ◌∙◌}
 use Rattle.josie_search.specs.Search.{query_with}
-use Rattle.script_model.specs.Replies.{query_reply, search_reply}
-use Rattle.script_model.specs.Answered.{plain_query, query_read, search_answer}
+use Rattle.record_model.specs.Replies.{query_reply, search_reply}
+use Rattle.record_model.specs.Answered.{plain_query, query_read, search_answer}
 use Rattle.lake_core.proofs.LoadLemmas.{Answers, query_refused, query_found}
 use Rattle.lake_core.proofs.SearchLemmas.{found_now}
 use Rattle.lake_core.proofs.searching.search.Goals as goal

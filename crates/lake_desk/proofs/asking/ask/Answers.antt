@@ -1,6 +1,6 @@
 use Rattle.lake_core.specs.Searches.{IsPinOf}
-use Rattle.script_text.specs.Tasks.{task_of}
-use Rattle.reply_text.specs.Replies.{reply_of}
+use Rattle.commands.specs.Tasks.{task_of}
+use Rattle.run_record.specs.Replies.{reply_of}
 use Rattle.lake_desk.proofs.Answering.{asked}
 use Rattle.lake_desk.proofs.asking.ask.Goals as goal
 

@@ -1,4 +1,4 @@
-use Rattle.reply_text.specs.Replies.{reply_of}
+use Rattle.run_record.specs.Replies.{reply_of}
 use Rattle.lake_desk.proofs.Answering.{load_answered, load_refused, same_pass}
 use Rattle.lake_desk.proofs.asking.load_block.Goals as goal
 

@@ -1,5 +1,5 @@
-use Rattle.reply_text.specs.Replies.{reply_of}
-use Rattle.script_text.specs.Tasks.{file_of}
+use Rattle.run_record.specs.Replies.{reply_of}
+use Rattle.commands.specs.Tasks.{file_of}
 use Rattle.lake_desk.proofs.Answering.{file_answered, file_refused, same_pass}
 use Rattle.lake_desk.proofs.asking.load_file.Goals as goal
 

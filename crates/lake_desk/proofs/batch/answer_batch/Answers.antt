@@ -3,7 +3,7 @@ use Rattle.std.specs.Prelude.{OnOk}
 use Rattle.std.proofs.Math.Seq.{take-append_seam}
 use Rattle.lake_model.specs.Journal.{Entry}
 use Rattle.turn_lock.specs.Passes.{Known}
-use Rattle.script_model.specs.Play.{merges_of}
+use Rattle.record_model.specs.Play.{merges_of}
 use Rattle.lane_run.specs.Chains.{AreServed}
 use Rattle.lake_desk.specs.Answering.{IsStep}
 use Rattle.lake_desk.specs.Together.{AreTogether}

@@ -1,7 +1,7 @@
 use Rattle.std.proofs.Common.{◌≡◌, ap, ◌∙◌, rules, length}
 use Rattle.lake_model.specs.Tables.{members}
-use Rattle.script_model.specs.Replies.{Loaded}
-use Rattle.reply_text.specs.Replies.{reply_of}
+use Rattle.record_model.specs.Replies.{Loaded}
+use Rattle.run_record.specs.Replies.{reply_of}
 use Rattle.lake_core.specs.Loads.{refusal_reply}
 use Rattle.lake_desk.proofs.Making.{load_made, load_unmade}
 use Rattle.lake_desk.proofs.changing.load.Goals as goal

@@ -1,6 +1,6 @@
 use Rattle.std.proofs.Common.{subst}
 use Rattle.lake_model.specs.declared.Policy.{Policy}
-use Rattle.reply_text.specs.Replies.{reply_of}
+use Rattle.run_record.specs.Replies.{reply_of}
 use Rattle.lake_core.specs.Merging.{IsPlanned}
 use Rattle.lake_desk.proofs.Answering.{merged_answered, merge_denied}
 use Rattle.lake_desk.proofs.merging.merge_parts.Goals as goal

@@ -1,6 +1,6 @@
 use Rattle.std.proofs.Common.{◌≡◌, ◌*◌, ◌++◌, flat_map}
 use Rattle.std.specs.List.{range_with_len}
-use Rattle.script_model.specs.Generator.{load_tasks, state_at}
+use Rattle.option_model.specs.Generator.{load_tasks, state_at}
 use Rattle.lake_maker.proofs.batch.push_loads.Given as goal
 
 abbrev pub invariant-loop-table : goal.invariant-loop-table

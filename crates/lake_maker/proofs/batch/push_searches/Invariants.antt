@@ -1,6 +1,6 @@
 use Rattle.std.proofs.Common.{◌≡◌, ◌*◌, ◌++◌, map}
 use Rattle.std.specs.List.{range_with_len}
-use Rattle.script_model.specs.Generator.{state_at}
+use Rattle.option_model.specs.Generator.{state_at}
 use Rattle.lake_maker.specs.Made.{search_at}
 use Rattle.lake_maker.proofs.batch.push_searches.Given as goal
 

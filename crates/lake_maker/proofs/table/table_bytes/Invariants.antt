@@ -1,5 +1,5 @@
 use Rattle.std.proofs.Common.{◌≡◌, ◌*◌}
-use Rattle.script_model.specs.Generator.{state_at, table_text}
+use Rattle.option_model.specs.Generator.{state_at, table_text}
 use Rattle.lake_maker.proofs.table.table_bytes.Given as goal
 
 abbrev pub invariant-loop-row : goal.invariant-loop-row

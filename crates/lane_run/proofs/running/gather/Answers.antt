@@ -2,7 +2,7 @@ use Rattle.std.proofs.Common.{ap, sym, ◌∙◌, arith, map, vec_capacity, leng
 use Rattle.std.specs.Prelude.{option_to_list}
 use Rattle.std.specs.declared.alloc.Global.{Global}
 use Rattle.std.specs.declared.vec.Vec.{Vec}
-use Rattle.script_model.specs.Record.{Answered}
+use Rattle.record_model.specs.Record.{Answered}
 use Rattle.lane_run.specs.Seats.{done_in}
 use Rattle.lane_run.proofs.Gathering.{gathers_more}
 use Rattle.lane_run.proofs.running.gather.Goals as goal

@@ -1,7 +1,7 @@
 use Rattle.std.proofs.Common.{ap, sym, ◌∙◌, [], ◌∷◌, ◌++◌}
-use Rattle.script_model.specs.Play.{Done}
+use Rattle.record_model.specs.Play.{Done}
 use Rattle.lane_run.specs.declared.seat.Seat.{Seat}
-use Rattle.reply_text.specs.Replies.{reply_of}
+use Rattle.run_record.specs.Replies.{reply_of}
 use Rattle.lane_run.proofs.Serving.{serving_own, serving_other}
 use Rattle.lane_run.proofs.seat.serve.Goals as goal
 use Rattle.lane_run.proofs.seat.serve.Goals.{then-lane, else-lane}

@@ -1,5 +1,6 @@
 use Rattle.std.proofs.Common.{arith}
-use Rattle.script_model.specs.Texts.{entry_line, line_text}
+use Rattle.record_model.specs.Texts.{entry_line}
+use Rattle.script_model.specs.Words.{line_text}
 use Rattle.reply_text.proofs.KeepingLemmas.{keeps_behind}
 use Rattle.reply_text.proofs.NumberedLemmas.{numbered_more}
 use Rattle.reply_text.proofs.journal.push_entries.Goals as goal

@@ -1,6 +1,7 @@
 use Rattle.std.proofs.Common.{◌≡◌, ◌++◌, flat_map, map, take}
 use Rattle.std.specs.List.{enumerate_from}
-use Rattle.script_model.specs.Texts.{entry_line, line_text}
+use Rattle.record_model.specs.Texts.{entry_line}
+use Rattle.script_model.specs.Words.{line_text}
 use Rattle.reply_text.proofs.journal.push_entries.Given as goal
 
 abbrev pub invariant-loop-index : goal.invariant-loop-index

@@ -1,5 +1,5 @@
 use Rattle.std.proofs.Common.{◌≡◌, ◌++◌, ◌∷◌, Bool, ℕ, flat_map, take}
-use Rattle.script_model.specs.Texts.{position_text}
+use Rattle.record_model.specs.Texts.{position_text}
 use Rattle.reply_text.proofs.layout.push_further_positions.Given as goal
 
 abbrev pub invariant-loop-place : goal.invariant-loop-place

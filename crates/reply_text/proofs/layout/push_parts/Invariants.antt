@@ -1,5 +1,5 @@
 use Rattle.std.proofs.Common.{◌≡◌, ◌++◌, ◌∷◌, Bool, List, ℕ, flat_map, take}
-use Rattle.script_model.specs.Texts.{part_text}
+use Rattle.record_model.specs.Texts.{part_text}
 use Rattle.reply_text.proofs.layout.push_parts.Given as goal
 
 abbrev pub invariant-loop-number : goal.invariant-loop-number

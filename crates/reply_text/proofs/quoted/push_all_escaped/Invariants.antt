@@ -1,5 +1,5 @@
 use Rattle.std.proofs.Common.{◌≡◌, ◌++◌, flat_map, take}
-use Rattle.script_model.specs.Texts.{escaped_byte}
+use Rattle.record_model.specs.Texts.{escaped_byte}
 use Rattle.reply_text.proofs.quoted.push_all_escaped.Given as goal
 
 abbrev pub invariant-loop-byte : goal.invariant-loop-byte

@@ -1,5 +1,5 @@
 use Rattle.std.proofs.Common.{◌≡◌, ◌++◌, take}
-use Rattle.script_model.specs.Texts.{answers_text}
+use Rattle.record_model.specs.Texts.{answers_text}
 use Rattle.reply_text.proofs.text.push_answers.Given as goal
 
 abbrev pub invariant-loop-answer : goal.invariant-loop-answer

@@ -1,5 +1,6 @@
 use Rattle.std.proofs.Common.{◌≡◌, ◌++◌, flat_map, map, take}
-use Rattle.script_model.specs.Texts.{line_text, row_line}
+use Rattle.script_model.specs.Words.{line_text}
+use Rattle.record_model.specs.Texts.{row_line}
 use Rattle.reply_text.proofs.text.push_rows.Given as goal
 
 abbrev pub invariant-loop-row : goal.invariant-loop-row

@@ -1,5 +1,6 @@
 use Rattle.std.proofs.Common.{◌≡◌, ◌++◌, flat_map, map, take}
-use Rattle.script_model.specs.Texts.{line_text, table_line}
+use Rattle.script_model.specs.Words.{line_text}
+use Rattle.record_model.specs.Texts.{table_line}
 use Rattle.segment_core.specs.Lines.{line_from}
 use Rattle.reply_text.proofs.text.push_tables.Given as goal
 

@@ -1,5 +1,5 @@
 use Rattle.std.proofs.Common.{ap, arith, length, length-drop, List}
-use Rattle.script_model.specs.Play.{Done}
+use Rattle.record_model.specs.Play.{Done}
 use Rattle.lake_core.proofs.lane.Lane.next_done.Goals as goal
 
 pub invariant_of-self : goal.invariant_of-self

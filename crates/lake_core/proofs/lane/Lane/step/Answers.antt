@@ -1,9 +1,9 @@
 use Rattle.std.proofs.Common.{rules, arith, ap, sym, subst, ◌∙◌, ◌≡◌, ◌∷◌, ◌++◌, [], drop, false, true, Some, None, map, take, List}
 use Rattle.lake_model.specs.Journal.{Entry, entry_with}
-use Rattle.script_model.specs.Answered.{adds, has_pin}
-use Rattle.script_model.specs.Play.{Done, done_with, entries_of, who_of}
-use Rattle.script_model.specs.Record.{RunRecord}
-use Rattle.reply_text.specs.Replies.{reply_of}
+use Rattle.record_model.specs.Answered.{adds, has_pin}
+use Rattle.record_model.specs.Play.{Done, done_with, entries_of, who_of}
+use Rattle.record_model.specs.Record.{RunRecord}
+use Rattle.run_record.specs.Replies.{reply_of}
 use Rattle.lake_core.specs.Lanes.{LaneOf, lane_from, IsHeld, position_of}
 use Rattle.batch_work.specs.Works.{work_of}
 use Rattle.lake_core.proofs.LaneLemmas.{answered_now, answered_then, one_less}

@@ -1,9 +1,9 @@
 use Rattle.std.proofs.Common.{◌≡◌, ℕ, Bool, ap, sym, ◌∙◌, refl}
 use Rattle.script_model.specs.Commands.{command_with}
 use Rattle.turn_lock.specs.Passes.{after_seeing}
-use Rattle.reply_text.specs.Callers.{who_by}
-use Rattle.reply_text.specs.Replies.{reply_of}
-use Rattle.script_text.specs.Tasks.{task_of}
+use Rattle.run_record.specs.Callers.{who_by}
+use Rattle.run_record.specs.Replies.{reply_of}
+use Rattle.commands.specs.Tasks.{task_of}
 use Rattle.lake_desk.proofs.Answering.{answered_by}
 use Rattle.lake_desk.proofs.desk.LakeDeskDesk.answer.Goals as goal
 

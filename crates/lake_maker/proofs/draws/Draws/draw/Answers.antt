@@ -1,5 +1,5 @@
 use Rattle.std.proofs.Common.{ap, sym, ◌∙◌, ℕ, ◌/◌}
-use Rattle.script_model.specs.Generator.{next_state}
+use Rattle.option_model.specs.Generator.{next_state}
 use Rattle.lake_maker.proofs.DrawLemmas.{draw_zero, state_at-one}
 use Rattle.lake_maker.proofs.draws.Draws.draw.Goals as goal
 

@@ -3,7 +3,7 @@ use Rattle.std.proofs.lemmas.Result.{err_from_is_err_and}
 use Rattle.script_model.specs.Commands.{LoadFile}
 use Rattle.script_model.specs.Reading.{Goes, file_size, with_command}
 use Rattle.script_text.specs.Gathering.{reading_at}
-use Rattle.script_text.specs.Tasks.{file_of}
+use Rattle.commands.specs.Tasks.{file_of}
 use Rattle.script_text.proofs.TurnLemmas.{fetch_full, fetch_goes, fetch_passes, fetched_one, no_memory, unfetched}
 use Rattle.script_text.proofs.reader.Reader.load_file.Goals as goal
 

@@ -1,0 +1,10 @@
+pub mod NumberLemmas
+pub mod RowLemmas
+pub mod RunWordLemmas
+pub mod PlainLemmas
+pub mod OptionLemmas
+pub mod MakeLemmas
+pub mod CommandLemmas
+pub mod OrderLemmas
+pub mod ParsedLemmas
+pub mod ModeLemmas

@@ -1,0 +1,306 @@
+-- Clap reads in the plain words behind `run` what they say.
+use Rattle.std.proofs.Common.{◌≡◌, refl, ap, ap₂, sym, ◌∙◌, subst, ℕ, List, [], ◌∷◌, Bool, true, false, not, ◌&&◌, cond, codes, Option, Some, None, is_some, option_map, true≢false, arith, map}
+use Rattle.std.specs.Prelude.{⊤, ◌==◌, bytes_eq, fold}
+use Rattle.std.specs.List.{onto_first, slice_split}
+use Rattle.std.proofs.lemmas.Bool.{and_parts, eqb-true, not-true}
+use Rattle.std.proofs.lemmas.Slice.Eq.{bytes_eq-Decides}
+use Rattle.clap.specs.Faults.{turn_fault, walk_fault}
+use Rattle.clap.specs.Kinds.{Kinds, or_else}
+use Rattle.clap.specs.Simple.{filled}
+use Rattle.clap.specs.Walk.{Row, Text, Walk, idle, settled_rows, used, walked}
+use Rattle.script_model.specs.Words.{number}
+use Rattle.script_model.specs.Options.{Options, options_with}
+use Rattle.option_model.specs.Plain.{Argument, Awaited, Given, LanesNext, LanesValue, MergeFlag, NoArgument, NoValue, OrderNext, OrderValue, Refused, Taken, TraceFlag, all_there, argument_of, lane_number, lanes_said, nothing_given, options_of, order_of, order_said, piece_of, run_options, take_argument, take_word, take_words}
+use Rattle.command_line.specs.Words.{flag_option}
+use Rattle.command_line.proofs.NumberLemmas.{IsValue, number_is_read}
+use Rattle.command_line.proofs.RunWordLemmas.{Agrees, Pending, Stands, between, held, lanes_settle, lanes_turn, lanes_used, lanes_value, lanes_value_turn, lanes_walk, merge_turn, merge_used, merge_walk, more_lanes, more_merge, more_order, more_trace, no_lanes, no_merge, no_order, no_trace, order_settle, order_turn, order_used, order_value, order_value_turn, order_walk, rules, stands_first, top, trace_turn, trace_used, trace_walk}
+
+-- ---- the values that plain words have
+
+-- the options of all that was taken are these
+abbrev GivesOptions : Options → Taken → Type 0
+GivesOptions options taken = run_options taken.given taken.awaited ≡ Some options
+
+pub no_value : {X : Type 0} (options : Options) → None ≡ Some options → X
+no_value options e = absurd (cc e)
+
+refused_gives_none : (given : Given) (words : List Text) → run_options (take_words given Refused words).given (take_words given Refused words).awaited ≡ None
+refused_gives_none given [] = refl
+refused_gives_none given (word ∷ words) = refused_gives_none given words
+
+abbrev is_lanes_value : Argument → Bool
+is_lanes_value LanesValue = true
+is_lanes_value _ = false
+
+abbrev is_order_value : Argument → Bool
+is_order_value OrderValue = true
+is_order_value _ = false
+
+lanes_chosen : (b c d e : Bool) → is_lanes_value (cond b LanesValue (cond c OrderValue (cond d MergeFlag (cond e TraceFlag NoArgument)))) ≡ b
+lanes_chosen true c d e = refl
+lanes_chosen false true d e = refl
+lanes_chosen false false true e = refl
+lanes_chosen false false false true = refl
+lanes_chosen false false false false = refl
+
+order_chosen : (b c d e : Bool) → c ≡ false → is_order_value (cond b LanesValue (cond c OrderValue (cond d MergeFlag (cond e TraceFlag NoArgument)))) ≡ false
+order_chosen true c d e off = refl
+order_chosen false true d e off = absurd (true≢false off)
+order_chosen false false true e off = refl
+order_chosen false false false true off = refl
+order_chosen false false false false off = refl
+
+and_false : (b : Bool) → (b && false) ≡ false
+and_false true = refl
+and_false false = refl
+
+abbrev awaits_lanes : Awaited → Bool
+awaits_lanes LanesNext = true
+awaits_lanes _ = false
+
+abbrev awaits_order : Awaited → Bool
+awaits_order OrderNext = true
+awaits_order _ = false
+
+-- a value that was given stays
+lanes_kept : (given : Given) (argument : Argument) → is_lanes_value argument ≡ false
+    → ((take_argument given argument).given.lanes ≡ given.lanes) × (awaits_lanes (take_argument given argument).awaited ≡ false)
+lanes_kept given LanesValue e = absurd (true≢false e)
+lanes_kept given OrderValue e = (refl, refl)
+lanes_kept given MergeFlag e = (refl, refl)
+lanes_kept given TraceFlag e = (refl, refl)
+lanes_kept given NoArgument e = (refl, refl)
+
+order_kept : (given : Given) (argument : Argument) → is_order_value argument ≡ false
+    → ((take_argument given argument).given.order ≡ given.order) × (awaits_order (take_argument given argument).awaited ≡ false)
+order_kept given LanesValue e = (refl, refl)
+order_kept given OrderValue e = absurd (true≢false e)
+order_kept given MergeFlag e = (refl, refl)
+order_kept given TraceFlag e = (refl, refl)
+order_kept given NoArgument e = (refl, refl)
+
+lanes_by_word : (given : Given) (awaited : Awaited) (word text : Text) → given.lanes ≡ Some text → awaits_lanes awaited ≡ false
+    → ((take_word given awaited word).given.lanes ≡ Some text) × (awaits_lanes (take_word given awaited word).awaited ≡ false)
+lanes_by_word given NoValue word text has other =
+    let twice : (bytes_eq word (codes "--lanes") && not (is_some given.lanes)) ≡ false =
+    ap (λ (o : Option Text). bytes_eq word (codes "--lanes") && not (is_some o)) has ∙ and_false (bytes_eq word (codes "--lanes")) in
+    let kept = lanes_kept given (argument_of given word) (lanes_chosen (bytes_eq word (codes "--lanes") && not (is_some given.lanes)) _ _ _ ∙ twice) in
+    (kept.0 ∙ has, kept.1)
+lanes_by_word given LanesNext word text has other = absurd (true≢false other)
+lanes_by_word given OrderNext word text has other = (has, refl)
+lanes_by_word given Refused word text has other = (has, refl)
+
+order_by_word : (given : Given) (awaited : Awaited) (word text : Text) → given.order ≡ Some text → awaits_order awaited ≡ false
+    → ((take_word given awaited word).given.order ≡ Some text) × (awaits_order (take_word given awaited word).awaited ≡ false)
+order_by_word given NoValue word text has other =
+    let twice : (bytes_eq word (codes "--order") && not (is_some given.order)) ≡ false =
+    ap (λ (o : Option Text). bytes_eq word (codes "--order") && not (is_some o)) has ∙ and_false (bytes_eq word (codes "--order")) in
+    let kept = order_kept given (argument_of given word) (order_chosen _ (bytes_eq word (codes "--order") && not (is_some given.order)) _ _ twice) in
+    (kept.0 ∙ has, kept.1)
+order_by_word given LanesNext word text has other = (has, refl)
+order_by_word given OrderNext word text has other = absurd (true≢false other)
+order_by_word given Refused word text has other = (has, refl)
+
+lanes_stay : (words : List Text) (given : Given) (awaited : Awaited) (text : Text) → given.lanes ≡ Some text → awaits_lanes awaited ≡ false
+    → (take_words given awaited words).given.lanes ≡ Some text
+lanes_stay [] given awaited text has other = has
+lanes_stay (word ∷ words) given awaited text has other =
+    let next = take_word given awaited word in
+    let kept = lanes_by_word given awaited word text has other in
+    lanes_stay words next.given next.awaited text kept.0 kept.1
+
+order_stays : (words : List Text) (given : Given) (awaited : Awaited) (text : Text) → given.order ≡ Some text → awaits_order awaited ≡ false
+    → (take_words given awaited words).given.order ≡ Some text
+order_stays [] given awaited text has other = has
+order_stays (word ∷ words) given awaited text has other =
+    let next = take_word given awaited word in
+    let kept = order_by_word given awaited word text has other in
+    order_stays words next.given next.awaited text kept.0 kept.1
+
+-- ---- a value of plain words is no flag
+
+lanes_fit : (given : Given) (awaited : Awaited) (text : Text) (options : Options) → given.lanes ≡ Some text → run_options given awaited ≡ Some options
+    → (n : ℕ) × (number 16 text ≡ Some n)
+lanes_fit given LanesNext text options has e = no_value options e
+lanes_fit given OrderNext text options has e = no_value options e
+lanes_fit given Refused text options has e = no_value options e
+lanes_fit given NoValue text options has e = by (number 16 text) (ap (λ (o : Option Text). options_of given (lanes_said o)) (sym has) ∙ e)
+  where
+    by : (o : Option ℕ) → options_of given o ≡ Some options → (n : ℕ) × (o ≡ Some n)
+    by None e = no_value options e
+    by (Some n) e = (n, refl)
+
+no_lane : (lanes : ℕ) (merge : Bool) (rest : Text) → lane_number lanes merge (45 ∷ rest) ≡ None
+no_lane lanes true rest = refl
+no_lane lanes false rest = refl
+
+no_lanes_from : (lanes : ℕ) (merge : Bool) (parts : List Text) → all_there (map (lane_number lanes merge) (onto_first 45 parts)) ≡ None
+no_lanes_from lanes merge [] = ap (λ (o : Option ℕ). all_there (o ∷ [])) (no_lane lanes merge [])
+no_lanes_from lanes merge (part ∷ parts) = ap (λ (o : Option ℕ). all_there (o ∷ map (lane_number lanes merge) parts)) (no_lane lanes merge part)
+
+no_piece : (lanes : ℕ) (merge : Bool) (rest : Text) → piece_of lanes merge (45 ∷ rest) ≡ None
+no_piece lanes merge rest = no_lanes_from lanes merge (slice_split (λ b. b == 0x2C) rest)
+
+no_pieces_from : (lanes : ℕ) (merge : Bool) (parts : List Text) → all_there (map (piece_of lanes merge) (onto_first 45 parts)) ≡ None
+no_pieces_from lanes merge [] = ap (λ (o : Option (List ℕ)). all_there (o ∷ [])) (no_piece lanes merge [])
+no_pieces_from lanes merge (part ∷ parts) = ap (λ (o : Option (List ℕ)). all_there (o ∷ map (piece_of lanes merge) parts)) (no_piece lanes merge part)
+
+no_order_from : (lanes : ℕ) (merge : Bool) (byte : ℕ) (rest : Text) → byte ≡ 45 → order_of lanes merge (byte ∷ rest) ≡ None
+no_order_from lanes merge byte rest is =
+    ap (λ (b : ℕ). order_of lanes merge (b ∷ rest)) is ∙ no_pieces_from lanes merge (slice_split (λ b. b == 0x2F) rest)
+
+order_fits : (given : Given) (awaited : Awaited) (text : Text) (options : Options) → given.order ≡ Some text → run_options given awaited ≡ Some options → IsValue text
+order_fits given LanesNext text options has e = no_value options e
+order_fits given OrderNext text options has e = no_value options e
+order_fits given Refused text options has e = no_value options e
+order_fits given NoValue text options has e = by (lanes_said given.lanes) e
+  where
+    said : (lanes : ℕ) (merge : Bool) (t : Text) (f : Option (List (List ℕ)) → Options) → option_map f (order_said lanes merge (Some t)) ≡ Some options → IsValue t
+    said lanes merge [] f e = no_value options e
+    said lanes merge (byte ∷ bytes) f e = at_first (byte == 45) refl
+      where
+        at_first : (b : Bool) → (byte == 45) ≡ b → (byte == 45) ≡ false
+        at_first false is = is
+        at_first true is =
+            no_value options (ap (λ (o : Option (List (List ℕ))). option_map f (option_map Some o)) (sym (no_order_from lanes merge byte bytes (eqb-true byte 45 is))) ∙ e)
+
+    by : (o : Option ℕ) → options_of given o ≡ Some options → IsValue text
+    by None e = no_value options e
+    by (Some lanes) e =
+        let with_order = λ (order : Option (List (List ℕ))). options_with lanes order given.merge given.trace in
+        said lanes given.merge text with_order (ap (λ (o : Option Text). option_map with_order (order_said lanes given.merge o)) (sym has) ∙ e)
+
+-- ---- the walk over plain words
+
+-- clap walks over the words without a fault, and holds then what was given
+pub record Walks (words : List Text) (walk : Walk) (given : Given) : Type 0 where
+  pub rows : List Row
+  pub pending : Pending
+  pub no_fault : walk_fault top [] walk words ≡ []
+  pub ends : (fold (walked rules []) walk words).held ≡ held rows pending
+  pub stands : Stands given rows pending
+
+more_walked : (word : Text) (words : List Text) (walk next : Walk) (given : Given) → turn_fault top [] walk word ≡ [] → walked rules [] walk word ≡ next
+    → Walks words next given → Walks (word ∷ words) walk given
+unfolding walk_fault
+more_walked word words walk next given turn step w = record {
+  rows = w.rows;
+  pending = w.pending;
+  no_fault = ap₂ (λ (k : Kinds) (v : Walk). or_else k (walk_fault top [] v words)) turn step ∙ w.no_fault;
+  ends = ap (λ (v : Walk). (fold (walked rules []) v words).held) step ∙ w.ends;
+  stands = w.stands;
+}
+
+-- words that give these options, behind those that gave what is given
+abbrev WalksAll : List Text → Type 0
+WalksAll words = (given : Given) (rows : List Row) (pending : Pending) (options : Options) → Stands given rows pending → GivesOptions options (take_words given NoValue words)
+    → Walks words (between rows pending idle) (take_words given NoValue words).given
+
+-- the same of the words behind a value
+abbrev WalksBehind : List Text → Type 0
+WalksBehind [] = ⊤
+WalksBehind (text ∷ words) = WalksAll words
+
+lanes_step : (words : List Text) → WalksBehind words → (given : Given) (rows : List Row) (pending : Pending) (options : Options) → Stands given rows pending → given.lanes ≡ None
+    → GivesOptions options (take_words given LanesNext words) → Walks (codes "--lanes" ∷ words) (between rows pending idle) (take_words given LanesNext words).given
+lanes_step [] more given rows pending options stands none e = no_value options e
+lanes_step (text ∷ words) more given rows pending options stands none e =
+    let now = settled_rows rules pending rows in
+    let with_text : Given = record given { lanes = Some text } in
+    let taken = take_words with_text NoValue words in
+    let fits = lanes_fit taken.given taken.awaited text options (lanes_stay words with_text NoValue text refl refl) e in
+    let is = number_is_read 1 16 text fits.0 (omega arith) (omega arith) fits.1 in
+    let new = no_lanes given now stands.agrees none in
+    let later : Stands with_text now (Some (codes "lanes", text ∷ [])) = record {
+      settles = lanes_settle now text new is.accepted;
+      agrees = subst (Agrees with_text) (sym (lanes_used now text new)) (more_lanes given now stands.agrees text none);
+    } in
+    more_walked (codes "--lanes") (text ∷ words) _ _ _ (lanes_turn rows pending stands.settles) (lanes_walk rows pending)
+    (more_walked text words _ _ _ (lanes_value_turn now text is.word) (lanes_value now text is.word) (more with_text now (Some (codes "lanes", text ∷ [])) options later e))
+
+order_step : (words : List Text) → WalksBehind words → (given : Given) (rows : List Row) (pending : Pending) (options : Options) → Stands given rows pending → given.order ≡ None
+    → GivesOptions options (take_words given OrderNext words) → Walks (codes "--order" ∷ words) (between rows pending idle) (take_words given OrderNext words).given
+order_step [] more given rows pending options stands none e = no_value options e
+order_step (text ∷ words) more given rows pending options stands none e =
+    let now = settled_rows rules pending rows in
+    let with_text : Given = record given { order = Some text } in
+    let taken = take_words with_text NoValue words in
+    let word = order_fits taken.given taken.awaited text options (order_stays words with_text NoValue text refl refl) e in
+    let new = no_order given now stands.agrees none in
+    let later : Stands with_text now (Some (codes "order", text ∷ [])) = record {
+      settles = order_settle now text new;
+      agrees = subst (Agrees with_text) (sym (order_used now text new)) (more_order given now stands.agrees text none);
+    } in
+    more_walked (codes "--order") (text ∷ words) _ _ _ (order_turn rows pending stands.settles) (order_walk rows pending)
+    (more_walked text words _ _ _ (order_value_turn now text word) (order_value now text word) (more with_text now (Some (codes "order", text ∷ [])) options later e))
+
+merge_step : (words : List Text) → WalksAll words → (given : Given) (rows : List Row) (pending : Pending) (options : Options) → Stands given rows pending → given.merge ≡ false
+    → GivesOptions options (take_words (record given { merge = true }) NoValue words)
+    → Walks (codes "--merge" ∷ words) (between rows pending idle) (take_words (record given { merge = true }) NoValue words).given
+merge_step words more given rows pending options stands off e =
+    let now = settled_rows rules pending rows in
+    let merging : Given = record given { merge = true } in
+    let new = no_merge given now stands.agrees off in
+    let later : Stands merging (used (filled (flag_option (codes "merge"))) [] now) None = record { settles = refl; agrees = subst (Agrees merging) (sym (merge_used now new)) (more_merge given now stands.agrees off) } in
+    more_walked (codes "--merge") words _ _ _ (merge_turn rows pending stands.settles new) (merge_walk rows pending) (more merging _ None options later e)
+
+trace_step : (words : List Text) → WalksAll words → (given : Given) (rows : List Row) (pending : Pending) (options : Options) → Stands given rows pending → given.trace ≡ false
+    → GivesOptions options (take_words (record given { trace = true }) NoValue words)
+    → Walks (codes "--trace" ∷ words) (between rows pending idle) (take_words (record given { trace = true }) NoValue words).given
+trace_step words more given rows pending options stands off e =
+    let now = settled_rows rules pending rows in
+    let tracing : Given = record given { trace = true } in
+    let new = no_trace given now stands.agrees off in
+    let later : Stands tracing (used (filled (flag_option (codes "trace"))) [] now) None = record { settles = refl; agrees = subst (Agrees tracing) (sym (trace_used now new)) (more_trace given now stands.agrees off) } in
+    more_walked (codes "--trace") words _ _ _ (trace_turn rows pending stands.settles new) (trace_walk rows pending) (more tracing _ None options later e)
+
+named : (word name : Text) (b : Bool) → (bytes_eq word name && b) ≡ true → (name ≡ word) × (b ≡ true)
+named word name b e =
+    let parts = and_parts (bytes_eq word name) b e in
+    (sym ((bytes_eq-Decides word name).0 parts.0), parts.1)
+
+absent : (o : Option Text) → not (is_some o) ≡ true → o ≡ None
+absent None e = refl
+absent (Some text) e = absurd (true≢false (sym e))
+
+-- what the words take where the first is one of the four arguments, or none
+abbrev taken_by : Given → List Text → Bool → Bool → Bool → Bool → Taken
+taken_by given words lanes order merge trace =
+    let next = take_argument given (cond lanes LanesValue (cond order OrderValue (cond merge MergeFlag (cond trace TraceFlag NoArgument)))) in
+    take_words next.given next.awaited words
+
+one_step : (word : Text) (words : List Text) → WalksAll words → WalksBehind words → WalksAll (word ∷ words)
+one_step word words more behind given rows pending options stands e =
+    by (bytes_eq word (codes "--lanes") && not (is_some given.lanes)) refl (bytes_eq word (codes "--order") && not (is_some given.order)) refl
+    (bytes_eq word (codes "--merge") && not given.merge) refl (bytes_eq word (codes "--trace") && not given.trace) refl e
+  where
+    by : (b : Bool) → (bytes_eq word (codes "--lanes") && not (is_some given.lanes)) ≡ b → (c : Bool) → (bytes_eq word (codes "--order") && not (is_some given.order)) ≡ c
+        → (d : Bool) → (bytes_eq word (codes "--merge") && not given.merge) ≡ d → (f : Bool) → (bytes_eq word (codes "--trace") && not given.trace) ≡ f
+        → GivesOptions options (taken_by given words b c d f) → Walks (word ∷ words) (between rows pending idle) (taken_by given words b c d f).given
+    by true is c _ d _ f _ e =
+        let at = named word (codes "--lanes") _ is in
+        subst (λ (w : Text). Walks (w ∷ words) (between rows pending idle) (take_words given LanesNext words).given) at.0
+        (lanes_step words behind given rows pending options stands (absent given.lanes at.1) e)
+    by false _ true is d _ f _ e =
+        let at = named word (codes "--order") _ is in
+        subst (λ (w : Text). Walks (w ∷ words) (between rows pending idle) (take_words given OrderNext words).given) at.0
+        (order_step words behind given rows pending options stands (absent given.order at.1) e)
+    by false _ false _ true is f _ e =
+        let at = named word (codes "--merge") _ is in
+        subst (λ (w : Text). Walks (w ∷ words) (between rows pending idle) (take_words (record given { merge = true }) NoValue words).given) at.0
+        (merge_step words more given rows pending options stands (not-true given.merge at.1) e)
+    by false _ false _ false _ true is e =
+        let at = named word (codes "--trace") _ is in
+        subst (λ (w : Text). Walks (w ∷ words) (between rows pending idle) (take_words (record given { trace = true }) NoValue words).given) at.0
+        (trace_step words more given rows pending options stands (not-true given.trace at.1) e)
+    by false _ false _ false _ false _ e = no_value options (sym (refused_gives_none given words) ∙ e)
+
+all_walked : (words : List Text) → WalksAll words
+unfolding walk_fault
+all_walked [] = λ given rows pending options stands e. record { rows = rows; pending = pending; no_fault = refl; ends = refl; stands = stands }
+all_walked (word ∷ []) = one_step word [] (all_walked []) tt
+all_walked (word ∷ text ∷ words) = one_step word (text ∷ words) (all_walked (text ∷ words)) (all_walked words)
+
+pub plain_walks : (words : List Text) (options : Options) → GivesOptions options (take_words nothing_given NoValue words)
+    → Walks words (between [] None idle) (take_words nothing_given NoValue words).given
+plain_walks words options e = all_walked words nothing_given [] None options stands_first e

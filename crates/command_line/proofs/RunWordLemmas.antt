@@ -1,0 +1,191 @@
+-- How clap walks over the words behind `run`.
+use Rattle.std.proofs.Common.{◌≡◌, refl, ap, ap₂, ◌∙◌, List, [], ◌∷◌, ◌++◌, Bool, true, false, ◌&&◌, cond, codes, Option, Some, None, is_some, option_map}
+use Rattle.clap.specs.Faults.{settle_fault, turn_fault}
+use Rattle.clap.specs.Kinds.{Kinds, or_else}
+use Rattle.clap.specs.Simple.{Shape, built, filled}
+use Rattle.clap.specs.ValueTests.{accepts}
+use Rattle.clap.specs.Walk.{Held, Row, Rule, Text, Waiting, Walk, has_row, idle, option, settled_rows, used, walked}
+use Rattle.clap.specs.declared.builder.value_parser.Reading.TheVariants as reading
+use Rattle.clap.specs.declared.error.kind.ErrorKind.TheVariants as kind
+use Rattle.clap.specs.declared.parser.matches.ValueSource.TheVariants.{CommandLine}
+use Rattle.clap.proofs.OnLiterals.{clap_on_literals}
+use Rattle.option_model.specs.Plain.{Given, nothing_given}
+use Rattle.command_line.specs.Words.{between as range, flag_option, run_command}
+use Rattle.command_line.proofs.NumberLemmas.{IsValue, not_short}
+use Rattle.command_line.proofs.RowLemmas.{found_before, found_behind, has_row_is, row_at, row_with, used_once}
+
+-- the command as it is built
+abbrev pub top : Shape
+top = (built run_command).top
+
+abbrev pub rules : List Rule
+rules = top.rules
+
+abbrev pub Pending : Type 0
+Pending = Option (Text × List Text)
+
+abbrev pub held : List Row → Pending → Held
+held rows pending = record { rows = rows; pending = pending; skip = 0 }
+
+-- where the walk stands between two words
+abbrev pub between : List Row → Pending → Waiting → Walk
+between rows pending waiting = record { held = held rows pending; waiting = waiting; position = 1; is_trailing = false; stopped = None }
+
+-- ---- the rows of what the words gave
+
+abbrev pub lanes_row : Text → Row
+lanes_row text = row_with (codes "lanes") reading.WithoutMinus CommandLine (text ∷ [])
+
+abbrev pub order_row : Text → Row
+order_row text = row_with (codes "order") reading.AsWritten CommandLine (text ∷ [])
+
+abbrev pub flag_row : Text → Row
+flag_row id = row_with id reading.AsWritten CommandLine (codes "true" ∷ [])
+
+abbrev pub flag_if : Text → Bool → Option Row
+flag_if id b = cond b (Some (flag_row id)) None
+
+pub record Agrees (given : Given) (rows : List Row) : Type 0 where
+  pub lanes : row_at (codes "lanes") rows ≡ option_map lanes_row given.lanes
+  pub order : row_at (codes "order") rows ≡ option_map order_row given.order
+  pub merge : row_at (codes "merge") rows ≡ flag_if (codes "merge") given.merge
+  pub trace : row_at (codes "trace") rows ≡ flag_if (codes "trace") given.trace
+
+-- what is pending is no fault, and with it the rows are those of what was given
+pub record Stands (given : Given) (rows : List Row) (pending : Pending) : Type 0 where
+  pub settles : settle_fault rules false (held rows pending) ≡ []
+  pub agrees : Agrees given (settled_rows rules pending rows)
+
+pub stands_first : Stands nothing_given [] None
+stands_first = record { settles = refl; agrees = record { lanes = refl; order = refl; merge = refl; trace = refl } }
+
+module _ (given : Given) (rows : List Row) (agrees : Agrees given rows) where
+  pub no_lanes : given.lanes ≡ None → has_row (codes "lanes") rows ≡ false
+  no_lanes none = has_row_is (codes "lanes") rows ∙ ap is_some (agrees.lanes ∙ ap (option_map lanes_row) none)
+
+  pub no_order : given.order ≡ None → has_row (codes "order") rows ≡ false
+  no_order none = has_row_is (codes "order") rows ∙ ap is_some (agrees.order ∙ ap (option_map order_row) none)
+
+  pub no_merge : given.merge ≡ false → has_row (codes "merge") rows ≡ false
+  no_merge off = has_row_is (codes "merge") rows ∙ ap is_some (agrees.merge ∙ ap (flag_if (codes "merge")) off)
+
+  pub no_trace : given.trace ≡ false → has_row (codes "trace") rows ≡ false
+  no_trace off = has_row_is (codes "trace") rows ∙ ap is_some (agrees.trace ∙ ap (flag_if (codes "trace")) off)
+
+  pub more_lanes : (text : Text) → given.lanes ≡ None → Agrees (record given { lanes = Some text }) (rows ++ lanes_row text ∷ [])
+  more_lanes text none = record {
+    lanes = found_behind (codes "lanes") rows (lanes_row text) (agrees.lanes ∙ ap (option_map lanes_row) none) refl;
+    order = found_before (codes "order") rows (lanes_row text) refl ∙ agrees.order;
+    merge = found_before (codes "merge") rows (lanes_row text) refl ∙ agrees.merge;
+    trace = found_before (codes "trace") rows (lanes_row text) refl ∙ agrees.trace;
+  }
+
+  pub more_order : (text : Text) → given.order ≡ None → Agrees (record given { order = Some text }) (rows ++ order_row text ∷ [])
+  more_order text none = record {
+    lanes = found_before (codes "lanes") rows (order_row text) refl ∙ agrees.lanes;
+    order = found_behind (codes "order") rows (order_row text) (agrees.order ∙ ap (option_map order_row) none) refl;
+    merge = found_before (codes "merge") rows (order_row text) refl ∙ agrees.merge;
+    trace = found_before (codes "trace") rows (order_row text) refl ∙ agrees.trace;
+  }
+
+  pub more_merge : given.merge ≡ false → Agrees (record given { merge = true }) (rows ++ flag_row (codes "merge") ∷ [])
+  more_merge off = record {
+    lanes = found_before (codes "lanes") rows (flag_row (codes "merge")) refl ∙ agrees.lanes;
+    order = found_before (codes "order") rows (flag_row (codes "merge")) refl ∙ agrees.order;
+    merge = found_behind (codes "merge") rows (flag_row (codes "merge")) (agrees.merge ∙ ap (flag_if (codes "merge")) off) refl;
+    trace = found_before (codes "trace") rows (flag_row (codes "merge")) refl ∙ agrees.trace;
+  }
+
+  pub more_trace : given.trace ≡ false → Agrees (record given { trace = true }) (rows ++ flag_row (codes "trace") ∷ [])
+  more_trace off = record {
+    lanes = found_before (codes "lanes") rows (flag_row (codes "trace")) refl ∙ agrees.lanes;
+    order = found_before (codes "order") rows (flag_row (codes "trace")) refl ∙ agrees.order;
+    merge = found_before (codes "merge") rows (flag_row (codes "trace")) refl ∙ agrees.merge;
+    trace = found_behind (codes "trace") rows (flag_row (codes "trace")) (agrees.trace ∙ ap (flag_if (codes "trace")) off) refl;
+  }
+
+-- ---- one use of each argument
+
+repeated : (has : Bool) (rest : Kinds) → has ≡ false → rest ≡ [] → or_else (cond (has && true) (kind.ArgumentConflict ∷ []) []) rest ≡ []
+repeated has rest none fine = ap₂ (λ (h : Bool) (k : Kinds). or_else (cond (h && true) (kind.ArgumentConflict ∷ []) []) k) none fine
+
+module _ (rows : List Row) where
+  pub lanes_settle : (text : Text) → has_row (codes "lanes") rows ≡ false → accepts false (range 1 16) text ≡ true
+      → settle_fault rules false (held rows (Some (codes "lanes", text ∷ []))) ≡ []
+  lanes_settle text none fits = repeated _ _ none (ap (λ (b : Bool). or_else (cond b [] (kind.ValueValidation ∷ [])) []) fits)
+
+  pub order_settle : (text : Text) → has_row (codes "order") rows ≡ false → settle_fault rules false (held rows (Some (codes "order", text ∷ []))) ≡ []
+  order_settle text none = repeated _ _ none refl
+
+  pub lanes_used : (text : Text) → has_row (codes "lanes") rows ≡ false → settled_rows rules (Some (codes "lanes", text ∷ [])) rows ≡ rows ++ lanes_row text ∷ []
+  lanes_used text none = used_once (codes "lanes") reading.WithoutMinus CommandLine (text ∷ []) rows none
+
+  pub order_used : (text : Text) → has_row (codes "order") rows ≡ false → settled_rows rules (Some (codes "order", text ∷ [])) rows ≡ rows ++ order_row text ∷ []
+  order_used text none = used_once (codes "order") reading.AsWritten CommandLine (text ∷ []) rows none
+
+  pub merge_used : has_row (codes "merge") rows ≡ false → used (filled (flag_option (codes "merge"))) [] rows ≡ rows ++ flag_row (codes "merge") ∷ []
+  merge_used none = used_once (codes "merge") reading.AsWritten CommandLine (codes "true" ∷ []) rows none
+
+  pub trace_used : has_row (codes "trace") rows ≡ false → used (filled (flag_option (codes "trace"))) [] rows ≡ rows ++ flag_row (codes "trace") ∷ []
+  trace_used none = used_once (codes "trace") reading.AsWritten CommandLine (codes "true" ∷ []) rows none
+
+-- ---- the turn of one word
+
+module _ (rows : List Row) (pending : Pending) where
+  abbrev pub after : List Row
+  after = settled_rows rules pending rows
+
+  pub lanes_walk : walked rules [] (between rows pending idle) (codes "--lanes") ≡ between after (Some (codes "lanes", [])) (option (codes "lanes"))
+  unfolding clap_on_literals
+  lanes_walk = refl
+
+  pub order_walk : walked rules [] (between rows pending idle) (codes "--order") ≡ between after (Some (codes "order", [])) (option (codes "order"))
+  unfolding clap_on_literals
+  order_walk = refl
+
+  pub merge_walk : walked rules [] (between rows pending idle) (codes "--merge") ≡ between (used (filled (flag_option (codes "merge"))) [] after) None idle
+  unfolding clap_on_literals
+  merge_walk = refl
+
+  pub trace_walk : walked rules [] (between rows pending idle) (codes "--trace") ≡ between (used (filled (flag_option (codes "trace"))) [] after) None idle
+  unfolding clap_on_literals
+  trace_walk = refl
+
+  module _ (settles : settle_fault rules false (held rows pending) ≡ []) where
+    pub lanes_turn : turn_fault top [] (between rows pending idle) (codes "--lanes") ≡ []
+    unfolding clap_on_literals
+    lanes_turn = ap (λ (k : Kinds). or_else k []) settles
+
+    pub order_turn : turn_fault top [] (between rows pending idle) (codes "--order") ≡ []
+    unfolding clap_on_literals
+    order_turn = ap (λ (k : Kinds). or_else k []) settles
+
+    pub merge_turn : has_row (codes "merge") after ≡ false → turn_fault top [] (between rows pending idle) (codes "--merge") ≡ []
+    unfolding clap_on_literals
+    merge_turn none = ap₂ (λ (k l : Kinds). or_else (or_else k l) []) settles (repeated (has_row (codes "merge") after) [] none refl)
+
+    pub trace_turn : has_row (codes "trace") after ≡ false → turn_fault top [] (between rows pending idle) (codes "--trace") ≡ []
+    unfolding clap_on_literals
+    trace_turn none = ap₂ (λ (k l : Kinds). or_else (or_else k l) []) settles (repeated (has_row (codes "trace") after) [] none refl)
+
+-- the word is the value of the option that waits for it
+module _ (rows : List Row) where
+  pub lanes_value : (text : Text) → IsValue text → walked rules [] (between rows (Some (codes "lanes", [])) (option (codes "lanes"))) text ≡ between rows (Some (codes "lanes", text ∷ [])) idle
+  unfolding clap_on_literals
+  lanes_value [] value = absurd value
+  lanes_value (byte ∷ bytes) value = rw (value, not_short byte bytes value) refl
+
+  pub order_value : (text : Text) → IsValue text → walked rules [] (between rows (Some (codes "order", [])) (option (codes "order"))) text ≡ between rows (Some (codes "order", text ∷ [])) idle
+  unfolding clap_on_literals
+  order_value [] value = absurd value
+  order_value (byte ∷ bytes) value = rw (value, not_short byte bytes value) refl
+
+  pub lanes_value_turn : (text : Text) → IsValue text → turn_fault top [] (between rows (Some (codes "lanes", [])) (option (codes "lanes"))) text ≡ []
+  unfolding clap_on_literals
+  lanes_value_turn [] value = absurd value
+  lanes_value_turn (byte ∷ bytes) value = rw (value, not_short byte bytes value) refl
+
+  pub order_value_turn : (text : Text) → IsValue text → turn_fault top [] (between rows (Some (codes "order", [])) (option (codes "order"))) text ≡ []
+  unfolding clap_on_literals
+  order_value_turn [] value = absurd value
+  order_value_turn (byte ∷ bytes) value = rw (value, not_short byte bytes value) refl

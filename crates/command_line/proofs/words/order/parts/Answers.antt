@@ -1,0 +1,11 @@
+use Rattle.std.proofs.Common.{◌≡◌, IfOk, map, rules, subst, tests}
+use Rattle.std.specs.Prelude.{◌==◌}
+use Rattle.std.specs.List.{slice_split}
+use Rattle.std.proofs.lemmas.Iterator.Consumers.{map_from_collect}
+use Rattle.std.proofs.lemmas.Iterator.Splits.{YieldsList-from_slice_split}
+use Rattle.command_line.proofs.words.order.parts.Goals as goal
+
+pub returns : goal.returns
+returns c = subst (λ r. IfOk r (λ parts. map (λ part. part.now) parts.items ≡ slice_split (λ b. b == c.args.byte) c.args.text.now)) c.in_ok-collect.was
+    (map_from_collect _ c.collect.ensures.ran (YieldsList-from_slice_split _ (λ b. b == c.args.byte) c.args.text.now c.split.ensures.rest c.split.ensures.done c.split.ensures.closure
+    (λ x r q k. search (rules, tests))))

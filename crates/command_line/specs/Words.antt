@@ -1,0 +1,117 @@
+-- What the words of a command line say, as clap reads them.
+use Rattle.std.specs.Prelude.{ℕ, ◌^◌, ◌<◌, ◌≤◌, ◌&&◌, pos, Bool, true, false, if◌then◌else◌, List, [], ◌∷◌, bytes_eq, codes, nat_lt, Option, Some, None, option_and_then, option_map, unwrap_or}
+use Rattle.std.specs.Option.{option_map_or}
+use Rattle.std.specs.Str.Parse.{digits_value, without_leading_plus}
+use Rattle.clap.specs.Walk.{Row, Rule, first_of, one_of}
+use Rattle.clap.specs.Simple.{App, matches_of, new_app, new_rule, on_top, with_rule}
+use Rattle.clap.specs.Faults.{fault_of}
+use Rattle.clap.specs.Kinds.{Kinds}
+use Rattle.clap.specs.ValueTests.{is_numeral}
+use Rattle.clap.specs.declared.builder.action.ArgAction.TheVariants.{Set, SetTrue}
+use Rattle.clap.specs.declared.builder.value_parser.ValueParser.{ValueParser}
+use Rattle.clap.specs.declared.builder.value_parser.ValueParser.TheVariants.{Signed}
+use Rattle.clap.specs.declared.error.kind.ErrorKind.{ErrorKind}
+use Rattle.clap.specs.declared.error.kind.ErrorKind.TheVariants as kind
+use Rattle.lake_model.specs.Texts.{Text}
+use Rattle.script_model.specs.Options.{Options, options_with}
+use Rattle.option_model.specs.Ranges.{AreInRange}
+use Rattle.option_model.specs.Plain as model
+use Rattle.command_line.specs.declared.words.Mode.{Mode}
+use Rattle.command_line.specs.declared.words.Mode.TheVariants.{Run, Make}
+use Rattle.command_line.specs.declared.words.WordsRefused.{WordsRefused}
+use Rattle.command_line.specs.declared.words.WordsRefused.TheVariants as refused
+
+abbrev pub mode_of : Mode → model.Mode
+mode_of (Run options) = model.Run options
+mode_of (Make seed tables rows) = model.Make seed tables rows
+
+abbrev pub IsModeInRange : model.Mode → Type 0
+IsModeInRange (model.Run options) = AreInRange options
+IsModeInRange (model.Make seed tables rows) = (seed < 2 ^ 32) × (1 ≤ tables) × (tables ≤ 1000) × (1 ≤ rows) × (rows ≤ 5000)
+
+abbrev pub refusal_by : ErrorKind → WordsRefused
+refusal_by kind.OutOfMemory = refused.NoMemory
+refusal_by _ = refused.Usage
+
+-- ---- the commands that clap reads the words behind a mode with
+
+-- a number in a range
+abbrev pub between : ℕ → ℕ → ValueParser
+between least most = Signed (pos least) (pos most)
+
+abbrev pub lanes_option : Rule
+lanes_option = record (new_rule (codes "lanes")) { long = Some (codes "lanes"); action = Some Set; parser = Some (between 1 16) }
+
+abbrev pub order_option : Rule
+order_option = record (new_rule (codes "order")) { long = Some (codes "order"); action = Some Set }
+
+abbrev pub flag_option : Text → Rule
+flag_option name = record (new_rule name) { long = Some name; action = Some SetTrue }
+
+-- an argument without a name before it, which has to be there
+abbrev pub number_word : Text → ValueParser → Rule
+number_word name parser = record (new_rule name) { required = true; action = Some Set; parser = Some parser }
+
+-- all words are arguments, and neither help nor a version is among them
+abbrev pub bare : Text → App
+bare name = on_top (λ shape. record shape { no_binary_name = true; disable_help_flag = true; disable_version_flag = true }) (new_app name)
+
+abbrev pub run_command : App
+run_command = with_rule (with_rule (with_rule (with_rule (bare (codes "run"))
+    lanes_option) order_option) (flag_option (codes "merge"))) (flag_option (codes "trace"))
+
+abbrev pub make_command : App
+make_command = with_rule (with_rule (with_rule (bare (codes "make"))
+    (number_word (codes "seed") (between 0 4294967295))) (number_word (codes "tables") (between 1 1000))) (number_word (codes "rows") (between 1 5000))
+
+-- ---- what clap's matches hold
+
+abbrev pub flag_of : Text → List Row → Bool
+flag_of id matches = option_map_or (λ text. bytes_eq text (codes "true")) (one_of id matches) false
+
+-- the number of 32 bits that the text is read as
+abbrev pub number_read : Text → Option ℕ
+number_read text =
+    let digits = without_leading_plus text in
+    if is_numeral digits && nat_lt (digits_value 10 digits) (2 ^ 32) then Some (digits_value 10 digits) else None
+
+abbrev pub number_held : Text → List Row → Option ℕ
+number_held id matches = option_and_then number_read (one_of id matches)
+
+-- the order that the text states, where there is one; none where it breaks the rule of orders
+abbrev pub order_stated : ℕ → Bool → Option Text → Option (Option (List (List ℕ)))
+order_stated lanes merge None = Some None
+order_stated lanes merge (Some text) = option_map Some (model.order_of lanes merge text)
+
+abbrev pub options_held : List Row → Option Options
+options_held matches =
+    let lanes = unwrap_or (number_held (codes "lanes") matches) 1 in
+    let merge = flag_of (codes "merge") matches in
+    option_map (λ order. options_with lanes order merge (flag_of (codes "trace") matches)) (order_stated lanes merge (first_of (codes "order") matches))
+
+-- none where clap has a fault to name
+abbrev pub held_without : {X : Type 0} → Kinds → Option X → Option X
+held_without [] held = held
+held_without (fault ∷ faults) held = None
+
+abbrev pub run_words : List Text → Option Options
+run_words words = held_without (fault_of run_command words) (options_held (matches_of run_command words))
+
+abbrev pub make_held : List Row → Option model.Mode
+make_held matches = model.make_with (number_held (codes "seed") matches) (number_held (codes "tables") matches) (number_held (codes "rows") matches)
+
+abbrev pub make_words : List Text → Option model.Mode
+make_words words = held_without (fault_of make_command words) (make_held (matches_of make_command words))
+
+-- whether the first word is a mode
+abbrev pub names_mode : List Text → Bool
+names_mode [] = false
+names_mode (word ∷ words) = if bytes_eq word (codes "run") then true else bytes_eq word (codes "make")
+
+-- the mode of the words: none where the first is no mode, clap refuses the words behind it, or the order breaks its rule
+abbrev pub mode_read : List Text → Option model.Mode
+mode_read [] = None
+mode_read (word ∷ words) =
+    if bytes_eq word (codes "run") then option_map model.Run (run_words words)
+    else if bytes_eq word (codes "make") then make_words words
+    else None

@@ -1,0 +1,9 @@
+//! The words of a command line: the mode of the program, with the options of a run or the numbers of a lake to make; and numbers, as they are
+//! written.
+#![tactic(auto)]
+
+mod numbers;
+mod words;
+
+pub use numbers::{read_any_number, read_number};
+pub use words::{Mode, WordsRefused, read_words};

@@ -1,0 +1,59 @@
+//! Numbers, as they are written on a command line and in a script.
+ghost use Rattle.std.specs.Prelude.{◌≡◌, ◌≤◌, IfSome, min, option_map};
+ghost use Rattle.std.specs.List.{list_all};
+ghost use Rattle.script_model.specs.Words.{digits_value, is_digit, is_number, number, number_of};
+
+/// More than every number that a command line or a script may hold.
+const TOO_GREAT: u64 = 4294967296;
+
+/// The number, of at most `most`, in decimal digits of which the first is not 0.
+pub fn read_number(text: &[u8], most: u32) -> Option<u32>
+    ensures value { result ≡ number most text.now }
+    ensures positive { IfSome result (λ n. 1 ≤ n) }
+{
+    if !is_number(text) {
+        return None;
+    }
+    let value = digits_value(text);
+    if value > u64::from(most) {
+        return None;
+    }
+    Some(value as u32)
+}
+
+/// The number in decimal digits of which the first is not 0, and 4,294,967,296 where it is more.
+pub fn read_any_number(text: &[u8]) -> Option<u64>
+    ensures value { result ≡ option_map (λ n. min n 4294967296) (number_of text.now) }
+    ensures positive { IfSome result (λ n. 1 ≤ n) }
+{
+    if !is_number(text) {
+        return None;
+    }
+    Some(digits_value(text))
+}
+
+// Whether the text is decimal digits of which the first is not 0.
+fn is_number(text: &[u8]) -> bool
+    ensures { result ≡ is_number text.now }
+{
+    are_digits(text) && !matches!(text, [] | [b'0', ..])
+}
+
+// Whether the text is decimal digits alone.
+fn are_digits(text: &[u8]) -> bool
+    ensures { result ≡ list_all is_digit text.now }
+{
+    text.iter().all(|byte| b'0' <= *byte && *byte <= b'9')
+}
+
+// The value of decimal digits, and 4,294,967,296 where it is more.
+fn digits_value(digits: &[u8]) -> u64
+    ensures { result ≡ min (digits_value digits.now) 4294967296 }
+{
+    let mut value: u64 = 0;
+    for digit in digits {
+        let ones = u64::from(digit.saturating_sub(b'0'));
+        value = (value * 10 + ones).min(TOO_GREAT);
+    }
+    value
+}

@@ -1,0 +1,244 @@
+//! The words of a command line, behind the program's name.
+ghost use Rattle.std.specs.Prelude.{ℕ, ◌≡◌, ◌≤◌, ◌⊎◌, false, Some, None, Err, map, pos, string_bytes, IfOk, IfErr, MatchResult, option_map};
+ghost use Rattle.clap.specs.Walk.{rule_of};
+ghost use Rattle.clap.specs.Words.{app_of, found_of, rows_of};
+ghost use Rattle.option_model.specs.Plain.{Mode as ModeOf, plain_mode};
+ghost use Rattle.option_model.specs.Ranges.{AreInRange};
+ghost use Rattle.command_line.specs.Words.{IsModeInRange, bare, flag_of, flag_option, lanes_option, order_option, make_command as make_app, make_held, make_words, mode_of, mode_read, names_mode, number_held, number_word, options_held, order_stated, run_command as run_app, run_words};
+
+use clap::builder::ValueParser;
+use clap::error::ErrorKind;
+use clap::{Arg, ArgAction, ArgMatches, Command, Error, value_parser};
+use commands::{Options, Order};
+use no_memory::NoMemory;
+use std::alloc::Global;
+
+mod order;
+
+use order::read_order;
+
+/// What the words of a command line ask the program to do.
+#[derive(Drop)]
+pub enum Mode {
+    /// A script is read and run with these options.
+    Run(Options),
+    /// A script is written that loads this many tables of this many rows, made from the seed.
+    Make { seed: u32, tables: u32, rows: u32 },
+}
+
+/// Why the words of a command line give no mode.
+#[derive(Clone, Copy, Debug, PartialEq, Eq)]
+pub enum WordsRefused {
+    /// The first word is no mode, or the words behind it are not ones that the mode takes.
+    Usage,
+    /// Memory was wanting.
+    NoMemory,
+}
+
+impl From<NoMemory> for WordsRefused {
+    ghost use Rattle.std.specs.Prelude.{◌≡◌};
+    ghost use Rattle.command_line.specs.declared.words.WordsRefused.TheVariants as refused;
+
+    ghost from_gives = { λ _ e. e ≡ refused.NoMemory };
+
+    fn from(_error: NoMemory) -> WordsRefused {
+        WordsRefused::NoMemory
+    }
+}
+
+impl From<Error> for WordsRefused {
+    ghost use Rattle.std.specs.Prelude.{◌≡◌};
+    ghost use Rattle.clap.specs.Words.{kind_of};
+    ghost use Rattle.command_line.specs.Words.{refusal_by};
+
+    ghost from_gives = { λ error e. e ≡ refusal_by (kind_of error) };
+
+    fn from(error: Error) -> WordsRefused {
+        match error.kind() {
+            ErrorKind::OutOfMemory => WordsRefused::NoMemory,
+            _ => WordsRefused::Usage,
+        }
+    }
+}
+
+// The number of lanes.
+fn lanes_option<'a>(alloc: Global) -> Arg<'a>
+    ensures rule { rule_of result ≡ lanes_option }
+    ensures local { result.global ≡ false }
+{
+    Arg::new(alloc, "lanes")
+        .long("lanes")
+        .action(ArgAction::Set)
+        .value_parser(value_parser!(u32).range(1..=16))
+}
+
+// The stated order.
+fn order_option<'a>(alloc: Global) -> Arg<'a>
+    ensures rule { rule_of result ≡ order_option }
+    ensures local { result.global ≡ false }
+{
+    Arg::new(alloc, "order")
+        .long("order")
+        .action(ArgAction::Set)
+}
+
+// A flag, off where it does not stand among the words.
+fn flag_option<'a>(alloc: Global, name: &'a str) -> Arg<'a>
+    ensures rule { rule_of result ≡ flag_option name.entry.now }
+    ensures local { result.global ≡ false }
+{
+    Arg::new(alloc, name).long(name).action(ArgAction::SetTrue)
+}
+
+// A number without a name before it, which has to be there.
+fn number_word<'a>(alloc: Global, name: &'a str, parser: ValueParser<'a>) -> Arg<'a>
+    ensures rule { rule_of result ≡ number_word name.entry.now parser.entry }
+    ensures local { result.global ≡ false }
+{
+    Arg::new(alloc, name)
+        .required(true)
+        .action(ArgAction::Set)
+        .value_parser(parser)
+}
+
+// A command whose words are all arguments of its own.
+fn bare<'a>(alloc: Global, name: &'a str) -> Command<'a>
+    ensures { app_of result ≡ bare name.entry.now }
+{
+    Command::new(alloc, name)
+        .no_binary_name(true)
+        .disable_help_flag(true)
+        .disable_version_flag(true)
+}
+
+// The command that reads the words behind `run`.
+fn run_command<'a>(alloc: Global) -> Result<Command<'a>, NoMemory>
+    ensures { IfOk result (λ command. app_of command ≡ run_app) }
+{
+    let command = bare(alloc, "run")
+        .arg(lanes_option(alloc))?
+        .arg(order_option(alloc))?
+        .arg(flag_option(alloc, "merge"))?
+        .arg(flag_option(alloc, "trace"))?;
+    Ok(command)
+}
+
+// The command that reads the words behind `make`.
+fn make_command<'a>(alloc: Global) -> Result<Command<'a>, NoMemory>
+    ensures { IfOk result (λ command. app_of command ≡ make_app) }
+{
+    let command = bare(alloc, "make")
+        .arg(number_word(alloc, "seed", value_parser!(u32)))?
+        .arg(number_word(alloc, "tables", value_parser!(u32).range(1..=1000)))?
+        .arg(number_word(alloc, "rows", value_parser!(u32).range(1..=5000)))?;
+    Ok(command)
+}
+
+// The value of a flag. `get_flag` would do, but its contract leaves open what a text other than `true` and `false` reads as.
+fn flag(matches: &ArgMatches<'_>, id: &str) -> bool
+    ensures { result ≡ flag_of id.now (rows_of (found_of matches.now)) }
+{
+    matches.get_one::<bool>(id).unwrap_or(false)
+}
+
+// The value of an argument that is a number.
+fn number(matches: &ArgMatches<'_>, id: &str) -> Option<u32>
+    ensures { result ≡ number_held id.now (rows_of (found_of matches.now)) }
+{
+    matches.get_one::<u32>(id)
+}
+
+// The order that a text states; none where it breaks the rule of orders.
+fn order_stated(
+    alloc: Global,
+    lanes: u32,
+    merge: bool,
+    text: Option<&str>,
+) -> Result<Option<Order>, WordsRefused>
+    ensures read { IfOk result (λ order. order_stated lanes merge (option_map (λ t. t.now) text.entry) ≡ Some order) }
+    ensures refused { IfErr result (λ e. (e ≡ WordsRefused.NoMemory) ⊎ (order_stated lanes merge (option_map (λ t. t.now) text.entry) ≡ None)) }
+{
+    let Some(text) = text else {
+        return Ok(None);
+    };
+    let order = read_order(alloc, lanes, merge, text.as_bytes())?;
+    let Some(order) = order else {
+        return Err(WordsRefused::Usage);
+    };
+    Ok(Some(order))
+}
+
+// The options that the matches of `run` hold.
+fn options_held(alloc: Global, matches: &ArgMatches<'_>) -> Result<Options, WordsRefused>
+    ensures read { IfOk result (λ options. options_held (rows_of (found_of matches.now)) ≡ Some options) }
+    ensures refused { IfErr result (λ e. (e ≡ WordsRefused.NoMemory) ⊎ (options_held (rows_of (found_of matches.now)) ≡ None)) }
+{
+    let lanes = number(matches, "lanes").unwrap_or(1);
+    let merge = flag(matches, "merge");
+    let order = order_stated(alloc, lanes, merge, matches.get_str("order"))?;
+    Ok(Options {
+        lanes,
+        order,
+        merge,
+        trace: flag(matches, "trace"),
+    })
+}
+
+// The options that the words behind `run` say.
+fn run_options(alloc: Global, words: &[String]) -> Result<Options, WordsRefused>
+    ensures read { IfOk result (λ options. run_words (map string_bytes words.now) ≡ Some options) }
+    ensures in_range { IfOk result AreInRange }
+    ensures refused { IfErr result (λ e. (e ≡ WordsRefused.NoMemory) ⊎ (run_words (map string_bytes words.now) ≡ None)) }
+{
+    let matches = run_command(alloc)?.try_get_matches_from(words)?;
+    options_held(alloc, &matches)
+}
+
+// The numbers that the matches of `make` hold, where all are there.
+fn make_held(matches: &ArgMatches<'_>) -> Option<Mode>
+    ensures { option_map mode_of result ≡ make_held (rows_of (found_of matches.now)) }
+{
+    let seed = number(matches, "seed")?;
+    let tables = number(matches, "tables")?;
+    let rows = number(matches, "rows")?;
+    Some(Mode::Make { seed, tables, rows })
+}
+
+// The mode that the words behind `make` say.
+fn make_mode(alloc: Global, words: &[String]) -> Result<Mode, WordsRefused>
+    ensures read { IfOk result (λ mode. make_words (map string_bytes words.now) ≡ Some (mode_of mode)) }
+    ensures in_range { IfOk result (λ mode. IsModeInRange (mode_of mode)) }
+    ensures refused { IfErr result (λ e. (e ≡ WordsRefused.NoMemory) ⊎ (make_words (map string_bytes words.now) ≡ None)) }
+{
+    let matches = make_command(alloc)?.try_get_matches_from(words)?;
+    make_held(&matches).ok_or(WordsRefused::Usage)
+}
+
+/// The mode that the words behind the program's name say. The first word is the mode, byte for byte, and clap reads the words behind
+/// it. `run` takes `--lanes N`, `--order LIST`, `--merge` and `--trace`, each at most once and in any order: N is 1 to 16, and 1 where it
+/// is not said; LIST is pieces with `/` between, and a piece is empty, or numbers of lanes with `,` between, where 0 is the merger. `make`
+/// takes a seed below 4,294,967,296, 1 to 1,000 tables, and 1 to 5,000 rows.
+#[tactic(auto, using(crate::proofs::ModeLemmas::plain_is_read, std::proofs::lemmas::Grind::common_steps))]
+pub fn read_words(alloc: Global, words: &[String]) -> Result<Mode, WordsRefused>
+    // plain words give what they say, or memory is wanting
+    ensures plain { (mode : ModeOf) → plain_mode (map string_bytes words.now) ≡ Some mode
+        → MatchResult result (λ given. mode_of given ≡ mode) (λ e. e ≡ WordsRefused.NoMemory) }
+    // no words, or another first word
+    ensures no_mode { names_mode (map string_bytes words.now) ≡ false → result ≡ Err WordsRefused.Usage }
+    // all words
+    ensures read { IfOk result (λ given. mode_read (map string_bytes words.now) ≡ Some (mode_of given)) }
+    ensures in_range { IfOk result (λ given. IsModeInRange (mode_of given)) }
+    ensures refused { IfErr result (λ e. (e ≡ WordsRefused.NoMemory) ⊎ (mode_read (map string_bytes words.now) ≡ None)) }
+{
+    let [mode, arguments @ ..] = words else {
+        return Err(WordsRefused::Usage);
+    };
+    match mode.as_str() {
+        "run" => Ok(Mode::Run(run_options(alloc, arguments)?)),
+        "make" => make_mode(alloc, arguments),
+        _ => Err(WordsRefused::Usage),
+    }
+}
+
+#[cfg(test)]
+mod tests;

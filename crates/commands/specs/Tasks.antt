@@ -1,0 +1,32 @@
+-- What a command asks for, as the code holds it.
+use Rattle.std.specs.Prelude.{◌≤◌, ⊤}
+use Rattle.script_model.specs.Commands as model
+use Rattle.commands.specs.declared.command.FileBody.{FileBody}
+use Rattle.commands.specs.declared.command.FileBody.TheVariants.{Bytes, Failed, Missing, TooLong}
+use Rattle.commands.specs.declared.command.Task.{Task}
+use Rattle.commands.specs.declared.command.Task.TheVariants.{Load, LoadFile, Drop, Tables, Search, Like, Merge}
+
+abbrev pub file_of : FileBody → model.File
+file_of (Bytes body) = model.Bytes body
+file_of Failed = model.Failed
+file_of Missing = model.Missing
+file_of TooLong = model.TooLong
+
+abbrev pub task_of : Task → model.Task
+task_of (Load name body) = model.Load name body
+task_of (LoadFile name file) = model.LoadFile name (file_of file)
+task_of (Drop name) = model.DropTable name
+task_of Tables = model.Tables
+task_of (Search k body) = model.Search k body
+task_of (Like k name place) = model.Like k name place
+task_of (Merge all) = model.Merge all
+
+-- a search asks for 1 to 10,000 columns, and places count from 1
+abbrev pub IsTaskInRange : Task → Type 0
+IsTaskInRange (Load name body) = ⊤
+IsTaskInRange (LoadFile name file) = ⊤
+IsTaskInRange (Drop name) = ⊤
+IsTaskInRange Tables = ⊤
+IsTaskInRange (Search k body) = (1 ≤ k) × (k ≤ 10000)
+IsTaskInRange (Like k name place) = (1 ≤ k) × (k ≤ 10000) × (1 ≤ place)
+IsTaskInRange (Merge all) = ⊤

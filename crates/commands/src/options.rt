@@ -1,0 +1,97 @@
+//! What the words of a command line say of a run.
+ghost use Rattle.std.specs.Prelude.{◌≡◌};
+ghost use Rattle.script_model.specs.Options.{plain};
+
+use std::marker::Model;
+
+/// A piece of an order: the lanes whose turn it is in a batch, one after another, where 0 is the merger. A contract sees the list.
+#[derive(Drop)]
+pub struct Piece {
+    lanes: Vec<u32>,
+}
+
+impl Model for Piece {
+    ghost use Rattle.std.specs.Prelude.{List, ℕ};
+
+    ghost Value = { List ℕ };
+
+    ghost view = { λ p. p.lanes.items };
+}
+
+impl Piece {
+    /// The piece of these lanes. It takes no memory.
+    pub fn new(lanes: Vec<u32>) -> Piece
+        ensures { result ≡ lanes.items }
+    {
+        Piece { lanes }
+    }
+
+    /// The lanes.
+    pub fn list(&self) -> &[u32]
+        ensures { result.now ≡ self.now }
+    {
+        &self.lanes
+    }
+}
+
+/// A stated order: a piece for each batch. A contract sees the list of the pieces.
+#[derive(Drop)]
+pub struct Order {
+    pieces: Vec<Piece>,
+}
+
+impl Model for Order {
+    ghost use Rattle.std.specs.Prelude.{List, ℕ};
+
+    ghost Value = { List (List ℕ) };
+
+    ghost view = { λ o. o.pieces.items };
+}
+
+impl Order {
+    /// The order of these pieces. It takes no memory.
+    pub fn new(pieces: Vec<Piece>) -> Order
+        ensures { result ≡ pieces.items }
+    {
+        Order { pieces }
+    }
+
+    /// The pieces.
+    pub fn list(&self) -> &[Piece]
+        ensures { result.now ≡ self.now }
+    {
+        &self.pieces
+    }
+}
+
+/// What the words of a command line say of a run: how many lanes there are, in which order their steps are taken where one is stated,
+/// whether a merger runs beside them, and whether replies are written with a trace.
+#[derive(Drop)]
+pub struct Options {
+    pub lanes: u32,
+    pub order: Option<Order>,
+    pub merge: bool,
+    pub trace: bool,
+}
+
+impl Model for Options {
+    ghost use Rattle.script_model.specs.Options.{Options as OptionsOf, options_with};
+
+    ghost Value = { OptionsOf };
+
+    ghost view = { λ o. options_with o.lanes o.order o.merge o.trace };
+}
+
+impl Options {
+    /// One lane, no stated order, no merger and no trace. It takes no memory.
+    pub fn plain() -> Options
+        ensures { result ≡ plain }
+    {
+        Options {
+            lanes: 1,
+            order: None,
+            merge: false,
+            trace: false,
+        }
+    }
+}

@@ -1,0 +1,2 @@
+mod WorkedWords
+mod WorkedMakes

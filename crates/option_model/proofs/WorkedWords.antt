@@ -1,0 +1,57 @@
+-- Worked words of a command line, and the mode that they say.
+use Rattle.std.proofs.Common.{◌≡◌, refl, [], ◌∷◌}
+use Rattle.std.specs.Prelude.{codes, true, false, Some, None}
+use Rattle.script_model.specs.Options.{plain, options_with}
+use Rattle.option_model.specs.Plain.{Make, Run, plain_mode}
+
+run_alone : plain_mode (codes "run" ∷ []) ≡ Some (Run plain)
+run_alone = refl
+
+run_with_trace : plain_mode (codes "run" ∷ codes "--trace" ∷ []) ≡ Some (Run (options_with 1 None false true))
+run_with_trace = refl
+
+no_words : plain_mode [] ≡ None
+no_words = refl
+
+capital : plain_mode (codes "Run" ∷ []) ≡ None
+capital = refl
+
+flag_twice : plain_mode (codes "run" ∷ codes "--trace" ∷ codes "--trace" ∷ []) ≡ None
+flag_twice = refl
+
+make : plain_mode (codes "make" ∷ codes "0" ∷ codes "1" ∷ codes "2" ∷ []) ≡ Some (Make 0 1 2)
+make = refl
+
+make_without_rows : plain_mode (codes "make" ∷ codes "7" ∷ codes "40" ∷ []) ≡ None
+make_without_rows = refl
+
+make_too_many : plain_mode (codes "make" ∷ codes "7" ∷ codes "1001" ∷ codes "500" ∷ []) ≡ None
+make_too_many = refl
+
+lanes : plain_mode (codes "run" ∷ codes "--lanes" ∷ codes "2" ∷ []) ≡ Some (Run (options_with 2 None false false))
+lanes = refl
+
+too_many_lanes : plain_mode (codes "run" ∷ codes "--lanes" ∷ codes "17" ∷ []) ≡ None
+too_many_lanes = refl
+
+no_value : plain_mode (codes "run" ∷ codes "--lanes" ∷ []) ≡ None
+no_value = refl
+
+-- the number of lanes may stand behind the order that names them
+race : plain_mode (codes "run" ∷ codes "--order" ∷ codes "1,2,1//2" ∷ codes "--lanes" ∷ codes "2" ∷ []) ≡ Some (Run (options_with 2 (Some ((1 ∷ 2 ∷ 1 ∷ []) ∷ [] ∷ (2 ∷ []) ∷ [])) false false))
+race = refl
+
+no_such_lane : plain_mode (codes "run" ∷ codes "--order" ∷ codes "2" ∷ []) ≡ None
+no_such_lane = refl
+
+no_merger : plain_mode (codes "run" ∷ codes "--order" ∷ codes "0" ∷ []) ≡ None
+no_merger = refl
+
+merger : plain_mode (codes "run" ∷ codes "--merge" ∷ codes "--order" ∷ codes "1,0/" ∷ []) ≡ Some (Run (options_with 1 (Some ((1 ∷ 0 ∷ []) ∷ [] ∷ [])) true false))
+merger = refl
+
+empty_order : plain_mode (codes "run" ∷ codes "--order" ∷ [] ∷ []) ≡ None
+empty_order = refl
+
+half_a_piece : plain_mode (codes "run" ∷ codes "--order" ∷ codes "1," ∷ []) ≡ None
+half_a_piece = refl

@@ -1,0 +1,10 @@
+pub mod InTurnLemmas
+pub mod RightLemmas
+pub mod PlayLemmas
+pub mod StepLemmas
+pub mod GatherLemmas
+pub mod ProgressLemmas
+pub mod LegalLemmas
+pub mod PlayedLemmas
+mod WorkedRuns
+mod WorkedOrders

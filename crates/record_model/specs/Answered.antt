@@ -1,0 +1,139 @@
+-- What each command is answered, what it adds to the journal, and the positions that its reply shows.
+use Rattle.std.specs.Prelude.{ℕ, Bool, true, false, List, [], ◌∷◌, if◌then◌else◌, Option, Some, None}
+use Rattle.lake_model.specs.declared.Policy.{Policy}
+use Rattle.lake_model.specs.declared.Policy.TheVariants.{Tier, All}
+use Rattle.lake_model.specs.declared.Counts.{Counts}
+use Rattle.lake_model.specs.declared.CsvRefused.{CsvRefused}
+use Rattle.lake_model.specs.declared.SetRefused.{SetRefused}
+use Rattle.lake_model.specs.declared.QueryRefused.{QueryRefused}
+use Rattle.lake_model.specs.Texts.{Text}
+use Rattle.lake_model.specs.Tables.{Table}
+use Rattle.lake_model.specs.Records.{Record, records_of, csv_fault, sets_fault, table_of}
+use Rattle.lake_model.specs.Queries.{query_of, query_fault}
+use Rattle.lake_model.specs.Journal.{What, Entry}
+use Rattle.lake_model.specs.Journal as journal
+use Rattle.lake_model.specs.Answer.{Query}
+use Rattle.lake_model.specs.Plan.{plan}
+use Rattle.script_model.specs.Commands.{File, Bytes, Failed, Missing, TooLong, Task, Load, LoadFile, DropTable, Tables, Search, Like, Merge}
+use Rattle.record_model.specs.Replies.{Reply, Loaded, Dropped, Listed, Found, Merged, Repeated, Unknown, NoColumn, Full, NothingToMerge, Stale, Fault, OfCsv, OfSets, OfQuery, OfFile, FailedFault, MissingFault, TooLongFault, fault_reply, load_reply, drop_reply, tables_reply, search_reply, like_reply, merge_reply}
+
+-- the table of bytes, or the refusal of these bytes
+pub data TableRead : Type 0 where
+  IsTable : (table : Table) → TableRead
+  NoTable : (fault : Fault) → TableRead
+
+-- the keys of a body, or its refusal
+pub data QueryRead : Type 0 where
+  IsQuery : (keys : List Text) → QueryRead
+  NoQuery : (fault : Fault) → QueryRead
+
+-- The table of bytes under a name. The first fault of the records refuses them, or else the first of the sets.
+abbrev pub sets_read : Text → List Record → Option SetRefused → TableRead
+sets_read name rows None = IsTable (table_of name rows)
+sets_read name rows (Some why) = NoTable (OfSets why)
+
+abbrev pub records_read : Text → List Record → Option CsvRefused → TableRead
+records_read name rows None = sets_read name rows (sets_fault rows)
+records_read name rows (Some why) = NoTable (OfCsv why)
+
+unfoldable pub table_read : Text → List ℕ → TableRead
+table_read name bytes = records_read name (records_of bytes) (csv_fault bytes)
+
+-- the query of a body, whose first fault refuses it
+abbrev pub keys_read : List ℕ → Option QueryRefused → QueryRead
+keys_read body None = IsQuery (query_of body)
+keys_read body (Some why) = NoQuery (OfQuery why)
+
+unfoldable pub query_read : List ℕ → QueryRead
+query_read body = keys_read body (query_fault body)
+
+abbrev pub file_read : Text → File → TableRead
+file_read name (Bytes bytes) = table_read name bytes
+file_read name Failed = NoTable (OfFile FailedFault)
+file_read name Missing = NoTable (OfFile MissingFault)
+file_read name TooLong = NoTable (OfFile TooLongFault)
+
+abbrev pub policy_of : Bool → Policy
+policy_of true = All
+policy_of false = Tier
+
+abbrev pub plain_query : ℕ → List Text → Query
+plain_query k keys = record { keys = keys; k = k; except = None }
+
+abbrev pub load_answer : Counts → TableRead → List Entry → Reply
+load_answer limits (IsTable table) now = load_reply limits table now
+load_answer limits (NoTable fault) now = fault_reply fault
+
+abbrev pub search_answer : ℕ → QueryRead → List Entry → Reply
+search_answer k (IsQuery keys) pinned = search_reply (plain_query k keys) pinned
+search_answer k (NoQuery fault) pinned = fault_reply fault
+
+-- the reply to a command that was pinned at one journal and is answered at another
+abbrev pub answer_to : Counts → Task → List Entry → List Entry → Reply
+answer_to limits (Load name body) pinned now = load_answer limits (table_read name body) now
+answer_to limits (LoadFile name file) pinned now = load_answer limits (file_read name file) now
+answer_to limits (DropTable name) pinned now = drop_reply limits name now
+answer_to limits Tables pinned now = tables_reply now
+answer_to limits (Search k body) pinned now = search_answer k (query_read body) pinned
+answer_to limits (Like k name place) pinned now = like_reply k name place pinned
+answer_to limits (Merge all) pinned now = merge_reply (policy_of all) pinned now
+
+-- a search, a like and a merge have a pin of their own
+abbrev pub has_pin : Task → Bool
+has_pin (Load name body) = false
+has_pin (LoadFile name file) = false
+has_pin (DropTable name) = false
+has_pin Tables = false
+has_pin (Search k body) = true
+has_pin (Like k name place) = true
+has_pin (Merge all) = true
+
+-- what a command adds, where it is accepted
+abbrev pub loads : TableRead → List What
+loads (IsTable table) = journal.Loaded table ∷ []
+loads (NoTable fault) = []
+
+abbrev pub swaps : Option (List ℕ × List ℕ) → List What
+swaps None = []
+swaps (Some planned) = journal.Swapped planned.0 planned.1 ∷ []
+
+abbrev pub change_of : Task → List Entry → List What
+change_of (Load name body) pinned = loads (table_read name body)
+change_of (LoadFile name file) pinned = loads (file_read name file)
+change_of (DropTable name) pinned = journal.Dropped name ∷ []
+change_of Tables pinned = []
+change_of (Search k body) pinned = []
+change_of (Like k name place) pinned = []
+change_of (Merge all) pinned = swaps (plan (policy_of all) pinned)
+
+-- where a reply stands: at no position, at one it has seen, at its own entry; a merge has the position of its plan besides
+pub data Standing : Type 0 where
+  Nowhere : Standing
+  Saw : (at : ℕ) → Standing
+  Added : (at : ℕ) → Standing
+  PlannedAndSaw : (pinned at : ℕ) → Standing
+  PlannedAndAdded : (pinned at : ℕ) → Standing
+
+abbrev pub standing : Reply → Standing
+standing (Loaded name columns members at) = Added at
+standing (Dropped name at) = Added at
+standing (Listed tables at) = Saw at
+standing (Found query rows reads probes layout) = Saw layout.at
+standing (Merged layout parts tables at) = PlannedAndAdded layout.at at
+standing (Repeated name at) = Saw at
+standing (Unknown name at) = Saw at
+standing (NoColumn name place at) = Saw at
+standing (Full which count more at) = Saw at
+standing (NothingToMerge layout) = Saw layout.at
+standing (Stale layout gone at) = PlannedAndSaw layout.at at
+standing reply = Nowhere
+
+abbrev pub is_accepted : Standing → Bool
+is_accepted Nowhere = false
+is_accepted (Saw at) = false
+is_accepted (Added at) = true
+is_accepted (PlannedAndSaw pinned at) = false
+is_accepted (PlannedAndAdded pinned at) = true
+
+abbrev pub adds : Task → List Entry → Reply → List What
+adds task pinned reply = if is_accepted (standing reply) then change_of task pinned else []

@@ -1,0 +1,10 @@
+pub mod Work
+pub mod Replies
+pub mod Answered
+pub mod Record
+pub mod Play
+pub mod Right
+pub mod InTurn
+pub mod PlayLaws
+pub mod Texts
+pub mod Statuses

@@ -1,0 +1,28 @@
+-- The record of a run: its journal, its answers, and the length of the journal behind each batch.
+use Rattle.std.specs.Prelude.{ℕ, Bool, false, List, []}
+use Rattle.lake_model.specs.declared.Who.{Who}
+use Rattle.lake_model.specs.Journal.{Entry}
+use Rattle.script_model.specs.Options.{Options}
+use Rattle.record_model.specs.Replies.{Reply}
+
+-- the merger is caller 0
+pub record Answered : Type 0 where
+  pub who : Who
+  pub reply : Reply
+
+abbrev pub answered_with : Who → Reply → Answered
+answered_with who reply = record { who = who; reply = reply }
+
+pub record RunRecord : Type 0 where
+  pub options : Options
+  pub journal : List Entry
+  pub answers : List Answered
+  pub syncs : List ℕ
+  pub ended : Bool
+
+abbrev pub empty : Options → RunRecord
+empty options = record { options = options; journal = []; answers = []; syncs = []; ended = false }
+
+-- whether the source was read to its end
+abbrev pub with_end : Bool → RunRecord → RunRecord
+with_end ended made = record made { ended = ended }

@@ -1,0 +1,26 @@
+//! The definitions of what a run makes of a script: replies, the record of a run, the play of batches in a stated order, right records,
+//! the texts that are written, and the table of statuses. There is no code here but the plain types that both the code and the definitions
+//! use, and the laws of the definitions.
+#![tactic(auto)]
+
+mod laws;
+
+pub use laws::{batches_law, in_turn_law, played_is_right_law, right_lanes_law};
+use script_model::Reason;
+
+/// How a run ended.
+#[derive(Clone, Copy, Debug, PartialEq, Eq)]
+pub enum Status {
+    /// The source was read to its end, and all text was written.
+    Done,
+    /// The line, counted from 1, is the first that is at fault.
+    Script { line: u64, reason: Reason },
+    /// The words of the command line are refused, and nothing was read or written.
+    Usage,
+    /// The source failed.
+    ReadFault,
+    /// The sink failed.
+    WriteFault,
+    /// Memory was wanting.
+    NoMemory,
+}

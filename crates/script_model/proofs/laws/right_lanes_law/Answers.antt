@@ -1,6 +1,0 @@
--- The laws of right lanes.
-use Rattle.script_model.proofs.RightLemmas.{right_on, right_stays}
-use Rattle.script_model.proofs.laws.right_lanes_law.Goals as goal
-
-pub returns : goal.returns
-returns c = record { stay = right_stays; go_on = right_on }
