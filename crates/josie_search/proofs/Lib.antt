@@ -21,3 +21,4 @@ pub mod PartsLemmas
 pub mod RunLemmas
 pub mod SureLemmas
 pub mod LakeLemmas
+pub mod OfferLemmas

@@ -183,3 +183,24 @@ hits_few set qs = prefix_filter set qs
 
 pub rest_is : (i : ℕ) (qs : List ℕ) → take (length qs - i) (drop i qs) ≡ drop i qs
 rest_is i qs = take_all (length qs - i) (drop i qs) (omega (arith, length-drop i qs))
+
+-- ---- walked from either side
+
+above : (x y : ℕ) (ys : List ℕ) → x < y → AllByRecursion (λ z. y < z) ys → AllByRecursion (λ z. x < z) ys
+above x y [] l h = tt
+above x y (z ∷ zs) l h = (omega (arith, l, h.0), above x y zs l h.1)
+
+strict_behind : (x : ℕ) (xs : List ℕ) → IsStrictlyIncreasing (x ∷ xs) → IsStrictlyIncreasing xs
+strict_behind x xs up k h = let e : suc k + 1 ≡ suc (k + 1) = omega arith in subst (λ (n : ℕ). get_or xs k 0 < get_or (x ∷ xs) n 0) e (up (suc k) (omega arith))
+
+rises : (xs : List ℕ) → IsStrictlyIncreasing xs → Rising xs
+rises [] up = tt
+rises (x ∷ []) up = (tt, tt)
+rises (x ∷ y ∷ ys) up =
+    let rest = rises (y ∷ ys) (strict_behind x (y ∷ ys) up) in
+    let first : x < y = up 0 (omega arith) in
+    ((first, above x y ys first rest.0), rest)
+
+-- as many of these are among the others as of the others among these
+pub shared_either : (xs ys : List ℕ) → IsStrictlyIncreasing xs → IsStrictlyIncreasing ys → count_by (is_among xs) ys ≡ count_by (is_among ys) xs
+shared_either xs ys up over = both_ways xs ys (rises xs up) (rises ys over)

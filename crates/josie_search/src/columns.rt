@@ -1,19 +1,23 @@
 //! What a search has seen of the columns of a part.
-ghost use Rattle.std.specs.Prelude.{◌≡◌, ◌<◌, ◌≤◌, ◌+◌, ◌^◌, ℕ, false, true, filter, get_or, length, slice_set, IfOk};
+ghost use Rattle.std.specs.Prelude.{◌≡◌, ◌<◌, ◌≤◌, ◌+◌, ◌++◌, ◌∷◌, ◌^◌, [], ℕ, false, true, filter, get_or, length, slice_set, vec_capacity, vec_len, IfOk};
 ghost use Rattle.std.specs.List.{All};
+ghost use Rattle.lake_model.specs.Layout.{is_among};
 ghost use Rattle.josie_search.specs.Columns.{IsClean, IsListed};
-ghost use Rattle.josie_search.specs.Tallies.{counted, of_column, tally_at};
+ghost use Rattle.josie_search.specs.Tallies.{counted, of_column, raised, tally_at};
 
-use crate::tally::{Tally, count_list, forget};
+use crate::tally::Tally;
 use no_memory::NoMemory;
 use segment_core::Posting;
 use std::alloc::Global;
 use std::marker::Model;
 
 /// A tally of each column, and whether its row is known. It lists the columns that are touched, which stand in one of the lists read, so
-/// that they are found again with no walk over the others. A contract sees the three lists.
+/// that they are found again with no walk over the others. Tallies are kept of the touched columns alone, in the order of that list, behind
+/// one that all others share: a column has the index of its own, so that little has to be set before a search. A contract sees the tallies
+/// of all columns, the marks of the known ones and the list.
 #[derive(Drop)]
 pub(crate) struct Columns {
+    slots: Vec<u32>,
     tallies: Vec<Tally>,
     known: Vec<bool>,
     touched: Vec<u32>,
@@ -21,13 +25,13 @@ pub(crate) struct Columns {
 
 impl Model for Columns {
     ghost use Rattle.std.specs.Prelude.{vec_capacity};
-    ghost use Rattle.josie_search.specs.Columns.{columns_with, ColumnsOf, IsKept};
+    ghost use Rattle.josie_search.specs.Columns.{columns_with, ColumnsOf, IsKept, tallies_in};
 
     ghost Value = { ColumnsOf };
 
-    ghost view = { λ c. columns_with c.tallies.items c.known.items c.touched.items };
+    ghost view = { λ c. columns_with (tallies_in c.tallies.items c.slots.items) c.known.items c.touched.items };
 
-    ghost invariant = { λ c. IsKept c.tallies.items c.known.items c.touched.items (vec_capacity c.touched) };
+    ghost invariant = { λ c. IsKept c.slots.items c.tallies.items c.known.items c.touched.items (vec_capacity c.tallies) (vec_capacity c.touched) };
 }
 
 impl Columns {
@@ -36,8 +40,11 @@ impl Columns {
         ensures wide { IfOk result (λ made. length made.tallies ≡ columns) }
         ensures clean { IfOk result (λ made. IsClean made) }
     {
+        let mut tallies = Vec::with_capacity(alloc, columns as usize + 1)?;
+        tallies.push(Tally::NONE)?;
         Ok(Columns {
-            tallies: vec![in alloc; Tally::NONE; columns as usize]?,
+            slots: vec![in alloc; 0u32; columns as usize]?,
+            tallies,
             known: vec![in alloc; false; columns as usize]?,
             touched: Vec::with_capacity(alloc, columns as usize)?,
         })
@@ -48,7 +55,8 @@ impl Columns {
         requires { column < length self.now.tallies }
         ensures { result ≡ tally_at self.now.tallies column }
     {
-        self.tallies[column as usize]
+        let slot = self.slots[column as usize];
+        self.tallies[slot as usize]
     }
 
     /// Whether the row of a column is known.
@@ -78,7 +86,51 @@ impl Columns {
         ensures most { (column : ℕ) → (tally_at self.new.tallies column).count ≤ result }
         ensures known { self.new.known ≡ self.old.known }
     {
-        count_list(list, &mut self.tallies, &mut self.touched, most)
+        let mut greatest = most;
+        for posting in list {
+            let count = self.raise(posting);
+            greatest = greatest.max(count);
+        }
+        greatest
+    }
+
+    // Counts a posting. It gives the count of its column.
+    fn raise(&mut self, posting: &Posting) -> u32
+        requires within { posting.now.column < length self.old.tallies }
+        requires small { (tally_at self.old.tallies posting.now.column).count + 1 < 2 ^ 32 }
+        ensures tallies { self.new.tallies ≡ slice_set self.old.tallies posting.now.column (raised (tally_at self.old.tallies posting.now.column) posting.now) }
+        ensures count { result ≡ (tally_at self.old.tallies posting.now.column).count + 1 }
+        ensures known { self.new.known ≡ self.old.known }
+    {
+        let slot = self.slots[posting.column as usize];
+        if slot == 0 {
+            self.touch(posting);
+            return 1;
+        }
+        let count = self.tallies[slot as usize].count + 1;
+        self.tallies[slot as usize] = Tally {
+            count,
+            position: posting.position,
+            size: posting.size,
+        };
+        count
+    }
+
+    // Counts the first posting of a column.
+    fn touch(&mut self, posting: &Posting)
+        requires within { posting.now.column < length self.old.tallies }
+        requires unseen { (tally_at self.old.tallies posting.now.column).count ≡ 0 }
+        ensures tallies { self.new.tallies ≡ slice_set self.old.tallies posting.now.column (raised (tally_at self.old.tallies posting.now.column) posting.now) }
+        ensures known { self.new.known ≡ self.old.known }
+    {
+        let tally = Tally {
+            count: 1,
+            position: posting.position,
+            size: posting.size,
+        };
+        self.slots[posting.column as usize] = self.tallies.len() as u32;
+        push_within(&mut self.tallies, tally);
+        push_within(&mut self.touched, posting.column);
     }
 
     /// Marks the row of a column as known.
@@ -97,7 +149,35 @@ impl Columns {
         ensures wide { length self.new.tallies ≡ length self.old.tallies }
         ensures clean { IsClean self.new }
     {
-        forget(&self.touched, &mut self.tallies, &mut self.known);
+        forget(&self.touched, &mut self.slots, &mut self.known);
         self.touched.clear();
+        self.tallies.truncate(1);
+    }
+}
+
+// Pushes where there is room.
+fn push_within<T: Drop>(items: &mut Vec<T>, item: T)
+    requires { vec_len items.old < vec_capacity items.old }
+    ensures items { items.new.items ≡ items.old.items ++ item ∷ [] }
+    ensures capacity { vec_capacity items.old ≤ vec_capacity items.new }
+{
+    match items.push(item) {
+        Ok(()) => (),
+        Err(_) => unreachable!(),
+    }
+}
+
+// Sets the slots and the marks of the touched columns back.
+fn forget(touched: &[u32], slots: &mut [u32], known: &mut [bool])
+    requires within { All (λ column. column < length slots.old) touched.now }
+    requires marks { length known.old ≡ length slots.old }
+    requires others { (column : ℕ) → is_among touched.now column ≡ false → get_or slots.old column 0 ≡ 0 }
+    requires unknown { (column : ℕ) → is_among touched.now column ≡ false → get_or known.old column false ≡ false }
+    ensures slots { (column : ℕ) → get_or slots.new column 0 ≡ 0 }
+    ensures known { (column : ℕ) → get_or known.new column false ≡ false }
+{
+    for column in touched {
+        slots[*column as usize] = 0;
+        known[*column as usize] = false;
     }
 }

@@ -42,7 +42,29 @@ pub(crate) fn offer_rest<'a>(
     ensures rows { top.new.rows ≡ offers top.old.k (lead_row query.now (searched query.now (part_at looks.now.version.parts part)) columns.now.tallies columns.now.known 0) top.old.rows columns.now.touched }
 {
     for column in columns.touched() {
-        let row = lead_of(looks, part, query, columns, 0, *column);
-        offer(top, row);
+        offer_column(looks, part, query, columns, top, *column);
     }
+}
+
+// Offers the row of a column that leads, where all lists were read. It looks up no row that would not be kept.
+fn offer_column<'a>(
+    looks: &Looks<'a>,
+    part: u32,
+    query: &Asked<'_>,
+    columns: &Columns,
+    top: &mut TopK<'a>,
+    column: u32,
+)
+    requires part { part < length looks.now.version.parts }
+    requires column { column < length (segment_at looks.now.version.parts part).sets }
+    requires tallies { column < length columns.now.tallies }
+    requires small { (tally_at columns.now.tallies column).count < 2 ^ 32 }
+    ensures k { top.new.k ≡ top.old.k }
+    ensures rows { top.new.rows ≡ offered top.old.k top.old.rows (lead_row query.now (searched query.now (part_at looks.now.version.parts part)) columns.now.tallies columns.now.known 0 column) }
+{
+    if top.leaves_out(columns.tally(column).count) {
+        return;
+    }
+    let row = lead_of(looks, part, query, columns, 0, column);
+    offer(top, row);
 }

@@ -37,7 +37,20 @@ pub(crate) fn probe(
     ensures spare { looks.new.spare + 1 ≡ looks.old.spare }
 {
     let tail = looks.tail(part, column, tally.position);
-    tally.count + count_among(&tokens[read as usize..], tail) as u32
+    tally.count + count_shared(&tokens[read as usize..], tail) as u32
+}
+
+// How many tokens two lists share, which rise. It walks the shorter one, and looks its tokens up in the other.
+fn count_shared(others: &[u32], tokens: &[u32]) -> usize
+    requires others { IsStrictlyIncreasing others.now }
+    requires tokens { IsStrictlyIncreasing tokens.now }
+    ensures { result ≡ count_by (is_among others.now) tokens.now }
+{
+    if others.len() < tokens.len() {
+        count_among(tokens, others)
+    } else {
+        count_among(others, tokens)
+    }
 }
 
 // How many of these tokens are among others, which rise.

@@ -1,16 +1,16 @@
 -- The tokens in the order of the hashes of their keys: how they are put in that order, and what a search there finds.
-use Rattle.std.proofs.Common.{◌≡◌, refl, ap, sym, ◌∙◌, subst, inl, inr, ℕ, ◌+◌, ◌<◌, ◌≤◌, List, [], ◌∷◌, ◌++◌, Bool, true, false, ltb, map, length, get_or, take, Some, None, arith}
+use Rattle.std.proofs.Common.{◌≡◌, refl, ap, sym, ◌∙◌, subst, inl, inr, ℕ, ◌+◌, ◌-◌, ◌<◌, ◌≤◌, List, [], ◌∷◌, ◌++◌, Bool, true, false, ltb, map, length, get_or, take, drop, Some, None, arith}
 use Rattle.std.specs.Prelude.{bytes_eq}
 use Rattle.std.specs.Cmp.{nat_cmp_is}
 use Rattle.std.specs.Cmp.Lexicographic.{slice_cmp}
-use Rattle.std.specs.List.{list_any, enumerate_from, All, AllByRecursion}
+use Rattle.std.specs.List.{list_any, enumerate_from, slice_range, All, AllByRecursion}
 use Rattle.std.specs.List.Sorted.{IsNonDecreasingBy, IsPartitionPoint, IsPermutation, IsSortedByKey}
 use Rattle.std.specs.Ordering.{is_eq, is_lt, nat_cmp, ordering_index, ordering_then}
 use Rattle.std.specs.declared.cmp.Ordering.{Ordering}
 use Rattle.std.specs.declared.cmp.Ordering.TheVariants.{Less, Equal, Greater}
-use Rattle.std.proofs.lemmas.Bool.{cases_lt, ltb-true, ltb-false}
+use Rattle.std.proofs.lemmas.Bool.{cases_lt, le-ltb, lt-ltb, ltb-true, ltb-false}
 use Rattle.std.proofs.lemmas.Cmp.{nat_list_cmp_total}
-use Rattle.std.proofs.lemmas.List.{get_or-map, length-map, map-append, take_more}
+use Rattle.std.proofs.lemmas.List.{get_or-drop, get_or-map, get_or-take, get_or_default, length-drop, length-map, length-take, map-append, take_more}
 use Rattle.std.proofs.lemmas.List.Elements.{recursion_from_All}
 use Rattle.std.proofs.lemmas.List.Folds.{list_any_none}
 use Rattle.std.proofs.lemmas.List.FromFn.{get_or-enumerate_from, length-enumerate_from}
@@ -22,7 +22,7 @@ use Rattle.lake_model.specs.Texts.{Text}
 use Rattle.lake_model.specs.Tables.{Table}
 use Rattle.search_model.specs.Segment.{Token, segment}
 use Rattle.search_model.specs.Arrays.{key_of, numbers_of, token_with, IsToken}
-use Rattle.segment_core.specs.Hashes.{hash_at, hash_of, hashed_from, hashed_key, hashed_with, sorted_by, IsByHash}
+use Rattle.segment_core.specs.Hashes.{hash_at, hash_of, hashed_from, hashed_key, hashed_with, sorted_by, IsAround, IsByHash}
 use Rattle.segment_core.specs.declared.hashes.Hashed.{Hashed}
 
 -- ---- the tokens' numbers
@@ -188,3 +188,23 @@ module _ (tokens : List Token) (hashes numbers : List ℕ) (order : IsByHash tok
           | inl l ↦ differs (get_or numbers k d) (ap is_eq (less k d l))
           | inr g ↦ differs (get_or numbers k d) (ap is_eq (greater k d g h))
         ]))
+
+-- ---- the part of the hashes that a hash belongs to
+
+-- what parts the hashes there, parts them all
+pub parted_around : (hashes : List ℕ) (from to hash at : ℕ) → IsNonDecreasingBy (λ (n : ℕ). n) hashes → to ≤ length hashes → IsAround hashes from to hash
+    → IsPartitionPoint (λ n. ltb n hash ≡ true) (λ n. ltb n hash ≡ false) (slice_range hashes from to) at → at ≤ length (slice_range hashes from to)
+    → IsPartitionPoint (λ n. ltb n hash ≡ true) (λ n. ltb n hash ≡ false) hashes (from + at)
+parted_around hashes from to hash at rise within around point few =
+    let here : (k d : ℕ) → from ≤ k → k < to → get_or (slice_range hashes from to) (k - from) d ≡ get_or hashes k d = λ k d l h.
+    (let back : from + (k - from) ≡ k = omega arith in get_or-take (to - from) (drop from hashes) (k - from) d (omega arith) ∙ get_or-drop from hashes (k - from) d ∙ ap (λ (n : ℕ). get_or hashes n d) back) in
+    let long : length (slice_range hashes from to) ≡ to - from = omega (arith, length-take (to - from) (drop from hashes), length-drop from hashes, around.rising) in (
+      λ k d l h. elim (cases_lt k from) [
+        | inl m ↦ lt-ltb (get_or hashes k d) hash (omega (arith, rise k (from - 1) d (omega arith) (omega (arith, around.rising)), around.below (omega arith), get_or_default hashes (from - 1) d 0 (omega (arith, around.rising))))
+        | inr m ↦ ap (λ (n : ℕ). ltb n hash) (sym (here k d m (omega (arith, few, long)))) ∙ point.0 (k - from) d (omega arith) (omega arith)
+      ],
+      λ k d l h. elim (cases_lt k to) [
+        | inl m ↦ ap (λ (n : ℕ). ltb n hash) (sym (here k d (omega arith) m)) ∙ point.1 (k - from) d (omega arith) (omega (arith, long))
+        | inr m ↦ le-ltb (get_or hashes k d) hash (omega (arith, rise to k d m h, around.behind (omega arith), get_or_default hashes to d 0 (omega arith)))
+      ],
+    )

@@ -1,5 +1,5 @@
 -- The tokens of a segment in the order of the hashes of their keys.
-use Rattle.std.specs.Prelude.{◌≡◌, ℕ, ◌*◌, ◌<◌, ◌%◌, ◌^◌, List, ◌∷◌, length, map, fold, get_or, bit_xor}
+use Rattle.std.specs.Prelude.{◌≡◌, ℕ, ◌*◌, ◌-◌, ◌<◌, ◌≤◌, ◌%◌, ◌^◌, List, ◌∷◌, length, map, fold, get_or, bit_xor}
 use Rattle.std.specs.Cmp.Lexicographic.{slice_cmp}
 use Rattle.std.specs.List.Sorted.{IsPermutation, IsSortedByKey}
 use Rattle.std.specs.Ordering.{nat_cmp}
@@ -48,6 +48,12 @@ pub record IsByHash (tokens : List Token) (hashes numbers : List ℕ) : Type 0 w
   pub hashed : hashes ≡ map (hash_at tokens) numbers
   pub rising : IsSortedByKey (hashed_key tokens) (slice_cmp nat_cmp) numbers
   pub same : IsPermutation (numbers_of tokens) numbers
+
+-- the hash that stands before the first index is below a hash, and that at the second is not
+pub record IsAround (hashes : List ℕ) (from to hash : ℕ) : Type 0 where
+  pub rising : from ≤ to
+  pub below : 0 < from → get_or hashes (from - 1) 0 < hash
+  pub behind : to < length hashes → hash ≤ get_or hashes to 0
 
 -- where the columns stand, and where the keys of the tokens stand
 pub record AreKeys (tables : List Table) (owners : List Owner) (tokens : List TokenAt) : Type 0 where

@@ -1,11 +1,11 @@
 //! The tokens of a segment in the order of the hashes of their keys.
-ghost use Rattle.std.specs.Prelude.{◌≡◌, ◌∷◌, ◌<◌, ◌^◌, [], length, map, IfOk};
+ghost use Rattle.std.specs.Prelude.{◌≡◌, ◌∷◌, ◌<◌, ◌≤◌, ◌^◌, [], false, length, map, nat_lt, true, IfOk};
 ghost use Rattle.std.specs.Cmp.Lexicographic.{slice_cmp};
-ghost use Rattle.std.specs.List.Sorted.{IsPermutation, IsSortedByKey};
+ghost use Rattle.std.specs.List.Sorted.{IsNonDecreasingBy, IsPartitionPoint, IsPermutation, IsSortedByKey};
 ghost use Rattle.std.specs.Ordering.{nat_cmp};
 ghost use Rattle.search_model.specs.Arrays.{key_of, numbers_of};
 ghost use Rattle.search_model.specs.Segment.{segment};
-ghost use Rattle.segment_core.specs.Hashes.{hash_from, hash_of, hashed_with, sorted_by, AreKeys, IsByHash};
+ghost use Rattle.segment_core.specs.Hashes.{hash_from, hash_of, hashed_with, sorted_by, AreKeys, IsAround, IsByHash};
 
 use column_set::SharedTable;
 use no_memory::NoMemory;
@@ -14,11 +14,13 @@ use std::alloc::Global;
 use std::cmp::Ordering;
 
 /// The numbers of the tokens of a segment, by the hashes of their keys and then by the bytes of their keys; and these hashes, which
-/// rise, so that a search for one reads no text.
+/// rise, so that a search for one reads no text. The range of all hashes is cut into equal parts, a quarter as many as there are
+/// tokens: `starts` says where the hashes of each part begin. Nothing but speed rests on it.
 #[derive(Drop)]
 pub struct HashOrder {
     pub hashes: Vec<u32>,
     pub tokens: Vec<u32>,
+    pub starts: Vec<u32>,
 }
 
 // A token with the hash of its key.
@@ -28,8 +30,8 @@ struct Hashed {
     token: u32,
 }
 
-/// The tokens in the order of the hashes of their keys. It takes the time to read each key once and to sort as many numbers, and 16
-/// bytes for each token, of which 8 are kept. Keys are compared only where their hashes are equal.
+/// The tokens in the order of the hashes of their keys. It takes the time to read each key once and to sort as many numbers, and 17
+/// bytes for each token, of which 9 are kept. Keys are compared only where their hashes are equal.
 pub fn order_by_hash(
     alloc: Global,
     tables: &[SharedTable],
@@ -43,7 +45,12 @@ pub fn order_by_hash(
     let hashed = sorted_tokens(alloc, tables, owners, tokens)?;
     let hashes = hashes_of(alloc, &hashed)?;
     let tokens = tokens_of(alloc, &hashed)?;
-    Ok(HashOrder { hashes, tokens })
+    let starts = starts_of(alloc, &hashes)?;
+    Ok(HashOrder {
+        hashes,
+        tokens,
+        starts,
+    })
 }
 
 // The tokens in that order, each with the hash of its key.
@@ -121,6 +128,56 @@ fn tokens_of(alloc: Global, hashed: &[Hashed]) -> Result<Vec<u32>, NoMemory>
         numbers.push(one.token)?;
     }
     Ok(numbers)
+}
+
+// How many of the hashes, which rise, lie below each part of the range of hashes.
+fn starts_of(alloc: Global, hashes: &[u32]) -> Result<Vec<u32>, NoMemory>
+    requires { length hashes.now < 2 ^ 32 }
+{
+    let parts = hashes.len() as u64 / 4;
+    let mut starts = Vec::with_capacity(alloc, parts as usize)?;
+    for part in 0..parts {
+        let least = (part << 32) / parts;
+        starts.push(hashes.partition_point(|hash| u64::from(*hash) < least) as u32)?;
+    }
+    Ok(starts)
+}
+
+/// How many of the hashes, which rise, are below one. It compares those of its part of the range alone where `starts` says truly where
+/// these are, and all else.
+pub(crate) fn count_below(hashes: &[u32], starts: &[u32], hash: u32) -> usize
+    requires { IsNonDecreasingBy (λ n. n) hashes.now }
+    ensures { IsPartitionPoint (λ n. nat_lt n hash ≡ true) (λ n. nat_lt n hash ≡ false) hashes.now result }
+{
+    let part = (u64::from(hash).wrapping_mul(starts.len() as u64) >> 32) as usize;
+    let from = start_of(starts, part, hashes.len());
+    let to = start_of(starts, part + 1, hashes.len());
+    if !is_around(hashes, from, to, hash) {
+        return hashes.partition_point(|other| *other < hash);
+    }
+    from + hashes[from..to].partition_point(|other| *other < hash)
+}
+
+// Where a part begins, and the end where there is no such part.
+fn start_of(starts: &[u32], part: usize, end: usize) -> usize
+    ensures { result ≤ end }
+{
+    match starts.get(part) {
+        Some(start) => (*start as usize).min(end),
+        None => end,
+    }
+}
+
+// Whether the hash at `from` has none before it that is not below a hash, and the one at `to` is not below it.
+fn is_around(hashes: &[u32], from: usize, to: usize, hash: u32) -> bool
+    requires from { from ≤ length hashes.now }
+    requires to { to ≤ length hashes.now }
+    ensures { result ≡ true → IsAround hashes.now from to hash }
+{
+    if from > to || (from > 0 && hashes[from - 1] >= hash) {
+        return false;
+    }
+    to == hashes.len() || hashes[to] >= hash
 }
 
 /// The key of a token, and the empty text where there is no such token.

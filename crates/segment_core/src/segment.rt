@@ -9,7 +9,7 @@ ghost use Rattle.search_model.specs.Segment.{segment, tokens_in};
 ghost use Rattle.segment_core.specs.LiveColumn.{fault_in, keys_in};
 
 use crate::column::ColumnRefused;
-use crate::hashes::{HashOrder, hash_key, key_at};
+use crate::hashes::{HashOrder, count_below, hash_key, key_at};
 use crate::order::ColumnOrder;
 use column_set::{QuerySet, SharedTable};
 use no_memory::NoMemory;
@@ -108,8 +108,8 @@ impl Segment {
         self.owners.len() as u32
     }
 
-    /// The token that the key is, and `None` where no column has the key. It takes as many comparisons of numbers as the number of
-    /// tokens has binary digits, and then one of texts; where another key has the same hash, as many of texts again.
+    /// The token that the key is, and `None` where no column has the key. It compares a few numbers, and then one text; where another
+    /// key has the same hash, as many texts as the number of tokens has binary digits.
     pub fn lookup(&self, key: &str) -> Option<u32>
         ensures { IsToken (segment self.now).tokens key.now result }
     {
@@ -127,7 +127,7 @@ impl Segment {
         ensures lacking { IfNone result ((n : ℕ) → n < length (segment self.now).tokens → hash_at (segment self.now).tokens n ≡ hash → ⊥) }
     {
         let hashes = &self.by_hash.hashes;
-        let at = hashes.partition_point(|other| *other < hash);
+        let at = count_below(hashes, &self.by_hash.starts, hash);
         if at >= hashes.len() || hashes[at] != hash {
             return None;
         }

@@ -2,7 +2,11 @@
 use Rattle.std.proofs.Common.{◌≡◌, refl, ap, sym, ◌∙◌, subst, ℕ, zero, suc, ◌<◌, ◌≤◌, List, [], ◌∷◌, Bool, true, false, not, length, arith, take, cond, get_or, ◌-◌, Some}
 use Rattle.std.specs.List.{AllByRecursion, count_by, slice_get}
 use Rattle.std.specs.List.Sorted.{IsPermutation, IsSortedBy}
-use Rattle.std.specs.Ordering.{is_lt}
+use Rattle.std.specs.Cmp.{nat_cmp_is}
+use Rattle.std.specs.Cmp.Lexicographic.{slice_cmp}
+use Rattle.std.specs.Ordering.{is_lt, nat_cmp, ordering_then}
+use Rattle.std.specs.declared.cmp.Ordering.{Ordering}
+use Rattle.std.specs.declared.cmp.Ordering.TheVariants.{Greater}
 use Rattle.std.specs.BinaryHeap.{IsUpperBound, lt_by_cmp}
 use Rattle.std.proofs.lemmas.List.Sums.{sum_by-cons}
 use Rattle.std.proofs.lemmas.List.Sorted.{IsPermutation-trans, IsPermutation-cons, IsPermutation-sym, IsPermutation-middle, length_permutation, All-permutation}
@@ -49,6 +53,15 @@ unfolding in_order
 left_out row w items h l =
     let behind : IsBehind row_cmp (length items) items row = omega (arith, all_no_later row w items h l) in
     best_behind row_cmp_total row_cmp_exact (length items) row items behind ∙ take_all (in_order row_cmp items) (length items) (omega (arith, length-in_order row_cmp_total items))
+
+later : (a b : Row) → a.overlap < b.overlap → is_lt (row_cmp a b) ≡ false
+later a b low =
+    let names : Ordering = ordering_then (slice_cmp nat_cmp a.table b.table) (ordering_then (slice_cmp nat_cmp a.column b.column) (nat_cmp a.place b.place)) in
+    ap (λ (o : Ordering). is_lt (ordering_then o names)) (sym (nat_cmp_is b.overlap a.overlap Greater low))
+
+-- a row of a lower overlap than all has is left out
+pub not_kept : (k : ℕ) (w : Row) (items : List Row) → k ≡ length items → IsUpperBound row_cmp w items → (row : Row) → row.overlap < w.overlap → take k (put_in_order row_cmp row (in_order row_cmp items)) ≡ in_order row_cmp items
+not_kept k w items n up row low = ap (λ (m : ℕ). take m (put_in_order row_cmp row (in_order row_cmp items))) n ∙ left_out row w items up (later row w low)
 
 pub replaced : (row w : Row) (olds rest news : List Row) → IsPermutation olds (w ∷ rest) → IsPermutation (row ∷ rest) news → IsUpperBound row_cmp w rest → is_lt (row_cmp row w) ≡ true
     → in_order row_cmp news ≡ take (length olds) (put_in_order row_cmp row (in_order row_cmp olds))

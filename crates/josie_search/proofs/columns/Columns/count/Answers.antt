@@ -1,18 +1,34 @@
-use Rattle.std.proofs.Common.{◌≡◌, ap, ◌∙◌, List, length, arith}
-use Rattle.std.specs.List.{filter}
+use Rattle.std.proofs.Common.{refl, ◌+◌, ◌<◌, ◌^◌, sym, ap, ◌∙◌, subst, ℕ, List, get_or, length, max, arith}
+use Rattle.std.proofs.Math.ListN.{length-set}
+use Rattle.search_model.specs.declared.Posting.{Posting}
 use Rattle.josie_search.specs.declared.tally.Tally.{Tally}
-use Rattle.josie_search.specs.Tallies.{of_column, tally_at}
-use Rattle.josie_search.proofs.TallyLemmas.{fold_count}
-use Rattle.josie_search.proofs.TouchedLemmas.{kept_counted, lent_whole}
+use Rattle.josie_search.specs.Tallies.{raised, tally_at}
+use Rattle.josie_search.proofs.SureLemmas.{most_set}
+use Rattle.josie_search.proofs.TallyLemmas.{count_fits, counted_more}
 use Rattle.josie_search.proofs.columns.Columns.count.Goals as goal
 
-pub invariant_of-self : goal.invariant_of-self
-invariant_of-self c =
-    let kept = c.self.invariant in
-    let olds = c.self.inside.tallies.items in
-    let is = c.deref_mut.ensures.value in
-    let wide : length c.count_list.new.tallies ≡ length olds = c.count_list.ensures.wide ∙ ap length is in
-    kept_counted olds c.count_list.new.tallies _ c.self.inside.known.items c.count_list.new.touched.items _ _
-    (lent_whole c.self.inside.tallies.len c.count_list.new.tallies olds (omega (arith, wide, c.self.inside.tallies.ok.0)) (omega (arith, c.self.inside.tallies.ok.0)))
-    c.count_list.ensures.touched wide kept.room c.count_list.ensures.room kept.marks kept.unknown
-    (λ x. omega (arith, ap (λ (t : Tally). t.count) (c.count_list.ensures.tallies x), fold_count (filter (of_column x) c.args.list.now) (tally_at c.deref_mut.result.now x), ap (λ (ts : List Tally). (tally_at ts x).count) is))
+pub raise-count-requires-clause-small : goal.raise-count-requires-clause-small
+raise-count-requires-clause-small c =
+    let i = c.loop-posting.posting-index in
+    let none : Posting = record { column = 0; position = 0; size = 0 } in
+    let posting = get_or c.args.list.now i none in
+    let so_far = ap (λ (t : Tally). t.count) (c.loop-posting.invariant.tallies posting.column) in
+    let few = count_fits c.args.list.now i none posting (tally_at c.args.self.now.tallies posting.column) (2 ^ 32) c.loop-posting-test.true refl (c.requires.small posting.column) in
+    subst (λ (n : ℕ). n + 1 < 2 ^ 32) (sym so_far) few
+
+pub loop-posting-preserved : goal.loop-posting-preserved
+loop-posting-preserved c =
+    let kept = c.loop-posting.invariant in
+    let i = c.loop-posting.posting-index in
+    let none : Posting = record { column = 0; position = 0; size = 0 } in
+    let posting = get_or c.args.list.now i none in
+    let tallies = c.loop-posting.self.tallies in
+    let more = raised (tally_at tallies posting.column) posting in
+    let within : posting.column < length tallies = (let w = c.requires.within i none c.loop-posting-test.true in omega (arith, w, kept.wide)) in
+    let done = c.raise-count.ensures in
+    record {
+      wide = ap (λ (ts : List Tally). length ts) done.tallies ∙ length-set tallies posting.column more ∙ kept.wide;
+      tallies = λ x. ap (λ (ts : List Tally). tally_at ts x) done.tallies ∙ counted_more tallies c.args.self.now.tallies c.args.list.now i none posting c.loop-posting-test.true refl within kept.tallies x;
+      most = λ x. (let m = most_set tallies posting.column more c.loop-posting.greatest (max c.loop-posting.greatest c.raise-count.result) kept.most within (omega (arith, done.count)) (omega arith) x in omega (arith, m, ap (λ (ts : List Tally). (tally_at ts x).count) done.tallies));
+      known = done.known ∙ kept.known;
+    }

@@ -12,10 +12,10 @@ returns-then-at-len-clause-lacking c =
     let tokens = (segment c.args.self.now).tokens in
     let hashes = c.deref.result.now in
     let numbers = c.self.inside.by_hash.tokens.items in
-    let at = c.partition_point-at.result in
+    let at = c.count_below-at.result in
     let long = ap length c.deref.ensures.value in
     let order = subst (λ (hs : List ℕ). IsByHash tokens hs numbers) (sym c.deref.ensures.value) (order_of _ _ _ _ c.self.view_is c.self.invariant.0.order) in
-    let point = IsPartitionPoint-from_clause (λ (n : ℕ). ltb n c.args.hash) hashes at c.partition_point-at.ensures.partitioned (IsPartitionedBy-ltb (λ (n : ℕ). n) hashes c.args.hash (hashes_rise tokens hashes numbers order)) (λ a r f' called. search rules) in
+    let point = c.count_below-at.ensures in
     lacks_hash tokens hashes numbers order c.args.hash at point (λ d l e. elim c.then-at-len.branch [
       | then-at-len-via-then-at-len w ↦ absurd (omega (arith, w.if-at-len.true, l, long))
       | then-at-len-via-else-at-len+then-index-hash w ↦
@@ -26,4 +26,11 @@ pub returns-clause-there : goal.returns-clause-there
 returns-clause-there c =
     let tokens = (segment c.args.self.now).tokens in
     let order = order_of _ _ _ _ c.self.view_is c.self.invariant.0.order in
-    omega (arith, c.index-2.ensures, number_below tokens c.self.inside.by_hash.hashes.items c.self.inside.by_hash.tokens.items order c.partition_point-at.result c.index-2.result.now (omega (arith, c.if-at-len.false)))
+    omega (arith, c.index-2.ensures, number_below tokens c.self.inside.by_hash.hashes.items c.self.inside.by_hash.tokens.items order c.count_below-at.result c.index-2.result.now (omega (arith, c.if-at-len.false)))
+
+pub count_below-at-requires : goal.count_below-at-requires
+count_below-at-requires c =
+    let tokens = (segment c.args.self.now).tokens in
+    let hashes = c.deref.result.now in
+    let numbers = c.self.inside.by_hash.tokens.items in
+    hashes_rise tokens hashes numbers (subst (λ (hs : List ℕ). IsByHash tokens hs numbers) (sym c.deref.ensures.value) (order_of _ _ _ _ c.self.view_is c.self.invariant.0.order))
