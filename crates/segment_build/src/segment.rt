@@ -16,10 +16,9 @@ use token_order::{TokenLists, Vocab};
 ///
 /// It takes the time to sort all keys of all columns by their bytes, once. That gives the token of each key of each column; the distinct
 /// keys and the sets are then sorted as numbers, and the posting lists written in one pass, and keys are compared again only where their
-/// hashes are equal, while the tokens are sorted by these. The columns are sorted once too, by their names. The most memory is taken at the
-/// end, and is what the segment keeps: 16 bytes for each key of each column, 20 for each distinct key, and 20 for each column. (While the
-/// keys are sorted, they take 12 bytes for each key of each column, and at most 32 for each distinct key; where few keys stand in more than
-/// three columns, that is more.) It is refused only for want of memory.
+/// hashes are equal, while the tokens are sorted by these. The columns are sorted once too, by their names. The segment keeps 16 bytes for
+/// each key of each column, 20 for each distinct key, and 20 for each column. The most memory is taken while the keys are sorted and
+/// counted: 28 bytes for each key of each column, and at most 32 for each distinct key. It is refused only for want of memory.
 pub fn build(alloc: Global, tables: Vec<SharedTable>) -> Result<Segment, NoMemory>
     requires columns { sum_by (λ t. length t.columns) tables.items < 2 ^ 32 }
     requires members { sum_by members tables.items < 2 ^ 32 }

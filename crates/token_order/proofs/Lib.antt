@@ -7,4 +7,6 @@ pub mod SortLemmas
 pub mod TokenLemmas
 pub mod HeldLemmas
 pub mod CountLemmas
+pub mod FrontLemmas
+pub mod KeyedLemmas
 pub mod RankLemmas

@@ -1,6 +1,8 @@
 pub mod Columns
 pub mod Counted
 pub mod Counting
+pub mod Fronts
+pub mod Keyed
 pub mod Places
 pub mod Ranks
 pub mod Runs

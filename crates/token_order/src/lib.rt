@@ -2,6 +2,8 @@
 #![tactic(auto)]
 
 mod columns;
+mod fronts;
+mod keyed;
 mod numbers;
 mod order;
 mod places;

@@ -1,14 +1,17 @@
 //! The members of the columns of tables, sorted by their keys. A member is a key of a column. As many as there are members are sorted, so one
-//! is kept as the number of its column and its index there.
+//! is kept as the number of its column and its index there, and with the front of its key.
 ghost use Rattle.std.specs.Prelude.{◌≡◌, ◌<◌, ◌^◌, [], get_or, length, map, sum_by, IfOk, OnOk};
 ghost use Rattle.std.specs.Cmp.Lexicographic.{slice_cmp};
 ghost use Rattle.std.specs.List.Sorted.{IsPermutation, IsSorted};
 ghost use Rattle.std.specs.Ordering.{nat_cmp};
 ghost use Rattle.lake_model.specs.Tables.{keys_at, members};
 ghost use Rattle.token_order.specs.Columns.{column_at, keys_there, keys_through, owner_there, AreColumns};
-ghost use Rattle.token_order.specs.Places.{keys_of, number_of, pointed_by, AreMembers, IsMore};
+ghost use Rattle.std.specs.List.{All};
+ghost use Rattle.token_order.specs.Keyed.{members_of, IsKeyed, IsMoreKeyed};
+ghost use Rattle.token_order.specs.Places.{keys_of, number_of, pointed_by, AreMembers};
 
 use crate::columns::{ColumnAt, table_of};
+use crate::keyed::{Keyed, order};
 use column_set::{SharedTable, TableSets};
 use no_memory::NoMemory;
 use search_model::{Owner, TokenAt};
@@ -73,7 +76,7 @@ pub fn member_count(tables: &[SharedTable]) -> Result<usize, NoMemory>
 
 // Adds each member of the column of a number, where as many members are there as the number of its first says.
 fn push_column(
-    members: &mut Vec<TokenAt>,
+    members: &mut Vec<Keyed>,
     tables: &[SharedTable],
     columns: &[ColumnAt],
     column: u32,
@@ -81,11 +84,11 @@ fn push_column(
     requires column { column < length columns.now }
     requires columns { AreColumns tables.now columns.now }
     requires first { length members.old.items ≡ (column_at columns.now column).first }
-    ensures { OnOk result (IsMore tables.now columns.now members.old.items members.new.items (keys_there tables.now (column_at columns.now column))) }
+    ensures { OnOk result (IsMoreKeyed tables.now columns.now members.old.items members.new.items (keys_there tables.now (column_at columns.now column))) }
 {
     let ColumnAt { table, place, .. } = columns[column as usize];
     for index in 0..table_of(tables, table).size(place) {
-        members.push(TokenAt { column, index })?;
+        members.push(Keyed::new(tables, columns, TokenAt { column, index }))?;
     }
     Ok(())
 }
@@ -95,10 +98,10 @@ fn all_members(
     alloc: Global,
     tables: &[SharedTable],
     columns: &[ColumnAt],
-) -> Result<Vec<TokenAt>, NoMemory>
+) -> Result<Vec<Keyed>, NoMemory>
     requires columns { AreColumns tables.now columns.now }
     requires few { length columns.now < 2 ^ 32 }
-    ensures { IfOk result (λ members. IsMore tables.now columns.now [] members.items (keys_through tables.now columns.now)) }
+    ensures { IfOk result (λ members. IsMoreKeyed tables.now columns.now [] members.items (keys_through tables.now columns.now)) }
 {
     let mut members = Vec::with_capacity(alloc, member_count(tables)?)?;
     for column in 0..columns.len() as u32 {
@@ -112,15 +115,16 @@ pub fn members_by_key(
     alloc: Global,
     tables: &[SharedTable],
     columns: &[ColumnAt],
-) -> Result<Vec<TokenAt>, NoMemory>
+) -> Result<Vec<Keyed>, NoMemory>
     requires columns { AreColumns tables.now columns.now }
     requires few { length columns.now < 2 ^ 32 }
     requires all { keys_through tables.now columns.now ≡ keys_of tables.now }
-    ensures sorted { IfOk result (λ members. IsSorted (slice_cmp nat_cmp) (map (pointed_by tables.now columns.now) members.items)) }
-    ensures same { IfOk result (λ members. IsPermutation (keys_of tables.now) (map (pointed_by tables.now columns.now) members.items)) }
-    ensures all { IfOk result (λ members. AreMembers tables.now columns.now members.items) }
+    ensures sorted { IfOk result (λ members. IsSorted (slice_cmp nat_cmp) (map (pointed_by tables.now columns.now) (members_of members.items))) }
+    ensures same { IfOk result (λ members. IsPermutation (keys_of tables.now) (map (pointed_by tables.now columns.now) (members_of members.items))) }
+    ensures all { IfOk result (λ members. AreMembers tables.now columns.now (members_of members.items)) }
+    ensures keyed { IfOk result (λ members. All (IsKeyed tables.now columns.now) members.items) }
 {
     let mut members = all_members(alloc, tables, columns)?;
-    members.sort_unstable_by(|a, b| key_at(tables, columns, *a).cmp(key_at(tables, columns, *b)));
+    members.sort_unstable_by(|a, b| order(tables, columns, a, b));
     Ok(members)
 }

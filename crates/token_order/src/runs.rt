@@ -4,12 +4,15 @@ ghost use Rattle.std.specs.List.{All};
 ghost use Rattle.column_set.specs.Columns.{HasDistinctKeys};
 ghost use Rattle.lake_model.specs.Tables.{members};
 ghost use Rattle.token_order.specs.Counted.{AreCounted};
+ghost use Rattle.search_model.specs.Arrays.{token_with};
+ghost use Rattle.token_order.specs.Keyed.{members_of, IsKeyed};
 ghost use Rattle.token_order.specs.Places.{keys_of, pointed_by, AreMembers, IsThere};
 ghost use Rattle.token_order.specs.Ranks.{HaveRanks};
 ghost use Rattle.token_order.specs.Runs.{run_cmp, run_keys, run_token, runs_from, runs_of, AreRanked};
 
 use crate::columns::{ColumnAt, all_columns};
-use crate::places::{key_at, members_by_key, number_of};
+use crate::keyed::{Keyed, same_key};
+use crate::places::{members_by_key, number_of};
 use column_set::SharedTable;
 use no_memory::NoMemory;
 use search_model::TokenAt;
@@ -64,27 +67,23 @@ fn count_runs(
     alloc: Global,
     tables: &[SharedTable],
     columns: &[ColumnAt],
-    members: &[TokenAt],
+    members: &[Keyed],
     ranks: &mut [u32],
 ) -> Result<Vec<Run>, NoMemory>
-    requires members { AreMembers tables.now columns.now members.now }
+    requires members { AreMembers tables.now columns.now (members_of members.now) }
+    requires keyed { All (IsKeyed tables.now columns.now) members.now }
     requires few { length members.now < 2 ^ 32 }
     requires room { length ranks.old ≡ length (keys_of tables.now) }
-    ensures runs { IfOk result (λ runs. map (run_token tables.now columns.now) runs.items ≡ runs_of (map (pointed_by tables.now columns.now) members.now)) }
+    ensures runs { IfOk result (λ runs. map (run_token tables.now columns.now) runs.items ≡ runs_of (map (pointed_by tables.now columns.now) (members_of members.now))) }
     ensures within { IfOk result (λ runs. All (λ r. IsThere tables.now columns.now r.first) runs.items) }
     ensures numbered { IfOk result (λ runs. AreRanked runs.items) }
-    ensures ranked { OnOk result (HaveRanks (run_keys (map (pointed_by tables.now columns.now) members.now)) (keys_of tables.now) ranks.new columns.now members.now) }
+    ensures ranked { OnOk result (HaveRanks (run_keys (map (pointed_by tables.now columns.now) (members_of members.now))) (keys_of tables.now) ranks.new columns.now (members_of members.now)) }
     ensures long { length ranks.new ≡ length ranks.old }
 {
     let Some(first) = members.first() else {
         return Ok(Vec::new(alloc));
     };
-    let none = Run {
-        first: *first,
-        frequency: 0,
-        rank: 0,
-    };
-    count_from(alloc, tables, columns, none, members, ranks)
+    count_from(alloc, tables, columns, *first, members, ranks)
 }
 
 // The runs, where the first begins at a member that is not counted yet.
@@ -92,36 +91,42 @@ fn count_from(
     alloc: Global,
     tables: &[SharedTable],
     columns: &[ColumnAt],
-    first: Run,
-    members: &[TokenAt],
+    first: Keyed,
+    members: &[Keyed],
     ranks: &mut [u32],
 ) -> Result<Vec<Run>, NoMemory>
-    requires none { first.frequency ≡ 0 }
-    requires zero { first.rank ≡ 0 }
-    requires first { IsThere tables.now columns.now first.first }
-    requires members { AreMembers tables.now columns.now members.now }
+    requires first { IsThere tables.now columns.now first.member }
+    requires keyed_first { IsKeyed tables.now columns.now first }
+    requires members { AreMembers tables.now columns.now (members_of members.now) }
+    requires keyed { All (IsKeyed tables.now columns.now) members.now }
     requires few { length members.now < 2 ^ 32 }
     requires room { length ranks.old ≡ length (keys_of tables.now) }
-    ensures runs { IfOk result (λ runs. map (run_token tables.now columns.now) runs.items ≡ runs_from (run_token tables.now columns.now first) (map (pointed_by tables.now columns.now) members.now)) }
+    ensures runs { IfOk result (λ runs. map (run_token tables.now columns.now) runs.items ≡ runs_from (token_with (pointed_by tables.now columns.now first.member) 0) (map (pointed_by tables.now columns.now) (members_of members.now))) }
     ensures within { IfOk result (λ runs. All (λ r. IsThere tables.now columns.now r.first) runs.items) }
     ensures numbered { IfOk result (λ runs. AreRanked runs.items) }
-    ensures ranked { OnOk result (HaveRanks (map (λ t. t.key) (runs_from (run_token tables.now columns.now first) (map (pointed_by tables.now columns.now) members.now))) (keys_of tables.now) ranks.new columns.now members.now) }
+    ensures ranked { OnOk result (HaveRanks (map (λ t. t.key) (runs_from (token_with (pointed_by tables.now columns.now first.member) 0) (map (pointed_by tables.now columns.now) (members_of members.now)))) (keys_of tables.now) ranks.new columns.now (members_of members.now)) }
     ensures long { length ranks.new ≡ length ranks.old }
 {
     let mut runs = Vec::new(alloc);
-    let mut run = first;
-    for member in members {
-        if key_at(tables, columns, *member) == key_at(tables, columns, run.first) {
+    let mut held = first;
+    let mut run = Run {
+        first: first.member,
+        frequency: 0,
+        rank: 0,
+    };
+    for keyed in members {
+        if same_key(tables, columns, keyed, &held) {
             run.frequency += 1;
         } else {
             runs.push(run)?;
+            held = *keyed;
             run = Run {
-                first: *member,
+                first: keyed.member,
                 frequency: 1,
                 rank: run.rank + 1,
             };
         }
-        ranks[number_of(columns, *member)] = run.rank;
+        ranks[number_of(columns, keyed.member)] = run.rank;
     }
     runs.push(run)?;
     Ok(runs)

@@ -56,8 +56,9 @@ impl<'a> Vocab<'a> {
     ghost use Rattle.token_order.specs.Places.{keys_of};
     ghost use Rattle.token_order.specs.Vocabulary.{frequencies_of, frequency_of};
 
-    /// The vocabulary of the tables. It takes the time to sort all keys of all columns by their bytes, once. While the keys are sorted
-    /// and counted, they take 12 bytes for each key of each column and at most 32 for each distinct key; while these are put in order,
+    /// The vocabulary of the tables. It takes the time to sort all keys of all columns by their bytes, once, which are read again only
+    /// where the first 15 bytes of two keys are equal. While the keys are sorted and counted, they take 28 bytes for each key of each
+    /// column and at most 32 for each distinct key; while these are put in order,
     /// 4 for each key of each column and at most 48 for each distinct key; and at most 24 for each column all the time. What is left
     /// is 4 for each key of each column, 16 for each distinct key, and at most 24 for each column. It is refused only for want of memory.
     pub fn build(alloc: Global, tables: &'a [SharedTable]) -> Result<Vocab<'a>, NoMemory>

@@ -1,0 +1,45 @@
+//! The fronts of keys. The front of a key is its first 15 bytes as one number, so that two keys mostly compare as two numbers.
+ghost use Rattle.std.specs.Prelude.{◌≡◌, ◌<◌, ◌^◌};
+ghost use Rattle.std.specs.List.{All};
+ghost use Rattle.token_order.specs.Fronts.{digit_at, digits, front_of};
+
+/// How many bytes of a key its front has.
+const FRONT_BYTES: usize = 15;
+
+/// The front of a key: twice the number of its first 15 bytes, and one more where other bytes may follow. Fronts rise with the keys, and
+/// keys of equal even fronts are equal.
+pub fn front_of(key: &str) -> u128
+    ensures value { result ≡ front_of key.now }
+    ensures bytes { All (λ byte. byte < 256) key.now }
+{
+    let bytes = key.as_bytes();
+    let digits = first_digits(bytes);
+    if bytes.len() < FRONT_BYTES {
+        digits * 2
+    } else {
+        digits * 2 + 1
+    }
+}
+
+// The first 15 bytes as a number of 15 digits to the base of 257: each digit is one more than its byte, so that 0 is past the last.
+fn first_digits(bytes: &[u8]) -> u128
+    ensures value { result ≡ digits 15 bytes.now }
+    ensures small { result < 2 ^ 125 }
+{
+    let mut digits = 0u128;
+    for i in 0..FRONT_BYTES {
+        digits = digits * 257 + digit_at(bytes, i);
+    }
+    digits
+}
+
+// One more than the byte at a place, from 0, and 0 past the last.
+fn digit_at(bytes: &[u8], i: usize) -> u128
+    ensures value { result ≡ digit_at bytes.now i }
+    ensures small { result < 257 }
+{
+    match bytes.get(i) {
+        Some(byte) => *byte as u128 + 1,
+        None => 0,
+    }
+}

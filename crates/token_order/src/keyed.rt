@@ -1,0 +1,84 @@
+//! Members with the fronts of their keys, which are sorted with few looks at the keys.
+ghost use Rattle.std.specs.Prelude.{◌≡◌, bytes_eq};
+ghost use Rattle.std.specs.Cmp.Lexicographic.{slice_cmp};
+ghost use Rattle.std.specs.Ordering.{nat_cmp};
+ghost use Rattle.token_order.specs.Fronts.{rest_by};
+ghost use Rattle.token_order.specs.Keyed.{compared_with, front_held, IsKeyed};
+ghost use Rattle.token_order.specs.Places.{pointed_by};
+
+use crate::columns::ColumnAt;
+use crate::fronts::front_of;
+use crate::places::key_at;
+use column_set::SharedTable;
+use search_model::TokenAt;
+use std::cmp::Ordering;
+
+/// A member, with the front of its key in two halves, which take less room than one number of 128 bits.
+#[derive(Clone, Copy)]
+pub struct Keyed {
+    pub high: u64,
+    pub low: u64,
+    pub member: TokenAt,
+}
+
+impl Keyed {
+    /// A member with the front of its key.
+    pub fn new(tables: &[SharedTable], columns: &[ColumnAt], member: TokenAt) -> Keyed
+        ensures member { result.member ≡ member }
+        ensures keyed { IsKeyed tables.now columns.now result }
+    {
+        let front = front_of(key_at(tables, columns, member));
+        Keyed {
+            high: (front / 0x1_0000_0000_0000_0000) as u64,
+            low: (front % 0x1_0000_0000_0000_0000) as u64,
+            member,
+        }
+    }
+
+    // The front.
+    #[inline(always)]
+    fn front(&self) -> u128
+        ensures { result ≡ front_held self.now }
+    {
+        self.high as u128 * 0x1_0000_0000_0000_0000 + self.low as u128
+    }
+}
+
+/// The order of members by their fronts, and then by their keys, which are read only where the fronts are equal and other bytes may
+/// follow. It is the order by the bytes of their keys.
+#[inline(always)]
+pub fn order(tables: &[SharedTable], columns: &[ColumnAt], a: &Keyed, b: &Keyed) -> Ordering
+    ensures { result ≡ slice_cmp nat_cmp (compared_with tables.now columns.now a.now) (compared_with tables.now columns.now b.now) }
+{
+    let front = a.front();
+    match front.cmp(&b.front()) {
+        Ordering::Equal => order_by_rest(tables, columns, front, a.member, b.member),
+        unequal => unequal,
+    }
+}
+
+// The order of members of one front.
+#[inline(never)]
+fn order_by_rest(
+    tables: &[SharedTable],
+    columns: &[ColumnAt],
+    front: u128,
+    a: TokenAt,
+    b: TokenAt,
+) -> Ordering
+    ensures { result ≡ slice_cmp nat_cmp (rest_by front (pointed_by tables.now columns.now a)) (rest_by front (pointed_by tables.now columns.now b)) }
+{
+    if front % 2 == 0 {
+        return Ordering::Equal;
+    }
+    key_at(tables, columns, a).cmp(key_at(tables, columns, b))
+}
+
+/// Whether two members have one key.
+pub fn same_key(tables: &[SharedTable], columns: &[ColumnAt], a: &Keyed, b: &Keyed) -> bool
+    requires first { IsKeyed tables.now columns.now a.now }
+    requires second { IsKeyed tables.now columns.now b.now }
+    ensures { result ≡ bytes_eq (pointed_by tables.now columns.now a.now.member) (pointed_by tables.now columns.now b.now.member) }
+{
+    order(tables, columns, a, b).is_eq()
+}
