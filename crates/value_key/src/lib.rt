@@ -87,8 +87,8 @@ fn write_key(alloc: Global, text: &str, into: &mut String) -> Result<(), NoMemor
 }
 
 // Writes a text of ASCII in small letters into an empty buffer that has room for it, and answers whether the text is of ASCII: then
-// this is its key, since none of its characters decomposes, and folding makes the letters small. Of another text a part may stand
-// there.
+// this is its key, since none of its characters decomposes, and folding makes the letters small. For another text the buffer stays
+// empty.
 fn push_small(text: &str, into: &mut String) -> bool
     requires empty { string_bytes into.old ≡ [] }
     requires room { length text.now ≤ string_capacity into.old }
@@ -96,14 +96,12 @@ fn push_small(text: &str, into: &mut String) -> bool
     ensures key { IsTrue result → string_bytes into.new ≡ key_of_text text.now }
     ensures capacity { string_capacity into.old ≤ string_capacity into.new }
 {
-    for byte in text.as_bytes() {
-        if !byte.is_ascii() {
-            return false;
-        }
-        match into.push(byte.to_ascii_lowercase() as char) {
-            Ok(()) => (),
-            Err(_) => unreachable!(),
-        }
+    if !text.is_ascii() {
+        return false;
+    }
+    match into.push_str(text) {
+        Ok(()) => into.make_ascii_lowercase(),
+        Err(_) => unreachable!(),
     }
     true
 }
