@@ -60,11 +60,8 @@ all_free (number ∷ slots) h (suc at) = all_free slots h.1 at
 pub slotted_none : (slots : List ℕ) (keys : List Text) → AllByRecursion (λ number. (number ≡ 0) ⊎ (number ≡ 0)) slots → IsSlotted (length slots) slots keys 0
 slotted_none slots keys free = record { numbers = λ at. omega (arith, all_free slots free at); held = λ i less. absurd (omega arith) }
 
-pub no_keys : (keys : List Text) (slots : List ℕ) → keys ≡ [] → slots ≡ [] → IsDistinct bytes_eq keys × IsSlotted (length slots) slots keys (length keys)
-no_keys keys slots none free =
-    let A : List ℕ → Type 0 = λ (xs : List ℕ). IsDistinct bytes_eq [] × IsSlotted (length xs) xs [] 0 in
-    let B : List Text → Type 0 = λ (ks : List Text). IsDistinct bytes_eq ks × IsSlotted (length slots) slots ks (length ks) in
-    subst B (sym none) (subst A (sym free) (no_repeat, slotted_none [] [] tt))
+pub none_slotted : (keys : List Text) (slots : List ℕ) → keys ≡ [] → IsSlotted (length slots) slots keys (length keys) → IsDistinct bytes_eq keys × IsSlotted (length slots) slots keys (length keys)
+none_slotted keys slots none slotted = (subst (IsDistinct bytes_eq) (sym none) no_repeat, slotted)
 
 -- the next key takes a free slot
 slotted_next : (slots : List ℕ) (keys : List Text) (count at : ℕ) → IsSlotted (length slots) slots keys count → IsFree slots (home_of (length slots) (hash_of (get_or keys count []))) at

@@ -36,14 +36,13 @@ impl Model for KeySet {
 }
 
 impl KeySet {
-    /// No keys. It takes no memory.
-    pub fn new(alloc: Global) -> KeySet
-        ensures { result ≡ [] }
+    /// No keys, with room for so many of about eight bytes.
+    pub fn with_room(alloc: Global, count: u32) -> Result<KeySet, NoMemory>
+        ensures { IfOk result (λ keys. keys ≡ []) }
     {
-        KeySet {
-            keys: Texts::new(alloc),
-            slots: Vec::new(alloc),
-        }
+        let keys = Texts::with_room(alloc, count as usize, 8 * count as usize)?;
+        let slots = slots_for(alloc, &keys, 2 * count as usize)?;
+        Ok(KeySet { keys, slots })
     }
 
     /// The keys that these texts are, which differ from each other.

@@ -100,7 +100,7 @@ fn read_keys(alloc: Global, body: &[u8]) -> Result<KeySet, QueryRefused>
     ensures sound { OnOk result (query_fault body.now ≡ None) }
     ensures refused { IfErr result (λ e. (e ≡ QueryRefused.NoMemory) ⊎ (query_fault body.now ≡ Some e)) }
 {
-    let mut keys = KeySet::new(alloc);
+    let mut keys = no_keys(alloc, body)?;
     let mut buffer = String::new(alloc);
     let mut rest = body;
     for number in 1..u64::MAX {
@@ -120,6 +120,18 @@ fn read_keys(alloc: Global, body: &[u8]) -> Result<KeySet, QueryRefused>
         rest = after;
     }
     Err(QueryRefused::NoMemory)
+}
+
+// No keys, with room for those of a body whose lines have about sixteen bytes.
+fn no_keys(alloc: Global, body: &[u8]) -> Result<KeySet, QueryRefused>
+    ensures none { IfOk result (λ keys. keys ≡ []) }
+    ensures refused { IfErr result (λ e. e ≡ QueryRefused.NoMemory) }
+{
+    let lines = (body.len() / 16).min(MOST_KEYS);
+    match KeySet::with_room(alloc, lines as u32) {
+        Ok(keys) => Ok(keys),
+        Err(_) => Err(QueryRefused::NoMemory),
+    }
 }
 
 // Where the first line feed is.

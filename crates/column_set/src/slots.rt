@@ -92,17 +92,17 @@ pub fn slots_of(alloc: Global, keys: &Texts, size: usize) -> Result<Option<Vec<u
     Ok(Some(slots))
 }
 
-/// Slots with the numbers of these keys: more than so many, and more than twice as many as keys.
+/// Slots with the numbers of these keys: the least power of two above so many, and above twice the number of the keys.
 pub fn slots_for(alloc: Global, keys: &Texts, least: usize) -> Result<Vec<u32>, NoMemory>
     ensures { IfOk result (λ slots. IsSlotted (length slots.items) slots.items keys.now (length keys.now)) }
 {
-    let mut size = least.max(4);
+    let mut size = 4usize;
     for _ in 0..u64::BITS {
         let Some(doubled) = size.checked_mul(2) else {
             return Err(NoMemory);
         };
         size = doubled;
-        if size / 2 > keys.len() as usize {
+        if size > least && size / 2 > keys.len() as usize {
             if let Some(slots) = slots_of(alloc, keys, size)? {
                 return Ok(slots);
             }

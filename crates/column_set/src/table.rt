@@ -18,6 +18,9 @@ use std::alloc::Global;
 use std::marker::Model;
 use std::sync::Arc;
 
+/// For how many keys of a column there is room at first.
+const FIRST_ROOM: u64 = 64;
+
 /// A table: its name, and for each of its columns, at most 1,024, the name and the set of its keys, at most 4,194,304 and none
 /// twice. Columns are found by their place, counted from 1; two of them may have one name.
 #[derive(Drop)]
@@ -231,7 +234,7 @@ fn read_keys(
     requires high { place ≤ column_count raw.now }
     ensures { IfOk result (λ keys. keys ≡ (column_at raw.now place).keys) }
 {
-    let mut keys = KeySet::new(alloc);
+    let mut keys = KeySet::with_room(alloc, raw.rows().min(FIRST_ROOM) as u32)?;
     for row in 0..raw.rows() {
         keys.add(alloc, raw.field(row + 1, place), buffer)?;
     }

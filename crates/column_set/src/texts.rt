@@ -26,17 +26,6 @@ impl Model for Texts {
 }
 
 impl Texts {
-    /// No texts. It takes no memory.
-    pub fn new(alloc: Global) -> Texts
-        ensures { result ≡ [] }
-    {
-        let Ok(region) = Region::new(alloc, 0) else {
-            unreachable!()
-        };
-        let spans = Vec::new(alloc);
-        Texts { region, spans }
-    }
-
     /// No texts, and the room for so many texts with so many bytes together.
     pub fn with_room(alloc: Global, texts: usize, bytes: usize) -> Result<Texts, NoMemory>
         ensures { IfOk result (λ texts. texts ≡ []) }
