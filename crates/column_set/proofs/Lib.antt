@@ -2,10 +2,10 @@ pub mod AsciiLemmas
 pub mod ColumnLemmas
 pub mod DistinctLemmas
 pub mod KeyLemmas
+pub mod SlotLemmas
 pub mod LineLemmas
 pub mod ListsLemmas
 pub mod OverlapLemmas
 pub mod ReadLemmas
 pub mod RegionLemmas
 pub mod SizeLemmas
-pub mod TextLemmas

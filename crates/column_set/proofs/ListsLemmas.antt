@@ -2,50 +2,46 @@
 use Rattle.std.proofs.Common.{◌≡◌, refl, ap, sym, ◌∙◌, subst, ℕ, zero, suc, ◌+◌, ◌-◌, ◌<◌, ◌≤◌, List, [], ◌∷◌, ◌++◌, length, get_or, take, drop, arith, add-one, length-append, length-drop}
 use Rattle.std.specs.List.{slice_index, slice_range}
 use Rattle.std.proofs.lemmas.List.{drop-append-le, get_or-drop, get_or-take, length-take-le, take-append-le, take_more}
-use Rattle.std.proofs.lemmas.List.FromFn.{length-range_with_len}
-use Rattle.std.proofs.lemmas.List.Sorted.{length_permutation}
 use Rattle.std.proofs.Math.ListN.{get_or-eq_default}
 use Rattle.std.proofs.Math.Seq.{drop-append_seam, take-length}
 use Rattle.lake_model.specs.Texts.{Text}
-use Rattle.column_set.specs.Lists.{AreLists, AreParts, IsByKey, parts_from, parts_of}
+use Rattle.column_set.specs.Lists.{AreLists, AreParts, parts_from, parts_of}
 
 length-parts_from : {X : Type 0} (from : ℕ) (ends : List ℕ) (flat : List X) → length (parts_from from ends flat) ≡ length ends
 length-parts_from from [] flat = refl
 length-parts_from from (to ∷ ends) flat = omega (arith, length-parts_from to ends flat)
 
 -- a list that begins at low and ends at high
-pub record Bounds (texts : List Text) (numbers : List ℕ) (list : List Text) (low high : ℕ) : Type 0 where
+pub record Bounds (texts : List Text) (list : List Text) (low high : ℕ) : Type 0 where
   pub rising : low ≤ high
   pub within : high ≤ length texts
-  pub as_many : length numbers ≡ length texts
   pub is : list ≡ slice_range texts low high
-  pub by_key : IsByKey list (slice_range numbers low high)
 
-within_texts : (from : ℕ) (ends : List ℕ) (texts : List Text) (numbers : List ℕ) → AreParts from ends texts numbers → (from ≤ length texts) × (length numbers ≡ length texts)
-within_texts from [] texts numbers h = (omega (arith, h.0), h.1)
-within_texts from (to ∷ ends) texts numbers h = let rest = within_texts to ends texts numbers h.2 in (omega (arith, h.0, rest.0), rest.1)
+within_texts : (from : ℕ) (ends : List ℕ) (texts : List Text) → AreParts from ends texts → from ≤ length texts
+within_texts from [] texts h = omega (arith, h)
+within_texts from (to ∷ ends) texts h = let rest = within_texts to ends texts h.1 in omega (arith, h.0, rest)
 
-bounds_from : (from : ℕ) (ends : List ℕ) (texts : List Text) (numbers : List ℕ) → AreParts from ends texts numbers → (i : ℕ) → i < length ends
-    → Bounds texts numbers (get_or (parts_from from ends texts) i []) (slice_index (from ∷ ends) i) (slice_index (from ∷ ends) (suc i))
-bounds_from from [] texts numbers h i b = absurd (omega arith)
-bounds_from from (to ∷ ends) texts numbers h zero b = let end = within_texts to ends texts numbers h.2 in record { rising = h.0; within = end.0; as_many = end.1; is = refl; by_key = h.1 }
-bounds_from from (to ∷ ends) texts numbers h (suc i) b = bounds_from to ends texts numbers h.2 i (omega arith)
+bounds_from : (from : ℕ) (ends : List ℕ) (texts : List Text) → AreParts from ends texts → (i : ℕ) → i < length ends
+    → Bounds texts (get_or (parts_from from ends texts) i []) (slice_index (from ∷ ends) i) (slice_index (from ∷ ends) (suc i))
+bounds_from from [] texts h i b = absurd (omega arith)
+bounds_from from (to ∷ ends) texts h zero b = record { rising = h.0; within = within_texts to ends texts h.1; is = refl }
+bounds_from from (to ∷ ends) texts h (suc i) b = bounds_from to ends texts h.1 i (omega arith)
 
-pub length-lists : (starts : List ℕ) (texts : List Text) (numbers : List ℕ) → AreLists starts texts numbers → (lists : List (List Text)) → parts_of starts texts ≡ lists → length lists + 1 ≡ length starts
-length-lists [] texts numbers held lists is = absurd held
-length-lists (from ∷ ends) texts numbers held lists is = omega (arith, length-parts_from from ends texts, ap length is)
+pub length-lists : (starts : List ℕ) (texts : List Text) → AreLists starts texts → (lists : List (List Text)) → parts_of starts texts ≡ lists → length lists + 1 ≡ length starts
+length-lists [] texts held lists is = absurd held
+length-lists (from ∷ ends) texts held lists is = omega (arith, length-parts_from from ends texts, ap length is)
 
 -- the list at i, where the starts were read under another name
-pub bounds_at : (starts : List ℕ) (texts : List Text) (numbers : List ℕ) → AreLists starts texts numbers → (lists : List (List Text)) → parts_of starts texts ≡ lists → (i : ℕ) → i < length lists
-    → (read : List ℕ) → read ≡ starts → (low high : ℕ) → low ≡ slice_index read i → high ≡ slice_index read (i + 1) → Bounds texts numbers (get_or lists i []) low high
-bounds_at [] texts numbers held lists is i inside read same low high e f = absurd held
-bounds_at (from ∷ ends) texts numbers held lists is i inside read same low high e f =
-    let core = bounds_from from ends texts numbers held i (omega (arith, length-parts_from from ends texts, ap length is)) in
+pub bounds_at : (starts : List ℕ) (texts : List Text) → AreLists starts texts → (lists : List (List Text)) → parts_of starts texts ≡ lists → (i : ℕ) → i < length lists
+    → (read : List ℕ) → read ≡ starts → (low high : ℕ) → low ≡ slice_index read i → high ≡ slice_index read (i + 1) → Bounds texts (get_or lists i []) low high
+bounds_at [] texts held lists is i inside read same low high e f = absurd held
+bounds_at (from ∷ ends) texts held lists is i inside read same low high e f =
+    let core = bounds_from from ends texts held i (omega (arith, length-parts_from from ends texts, ap length is)) in
     let starts : low ≡ slice_index (from ∷ ends) i = e ∙ ap (λ (s : List ℕ). slice_index s i) same in
     let stops : high ≡ slice_index (from ∷ ends) (suc i) = f ∙ ap (λ (s : List ℕ). slice_index s (i + 1)) same ∙ ap (slice_index (from ∷ ends)) (add-one i) in
-    let A : List (List Text) → Type 0 = λ (ls : List (List Text)). Bounds texts numbers (get_or ls i []) (slice_index (from ∷ ends) i) (slice_index (from ∷ ends) (suc i)) in
-    let B : ℕ → Type 0 = λ (n : ℕ). Bounds texts numbers (get_or lists i []) n (slice_index (from ∷ ends) (suc i)) in
-    let C : ℕ → Type 0 = λ (n : ℕ). Bounds texts numbers (get_or lists i []) low n in
+    let A : List (List Text) → Type 0 = λ (ls : List (List Text)). Bounds texts (get_or ls i []) (slice_index (from ∷ ends) i) (slice_index (from ∷ ends) (suc i)) in
+    let B : ℕ → Type 0 = λ (n : ℕ). Bounds texts (get_or lists i []) n (slice_index (from ∷ ends) (suc i)) in
+    let C : ℕ → Type 0 = λ (n : ℕ). Bounds texts (get_or lists i []) low n in
     subst C (sym stops) (subst B (sym starts) (subst A is core))
 
 -- ---- one list more
@@ -60,59 +56,36 @@ slice_back xs ys a b e f =
     let long : b - a ≡ length ys = omega arith in
     ap (λ (k : ℕ). take k (drop a (xs ++ ys))) long ∙ ap (λ (k : ℕ). take (length ys) (drop k (xs ++ ys))) e ∙ ap (take (length ys)) (drop-append_seam xs ys) ∙ take-length ys
 
-by_key_at : (keys read : List Text) (numbers counted : List ℕ) → read ≡ keys → counted ≡ numbers → IsByKey keys numbers → IsByKey read counted
-by_key_at keys read numbers counted e f k = subst (λ (ks : List Text). IsByKey ks counted) (sym e) (subst (IsByKey keys) (sym f) k)
-
-pub as_many_numbers : (keys : List Text) (numbers : List ℕ) → IsByKey keys numbers → length numbers ≡ length keys
-as_many_numbers keys numbers k = length_permutation _ _ k.same ∙ length-range_with_len 0 (length keys)
-
-parts_more : (from : ℕ) (ends : List ℕ) (texts : List Text) (numbers : List ℕ) (keys : List Text) (sorted : List ℕ) (end : ℕ) → AreParts from ends texts numbers → IsByKey keys sorted → end ≡ length texts + length keys
-    → AreParts from (ends ++ end ∷ []) (texts ++ keys) (numbers ++ sorted) × (parts_from from (ends ++ end ∷ []) (texts ++ keys) ≡ parts_from from ends texts ++ keys ∷ [])
-parts_more from [] texts numbers keys sorted end h k e =
-    let count = as_many_numbers keys sorted k in
-    let start : from ≡ length texts = h.0 in
-    let many : length numbers ≡ length texts = h.1 in
+parts_more : (from : ℕ) (ends : List ℕ) (texts keys : List Text) (end : ℕ) → AreParts from ends texts → end ≡ length texts + length keys
+    → AreParts from (ends ++ end ∷ []) (texts ++ keys) × (parts_from from (ends ++ end ∷ []) (texts ++ keys) ≡ parts_from from ends texts ++ keys ∷ [])
+parts_more from [] texts keys end h e =
+    let start : from ≡ length texts = h in
     let back = slice_back texts keys from end start e in
     let both = length-append texts keys in
-    let total = length-append numbers sorted in (
-      (omega arith, by_key_at _ _ _ _ back (slice_back numbers sorted from end (omega arith) (omega arith)) k, (omega arith, omega arith)),
-      ap (λ (ks : List Text). ks ∷ []) back,
-    )
-parts_more from (to ∷ ends) texts numbers keys sorted end h k e =
-    let rest = parts_more to ends texts numbers keys sorted end h.2 k e in
-    let bound = within_texts to ends texts numbers h.2 in
-    let front = slice_front texts keys from to h.0 bound.0 in (
-      (h.0, by_key_at _ _ _ _ front (slice_front numbers sorted from to h.0 (omega (arith, bound.0, bound.1))) h.1, rest.0),
-      (λ j. front j ∷ rest.1 j),
-    )
+    ((omega arith, omega arith), ap (λ (ks : List Text). ks ∷ []) back)
+parts_more from (to ∷ ends) texts keys end h e =
+    let rest = parts_more to ends texts keys end h.1 e in
+    let front = slice_front texts keys from to h.0 (within_texts to ends texts h.1) in
+    ((h.0, rest.0), (λ j. front j ∷ rest.1 j))
 
-pub lists_more : (starts : List ℕ) (texts : List Text) (numbers : List ℕ) (keys : List Text) (sorted : List ℕ) (end : ℕ) → AreLists starts texts numbers → IsByKey keys sorted → end ≡ length texts + length keys
-    → AreLists (starts ++ end ∷ []) (texts ++ keys) (numbers ++ sorted) × (parts_of (starts ++ end ∷ []) (texts ++ keys) ≡ parts_of starts texts ++ keys ∷ [])
-lists_more [] texts numbers keys sorted end held k e = absurd held
-lists_more (from ∷ ends) texts numbers keys sorted end held k e = parts_more from ends texts numbers keys sorted end held k e
+pub lists_more : (starts : List ℕ) (texts keys : List Text) (end : ℕ) → AreLists starts texts → end ≡ length texts + length keys
+    → AreLists (starts ++ end ∷ []) (texts ++ keys) × (parts_of (starts ++ end ∷ []) (texts ++ keys) ≡ parts_of starts texts ++ keys ∷ [])
+lists_more [] texts keys end held e = absurd held
+lists_more (from ∷ ends) texts keys end held e = parts_more from ends texts keys end held e
 
-lists_at : (starts read : List ℕ) (texts held : List Text) (numbers sorted : List ℕ) → read ≡ starts → held ≡ texts → sorted ≡ numbers → AreLists starts texts numbers → AreLists read held sorted
-lists_at starts read texts held numbers sorted e f g h =
-    subst (λ (s : List ℕ). AreLists s held sorted) (sym e) (subst (λ (t : List Text). AreLists starts t sorted) (sym f) (subst (AreLists starts texts) (sym g) h))
+lists_at : (starts read : List ℕ) (texts held : List Text) → read ≡ starts → held ≡ texts → AreLists starts texts → AreLists read held
+lists_at starts read texts held e f h = subst (λ (s : List ℕ). AreLists s held) (sym e) (subst (AreLists starts) (sym f) h)
 
 -- the same, as a loop adds the list at i
-pub lists_step : (starts : List ℕ) (texts : List Text) (numbers : List ℕ) (lists : List (List Text)) (i : ℕ) → AreLists starts texts numbers → parts_of starts texts ≡ take i lists → i < length lists
-    → (keys : List Text) → keys ≡ get_or lists i keys → (sorted : List ℕ) → IsByKey keys sorted
-    → (new_texts : List Text) → new_texts ≡ texts ++ keys → (end : ℕ) → end ≡ length new_texts → (new_starts : List ℕ) → new_starts ≡ starts ++ end ∷ [] → (new_numbers : List ℕ) → new_numbers ≡ numbers ++ sorted
-    → AreLists new_starts new_texts new_numbers × (parts_of new_starts new_texts ≡ take (i + 1) lists)
-lists_step starts texts numbers lists i held read within keys here sorted by_key new_texts texts_are end end_is new_starts starts_are new_numbers numbers_are =
-    let more = lists_more starts texts numbers keys sorted end held by_key (end_is ∙ ap length texts_are ∙ length-append texts keys) in (
-      lists_at _ new_starts _ new_texts _ new_numbers starts_are texts_are numbers_are more.0,
+pub lists_step : (starts : List ℕ) (texts : List Text) (lists : List (List Text)) (i : ℕ) → AreLists starts texts → parts_of starts texts ≡ take i lists → i < length lists
+    → (keys : List Text) → keys ≡ get_or lists i keys
+    → (new_texts : List Text) → new_texts ≡ texts ++ keys → (end : ℕ) → end ≡ length new_texts → (new_starts : List ℕ) → new_starts ≡ starts ++ end ∷ []
+    → AreLists new_starts new_texts × (parts_of new_starts new_texts ≡ take (i + 1) lists)
+lists_step starts texts lists i held read within keys here new_texts texts_are end end_is new_starts starts_are =
+    let more = lists_more starts texts keys end held (end_is ∙ ap length texts_are ∙ length-append texts keys) in (
+      lists_at _ new_starts _ new_texts starts_are texts_are more.0,
       (λ j. parts_of (starts_are j) (texts_are j)) ∙ more.1 ∙ (λ j. read j ++ here j ∷ []) ∙ sym (take_more lists i keys within),
     )
-
--- one list alone
-pub one_list : (list keys : List Text) (sorted : List ℕ) → keys ≡ list → IsByKey list sorted → (end : ℕ) → end ≡ length keys → (starts : List ℕ) → starts ≡ 0 ∷ end ∷ [] → (numbers : List ℕ) → numbers ≡ sorted
-    → AreLists starts keys numbers × (parts_of starts keys ≡ list ∷ [])
-one_list list keys sorted same by_key end end_is starts starts_are numbers numbers_are =
-    let long : end ≡ 0 + length list = omega (arith, ap length same) in
-    let one = parts_more 0 [] [] [] list sorted end (refl, refl) by_key long in
-    (lists_at _ starts _ keys _ numbers starts_are same numbers_are one.0, (λ j. parts_of (starts_are j) (same j)) ∙ one.1)
 
 -- ---- an element of a part
 

@@ -1,14 +1,13 @@
 //! A set of keys, each once and in order of first sight, in which the values of a column or a query are gathered.
-ghost use Rattle.std.specs.Prelude.{◌≡◌, ◌^◌, ◌<◌, ◌≤◌, List, [], bytes_eq, get_or, length, map, string_bytes, sum_by, IfNone, IfOk, IfSome, OnOk};
-ghost use Rattle.std.specs.List.{IsDistinct, range_with_len};
+ghost use Rattle.std.specs.Prelude.{◌≡◌, ◌^◌, ◌<◌, ◌≤◌, List, [], bytes_eq, get_or, length, sum_by, IfNone, IfOk, IfSome, OnErr, OnOk};
+ghost use Rattle.std.specs.List.{IsDistinct};
 ghost use Rattle.std.specs.Option.{option_map_or};
 ghost use Rattle.lake_model.specs.Keys.{key};
 ghost use Rattle.lake_model.specs.Tables.{add_key, distinct, has_key, overlap};
 ghost use Rattle.lake_model.specs.Texts.{Text};
-ghost use Rattle.column_set.specs.Lists.{IsByKey};
 
-use crate::texts::byte_count;
-use indexmap::IndexSet;
+use crate::slots::{hash_key, is_among, room_for, slots_for};
+use crate::texts::Texts;
 use no_memory::NoMemory;
 use std::alloc::Global;
 use std::marker::Model;
@@ -17,32 +16,46 @@ use value_key::key_into;
 /// How many keys a column or a query has at most.
 pub const MOST_KEYS: usize = 4_194_304;
 
-/// Keys, none twice. A contract sees the list of them, in order of first sight.
+/// Keys, none twice, in one region, with slots by which a key is found. A contract sees the list of them, in order of first sight.
 #[derive(Drop)]
 pub struct KeySet {
-    keys: IndexSet<String>,
+    keys: Texts,
+    slots: Vec<u32>,
 }
 
 impl Model for KeySet {
-    ghost use Rattle.std.specs.Prelude.{List, ℕ, map, string_bytes};
+    ghost use Rattle.std.specs.Prelude.{List, ℕ, bytes_eq, length};
+    ghost use Rattle.std.specs.List.{IsDistinct};
+    ghost use Rattle.column_set.specs.Slots.{IsSlotted};
 
     ghost Value = { List (List ℕ) };
 
-    ghost view = { λ s. map string_bytes s.keys.keys };
+    ghost view = { λ s. s.keys };
+
+    ghost invariant = { λ s. IsDistinct bytes_eq s.keys × IsSlotted (length s.slots.items) s.slots.items s.keys (length s.keys) };
 }
 
 impl KeySet {
-    /// No keys. It takes no memory.
-    pub fn new(alloc: Global) -> KeySet
-        ensures { result ≡ [] }
+    /// No keys, with room for so many of about eight bytes.
+    pub fn with_room(alloc: Global, count: u32) -> Result<KeySet, NoMemory>
+        ensures { IfOk result (λ keys. keys ≡ []) }
     {
-        KeySet {
-            keys: IndexSet::new(alloc),
-        }
+        let keys = Texts::with_room(alloc, count as usize, 8 * count as usize)?;
+        let slots = slots_for(alloc, &keys, 2 * count as usize)?;
+        Ok(KeySet { keys, slots })
+    }
+
+    /// The keys that these texts are, which differ from each other.
+    pub fn of_texts(alloc: Global, keys: Texts) -> Result<KeySet, NoMemory>
+        requires { IsDistinct bytes_eq keys }
+        ensures { IfOk result (λ set. set ≡ keys) }
+    {
+        let slots = slots_for(alloc, &keys, 0)?;
+        Ok(KeySet { keys, slots })
     }
 
     /// Adds the key of a value, where it has one and that is not there. The key is written into the buffer, in place of what
-    /// stands there, so that a string is made only for a key that is new.
+    /// stands there.
     pub fn add(&mut self, alloc: Global, value: &str, buffer: &mut String) -> Result<(), NoMemory>
         ensures { OnOk result (self.new ≡ option_map_or (add_key self.old) (key value.now) self.old) }
     {
@@ -56,11 +69,21 @@ impl KeySet {
     fn insert(&mut self, alloc: Global, key: &str) -> Result<(), NoMemory>
         ensures { OnOk result (self.new ≡ add_key self.old key.now) }
     {
-        if self.keys.contains(key) {
+        let hash = hash_key(key);
+        if is_among(&self.slots, &self.keys, key, hash) {
             return Ok(());
         }
-        self.keys.insert(String::from_str(alloc, key)?)?;
+        let at = room_for(alloc, &mut self.slots, &self.keys, hash)?;
+        self.keys.push(key)?;
+        self.slots[at] = self.keys.len();
         Ok(())
+    }
+
+    /// Whether the key is one of these. It takes the time to hash it and to compare it with a few.
+    pub fn has(&self, key: &str) -> bool
+        ensures { result ≡ has_key self.now key.now }
+    {
+        is_among(&self.slots, &self.keys, key, hash_key(key))
     }
 
     /// How many keys there are.
@@ -68,54 +91,22 @@ impl KeySet {
         ensures value { result ≡ length self.now }
         ensures different { IsDistinct bytes_eq self.now }
     {
-        self.keys.len()
+        self.keys.len() as usize
     }
 
     /// A key, by its index in order of first sight, from 0, and an empty text past the last.
     pub fn key(&self, i: u32) -> &str
         ensures { result.now ≡ get_or self.now i [] }
     {
-        match self.keys.get_index(i as usize) {
-            Some(key) => key.as_str(),
-            None => "",
-        }
+        self.keys.text(i)
     }
 
     /// The keys, in order of first sight.
-    pub fn strings(&self) -> &[String]
-        ensures { map string_bytes result.now ≡ self.now }
+    pub fn texts(&self) -> &Texts
+        ensures { result.now ≡ self.now }
     {
-        self.keys.as_slice()
+        &self.keys
     }
-
-    /// The numbers of the keys, from 0 in order of first sight, by the bytes of the keys.
-    pub fn numbers(&self, alloc: Global) -> Result<Vec<u32>, NoMemory>
-        requires { length self.now < 2 ^ 32 }
-        ensures { IfOk result (λ numbers. IsByKey self.now numbers.items) }
-    {
-        let mut numbers = first_numbers(alloc, self.len() as u32)?;
-        numbers.sort_unstable_by(|a, b| self.key(*a).cmp(self.key(*b)));
-        Ok(numbers)
-    }
-
-    /// How many bytes all keys have together, and `None` only where these are 2^64 or more.
-    pub fn byte_count(&self) -> Option<u64>
-        ensures count { IfSome result (λ count. count ≡ sum_by length self.now) }
-        ensures too_many { IfNone result (2 ^ 64 ≤ sum_by length self.now) }
-    {
-        byte_count(self.keys.as_slice())
-    }
-}
-
-// The first numbers from 0, so many of them.
-fn first_numbers(alloc: Global, count: u32) -> Result<Vec<u32>, NoMemory>
-    ensures { IfOk result (λ numbers. numbers.items ≡ range_with_len 0 count) }
-{
-    let mut numbers = Vec::with_capacity(alloc, count as usize)?;
-    for number in 0..count {
-        numbers.push(number)?;
-    }
-    Ok(numbers)
 }
 
 /// Making texts distinct leaves none of them twice, and leaves out none.

@@ -1,6 +1,6 @@
 //! The sets of keys of a table's columns and of a query, how many keys two of them share, and the rows of an answer, which
 //! borrow the titles of a table or own a share of them. The keys of a table stand in one region of bytes, those of a query in
-//! another, and a key is found by a binary search.
+//! another, and a key of a query is found by its hash.
 #![tactic(auto)]
 
 mod keys;
@@ -8,6 +8,7 @@ mod lists;
 mod name;
 mod query;
 mod row;
+mod slots;
 mod table;
 mod texts;
 mod titles;

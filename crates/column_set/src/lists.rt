@@ -1,8 +1,6 @@
-//! Lists of keys in one region, each with the order of its keys, in which a key is found by a binary search.
-ghost use Rattle.std.specs.Prelude.{◌≡◌, ◌+◌, ◌<◌, ◌≤◌, ◌^◌, ◌∷◌, [], bytes_eq, get_or, length, slice_index, slice_range, sum_by, IfNone, IfOk, IfSome};
-ghost use Rattle.std.specs.List.{IsDistinct};
+//! Lists of keys in one region.
+ghost use Rattle.std.specs.Prelude.{◌≡◌, ◌+◌, ◌<◌, [], get_or, length, slice_index, IfOk};
 ghost use Rattle.lake_model.specs.Tables.{has_key, overlap as overlap_of};
-ghost use Rattle.column_set.specs.Lists.{IsByKey};
 
 use crate::keys::KeySet;
 use crate::texts::Texts;
@@ -10,13 +8,12 @@ use no_memory::NoMemory;
 use std::alloc::Global;
 use std::marker::Model;
 
-/// Lists of keys: the keys of all, one list behind another, where each list begins and one place more for the end, and the numbers
-/// of each list's keys by their bytes. A contract sees the list of the lists.
+/// Lists of keys: the keys of all, one list behind another, and where each list begins and one place more for the end. A contract
+/// sees the list of the lists.
 #[derive(Drop)]
 pub struct KeyLists {
     keys: Texts,
     starts: Vec<u32>,
-    by_key: Vec<u32>,
 }
 
 impl Model for KeyLists {
@@ -27,7 +24,7 @@ impl Model for KeyLists {
 
     ghost view = { λ l. parts_of l.starts.items l.keys };
 
-    ghost invariant = { λ l. AreLists l.starts.items l.keys l.by_key.items };
+    ghost invariant = { λ l. AreLists l.starts.items l.keys };
 }
 
 impl KeyLists {
@@ -41,34 +38,26 @@ impl KeyLists {
         ensures { IfOk result (λ lists. lists ≡ sets.now) }
     {
         let mut keys = Texts::with_room(alloc, count, bytes)?;
-        let mut by_key = Vec::with_capacity(alloc, count)?;
-        let mut starts = Vec::from_slice(alloc, &[0])?;
+        let mut starts = Vec::with_capacity(alloc, sets.len())?;
+        starts.push(0)?;
         for set in sets {
-            keys.push_all(set.strings())?;
+            keys.push_texts(set.texts())?;
             starts.push(keys.len())?;
-            let numbers = set.numbers(alloc)?;
-            by_key.extend_from_slice(&numbers)?;
         }
-        Ok(KeyLists {
-            keys,
-            starts,
-            by_key,
-        })
+        Ok(KeyLists { keys, starts })
     }
 
-    /// The list at an index alone.
-    pub fn alone(&self, alloc: Global, list: u32) -> Result<KeyLists, NoMemory>
+    /// The keys of the list at an index, in the room that they take.
+    pub fn copied(&self, alloc: Global, list: u32) -> Result<Texts, NoMemory>
         requires { list < length self.now }
-        ensures { IfOk result (λ lists. lists ≡ get_or self.now list [] ∷ []) }
+        ensures { IfOk result (λ keys. keys ≡ get_or self.now list []) }
     {
-        let keys = self.copy_keys(alloc, list)?;
-        let starts = Vec::from_slice(alloc, &[0, keys.len()])?;
-        let by_key = Vec::from_slice(alloc, self.numbers(list))?;
-        Ok(KeyLists {
-            keys,
-            starts,
-            by_key,
-        })
+        let size = self.size(list);
+        let mut keys = Texts::with_room(alloc, size as usize, 0)?;
+        for i in 0..size {
+            keys.push(self.key(list, i))?;
+        }
+        Ok(keys)
     }
 
     /// How many lists there are.
@@ -99,87 +88,31 @@ impl KeyLists {
         self.keys.text(from + i)
     }
 
-    /// Whether a list has the key. It takes as many comparisons as the number of the list's keys has binary digits.
+    /// Whether a list has the key. It takes a walk over the list.
     pub fn has(&self, list: u32, key: &str) -> bool
         requires { list < length self.now }
         ensures { result ≡ has_key (get_or self.now list []) key.now }
     {
-        match self
-            .numbers(list)
-            .binary_search_by(|number| self.key(list, *number).cmp(key))
-        {
-            Ok(_) => true,
-            Err(_) => false,
+        for i in 0..self.size(list) {
+            if self.key(list, i) == key {
+                return true;
+            }
         }
+        false
     }
 
-    /// How many keys of a list are among those of another, in the time that the smaller one takes to walk: as many of these are
-    /// among the others as of the others among these.
-    pub fn overlap(&self, list: u32, others: &KeyLists, other: u32) -> u32
-        requires there { list < length self.now }
-        requires other_there { other < length others.now }
-        requires different { IsDistinct bytes_eq (get_or self.now list []) }
-        requires others_different { IsDistinct bytes_eq (get_or others.now other []) }
-        ensures { result ≡ overlap_of (get_or self.now list []) (get_or others.now other []) }
-    {
-        if others.size(other) < self.size(list) {
-            others.count_among(other, self, list)
-        } else {
-            self.count_among(list, others, other)
-        }
-    }
-
-    // How many keys of a list are among those of another.
-    fn count_among(&self, list: u32, others: &KeyLists, other: u32) -> u32
-        requires there { list < length self.now }
-        requires other_there { other < length others.now }
-        ensures { result ≡ overlap_of (get_or self.now list []) (get_or others.now other []) }
+    /// How many keys of a list are among those of a set.
+    pub fn overlap(&self, list: u32, set: &KeySet) -> u32
+        requires { list < length self.now }
+        ensures { result ≡ overlap_of (get_or self.now list []) set.now }
     {
         let mut count = 0;
         for i in 0..self.size(list) {
-            if others.has(other, self.key(list, i)) {
+            if set.has(self.key(list, i)) {
                 count += 1;
             }
         }
         count
-    }
-
-    // The numbers of a list's keys, by the bytes of the keys.
-    fn numbers(&self, list: u32) -> &[u32]
-        requires { list < length self.now }
-        ensures { IsByKey (get_or self.now list []) result.now }
-    {
-        let (from, to) = bounds(&self.starts, list);
-        part(&self.by_key, from, to)
-    }
-
-    // The keys of a list, in the room that they take.
-    fn copy_keys(&self, alloc: Global, list: u32) -> Result<Texts, NoMemory>
-        requires { list < length self.now }
-        ensures { IfOk result (λ keys. keys ≡ get_or self.now list []) }
-    {
-        let size = self.size(list);
-        let Some(bytes) = self.byte_count(list) else {
-            return Err(NoMemory);
-        };
-        let mut keys = Texts::with_room(alloc, size as usize, bytes as usize)?;
-        for i in 0..size {
-            keys.push(self.key(list, i))?;
-        }
-        Ok(keys)
-    }
-
-    // How many bytes the keys of a list have together, and `None` only where these are 2^64 or more.
-    fn byte_count(&self, list: u32) -> Option<u64>
-        requires { list < length self.now }
-        ensures count { IfSome result (λ count. count ≡ sum_by length (get_or self.now list [])) }
-        ensures too_many { IfNone result (2 ^ 64 ≤ sum_by length (get_or self.now list [])) }
-    {
-        let mut count = 0u64;
-        for i in 0..self.size(list) {
-            count = count.checked_add(self.key(list, i).len() as u64)?;
-        }
-        Some(count)
     }
 }
 
@@ -190,13 +123,4 @@ fn bounds(starts: &[u32], list: u32) -> (u32, u32)
     ensures to { result.1 ≡ slice_index starts.now (list + 1) }
 {
     (starts[list as usize], starts[list as usize + 1])
-}
-
-// The numbers from one place up to another.
-fn part(numbers: &[u32], from: u32, to: u32) -> &[u32]
-    requires rising { from ≤ to }
-    requires within { to ≤ length numbers.now }
-    ensures { result.now ≡ slice_range numbers.now from to }
-{
-    &numbers[from as usize..to as usize]
 }

@@ -12,21 +12,21 @@ use lake_model::QueryRefused;
 use no_memory::NoMemory;
 use std::alloc::Global;
 use std::marker::Model;
-use std::{slice, str};
+use std::str;
 
 /// The keys of a query, none twice and at most 4,194,304. A contract sees the list of them, in order of first sight.
 #[derive(Drop)]
 pub struct QuerySet {
-    keys: KeyLists,
+    keys: KeySet,
 }
 
 impl Model for QuerySet {
-    ghost use Rattle.std.specs.Prelude.{List, ℕ, [], get_or};
+    ghost use Rattle.std.specs.Prelude.{List, ℕ};
     ghost use Rattle.column_set.specs.Lists.{IsQuery};
 
     ghost Value = { List (List ℕ) };
 
-    ghost view = { λ q. get_or q.keys 0 [] };
+    ghost view = { λ q. q.keys };
 
     ghost invariant = { λ q. IsQuery q.keys };
 }
@@ -43,10 +43,8 @@ impl QuerySet {
         ensures refused { IfErr result (λ e. (e ≡ QueryRefused.NoMemory) ⊎ (query_fault body.now ≡ Some e)) }
     {
         let keys = read_keys(alloc, body)?;
-        match QuerySet::of_set(alloc, keys) {
-            Ok(query) => Ok(query),
-            Err(_) => Err(QueryRefused::NoMemory),
-        }
+        let _count = keys.len();
+        Ok(QuerySet { keys })
     }
 
     /// The keys of the column of a table at a place, counted from 1, as a query.
@@ -55,22 +53,10 @@ impl QuerySet {
         requires high { place ≤ length table.now.columns }
         ensures { IfOk result (λ q. q ≡ keys_at table.now place) }
     {
+        let keys = table.copied_keys(alloc, place)?;
         Ok(QuerySet {
-            keys: table.column_alone(alloc, place)?,
+            keys: KeySet::of_texts(alloc, keys)?,
         })
-    }
-
-    // The keys of a set as a query.
-    fn of_set(alloc: Global, keys: KeySet) -> Result<QuerySet, NoMemory>
-        requires { length keys ≤ 4194304 }
-        ensures { IfOk result (λ q. q ≡ keys) }
-    {
-        let Some(bytes) = keys.byte_count() else {
-            return Err(NoMemory);
-        };
-        let count = keys.len();
-        let keys = KeyLists::of_sets(alloc, slice::from_ref(&keys), count, bytes as usize)?;
-        Ok(QuerySet { keys })
     }
 
     /// How many keys there are. They differ from each other.
@@ -79,7 +65,7 @@ impl QuerySet {
         ensures small { result ≤ 4194304 }
         ensures different { IsDistinct bytes_eq self.now }
     {
-        self.keys.size(0)
+        self.keys.len() as u32
     }
 
     /// A key, by its index in order of first sight, from 0.
@@ -87,7 +73,7 @@ impl QuerySet {
         requires { i < length self.now }
         ensures { result.now ≡ get_or self.now i [] }
     {
-        self.keys.key(0, i)
+        self.keys.key(i)
     }
 
     /// How many keys of the query are in a list of keys.
@@ -96,14 +82,14 @@ impl QuerySet {
         requires different { IsDistinct bytes_eq (get_or lists.now list []) }
         ensures { result ≡ overlap self.now (get_or lists.now list []) }
     {
-        self.keys.overlap(0, lists, list)
+        lists.overlap(list, &self.keys)
     }
 
     /// Whether the key is one of the query's.
     pub fn has(&self, key: &str) -> bool
         ensures { result ≡ has_key self.now key.now }
     {
-        self.keys.has(0, key)
+        self.keys.has(key)
     }
 }
 
@@ -114,7 +100,7 @@ fn read_keys(alloc: Global, body: &[u8]) -> Result<KeySet, QueryRefused>
     ensures sound { OnOk result (query_fault body.now ≡ None) }
     ensures refused { IfErr result (λ e. (e ≡ QueryRefused.NoMemory) ⊎ (query_fault body.now ≡ Some e)) }
 {
-    let mut keys = KeySet::new(alloc);
+    let mut keys = no_keys(alloc, body)?;
     let mut buffer = String::new(alloc);
     let mut rest = body;
     for number in 1..u64::MAX {
@@ -134,6 +120,18 @@ fn read_keys(alloc: Global, body: &[u8]) -> Result<KeySet, QueryRefused>
         rest = after;
     }
     Err(QueryRefused::NoMemory)
+}
+
+// No keys, with room for those of a body whose lines have about sixteen bytes.
+fn no_keys(alloc: Global, body: &[u8]) -> Result<KeySet, QueryRefused>
+    ensures none { IfOk result (λ keys. keys ≡ []) }
+    ensures refused { IfErr result (λ e. e ≡ QueryRefused.NoMemory) }
+{
+    let lines = (body.len() / 16).min(MOST_KEYS);
+    match KeySet::with_room(alloc, lines as u32) {
+        Ok(keys) => Ok(keys),
+        Err(_) => Err(QueryRefused::NoMemory),
+    }
 }
 
 // Where the first line feed is.

@@ -4,12 +4,12 @@ ghost use Rattle.std.specs.List.{AllByRecursion, IsDistinct};
 ghost use Rattle.lake_model.specs.Records.{column_at, column_count, field_at, places_of, sets_fault, table_of, text_size};
 ghost use Rattle.lake_model.specs.Tables.{column_name, has_key, keys_at, titles_of, titles_with};
 ghost use Rattle.column_set.specs.Columns.{HasDistinctKeys, IsSmall};
-ghost use Rattle.column_set.specs.Lists.{IsQuery};
 
 use crate::keys::{KeySet, MOST_KEYS};
 use crate::lists::KeyLists;
 use crate::name::Name;
 use crate::query::QuerySet;
+use crate::texts::Texts;
 use crate::titles::Titles;
 use csv_table::RawTable;
 use lake_model::SetRefused;
@@ -17,6 +17,9 @@ use no_memory::NoMemory;
 use std::alloc::Global;
 use std::marker::Model;
 use std::sync::Arc;
+
+/// For how many keys of a column there is room at first.
+const FIRST_ROOM: u64 = 64;
 
 /// A table: its name, and for each of its columns, at most 1,024, the name and the set of its keys, at most 4,194,304 and none
 /// twice. Columns are found by their place, counted from 1; two of them may have one name.
@@ -145,7 +148,7 @@ impl TableSets {
         self.sets.key(place - 1, i)
     }
 
-    /// Whether the column at a place, counted from 1, has the key.
+    /// Whether the column at a place, counted from 1, has the key. It takes a walk over the column's keys.
     pub fn has(&self, place: u32, key: &str) -> bool
         requires low { 0 < place }
         requires high { place ≤ length self.now.columns }
@@ -154,8 +157,7 @@ impl TableSets {
         self.sets.has(place - 1, key)
     }
 
-    /// How many keys of the query the column at a place, counted from 1, has. It takes the time to walk the smaller of the two
-    /// sets.
+    /// How many keys of the query the column at a place, counted from 1, has. It takes a walk over the column's keys.
     pub fn overlap(&self, place: u32, query: &QuerySet) -> u32
         requires low { 0 < place }
         requires high { place ≤ length self.now.columns }
@@ -164,14 +166,15 @@ impl TableSets {
         query.shared_with(&self.sets, place - 1)
     }
 
-    /// The keys of the column at a place, counted from 1, in a list alone.
-    pub(crate) fn column_alone(&self, alloc: Global, place: u32) -> Result<KeyLists, NoMemory>
+    /// The keys of the column at a place, counted from 1, in the room that they take.
+    pub(crate) fn copied_keys(&self, alloc: Global, place: u32) -> Result<Texts, NoMemory>
         requires low { 0 < place }
         requires high { place ≤ length self.now.columns }
-        ensures keys { IfOk result (λ lists. lists ≡ keys_at self.now place ∷ []) }
-        ensures query { IsQuery (keys_at self.now place ∷ []) }
+        ensures keys { IfOk result (λ keys. keys ≡ keys_at self.now place) }
+        ensures small { length (keys_at self.now place) ≤ 4194304 }
+        ensures different { IsDistinct bytes_eq (keys_at self.now place) }
     {
-        self.sets.alone(alloc, place - 1)
+        self.sets.copied(alloc, place - 1)
     }
 }
 
@@ -231,7 +234,7 @@ fn read_keys(
     requires high { place ≤ column_count raw.now }
     ensures { IfOk result (λ keys. keys ≡ (column_at raw.now place).keys) }
 {
-    let mut keys = KeySet::new(alloc);
+    let mut keys = KeySet::with_room(alloc, raw.rows().min(FIRST_ROOM) as u32)?;
     for row in 0..raw.rows() {
         keys.add(alloc, raw.field(row + 1, place), buffer)?;
     }
@@ -258,7 +261,7 @@ fn key_byte_count(sets: &[KeySet]) -> Option<u64>
 {
     let mut count = 0u64;
     for keys in sets {
-        count = count.checked_add(keys.byte_count()?)?;
+        count = count.checked_add(keys.texts().byte_count()?)?;
     }
     Some(count)
 }

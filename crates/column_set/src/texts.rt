@@ -1,5 +1,5 @@
 //! Texts in one region, which the keys of columns and queries and the names of columns are kept in.
-ghost use Rattle.std.specs.Prelude.{◌≡◌, ◌<◌, ◌≤◌, ◌^◌, ◌++◌, ◌∷◌, [], get_or, length, map, string_bytes, sum_by, IfNone, IfOk, IfSome, OnOk};
+ghost use Rattle.std.specs.Prelude.{◌≡◌, ◌<◌, ◌≤◌, ◌^◌, ◌++◌, ◌∷◌, [], get_or, length, map, string_bytes, sum_by, IfNone, IfOk, IfSome, OnErr, OnOk};
 
 use no_memory::NoMemory;
 use std::alloc::Global;
@@ -65,14 +65,16 @@ impl Texts {
         }
     }
 
-    /// Puts a text behind the others. It is refused where the bytes that room was made for do not hold it, and where memory is
-    /// wanting.
+    /// Puts a text behind the others, and takes more memory where the bytes that room was made for do not hold it. It is refused
+    /// where memory is wanting, and from 2^32 - 1 texts or bytes on; the texts are then as they were.
     pub fn push(&mut self, text: &str) -> Result<(), NoMemory>
-        ensures { OnOk result (self.new ≡ self.old ++ text.now ∷ []) }
+        ensures added { OnOk result (self.new ≡ self.old ++ text.now ∷ []) }
+        ensures refused { OnErr result (self.new ≡ self.old) }
     {
-        if self.spans.len() >= u32::MAX as usize || self.region.spare() < text.len() {
+        if self.spans.len() >= u32::MAX as usize {
             return Err(NoMemory);
         }
+        self.region.reserve(text.len())?;
         let span = self.region.put(text);
         self.spans.push(span)?;
         Ok(())
@@ -86,6 +88,28 @@ impl Texts {
             self.push(string.as_str())?;
         }
         Ok(())
+    }
+
+    /// Puts the texts of another list behind these.
+    pub fn push_texts(&mut self, others: &Texts) -> Result<(), NoMemory>
+        ensures { OnOk result (self.new ≡ self.old ++ others.now) }
+    {
+        for i in 0..others.len() {
+            self.push(others.text(i))?;
+        }
+        Ok(())
+    }
+
+    /// How many bytes the texts have together, and `None` only where these are 2^64 or more.
+    pub fn byte_count(&self) -> Option<u64>
+        ensures count { IfSome result (λ count. count ≡ sum_by length self.now) }
+        ensures too_many { IfNone result (2 ^ 64 ≤ sum_by length self.now) }
+    {
+        let mut count = 0u64;
+        for i in 0..self.len() {
+            count = count.checked_add(self.text(i).len() as u64)?;
+        }
+        Some(count)
     }
 }
 

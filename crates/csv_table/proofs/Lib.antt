@@ -1,4 +1,5 @@
 pub mod ReaderLemmas
+pub mod FieldLemmas
 pub mod SplitLemmas
 pub mod FaultLemmas
 pub mod TableLemmas

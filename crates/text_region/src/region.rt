@@ -1,5 +1,5 @@
 //! The region and its spans.
-ghost use Rattle.std.specs.Prelude.{◌≡◌, ◌≤◌, ◌+◌, ◌++◌, [], length, IfOk, IsOk};
+ghost use Rattle.std.specs.Prelude.{◌≡◌, ◌≤◌, ◌+◌, ◌++◌, [], length, IfOk, IsOk, OnErr, OnOk};
 ghost use Rattle.text_region.specs.Spans.{IsSpan, start_of, text_at, KeepsSpans};
 
 use no_memory::NoMemory;
@@ -15,7 +15,7 @@ pub struct Span {
     len: u32,
 }
 
-/// Texts one behind the other in memory of their own, which is taken once, and how many more bytes fit.
+/// Texts one behind the other in memory of their own, and how many more bytes fit.
 #[derive(Drop)]
 pub struct Region {
     text: String,
@@ -55,6 +55,36 @@ impl Region {
         ensures { result ≡ self.now.spare }
     {
         self.spare as usize
+    }
+
+    /// Makes room for at least so many more bytes, more than that where the region grows. It is refused where memory is wanting, and
+    /// where the region would have more than 2^32 - 1 bytes; the region is then as it was.
+    pub fn reserve(&mut self, bytes: usize) -> Result<(), NoMemory>
+        ensures bytes { self.new.bytes ≡ self.old.bytes }
+        ensures spare { OnOk result (bytes ≤ self.new.spare) }
+        ensures refused { OnErr result (self.new ≡ self.old) }
+        ensures kept { KeepsSpans self.old self.new }
+    {
+        if bytes <= self.spare() {
+            return Ok(());
+        }
+        let len = self.text.as_str().len();
+        let most = u32::MAX as usize - len;
+        if bytes > most {
+            return Err(NoMemory);
+        }
+        self.text.reserve(bytes)?;
+        self.spare = (self.text.capacity() - len).min(most) as u32;
+        Ok(())
+    }
+
+    /// Gives back the memory that no text takes. No more bytes fit then.
+    pub fn fit(&mut self)
+        ensures bytes { self.new.bytes ≡ self.old.bytes }
+        ensures kept { KeepsSpans self.old self.new }
+    {
+        self.text.shrink_to_fit();
+        self.spare = 0;
     }
 
     /// Puts a text behind the others, and answers where it stands. It takes no memory and cannot fail, and the spans that

@@ -1,2 +1,3 @@
 pub mod AsciiLemmas
+pub mod FoldLemmas
 pub mod SameKeyLemmas

@@ -1,14 +1,16 @@
 //! The key of a value: canonical caseless matching of two values, made into a text that both have where they match.
 #![tactic(auto)]
 
-ghost use Rattle.std.specs.Prelude.{◌≡◌, ◌↔◌, ◌⊎◌, ◌≤◌, [], if◌then◌else◌, length, IfOk, IsAscii, IsOk, IsTrue, None, OnErr, OnOk, Some, option_map, string_bytes};
+ghost use Rattle.std.specs.Prelude.{◌≡◌, ◌↔◌, ◌⊎◌, ◌≤◌, [], chars, encode_utf8_all, if◌then◌else◌, length, IfOk, IsAscii, IsOk, IsTrue, None, OnErr, OnOk, Some, option_map, string_bytes};
 ghost use Rattle.std.specs.String.{string_capacity};
+ghost use Rattle.caseless.specs.Caseless.{default_case_fold};
+ghost use Rattle.unicode_normalization.specs.Forms.{nfd};
 ghost use Rattle.lake_model.specs.Keys.{key, key_of_text, IsSameValue};
 
 use caseless::{canonical_caseless_match_str, default_case_fold_str};
 use no_memory::NoMemory;
 use std::alloc::Global;
-use unicode_normalization::to_nfd;
+use unicode_normalization::{is_nfd, to_nfd};
 
 /// The key of a value: NFD(toCasefold(NFD(X))) of the value X without the white space at its ends, and none where nothing is left.
 /// Values have equal keys exactly where they match without regard to case and to the way that accents are written: this is the
@@ -87,8 +89,8 @@ fn write_key(alloc: Global, text: &str, into: &mut String) -> Result<(), NoMemor
 }
 
 // Writes a text of ASCII in small letters into an empty buffer that has room for it, and answers whether the text is of ASCII: then
-// this is its key, since none of its characters decomposes, and folding makes the letters small. Of another text a part may stand
-// there.
+// this is its key, since none of its characters decomposes, and folding makes the letters small. For another text the buffer stays
+// empty.
 fn push_small(text: &str, into: &mut String) -> bool
     requires empty { string_bytes into.old ≡ [] }
     requires room { length text.now ≤ string_capacity into.old }
@@ -96,14 +98,12 @@ fn push_small(text: &str, into: &mut String) -> bool
     ensures key { IsTrue result → string_bytes into.new ≡ key_of_text text.now }
     ensures capacity { string_capacity into.old ≤ string_capacity into.new }
 {
-    for byte in text.as_bytes() {
-        if !byte.is_ascii() {
-            return false;
-        }
-        match into.push(byte.to_ascii_lowercase() as char) {
-            Ok(()) => (),
-            Err(_) => unreachable!(),
-        }
+    if !text.is_ascii() {
+        return false;
+    }
+    match into.push_str(text) {
+        Ok(()) => into.make_ascii_lowercase(),
+        Err(_) => unreachable!(),
     }
     true
 }
@@ -112,9 +112,22 @@ fn push_small(text: &str, into: &mut String) -> bool
 fn folded_key(alloc: Global, text: &str) -> Result<String, NoMemory>
     ensures { IfOk result (λ found. string_bytes found ≡ key_of_text text.now) }
 {
-    let decomposed = to_nfd(alloc, text)?;
-    let folded = default_case_fold_str(alloc, decomposed.as_str())?;
+    let folded = folded_text(alloc, text)?;
+    if is_nfd(folded.as_str()) {
+        return Ok(folded);
+    }
     Ok(to_nfd(alloc, folded.as_str())?)
+}
+
+// A text in normal form D and then with its case folded. A text that has this form already is not copied into it.
+fn folded_text(alloc: Global, text: &str) -> Result<String, NoMemory>
+    ensures { IfOk result (λ folded. string_bytes folded ≡ encode_utf8_all (default_case_fold (nfd (chars text.now)))) }
+{
+    if is_nfd(text) {
+        return Ok(default_case_fold_str(alloc, text)?);
+    }
+    let decomposed = to_nfd(alloc, text)?;
+    Ok(default_case_fold_str(alloc, decomposed.as_str())?)
 }
 
 // Writes the key of any text into a buffer, in place of what stands there.

@@ -1,20 +1,10 @@
-use Rattle.std.proofs.Common.{◌≡◌, ◌∙◌, ap, sym, refl, map, string_bytes, List, true}
-use Rattle.std.specs.Prelude.{bytes_eq}
-use Rattle.lake_model.specs.Texts.{Text}
-use Rattle.lake_model.specs.Tables.{add_key, has_key}
-use Rattle.column_set.proofs.TextLemmas.{list_any-map, map-insert_key}
+use Rattle.std.proofs.Common.{◌≡◌, ◌∙◌, false, sym}
+use Rattle.lake_model.specs.Tables.{has_key}
+use Rattle.column_set.proofs.SlotLemmas.{set_push}
 use Rattle.column_set.proofs.keys.KeySet.insert.Goals as goal
 
-pub returns-then-contains : goal.returns-then-contains
-returns-then-contains c =
-    let key = c.args.key.now in
-    let strings = c.self.inside.keys.keys in
-    let there : has_key c.args.self.now key ≡ true =
-    ap (λ (keys : List Text). has_key keys key) (sym c.self.view_is) ∙ list_any-map (bytes_eq key) string_bytes strings ∙ sym c.contains.ensures ∙ c.if-contains.true in
-    rw there refl
-
-pub returns : goal.returns
-returns c =
-    let strings = c.self.inside.keys.keys in
-    let added = ap (map string_bytes) c.in_ok-insert.ensures.keys ∙ map-insert_key strings c.in_ok-from_str.field-0 in
-    added ∙ ap (λ (text : Text). add_key (map string_bytes strings) text) c.in_ok-from_str.ensures.ok ∙ ap (λ (keys : List Text). add_key keys c.args.key.now) c.self.view_is
+pub invariant_of-self-2 : goal.invariant_of-self-2
+invariant_of-self-2 c =
+    let absent : has_key c.self.inside.keys c.args.key.now ≡ false = sym c.is_among.ensures ∙ c.if-is_among.false in
+    set_push c.room_for.new.slots.items c.self.inside.keys c.args.key.now c.in_ok-at.at c.hash_key-hash.result c.self.invariant.0 absent c.room_for.ensures.kept c.hash_key-hash.ensures
+    c.in_ok-at.ensures.free c.push.new.self c.in_ok-push.ensures.added c.len.result c.len.ensures.value

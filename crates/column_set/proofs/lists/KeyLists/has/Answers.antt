@@ -1,25 +1,20 @@
-use Rattle.std.proofs.Common.{◌≡◌, [], get_or, arith, rules, sym}
-use Rattle.std.specs.Ordering.{nat_cmp}
-use Rattle.std.specs.Cmp.Lexicographic.{slice_cmp}
-use Rattle.std.proofs.lemmas.Fn.{always_returns_same}
-use Rattle.std.proofs.lemmas.List.{get_or_default}
-use Rattle.column_set.proofs.KeyLemmas.{found, none, rising}
+use Rattle.std.proofs.Common.{◌∙◌, [], ap, arith, get_or, sym}
+use Rattle.std.proofs.lemmas.List.{take_all}
+use Rattle.lake_model.specs.Tables.{has_key}
+use Rattle.column_set.proofs.DistinctLemmas.{has_at, has_more}
 use Rattle.column_set.proofs.lists.KeyLists.has.Goals as goal
 
-pub returns-in-Ok : goal.returns-in-Ok
-returns-in-Ok c =
+pub returns-then-eq : goal.returns-then-eq
+returns-then-eq c =
     let keys = get_or c.args.self.now c.args.list [] in
-    let key = c.args.key.now in
-    let numbers = c.numbers.result.now in
-    let at = c.in-Ok.field-0 in
-    let is = c.in-Ok.ensures.position (λ n. slice_cmp nat_cmp (get_or keys n []) key) (always_returns_same _ (λ a r. r ≡ slice_cmp nat_cmp (get_or keys a.0.now []) key) _ (λ a r f' called. search rules)) in
-    sym (found keys numbers c.numbers.ensures key at (get_or numbers at 0) c.in-Ok.ensures.bound (get_or_default numbers at 0 (get_or numbers at 0) c.in-Ok.ensures.bound) (is 0))
+    has_at keys c.args.key.now c.loop-i.i c.key.result.now (omega (arith, c.size-i-end.ensures)) c.key.ensures c.eq.result c.eq.ensures c.if-eq.true
 
-pub returns-in-Err : goal.returns-in-Err
-returns-in-Err c =
+pub loop-i-preserved : goal.loop-i-preserved
+loop-i-preserved c =
     let keys = get_or c.args.self.now c.args.list [] in
-    let key = c.args.key.now in
-    let numbers = c.numbers.result.now in
-    let is = c.in-Err.ensures.position (λ n. slice_cmp nat_cmp (get_or keys n []) key) (always_returns_same _ (λ a r. r ≡ slice_cmp nat_cmp (get_or keys a.0.now []) key) _ (λ a r f' called. search rules)) in
-    let parted = is (rising keys numbers c.numbers.ensures key) in
-    sym (none keys numbers c.numbers.ensures key c.in-Err.field-0 (λ k d l. parted.0 k d (omega arith) l) (λ k d g h. parted.1 k d g h))
+    has_more keys c.args.key.now c.loop-i.i c.key.result.now (omega (arith, c.size-i-end.ensures)) c.key.ensures c.eq.result c.eq.ensures c.if-eq.false c.loop-i.invariant
+
+pub returns : goal.returns
+returns c =
+    let keys = get_or c.args.self.now c.args.list [] in
+    sym (ap (λ ks. has_key ks c.args.key.now) (sym (take_all c.loop-i.i keys (omega (arith, c.size-i-end.ensures)))) ∙ c.loop-i.invariant)

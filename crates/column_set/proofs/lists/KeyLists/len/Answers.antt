@@ -4,5 +4,5 @@ use Rattle.column_set.proofs.lists.KeyLists.len.Goals as goal
 
 pub returns : goal.returns
 returns c =
-    let count = length-lists c.self.inside.starts.items c.self.inside.keys c.self.inside.by_key.items c.self.invariant c.args.self.now c.self.view_is in
+    let count = length-lists c.self.inside.starts.items c.self.inside.keys c.self.invariant c.args.self.now c.self.view_is in
     omega (arith, count, c.len.ensures)
