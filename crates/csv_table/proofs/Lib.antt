@@ -1,5 +1,4 @@
 pub mod ReaderLemmas
-pub mod FieldLemmas
 pub mod SplitLemmas
 pub mod FaultLemmas
 pub mod TableLemmas

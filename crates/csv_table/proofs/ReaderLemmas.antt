@@ -1,13 +1,16 @@
 -- The records that are left, one read at a time, and how many bytes they take.
-use Rattle.std.proofs.Common.{◌≡◌, ◌≤◌, ◌<◌, ◌+◌, ℕ, zero, suc, List, [], ◌∷◌, length, Option, Some, None, Bool, true, false, refl, ap, subst, arith, inl, inr, add-one}
-use Rattle.std.specs.Prelude.{if◌then◌else◌, ◌==◌, ◌&&◌, drop, nat_eq, sum_by, take}
+use Rattle.std.proofs.Common.{sym, Bor, ◌≡◌, ◌≤◌, ◌<◌, ◌+◌, ℕ, zero, suc, List, [], ◌∷◌, length, Option, Some, None, Bool, true, false, refl, ap, subst, arith, ◌∙◌, inl, inr, add-one}
+use Rattle.std.specs.Prelude.{IsSome, if◌then◌else◌, ◌==◌, ◌&&◌, drop, nat_eq, sum_by, take}
 use Rattle.std.specs.Cmp.Lexicographic.{pointwise}
 use Rattle.std.proofs.lemmas.Bool.{cases_Bool, false≢true}
 use Rattle.std.proofs.lemmas.Option.{same_Some}
 use Rattle.std.proofs.lemmas.List.{length-append}
 use Rattle.std.proofs.lemmas.List.Sums.{sum_by-append, sum_by-cons}
 use Rattle.csv.specs.Machine.{Read, after_end, ends_at_end, ends_with, field_after, fields_after, in_field, is_byte, is_end, next_record, start_field, start_record, step}
-use Rattle.csv.specs.Reading.{records_from, records_next, strip_bom}
+use Rattle.csv.specs.declared.error.ErrorKind.{ErrorKind}
+use Rattle.csv.specs.declared.error.ErrorKind.TheVariants as kind
+use Rattle.csv.specs.Reading.{ExplainsRead, is_flexible, stops_reader, ReadRecord, Reached, default_config, records_from, records_next, source_of, strip_bom, took_first}
+use Rattle.csv_table.specs.RecordsLeft.{IsReading, records_left}
 use Rattle.csv.specs.declared.parser.Config.{Config}
 use Rattle.csv.specs.declared.parser.Terminator.{Terminator}
 use Rattle.csv.specs.declared.parser.Terminator.TheVariants as term
@@ -15,6 +18,8 @@ use Rattle.csv.specs.declared.parser.State.{State}
 use Rattle.csv.specs.declared.parser.State.TheVariants as st
 use Rattle.csv.specs.declared.parser.Action.{Action}
 use Rattle.csv.specs.declared.parser.Action.TheVariants as act
+use Rattle.csv.specs.declared.reader.Reader.{Reader}
+use Rattle.csv.proofs.ReadFacts.{rows-end, rows-more}
 use Rattle.lake_model.specs.Records.{Record, text_size}
 
 -- a step that ends a record leaves a state at which the text may end
@@ -69,7 +74,7 @@ pub record Takes (size : ℕ) (text : ℕ) (p : Read) : Type 0 where
   pub quiet : ends_at_end p.1 ≡ false
   pub bytes : sum_by length p.0 + length p.2 ≤ size + text
 
-pub takes : (cfg : Config) (s : State) (fields : List (List ℕ)) (field xs : List ℕ) (p : Read) → next_record cfg s fields field xs ≡ Some p
+takes : (cfg : Config) (s : State) (fields : List (List ℕ)) (field xs : List ℕ) (p : Read) → next_record cfg s fields field xs ≡ Some p
     → Takes (sum_by length fields + length field) (length xs) p
 unfolding next_record
 takes cfg s fields field [] p e =
@@ -136,6 +141,44 @@ pub left_none : (cfg : Config) (s : State) (y : List ℕ) → next_record cfg s 
 unfolding records_from
 left_none cfg s y e = rw (add-one (length y), e) refl
 
+-- the parts of what was read, put together
+next_is : (o : Option Read) (p : Read) (f : Record) (s : State) (z : List ℕ) → o ≡ Some p → f ≡ p.0 → p.1 ≡ s → p.2 ≡ z → o ≡ Some (f, s, z)
+next_is o p f s z h a b c = rw (a, ← b, ← c) h
+
+one_from : (o : Option (List ℕ)) (a b : Reader (Bor (List ℕ))) (f : Record) → source_of (λ s. Some s.now) a ≡ o → IsReading a → took_first b ≡ true → is_flexible b ≡ is_flexible a
+    → ReadRecord (λ s. Some s.now) a b true f → IsReading b × (records_left a ≡ f ∷ records_left b)
+unfolding Reached
+one_from None a b f src is first bends r = cc (rw src at is.known)
+one_from (Some y) a b f src is first bends r =
+    let (z, at_z, reached) = rows-more (λ (s : Bor (List ℕ)). Some s.now) a b f default_config a.state y y [] is.config src (refl, refl) r in
+    let (p, next, fields, (at_state, at_rest)) = reached in
+    let e : next_record default_config a.state [] [] y ≡ Some (f, b.state, z) = next_is _ p f b.state z next fields at_state at_rest in
+    let known : IsSome (source_of (λ (s : Bor (List ℕ)). Some s.now) b) = rw at_z refl in (
+      record {
+        trim = r.3 ∙ is.trim;
+        ready = inl first;
+        config = r.2 ∙ is.config;
+        known = known;
+        flexible = bends ∙ is.flexible;
+        quiet = (takes default_config a.state [] [] y (f, b.state, z) e).quiet;
+      },
+      rw (src, at_z) (left_more default_config a.state b.state y z f is.quiet e),
+    )
+
+none_from : (o : Option (List ℕ)) (a b : Reader (Bor (List ℕ))) (f : Record) → source_of (λ s. Some s.now) a ≡ o → IsReading a
+    → ReadRecord (λ s. Some s.now) a b false f → records_left a ≡ []
+none_from None a b f src is r = rw src refl
+none_from (Some y) a b f src is r = rw src (left_none default_config a.state y (rows-end (λ (s : Bor (List ℕ)). Some s.now) a b f default_config y is.config src r))
+
+-- a read that found a record takes the first of those that were left
+pub reads_one : (a b : Reader (Bor (List ℕ))) (f : Record) → IsReading a → took_first b ≡ true → is_flexible b ≡ is_flexible a → ReadRecord (λ s. Some s.now) a b true f
+    → IsReading b × (records_left a ≡ f ∷ records_left b)
+reads_one a b f is first bends r = one_from (source_of (λ s. Some s.now) a) a b f refl is first bends r
+
+-- and one that found none had none left
+pub reads_none : (a b : Reader (Bor (List ℕ))) (f : Record) → IsReading a → ReadRecord (λ s. Some s.now) a b false f → records_left a ≡ []
+reads_none a b f is r = none_from (source_of (λ s. Some s.now) a) a b f refl is r
+
 next_size : (o : Option Read) (g : State → List ℕ → List Record) (n : ℕ) → ((p : Read) → o ≡ Some p → sum_by length p.0 + text_size (g p.1 p.2) ≤ n)
     → text_size (records_next g o) ≤ n
 next_size None g n h = omega arith
@@ -185,3 +228,12 @@ strip_bom_lem (a ∷ b ∷ c ∷ rest) =
       ]
       | false ↦ refl
     ]
+
+-- an error of a flexible reader of bytes stops it
+pub error_stops : (rem : Bor (List ℕ) → Option (List ℕ)) (a b : Reader (Bor (List ℕ))) (k : ErrorKind) → is_flexible a ≡ true → ExplainsRead rem a b false k → stops_reader k ≡ true
+error_stops rem a b (kind.Io e) h why = refl
+error_stops rem a b kind.OutOfMemory h why = refl
+error_stops rem a b (kind.UnequalLengths pos expected len) h why = absurd (false≢true (sym why.0 ∙ h))
+error_stops rem a b (kind.Utf8 pos err) h why = absurd (false≢true why.0)
+error_stops rem a b (kind.Serialize text) h why = absurd why
+error_stops rem a b (kind.Deserialize pos err) h why = absurd why

@@ -1,37 +1,32 @@
--- The records of bytes, and of the bytes behind some fields of a record.
-use Rattle.std.specs.Prelude.{◌≡◌, ◌+◌, ◌==◌, ◌||◌, ℕ, Bool, List, [], ◌∷◌, false, if◌then◌else◌, length, not, slice_index}
-use Rattle.csv.specs.Machine.{next_record}
-use Rattle.csv.specs.Reading.{default_config, records_from, records_next}
+-- A reader of the crate `csv` over bytes, as the records that it has left.
+use Rattle.std.specs.Prelude.{◌≡◌, ◌+◌, List, [], length, true, false, Option, Some, None, IsSome}
+use Rattle.std.specs.Borrow.{Bor}
+use Rattle.csv.specs.Machine.{ends_at_end}
+use Rattle.csv.specs.Reading.{Ready, default_config, is_flexible, reader_config, reader_state, reader_trim, records_from, source_of}
 use Rattle.csv.specs.declared.parser.State.{State}
-use Rattle.csv.specs.declared.parser.State.TheVariants as st
+use Rattle.csv.specs.declared.reader.Reader.{Reader}
+use Rattle.csv.specs.declared.reader.Trim.TheVariants as trim
 use Rattle.lake_model.specs.Texts.{Text}
 use Rattle.lake_model.specs.Records.{Record}
 
--- whether a byte ends a line: CR or LF; and whether it ends a field that is not in quotes
-abbrev pub ends_line : ℕ → Bool
-ends_line byte = (byte == 0x0D) || (byte == 0x0A)
+-- the bytes that a reader over a slice has left, where they are known
+abbrev pub bytes_left : Reader (Bor Text) → Option Text
+bytes_left reader = source_of (λ slice. Some slice.now) reader
 
-abbrev pub stops_field : ℕ → Bool
-stops_field byte = (byte == 0x2C) || ends_line byte
+-- the records of known bytes from a state of the crate's machine
+abbrev pub records_left_from : Option Text → State → List Record
+records_left_from None state = []
+records_left_from (Some bytes) state = records_from default_config (length bytes + 1) state bytes
 
-abbrev pub IsPlain : ℕ → Type 0
-IsPlain byte = stops_field byte ≡ false
+-- the records that a reader has left
+abbrev pub records_left : Reader (Bor Text) → List Record
+records_left reader = records_left_from (bytes_left reader) (reader_state reader)
 
--- the records of bytes at the start of a line
-abbrev pub records_in : Text → List Record
-records_in bytes = records_from default_config (length bytes + 1) st.StartRecord bytes
-
-abbrev pub records_after : State → Text → List Record
-records_after state bytes = records_in bytes
-
--- the records of bytes behind some fields of the first
-abbrev pub fields_then : List Text → Text → List Record
-fields_then fields bytes = records_next records_after (next_record default_config st.StartField fields [] bytes)
-
--- the records behind a field, which is the last of its record or not
-abbrev pub cut_records : Bool → List Text → Text → List Record
-cut_records last fields rest = if last then fields ∷ records_in rest else fields_then fields rest
-
--- whether a field that ends at a place is the last of its record: no comma stands there
-abbrev pub is_last : Text → ℕ → Bool
-is_last bytes end = not (slice_index bytes end == 0x2C)
+-- The reader stands between two records of known bytes, and reads with the crate's defaults, records of any length and no header.
+pub record IsReading (reader : Reader (Bor Text)) : Type 0 where
+  pub trim : reader_trim reader ≡ trim.None
+  pub ready : Ready reader
+  pub config : reader_config reader ≡ default_config
+  pub known : IsSome (bytes_left reader)
+  pub flexible : is_flexible reader ≡ true
+  pub quiet : ends_at_end (reader_state reader) ≡ false

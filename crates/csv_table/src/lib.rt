@@ -2,16 +2,13 @@
 #![tactic(auto)]
 
 ghost use Rattle.std.specs.Prelude.{◌≡◌, ◌⊎◌, ◌↔◌, List, ◌+◌, ◌<◌, ◌≤◌, ◌++◌, ◌∷◌, [], true, false, length, Some, None, Ok, Err, IfOk, IfErr, OnOk, OnErr};
-ghost use Rattle.csv.specs.Reading.{strip_bom};
+ghost use Rattle.csv.specs.Reading.{has_failed, strip_bom};
 ghost use Rattle.csv.specs.Records.{fields_of};
 ghost use Rattle.lake_model.specs.Records.{column_count, csv_fault, field_at, header_fault, record_fault, records_of, table_fault, IsTable, Record, text_fault, text_size};
-ghost use Rattle.csv_table.specs.RecordsLeft.{records_in};
+ghost use Rattle.csv_table.specs.RecordsLeft.{IsReading, records_left};
 
-mod reader;
-
-use csv::{ByteRecord, StringRecord};
+use csv::{ByteRecord, Reader, ReaderBuilder, StringRecord};
 pub use lake_model::CsvRefused;
-use reader::read_record;
 use std::alloc::Global;
 use std::marker::Model;
 use std::str;
@@ -38,12 +35,6 @@ impl Model for RawTable {
     ghost view = { λ table. split_records table.records table.columns (fields_of table.store) };
 
     ghost invariant = { λ table. (length (fields_of table.store) ≡ table.records * table.columns) × (0 < table.records) × (table.columns ≤ 1024) };
-}
-
-// The bytes whose records are still to be read.
-#[derive(Drop)]
-struct Left<'a> {
-    bytes: &'a [u8],
 }
 
 impl RawTable {
@@ -81,7 +72,7 @@ impl RawTable {
 
 /// The table of CSV bytes (RFC 4180), or why they are none. Commas separate the fields of a record. A field in double quotes may
 /// hold commas, line breaks and quotes, each quote doubled. A record ends at LF, CR LF or CR, and an empty line is no record. One
-/// byte order mark in front of the bytes is no part of them, nor is a second one. No field is trimmed.
+/// byte order mark in front of the bytes is no part of them, nor is a second one, which the crate `csv` drops. No field is trimmed.
 ///
 /// # Errors
 ///
@@ -96,18 +87,15 @@ pub fn read_table(alloc: Global, bytes: &[u8]) -> Result<RawTable, CsvRefused>
     ensures size { IfOk result (λ t. text_size t ≤ length bytes.now) }
     ensures refused { IfErr result (λ e. (e ≡ CsvRefused.NoMemory) ⊎ (csv_fault bytes.now ≡ Some e)) }
 {
-    // One mark is no part of the bytes, and one behind it none of the records.
-    let mut left = Left {
-        bytes: behind_mark(behind_mark(bytes)),
-    };
+    let mut reader = open_reader(alloc, bytes);
     let mut row = ByteRecord::new(alloc);
     let mut store = StringRecord::new(alloc);
-    if !read_next(alloc, &mut left, &mut row)? {
+    if !read_next(&mut reader, &mut row)? {
         return Err(CsvRefused::NoHeader);
     }
     let columns = add_header(&mut store, &row)?;
     for records in 1..u64::MAX {
-        if !read_next(alloc, &mut left, &mut row)? {
+        if !read_next(&mut reader, &mut row)? {
             return Ok(RawTable {
                 store,
                 columns,
@@ -120,6 +108,17 @@ pub fn read_table(alloc: Global, bytes: &[u8]) -> Result<RawTable, CsvRefused>
     Err(CsvRefused::NoMemory)
 }
 
+// A reader of the records of the bytes.
+fn open_reader(alloc: Global, bytes: &[u8]) -> Reader<&[u8]>
+    ensures reading { IsReading result }
+    ensures left { records_left result ≡ records_of bytes.now }
+{
+    ReaderBuilder::new()
+        .has_headers(false)
+        .flexible(true)
+        .from_reader(alloc, behind_mark(bytes))
+}
+
 // The bytes behind one byte order mark, or all of them where they do not begin with one.
 fn behind_mark(bytes: &[u8]) -> &[u8]
     ensures { result.now ≡ strip_bom bytes.now }
@@ -130,22 +129,19 @@ fn behind_mark(bytes: &[u8]) -> &[u8]
     }
 }
 
-// Reads the next record of the bytes that are left, and tells whether there is one.
-fn read_next(alloc: Global, left: &mut Left<'_>, row: &mut ByteRecord) -> Result<bool, CsvRefused>
-    ensures more { IfOk result (λ found. found ≡ true → records_in left.old.bytes.now ≡ fields_of row.new ∷ records_in left.new.bytes.now) }
-    ensures end { IfOk result (λ found. found ≡ false → records_in left.old.bytes.now ≡ []) }
+// Reads the next record, and tells whether there is one. A flexible reader over a slice refuses nothing but want of memory: the
+// clause `failed` says that no error of the text became that.
+fn read_next(reader: &mut Reader<&[u8]>, row: &mut ByteRecord) -> Result<bool, CsvRefused>
+    requires { IsReading reader.old }
+    ensures more { IfOk result (λ found. found ≡ true → IsReading reader.new × (records_left reader.old ≡ fields_of row.new ∷ records_left reader.new)) }
+    ensures end { IfOk result (λ found. found ≡ false → records_left reader.old ≡ []) }
     ensures refused { IfErr result (λ e. e ≡ CsvRefused.NoMemory) }
+    ensures failed { OnErr result (has_failed reader.new ≡ true) }
 {
-    let Ok(behind) = read_record(alloc, left.bytes, row) else {
+    let Ok(found) = reader.read_byte_record(row) else {
         return Err(CsvRefused::NoMemory);
     };
-    match behind {
-        Some(rest) => {
-            left.bytes = rest;
-            Ok(true)
-        }
-        None => Ok(false),
-    }
+    Ok(found)
 }
 
 // Adds the header's fields to the store, and tells how many there are.

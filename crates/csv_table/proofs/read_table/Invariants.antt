@@ -1,11 +1,12 @@
 use Rattle.std.proofs.Common.{◌≤◌}
 use Rattle.csv.specs.Records.{fields_of}
-use Rattle.csv_table.specs.RecordsLeft.{records_in}
+use Rattle.csv_table.specs.RecordsLeft.{IsReading, records_left}
 use Rattle.csv_table.proofs.TableLemmas.{IsLeft}
 use Rattle.csv_table.proofs.read_table.Given as goal
 
 abbrev pub invariant-loop-records : goal.invariant-loop-records
 invariant-loop-records l = record {
+  reading : IsReading l.reader;
   narrow : l.columns ≤ 1024;
-  left : IsLeft l.fn.bytes l.records l.columns (fields_of l.store) (records_in l.left.bytes.now);
+  left : IsLeft l.fn.bytes l.records l.columns (fields_of l.store) (records_left l.reader);
 }
