@@ -37,15 +37,19 @@ impl<'a> Model for Row<'a> {
 
 impl<'a> Row<'a> {
     /// The order of an answer: the greater overlap first, and then by the bytes of the table's name, those of the column's name,
-    /// and the place.
+    /// and the place. It reads names only where the overlaps are equal.
     pub fn order(&self, other: &Row<'_>) -> Ordering
         ensures { result ≡ row_cmp self.now other.now }
     {
-        let by_overlap = other.overlap.cmp(&self.overlap);
-        let by_table = self.table().bytes().cmp(other.table().bytes());
-        let by_column = self.column().cmp(other.column());
-        let by_place = self.place.cmp(&other.place);
-        by_overlap.then(by_table.then(by_column.then(by_place)))
+        match other.overlap.cmp(&self.overlap) {
+            Ordering::Equal => {
+                let by_table = self.table().bytes().cmp(other.table().bytes());
+                let by_column = self.column().cmp(other.column());
+                let by_place = self.place.cmp(&other.place);
+                by_table.then(by_column.then(by_place))
+            }
+            unequal => unequal,
+        }
     }
 
     /// The table's name.
