@@ -78,15 +78,6 @@ impl Region {
         Ok(())
     }
 
-    /// Gives back the memory that no text takes. No more bytes fit then.
-    pub fn fit(&mut self)
-        ensures bytes { self.new.bytes ≡ self.old.bytes }
-        ensures kept { KeepsSpans self.old self.new }
-    {
-        self.text.shrink_to_fit();
-        self.spare = 0;
-    }
-
     /// Puts a text behind the others, and answers where it stands. It takes no memory and cannot fail, and the spans that
     /// the region answered before keep their texts.
     pub fn put(&mut self, text: &str) -> Span
