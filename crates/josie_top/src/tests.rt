@@ -270,14 +270,7 @@ fn traces_a_run(rt: HostRuntime) -> Result<(), Fail> {
     let script = "load a\nc\nx\n.\ndrop a\nload b\nc\nx\n.\nsearch 1\nx\n.\n";
     let written =
         "1 loaded a columns 1 members 1 at 1\n2 dropped a at 2\n3 loaded b columns 1 members 1 at 3\n4 answer 1 of 1 at 3\n  1 b 1 \"c\"\n  work reads 2 probes 0\n  layout at 3 parts 1:1- 3:3\njournal 3\n  1 load lane 1 command 1 a\n  2 drop lane 1 command 2 a\n  3 load lane 1 command 3 b\n";
-    let (status, same) = ends_with(
-        &rt,
-        rt.alloc(),
-        &["run", "--trace"],
-        script,
-        SOUND,
-        written,
-    )?;
+    let (status, same) = ends_with(&rt, rt.alloc(), &["run", "--trace"], script, SOUND, written)?;
     assert!(rt; status == Status::Done && same);
     Ok(())
 }
