@@ -72,12 +72,18 @@ pub(crate) fn begin_batch<S: Source, K: Sink, F: Shelf>(
     out: &mut RunRecord,
 ) -> Result<Batch, Status>
     requires { gather.old.ended ≡ false }
-    ensures begun { IfOk result (IsBegun (world_of (S.left source.old) (S.faults source.old) (K.written sink.old) (K.faults sink.old) (F.files shelf.old) (F.faults shelf.old)) (world_of (S.left source.new) (S.faults source.new) (K.written sink.new) (K.faults sink.new) (F.files shelf.new) (F.faults shelf.new)) gather.old gather.new) }
+    ensures begun { let before = world_of (S.left source.old) (S.faults source.old) (K.written sink.old) (K.faults sink.old) (F.files shelf.old) (F.faults shelf.old) in
+        let now = world_of (S.left source.new) (S.faults source.new) (K.written sink.new) (K.faults sink.new) (F.files shelf.new) (F.faults shelf.new) in
+        IfOk result (IsBegun before now gather.old gather.new) }
     ensures stands { OnOk result (out.new.made ≡ out.old.made) }
-    ensures ends { IfErr result (λ status. (options : OptionsOf) (before : World) (number next : ℕ)
-        → IsUnderWay standard_limits options before (world_of (S.left source.old) (S.faults source.old) (K.written sink.old) (K.faults sink.old) (F.files shelf.old) (F.faults shelf.old)) gather.old out.old.made number next
-        → Meets standard_limits options status before (world_of (S.left source.new) (S.faults source.new) (K.written sink.new) (K.faults sink.new) (F.files shelf.new) (F.faults shelf.new)) out.new.made) }
-    ensures moves { IfErr result (λ status. Moves ⊥ status (world_of (S.left source.old) (S.faults source.old) (K.written sink.old) (K.faults sink.old) (F.files shelf.old) (F.faults shelf.old)) (world_of (S.left source.new) (S.faults source.new) (K.written sink.new) (K.faults sink.new) (F.files shelf.new) (F.faults shelf.new))) }
+    ensures ends { let before = world_of (S.left source.old) (S.faults source.old) (K.written sink.old) (K.faults sink.old) (F.files shelf.old) (F.faults shelf.old) in
+        let now = world_of (S.left source.new) (S.faults source.new) (K.written sink.new) (K.faults sink.new) (F.files shelf.new) (F.faults shelf.new) in
+        IfErr result (λ status. (options : OptionsOf) (first : World) (number next : ℕ)
+        → IsUnderWay standard_limits options first before gather.old out.old.made number next
+        → Meets standard_limits options status first now out.new.made) }
+    ensures moves { let before = world_of (S.left source.old) (S.faults source.old) (K.written sink.old) (K.faults sink.old) (F.files shelf.old) (F.faults shelf.old) in
+        let now = world_of (S.left source.new) (S.faults source.new) (K.written sink.new) (K.faults sink.new) (F.files shelf.new) (F.faults shelf.new) in
+        IfErr result (λ status. Moves ⊥ status before now) }
 {
     match gather.batch(source, shelf) {
         Ok(Some(batch)) => Ok(batch),

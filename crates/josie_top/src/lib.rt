@@ -48,13 +48,19 @@ pub fn run_ordered<S: Source, K: Sink, F: Shelf>(
     requires mode { IsModeInRange (mode_of mode) }
     requires order { IsOrdered (mode_of mode) }
     // what was read, recorded and written
-    ensures table { MeetsMode standard_limits (mode_of mode) result (world_of (S.left source.old) (S.faults source.old) (K.written sink.old) (K.faults sink.old) (F.files shelf.old) (F.faults shelf.old)) (world_of (S.left source.new) (S.faults source.new) (K.written sink.new) (K.faults sink.new) (F.files shelf.new) (F.faults shelf.new)) out.new.made }
+    ensures table { let before = world_of (S.left source.old) (S.faults source.old) (K.written sink.old) (K.faults sink.old) (F.files shelf.old) (F.faults shelf.old) in
+        let now = world_of (S.left source.new) (S.faults source.new) (K.written sink.new) (K.faults sink.new) (F.files shelf.new) (F.faults shelf.new) in
+        MeetsMode standard_limits (mode_of mode) result before now out.new.made }
     // when each status comes, and what moved
-    ensures moves { Moves ⊥ result (world_of (S.left source.old) (S.faults source.old) (K.written sink.old) (K.faults sink.old) (F.files shelf.old) (F.faults shelf.old)) (world_of (S.left source.new) (S.faults source.new) (K.written sink.new) (K.faults sink.new) (F.files shelf.new) (F.faults shelf.new)) }
+    ensures moves { let before = world_of (S.left source.old) (S.faults source.old) (K.written sink.old) (K.faults sink.old) (F.files shelf.old) (F.faults shelf.old) in
+        let now = world_of (S.left source.new) (S.faults source.new) (K.written sink.new) (K.faults sink.new) (F.files shelf.new) (F.faults shelf.new) in
+        Moves ⊥ result before now }
     // where a lake is made, nothing is read and no file is fetched
     ensures making { IsMaking (mode_of mode) → (source.new ≡ source.old) × (shelf.new ≡ shelf.old) }
     // without a fault, nothing else comes but want of memory
-    ensures complete { EndsModeWell (mode_of mode) result (world_of (S.left source.old) (S.faults source.old) (K.written sink.old) (K.faults sink.old) (F.files shelf.old) (F.faults shelf.old)) (world_of (S.left source.new) (S.faults source.new) (K.written sink.new) (K.faults sink.new) (F.files shelf.new) (F.faults shelf.new)) }
+    ensures complete { let before = world_of (S.left source.old) (S.faults source.old) (K.written sink.old) (K.faults sink.old) (F.files shelf.old) (F.faults shelf.old) in
+        let now = world_of (S.left source.new) (S.faults source.new) (K.written sink.new) (K.faults sink.new) (F.files shelf.new) (F.faults shelf.new) in
+        EndsModeWell (mode_of mode) result before now }
 {
     match mode {
         Mode::Run(options) => run_in_order(alloc, options, source, sink, shelf, out),
@@ -76,13 +82,19 @@ fn run_mode<R: Threads + Wait + Sync, S: Source, K: Sink, F: Shelf, G: Gate + Sy
     requires empty { out.old.made ≡ empty plain }
     requires mode { IsModeInRange (mode_of mode) }
     // what was read, recorded and written
-    ensures table { MeetsMode standard_limits (mode_of mode) result (world_of (S.left source.old) (S.faults source.old) (K.written sink.old) (K.faults sink.old) (F.files shelf.old) (F.faults shelf.old)) (world_of (S.left source.new) (S.faults source.new) (K.written sink.new) (K.faults sink.new) (F.files shelf.new) (F.faults shelf.new)) out.new.made }
+    ensures table { let before = world_of (S.left source.old) (S.faults source.old) (K.written sink.old) (K.faults sink.old) (F.files shelf.old) (F.faults shelf.old) in
+        let now = world_of (S.left source.new) (S.faults source.new) (K.written sink.new) (K.faults sink.new) (F.files shelf.new) (F.faults shelf.new) in
+        MeetsMode standard_limits (mode_of mode) result before now out.new.made }
     // when each status comes, and what moved
-    ensures moves { Moves ⊥ result (world_of (S.left source.old) (S.faults source.old) (K.written sink.old) (K.faults sink.old) (F.files shelf.old) (F.faults shelf.old)) (world_of (S.left source.new) (S.faults source.new) (K.written sink.new) (K.faults sink.new) (F.files shelf.new) (F.faults shelf.new)) }
+    ensures moves { let before = world_of (S.left source.old) (S.faults source.old) (K.written sink.old) (K.faults sink.old) (F.files shelf.old) (F.faults shelf.old) in
+        let now = world_of (S.left source.new) (S.faults source.new) (K.written sink.new) (K.faults sink.new) (F.files shelf.new) (F.faults shelf.new) in
+        Moves ⊥ result before now }
     // where a lake is made, nothing is read and no file is fetched
     ensures making { IsMaking (mode_of mode) → (source.new ≡ source.old) × (shelf.new ≡ shelf.old) }
     // without a fault, nothing else comes but want of memory
-    ensures complete { EndsModeWell (mode_of mode) result (world_of (S.left source.old) (S.faults source.old) (K.written sink.old) (K.faults sink.old) (F.files shelf.old) (F.faults shelf.old)) (world_of (S.left source.new) (S.faults source.new) (K.written sink.new) (K.faults sink.new) (F.files shelf.new) (F.faults shelf.new)) }
+    ensures complete { let before = world_of (S.left source.old) (S.faults source.old) (K.written sink.old) (K.faults sink.old) (F.files shelf.old) (F.faults shelf.old) in
+        let now = world_of (S.left source.new) (S.faults source.new) (K.written sink.new) (K.faults sink.new) (F.files shelf.new) (F.faults shelf.new) in
+        EndsModeWell (mode_of mode) result before now }
 {
     match mode {
         Mode::Run(options) => run_script(rt, alloc, options, source, sink, shelf, gate, out),
@@ -116,18 +128,23 @@ pub fn run<R: Threads + Wait + Sync, S: Source, K: Sink, F: Shelf, G: Gate + Syn
 ) -> Status
     requires empty { out.old.made ≡ empty plain }
     // what was read, recorded and written, in the mode that the words say
-    ensures table { (mode : said.Mode) × IsSaid (mode_read (map string_bytes words.now)) mode
-        × MeetsMode standard_limits mode result (world_of (S.left source.old) (S.faults source.old) (K.written sink.old) (K.faults sink.old) (F.files shelf.old) (F.faults shelf.old)) (world_of (S.left source.new) (S.faults source.new) (K.written sink.new) (K.faults sink.new) (F.files shelf.new) (F.faults shelf.new)) out.new.made }
+    ensures table { let before = world_of (S.left source.old) (S.faults source.old) (K.written sink.old) (K.faults sink.old) (F.files shelf.old) (F.faults shelf.old) in
+        let now = world_of (S.left source.new) (S.faults source.new) (K.written sink.new) (K.faults sink.new) (F.files shelf.new) (F.faults shelf.new) in
+        (mode : said.Mode) × IsSaid (mode_read (map string_bytes words.now)) mode × MeetsMode standard_limits mode result before now out.new.made }
     // plain words are read as they say
     ensures plain { (mode : said.Mode) → plain_mode (map string_bytes words.now) ≡ Some mode → mode_read (map string_bytes words.now) ≡ Some mode }
     // when each status comes, and what moved
-    ensures moves { Moves (mode_read (map string_bytes words.now) ≡ None) result (world_of (S.left source.old) (S.faults source.old) (K.written sink.old) (K.faults sink.old) (F.files shelf.old) (F.faults shelf.old)) (world_of (S.left source.new) (S.faults source.new) (K.written sink.new) (K.faults sink.new) (F.files shelf.new) (F.faults shelf.new)) }
+    ensures moves { let before = world_of (S.left source.old) (S.faults source.old) (K.written sink.old) (K.faults sink.old) (F.files shelf.old) (F.faults shelf.old) in
+        let now = world_of (S.left source.new) (S.faults source.new) (K.written sink.new) (K.faults sink.new) (F.files shelf.new) (F.faults shelf.new) in
+        Moves (mode_read (map string_bytes words.now) ≡ None) result before now }
     ensures refused { mode_read (map string_bytes words.now) ≡ None → (result ≡ Status.Usage) ⊎ (result ≡ Status.NoMemory) }
     ensures untouched { mode_read (map string_bytes words.now) ≡ None → (source.new ≡ source.old) × (sink.new ≡ sink.old) × (shelf.new ≡ shelf.old) × (out.new.made ≡ out.old.made) }
     // where a lake is made, nothing is read and no file is fetched
     ensures making { (mode : said.Mode) → mode_read (map string_bytes words.now) ≡ Some mode → IsMaking mode → (source.new ≡ source.old) × (shelf.new ≡ shelf.old) }
     // without a fault, nothing else comes but want of memory
-    ensures complete { (mode : said.Mode) → mode_read (map string_bytes words.now) ≡ Some mode → EndsModeWell mode result (world_of (S.left source.old) (S.faults source.old) (K.written sink.old) (K.faults sink.old) (F.files shelf.old) (F.faults shelf.old)) (world_of (S.left source.new) (S.faults source.new) (K.written sink.new) (K.faults sink.new) (F.files shelf.new) (F.faults shelf.new)) }
+    ensures complete { let before = world_of (S.left source.old) (S.faults source.old) (K.written sink.old) (K.faults sink.old) (F.files shelf.old) (F.faults shelf.old) in
+        let now = world_of (S.left source.new) (S.faults source.new) (K.written sink.new) (K.faults sink.new) (F.files shelf.new) (F.faults shelf.new) in
+        (mode : said.Mode) → mode_read (map string_bytes words.now) ≡ Some mode → EndsModeWell mode result before now }
 {
     match read_words(alloc, words) {
         Ok(mode) => run_mode(rt, alloc, mode, source, sink, shelf, gate, out),
