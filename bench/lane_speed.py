@@ -11,6 +11,7 @@ byte of the commands to the last byte of their replies, the least of N runs. `--
 
 Last comes what a batch of one command costs, with one lane and with sixteen of which one has the command.
 """
+import fcntl
 import random
 import subprocess
 import threading
@@ -23,6 +24,8 @@ BATCH = 4_000
 SEARCHES = 400
 LAKES = {"wide": (128, 6, 2_000), "small": (8_000, 3, 8)}
 ASKED = 1_000
+F_SETPIPE_SZ = 1031
+PIPE_BYTES = 1 << 20
 ONES = 2_000
 
 
@@ -71,6 +74,8 @@ class Open:
 
     def __init__(self, words):
         self.process = subprocess.Popen(words, stdin=subprocess.PIPE, stdout=subprocess.PIPE)
+        for pipe in (self.process.stdin, self.process.stdout):
+            fcntl.fcntl(pipe, F_SETPIPE_SZ, PIPE_BYTES)
 
     def timed(self, script, replies):
         """Writes a script with this many commands, and reads until its last reply has begun and its pipe is idle."""
