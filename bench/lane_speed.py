@@ -6,14 +6,15 @@
 Two lakes are generated, always the same. `wide` has 128 tables of six columns and 2,000 records, `small` 8,000 tables of three columns and eight records; most values
 are in a few tables and a few in many. With `--lake`, the loads and the searches of two scripts take their place. The loads are dealt out to 1, 2, 4, 8 and 16 lanes,
 a batch of 4,000 at a time: the largest first, each to the lane that has been given the fewest bytes. Then one lane merges the whole lake, and 400 searches are
-dealt out, all in one batch (of a generated lake, for the 10 columns that share the most with 1,000 values). josie is kept open, so a time is that from the first
-byte of the commands to the last byte of their replies, the least of N runs. `--beside` names another program that reads the same scripts on one lane, as a baseline.
+dealt out (3,600 with `--lake`), all in one batch; of a generated lake, for the 10 columns that share the most with 1,000 values. josie reads a file and writes one, so
+that no harness is measured with it. The time of the loads is that of a run that only loads, and the time of the searches what a run with them takes longer than one
+without, each the least of N runs. `--beside` names another program that reads the same scripts on one lane, as a baseline.
 
 Last comes what a batch of one command costs, with one lane and with sixteen of which one has the command.
 """
-import fcntl
 import random
 import subprocess
+import tempfile
 import threading
 import time
 
@@ -22,10 +23,9 @@ from program import given_words
 LANES = (1, 2, 4, 8, 16)
 BATCH = 4_000
 SEARCHES = 400
+LAKE_SEARCHES = 3_600
 LAKES = {"wide": (128, 6, 2_000), "small": (8_000, 3, 8)}
 ASKED = 1_000
-F_SETPIPE_SZ = 1031
-PIPE_BYTES = 1 << 20
 ONES = 2_000
 
 
@@ -74,8 +74,6 @@ class Open:
 
     def __init__(self, words):
         self.process = subprocess.Popen(words, stdin=subprocess.PIPE, stdout=subprocess.PIPE)
-        for pipe in (self.process.stdin, self.process.stdout):
-            fcntl.fcntl(pipe, F_SETPIPE_SZ, PIPE_BYTES)
 
     def timed(self, script, replies):
         """Writes a script with this many commands, and reads until its last reply has begun and its pipe is idle."""
@@ -101,19 +99,29 @@ class Open:
         self.process.wait()
 
 
-def measured(words, lanes, loads, asked):
-    """The seconds of the loads and of the searches."""
-    program = Open(words + (["--lanes", str(lanes)] if lanes > 1 else []))
-    loading = program.timed(dealt(loads, lanes), len(loads))
-    program.timed("merge all\nsync\n", 1)
-    searching = program.timed(dealt(asked, lanes), len(asked))
-    program.close()
-    return loading, searching
+def run_time(words, script):
+    """The seconds of a run of the program over a script, from its start to its end."""
+    with tempfile.TemporaryFile() as given, tempfile.TemporaryFile() as taken:
+        given.write(script.encode())
+        given.seek(0)
+        start = time.perf_counter()
+        subprocess.run(words, stdin=given, stdout=taken, check=True)
+        seconds = time.perf_counter() - start
+        taken.seek(0)
+        replies = taken.read()
+    if b" refused " in replies or b" no memory" in replies:
+        raise SystemExit("lane_speed: a command was refused")
+    return seconds
 
 
 def least(times, words, lanes, loads, asked):
-    runs = [measured(words, lanes, loads, asked) for _ in range(times)]
-    return min(loading for loading, _ in runs), min(searching for _, searching in runs)
+    """The least seconds of the loads, and of the searches behind them and a merge of all."""
+    words = words + (["--lanes", str(lanes)] if lanes > 1 else [])
+    loading = dealt(loads, lanes)
+    merging = loading + "merge all\nsync\n"
+    scripts = (loading, merging, merging + dealt(asked, lanes))
+    loaded, merged, searched = (min(run_time(words, script) for _ in range(times)) for script in scripts)
+    return loaded, searched - merged
 
 
 def one_command(josie, lanes):
@@ -128,8 +136,8 @@ def lakes(given):
     """The lakes that are measured: of each its name, its loads and the searches."""
     if given.lake:
         loads, asked = map(commands_of, given.lake)
-        times = -(-SEARCHES // len(asked))
-        return [("lake", loads, (asked * times)[:SEARCHES])]
+        times = -(-LAKE_SEARCHES // len(asked))
+        return [("lake", loads, (asked * times)[:LAKE_SEARCHES])]
     asked = searches()
     return [(lake, list(tables_of(lake)), asked) for lake in LAKES]
 
