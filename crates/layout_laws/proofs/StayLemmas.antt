@@ -5,7 +5,7 @@ use Rattle.std.specs.List.{AllByRecursion, filter}
 use Rattle.std.proofs.lemmas.Bool.{ne_eqb}
 use Rattle.std.proofs.lemmas.List.{map-append}
 use Rattle.lake_model.specs.Texts.{Text}
-use Rattle.lake_model.specs.Journal.{What, Loaded, Dropped, Swapped, Entry, has_name}
+use Rattle.lake_model.specs.Journal.{What, Loaded, Dropped, Replaced, Swapped, Entry, has_name}
 use Rattle.lake_model.specs.Layout.{Place, Part, layout, parts_from, parts_after, mark, mark_place, is_among}
 use Rattle.list_laws.specs.Distinct.{Lacks, AreDistinct}
 use Rattle.layout_laws.specs.Steps.{numbers_of, IsSamePlace, ArePlaces, IsSamePart, AreParts}
@@ -219,13 +219,20 @@ stay_swapped position planned kept (part ∷ front) run back h =
     })
     (λ e. record { front = part ∷ rest.front; now = rest.now; back = rest.back; whole = swapped_next position planned kept part (front ++ (run ++ back)) e ∙ ap (λ ps. part ∷ ps) rest.whole; same = rest.same })
 
+stay_marked : (name : Text) (front run back : List Part) → StayIn run (map (mark name) (front ++ (run ++ back)))
+stay_marked name front run back =
+    record { front = map (mark name) front; now = map (mark name) run; back = map (mark name) back; whole = map-append (mark name) front (run ++ back) ∙ ap (λ ps. map (mark name) front ++ ps) (map-append (mark name) run back); same = parts_marked name run }
+
 stay_after : (position : ℕ) (what : What) (front run back : List Part) → AllByRecursion (λ part. part.number < position) run
     → AllByRecursion (λ part. has_number (parts_after position (front ++ (run ++ back)) what) part.number ≡ true) run → StayIn run (parts_after position (front ++ (run ++ back)) what)
 stay_after position (Loaded table) front run back h k =
     let new = parts_after position [] (Loaded table) in
     record { front = front; now = run; back = back ++ new; whole = append_assoc front (run ++ back) new ∙ ap (λ ps. front ++ ps) (append_assoc run back new); same = parts_themselves run }
-stay_after position (Dropped name) front run back h k =
-    record { front = map (mark name) front; now = map (mark name) run; back = map (mark name) back; whole = map-append (mark name) front (run ++ back) ∙ ap (λ ps. map (mark name) front ++ ps) (map-append (mark name) run back); same = parts_marked name run }
+stay_after position (Dropped name) front run back h k = stay_marked name front run back
+stay_after position (Replaced table) front run back h k =
+    let s = stay_marked table.name front run back in
+    let new = parts_after position [] (Loaded table) in
+    record { front = s.front; now = s.now; back = s.back ++ new; whole = ap (λ ps. ps ++ new) s.whole ∙ append_assoc s.front (s.now ++ s.back) new ∙ ap (λ ps. s.front ++ ps) (append_assoc s.now s.back new); same = s.same }
 stay_after position (Swapped planned kept) front run back h k =
     stay_swapped position planned kept front run back (all_both (λ (p : Part). p.number < position) (λ p. has_number (swapped position planned kept (front ++ (run ++ back))) p.number ≡ true) (λ p. is_planned planned p ≡ false) run
     (λ p lt there. split_bool (is_planned planned p ≡ false) (is_planned planned p)
