@@ -65,7 +65,7 @@ all_swapped P position planned kept (part ∷ parts) new h =
     (all_one P position (kept_places kept (filter (is_planned planned) (part ∷ parts))) new) (all_filter P (λ p. not (is_planned planned p)) (part ∷ parts) h)))
     (λ e. subst (AllByRecursion P) (sym (swapped_next position planned kept part parts e)) (h.0, rest))
 
-all_marked : (P : Part → Type 0) (name : Text) (parts : List Part) → ((part : Part) → P part → P (mark name part)) → AllByRecursion P parts → AllByRecursion P (map (mark name) parts)
+pub all_marked : (P : Part → Type 0) (name : Text) (parts : List Part) → ((part : Part) → P part → P (mark name part)) → AllByRecursion P parts → AllByRecursion P (map (mark name) parts)
 all_marked P name [] f h = tt
 all_marked P name (part ∷ parts) f h = (f part h.0, all_marked P name parts f h.1)
 
