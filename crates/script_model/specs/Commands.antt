@@ -13,6 +13,7 @@ pub data Task : Type 0 where
   Load : (name : Text) (body : List ℕ) → Task
   LoadFile : (name : Text) (file : File) → Task
   DropTable : (name : Text) → Task
+  Replace : (name : Text) (body : List ℕ) → Task
   Tables : Task
   Search : (k : ℕ) (body : List ℕ) → Task
   Like : (k : ℕ) (name : Text) (place : ℕ) → Task
@@ -29,18 +30,19 @@ command_with number lane task = record { number = number; lane = lane; task = ta
 abbrev pub Batch : Type 0
 Batch = List Command
 
--- ---- loads and drops, and files
+-- ---- loads, drops and replaces, and files
 
 abbrev pub is_update_task : Task → Bool
 is_update_task (Load name body) = true
 is_update_task (LoadFile name file) = true
 is_update_task (DropTable name) = true
+is_update_task (Replace name body) = true
 is_update_task Tables = false
 is_update_task (Search k body) = false
 is_update_task (Like k name place) = false
 is_update_task (Merge all) = false
 
--- how many loads and drops a batch has
+-- how many loads, drops and replaces a batch has
 abbrev pub updates : Batch → ℕ
 updates batch = count_by (λ command. is_update_task command.task) batch
 
@@ -48,6 +50,7 @@ abbrev pub is_fetch : Task → Bool
 is_fetch (Load name body) = false
 is_fetch (LoadFile name file) = true
 is_fetch (DropTable name) = false
+is_fetch (Replace name body) = false
 is_fetch Tables = false
 is_fetch (Search k body) = false
 is_fetch (Like k name place) = false

@@ -6,16 +6,18 @@ use Rattle.script_model.specs.declared.Reason.{Reason}
 use Rattle.script_model.specs.declared.Reason.TheVariants as reason
 use Rattle.lake_model.specs.Texts.{Text}
 use Rattle.lake_model.specs.Tables.{is_name}
-use Rattle.script_model.specs.Commands.{Task, Load, DropTable, Tables, Search, Like, Merge}
+use Rattle.script_model.specs.Commands.{Task, Load, DropTable, Replace, Tables, Search, Like, Merge}
 use Rattle.script_model.specs.Words.{is_space, before_spaces, first_word, behind_word, words, number, number_of}
 
 -- the front of a command that has a block
 pub data Front : Type 0 where
   LoadBlock : (name : Text) → Front
+  ReplaceBlock : (name : Text) → Front
   SearchBlock : (k : ℕ) → Front
 
 abbrev pub closed : Front → List ℕ → Task
 closed (LoadBlock name) body = Load name body
+closed (ReplaceBlock name) body = Replace name body
 closed (SearchBlock k) body = Search k body
 
 pub data Said : Type 0 where
@@ -37,12 +39,12 @@ said_if holds said = if holds then said else Wrong reason.Words
 -- ---- the forms of a command
 
 pub data Form : Type 0 where
-  LoadForm LoadFileForm DropForm TablesForm SearchForm LikeForm MergeForm SyncForm : Form
+  LoadForm LoadFileForm DropForm ReplaceForm TablesForm SearchForm LikeForm MergeForm SyncForm : Form
 
 -- the command words
 abbrev pub forms : List (Text × Form)
-forms = (codes "load", LoadForm) ∷ (codes "loadfile", LoadFileForm) ∷ (codes "drop", DropForm) ∷ (codes "tables", TablesForm)
-    ∷ (codes "search", SearchForm) ∷ (codes "like", LikeForm) ∷ (codes "merge", MergeForm) ∷ (codes "sync", SyncForm) ∷ []
+forms = (codes "load", LoadForm) ∷ (codes "loadfile", LoadFileForm) ∷ (codes "drop", DropForm) ∷ (codes "replace", ReplaceForm)
+    ∷ (codes "tables", TablesForm) ∷ (codes "search", SearchForm) ∷ (codes "like", LikeForm) ∷ (codes "merge", MergeForm) ∷ (codes "sync", SyncForm) ∷ []
 
 -- a path is the text behind the name, without the spaces at its end, and is UTF-8
 abbrev pub fetch_said : ℕ → Text → Text → Said
@@ -56,6 +58,7 @@ abbrev pub says : Form → ℕ → List Text → Text → Said
 says LoadForm lane (name ∷ []) text = said_if (is_name name) (Opens lane (LoadBlock name))
 says LoadFileForm lane (name ∷ word ∷ more) text = fetch_said lane name (before_spaces (behind_word text))
 says DropForm lane (name ∷ []) text = said_if (is_name name) (Does lane (DropTable name))
+says ReplaceForm lane (name ∷ []) text = said_if (is_name name) (Opens lane (ReplaceBlock name))
 says TablesForm lane [] text = Does lane Tables
 says SearchForm lane (k ∷ []) text = said_with (number 10000 k) (λ k. Opens lane (SearchBlock k))
 says LikeForm lane (k ∷ name ∷ place ∷ []) text = like_said lane k name place
