@@ -4,7 +4,7 @@ use Rattle.std.specs.Prelude.{codes}
 use Rattle.lake_model.specs.Texts.{Text}
 use Rattle.lake_model.specs.Tables.{column_with, Table, table_with}
 use Rattle.lake_model.specs.Sorting.{in_order, put_in_order}
-use Rattle.lake_model.specs.Answer.{Query}
+use Rattle.lake_model.specs.Answer.{Query, Row}
 use Rattle.lake_model.specs.Journal.{What, Loaded, Swapped, Entry, entry_with, who_with}
 use Rattle.lake_model.specs.Layout.{layout}
 use Rattle.search_model.specs.declared.Posting.{Posting}
@@ -13,6 +13,7 @@ use Rattle.search_model.specs.declared.Look.TheVariants.{Read, Probe}
 use Rattle.search_model.specs.Choosers.{profile}
 use Rattle.search_model.specs.Segment.{tokens_of, columns_of, segment}
 use Rattle.search_model.specs.Looks.{log, looks_of, run, run_within, is_read}
+use Rattle.search_model.specs.Contain.{contain, contain_log}
 
 abbrev table : Text → List Text → Table
 table name keys = table_with name (column_with (codes "c") keys ∷ [])
@@ -88,3 +89,35 @@ b_and_a = map entry (Loaded (table (codes "b") (codes "a" ∷ [])) ∷ Loaded (t
 equal_threshold : log (λ _. false) (ask (codes "a" ∷ codes "c" ∷ []) 1) (layout b_and_a) ≡ Read 1 0 ∷ Read 2 0 ∷ []
 unfolding in_order put_in_order tokens_of segment run_within run looks_of log
 equal_threshold = refl
+
+-- ---- the columns that hold a fraction of the query
+
+abbrev shrinking_tables : List Table
+shrinking_tables = table (codes "t1") a_b_c_d ∷ table (codes "t2") (codes "a" ∷ codes "b" ∷ []) ∷ table (codes "t3") (codes "a" ∷ []) ∷ []
+
+abbrev shrinking : List Entry
+shrinking = map entry (map Loaded shrinking_tables)
+
+abbrev row : ℕ → Text → Row
+row overlap name = record { overlap = overlap; table = name; column = codes "c"; place = 1 }
+
+half_held : contain shrinking_tables a_b_c_d 1 2 ≡ row 4 (codes "t1") ∷ row 2 (codes "t2") ∷ []
+unfolding in_order put_in_order
+half_held = refl
+
+-- Three lists of the first part and one of the second are read, and a column of each is probed; the third part has too few tokens.
+half_looked_for : contain_log a_b_c_d 1 2 (layout shrinking) ≡ Read 1 0 ∷ Read 1 1 ∷ Read 1 2 ∷ Probe 1 0 2 ∷ Read 2 0 ∷ Probe 2 0 0 ∷ []
+unfolding in_order put_in_order tokens_of segment contain_log
+half_looked_for = refl
+
+half_work : work (contain_log a_b_c_d 1 2 (layout shrinking)) ≡ 4 ∷ 2 ∷ []
+unfolding in_order put_in_order tokens_of segment contain_log
+half_work = refl
+
+all_held : contain shrinking_tables a_b_c_d 1 1 ≡ row 4 (codes "t1") ∷ []
+unfolding in_order put_in_order
+all_held = refl
+
+all_work : work (contain_log a_b_c_d 1 1 (layout shrinking)) ≡ 1 ∷ 1 ∷ []
+unfolding in_order put_in_order tokens_of segment contain_log
+all_work = refl

@@ -3,3 +3,4 @@ pub mod Choosers
 pub mod Looks
 pub mod Arrays
 pub mod Ranks
+pub mod Contain
