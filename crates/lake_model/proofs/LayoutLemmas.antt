@@ -6,7 +6,7 @@ use Rattle.std.proofs.lemmas.List.Concat.{flat_map-append}
 use Rattle.std.proofs.lemmas.List.Sums.{fold_push}
 use Rattle.lake_model.specs.Texts.{Text}
 use Rattle.lake_model.specs.Tables.{Table}
-use Rattle.lake_model.specs.Journal.{Loaded, Dropped, Entry, live, live_after, has_name}
+use Rattle.lake_model.specs.Journal.{Loaded, Dropped, Replaced, Entry, live, live_after, has_name, without}
 use Rattle.lake_model.specs.Layout.{Place, Part, layout, parts_from, parts_after, mark, mark_place, unmarked_of}
 
 pub live_more : (journal : List Entry) (entry : Entry) → live (journal ++ entry ∷ []) ≡ live_after (live journal) entry.what
@@ -67,6 +67,9 @@ unmarked-mark name (place ∷ places) = by place.marked (has_name name place.tab
     back false true e = sym (ap (λ c. cond (not c) (place.table ∷ (filter (λ table. not (has_name name table)) (map (λ (p : Place). p.table) (filter (λ (p : Place). not p.marked) places)))) (filter (λ table. not (has_name name table)) (map (λ (p : Place). p.table) (filter (λ (p : Place). not p.marked) places)))) e)
     back false false e = sym (ap (λ c. cond (not c) (place.table ∷ (filter (λ table. not (has_name name table)) (map (λ (p : Place). p.table) (filter (λ (p : Place). not p.marked) places)))) (filter (λ table. not (has_name name table)) (map (λ (p : Place). p.table) (filter (λ (p : Place). not p.marked) places)))) e)
 
-pub searchable-drop : (position : ℕ) (parts : List Part) (name : Text) → searchable (parts_after position parts (Dropped name)) ≡ filter (λ table. not (has_name name table)) (searchable parts)
+pub searchable-drop : (position : ℕ) (parts : List Part) (name : Text) → searchable (parts_after position parts (Dropped name)) ≡ without name (searchable parts)
 searchable-drop position parts name =
     ap (λ (places : List Place). map (λ place. place.table) (filter (λ place. not place.marked) places)) (places-mark name parts) ∙ unmarked-mark name (flat_map (λ (part : Part). part.places) parts)
+
+pub searchable-replace : (position : ℕ) (parts : List Part) (table : Table) → searchable (parts_after position parts (Replaced table)) ≡ without table.name (searchable parts) ++ table ∷ []
+searchable-replace position parts table = searchable-append (map (mark table.name) parts) _ ∙ ap (λ (ts : List Table). ts ++ table ∷ []) (searchable-drop position parts table.name)

@@ -8,6 +8,7 @@ use Rattle.csv.specs.Machine.{next_record}
 use Rattle.csv.specs.Reading.{records_from, strip_bom}
 use Rattle.lake_model.specs.declared.CsvRefused.TheVariants as csv
 use Rattle.lake_model.specs.declared.QueryRefused.TheVariants as refused
+use Rattle.lake_model.specs.declared.Counts.{Counts}
 use Rattle.lake_model.specs.declared.Policy.TheVariants.{Tier, All}
 use Rattle.lake_model.specs.Texts.{Text, lines_of, all_lines}
 use Rattle.lake_model.specs.Keys.{key}
@@ -16,7 +17,7 @@ use Rattle.lake_model.specs.Records.{records_of, csv_fault, rows_fault, text_fau
 use Rattle.lake_model.specs.Queries.{query_of, query_fault, line_fault}
 use Rattle.lake_model.specs.Sorting.{in_order, put_in_order}
 use Rattle.lake_model.specs.Answer.{Row, answer}
-use Rattle.lake_model.specs.Journal.{What, Loaded, Dropped, Swapped, Entry, entry_with, who_with, live, counts}
+use Rattle.lake_model.specs.Journal.{What, Loaded, Dropped, Replaced, Swapped, Entry, entry_with, who_with, live, counts}
 use Rattle.lake_model.specs.Layout.{layout, shown, is_legal}
 use Rattle.lake_model.specs.Plan.{plan, binary_digits}
 
@@ -132,6 +133,9 @@ excepted = refl
 
 -- ---- journals
 
+abbrev counts_with : ℕ → ℕ → ℕ → ℕ → Counts
+counts_with live updates members key_bytes = record { live = live; updates = updates; members = members; key_bytes = key_bytes }
+
 abbrev entry : What → Entry
 entry what = entry_with (who_with 1 1) what
 
@@ -162,6 +166,26 @@ swaps_are_no_updates = refl
 
 live_passes_over_swaps : live four ≡ live three
 live_passes_over_swaps = refl
+
+-- two loads, planned together; the first table is replaced before the swap, which keeps its mark
+abbrev replaced_between : List Entry
+replaced_between = map entry (load (codes "a") (codes "x" ∷ []) ∷ load (codes "b") (codes "x" ∷ []) ∷ Replaced (table_with (codes "a") (column (codes "y" ∷ []))) ∷ Swapped (1 ∷ 2 ∷ []) (1 ∷ 2 ∷ []) ∷ [])
+
+replaced_layout : shown (layout replaced_between) ≡ (4, (1, true) ∷ (2, false) ∷ []) ∷ (3, (3, false) ∷ []) ∷ []
+replaced_layout = refl
+
+replaced_is_legal : is_legal replaced_between ≡ true
+replaced_is_legal = refl
+
+replaced_live : live replaced_between ≡ table_with (codes "b") (column (codes "x" ∷ [])) ∷ table_with (codes "a") (column (codes "y" ∷ [])) ∷ []
+replaced_live = refl
+
+-- a replace counts as an update and with its members, and not as a live table more
+replaced_counts : counts replaced_between ≡ counts_with 2 3 3 3
+replaced_counts = refl
+
+replaced_unknown : is_legal (map entry (Replaced (table_with (codes "z") []) ∷ [])) ≡ false
+replaced_unknown = refl
 
 loaded_again : is_legal (map entry (load (codes "n") [] ∷ load (codes "n") [] ∷ [])) ≡ false
 loaded_again = refl

@@ -9,6 +9,7 @@ use Rattle.lake_model.specs.Tables.{Table, members, key_bytes}
 pub data What : Type 0 where
   Loaded : (table : Table) → What
   Dropped : (name : Text) → What
+  Replaced : (table : Table) → What
   Swapped : (planned kept : List ℕ) → What
 
 pub record Entry : Type 0 where
@@ -18,13 +19,18 @@ pub record Entry : Type 0 where
 abbrev pub has_name : Text → Table → Bool
 has_name name table = bytes_eq table.name name
 
+-- the tables without the one of this name
+abbrev pub without : Text → List Table → List Table
+without name tables = filter (λ table. not (has_name name table)) tables
+
 -- the live tables behind an entry, from those before it
 abbrev pub live_after : List Table → What → List Table
 live_after tables (Loaded table) = tables ++ table ∷ []
-live_after tables (Dropped name) = filter (λ table. not (has_name name table)) tables
+live_after tables (Dropped name) = without name tables
+live_after tables (Replaced table) = without table.name tables ++ table ∷ []
 live_after tables (Swapped planned kept) = tables
 
--- the tables loaded and not dropped afterwards, in the order of loading
+-- the tables put by a load or a replace, and neither dropped nor replaced afterwards, in the order of their entries
 abbrev pub live : List Entry → List Table
 live journal = fold (λ tables entry. live_after tables entry.what) [] journal
 
@@ -34,18 +40,20 @@ is_live journal name = list_any (has_name name) (live journal)
 abbrev pub live_table : List Entry → Text → Option Table
 live_table journal name = find (has_name name) (live journal)
 
--- the tables of all loads
+-- the tables of all loads and replaces
 abbrev pub loads_of : List Entry → List Table
 loads_of journal = flat_map (λ entry. loaded_by entry.what) journal
   where
     loaded_by : What → List Table
     loaded_by (Loaded table) = table ∷ []
     loaded_by (Dropped name) = []
+    loaded_by (Replaced table) = table ∷ []
     loaded_by (Swapped planned kept) = []
 
 abbrev pub is_update : What → Bool
 is_update (Loaded table) = true
 is_update (Dropped name) = true
+is_update (Replaced table) = true
 is_update (Swapped planned kept) = false
 
 abbrev pub counts : List Entry → Counts

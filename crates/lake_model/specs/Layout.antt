@@ -3,9 +3,9 @@ use Rattle.std.specs.Prelude.{ℕ, ◌+◌, Bool, true, false, ◌||◌, ◌&&�
 use Rattle.std.specs.List.{list_any, list_all, position_or_len}
 use Rattle.lake_model.specs.Texts.{Text}
 use Rattle.lake_model.specs.Tables.{Table}
-use Rattle.lake_model.specs.Journal.{What, Loaded, Dropped, Swapped, Entry, has_name, is_live}
+use Rattle.lake_model.specs.Journal.{What, Loaded, Dropped, Replaced, Swapped, Entry, has_name, is_live}
 
--- where a load stands in a part: its position in the journal, its table, and whether that was dropped
+-- where a load or a replace stands in a part: its position in the journal, its table, and whether that was dropped or replaced
 pub record Place : Type 0 where
   pub position : ℕ
   pub table : Table
@@ -33,10 +33,15 @@ merged number kept parts = made (filter (λ place. is_among kept place.position)
     made [] = []
     made (place ∷ places) = record { number = number; places = place ∷ places } ∷ []
 
+-- the part that a load or a replace at a position puts
+abbrev pub part_with : ℕ → Table → Part
+part_with position table = record { number = position; places = record { position = position; table = table; marked = false } ∷ [] }
+
 -- the parts behind an entry at a position, from those before it
 abbrev pub parts_after : ℕ → List Part → What → List Part
-parts_after position parts (Loaded table) = parts ++ record { number = position; places = record { position = position; table = table; marked = false } ∷ [] } ∷ []
+parts_after position parts (Loaded table) = parts ++ part_with position table ∷ []
 parts_after position parts (Dropped name) = map (mark name) parts
+parts_after position parts (Replaced table) = map (mark table.name) parts ++ part_with position table ∷ []
 parts_after position parts (Swapped planned kept) =
     take_while (λ part. not (is_among planned part.number)) parts
     ++ merged position kept (filter (λ part. is_among planned part.number) parts)
@@ -87,6 +92,7 @@ may_swap parts planned kept =
 abbrev pub may_follow : List Entry → What → Bool
 may_follow before (Loaded table) = not (is_live before table.name)
 may_follow before (Dropped name) = is_live before name
+may_follow before (Replaced table) = is_live before table.name
 may_follow before (Swapped planned kept) = may_swap (layout before) planned kept
 
 -- each entry may follow those before it

@@ -50,7 +50,8 @@ pub struct Who {
     pub command: u64,
 }
 
-/// What the limits of a lake bound: its live tables, the loads and drops of its journal, and the members and key bytes of all loads.
+/// What the limits of a lake bound: its live tables, the loads, drops and replaces of its journal, and the members and key bytes of all
+/// loads and replaces.
 #[derive(Clone, Copy, Debug, PartialEq, Eq)]
 pub struct Counts {
     pub live: u32,
@@ -60,8 +61,8 @@ pub struct Counts {
 }
 
 impl Counts {
-    /// The limits of a lake as it is shipped: 65,536 live tables, 1,048,576 loads and drops, and, of all loads together, 16,777,216
-    /// members and 1,073,741,824 bytes of keys.
+    /// The limits of a lake as it is shipped: 65,536 live tables, 1,048,576 loads, drops and replaces, and, of all loads and replaces
+    /// together, 16,777,216 members and 1,073,741,824 bytes of keys.
     pub fn standard() -> Counts
         ensures { result ≡ standard_limits }
     {

@@ -7,17 +7,17 @@ use Rattle.std.proofs.lemmas.List.{map-append, length-append, length-map}
 use Rattle.lake_model.specs.declared.Who.{Who}
 use Rattle.lake_model.specs.Texts.{Text}
 use Rattle.lake_model.specs.Tables.{Table}
-use Rattle.lake_model.specs.Journal.{What, Loaded, Dropped, Swapped, Entry, entry_with, has_name, is_live, live}
-use Rattle.lake_model.specs.Layout.{Place, Part, layout, mark, positions_of, unmarked_of, run_of, is_among, may_swap, may_follow, is_legal, is_legal_behind}
+use Rattle.lake_model.specs.Journal.{What, Loaded, Dropped, Replaced, Swapped, Entry, entry_with, has_name, without, is_live, live}
+use Rattle.lake_model.specs.Layout.{Place, Part, part_with, layout, mark, positions_of, unmarked_of, run_of, is_among, may_swap, may_follow, is_legal, is_legal_behind}
 use Rattle.lake_model.proofs.LayoutLemmas.{live_more, layout_more}
-use Rattle.list_laws.specs.Distinct.{AreDistinct, Rises}
+use Rattle.list_laws.specs.Distinct.{Lacks, AreDistinct, Rises}
 use Rattle.layout_laws.specs.Steps.{numbers_of, positions_in, live_loads}
 use Rattle.layout_laws.specs.LayoutLaws.{IsLaidOut}
 use Rattle.list_laws.proofs.ListLemmas.{both, all_append, all_left, all_right, all_weaker, all_map, all_filter, filter-append, map_filter, distinct_push, distinct_filter, rises_push, rises_thinner, and_assoc}
-use Rattle.layout_laws.proofs.SwapLemmas.{part_of, loaded_place, places_of, kept_places, one_part, swapped}
+use Rattle.layout_laws.proofs.SwapLemmas.{loaded_place, places_of, kept_places, one_part, swapped}
 use Rattle.layout_laws.proofs.StayLemmas.{layout_numbers, layout_before}
 use Rattle.layout_laws.proofs.RunLemmas.{MaySwap, opened, run_stands, swapped_is}
-use Rattle.layout_laws.proofs.LiveLemmas.{loads_more, unmarked, places-append, places_marked, positions_dropped, places_swapped, places_split, unmarked_three, unmarked_dropped, unmarked_kept, lacks_names}
+use Rattle.layout_laws.proofs.LiveLemmas.{loads_more, unmarked, places-append, places_marked, positions_dropped, places_swapped, places_split, unmarked_three, unmarked_dropped, unmarked_kept, lacks_names, lacks_name}
 
 abbrev IsFilled : Part → Type 0
 IsFilled part = 0 < length part.places
@@ -94,44 +94,83 @@ WithinLonger journal who what n = n ≤ length (more journal who what)
 longer_past : (journal : List Entry) (who : Who) (what : What) (ns : List ℕ) → AllByRecursion (λ n. n ≤ length journal) ns → AllByRecursion (WithinLonger journal who what) ns
 longer_past journal who what ns h = all_weaker (λ (n : ℕ). n ≤ length journal) (WithinLonger journal who what) ns (λ n le. omega (arith, long journal who what)) h
 
+-- What holds of a layout, of the loads of its live tables and of these tables, where no position passes `last`.
+record Holds (last : ℕ) (parts : List Part) (loads : List Place) (tables : List Table) : Type 0 where
+  pub unmarked : unmarked_of parts ≡ loads
+  pub loaded : map (λ place. place.table) loads ≡ tables
+  pub names : AreDistinct (map (λ table. table.name) tables)
+  pub rising : Rises (positions_of parts)
+  pub past : AllByRecursion (λ n. n ≤ last) (positions_of parts)
+  pub filled : AllByRecursion IsFilled parts
+
+holds_now : (journal : List Entry) → IsLaidOut journal → Holds (length journal) (layout journal) (live_loads journal) (live journal)
+holds_now journal h = record { unmarked = h.unmarked; loaded = h.tables; names = h.names; rising = h.rising; past = h.past; filled = h.filled }
+
+-- one more table, of another name
+holds_put : (last : ℕ) (parts : List Part) (loads : List Place) (tables : List Table) (table : Table) → Holds last parts loads tables → Lacks (map (λ table. table.name) tables) table.name
+    → Holds (1 + last) (parts ++ part_with (1 + last) table ∷ []) (loads ++ loaded_place (1 + last) table ∷ []) (tables ++ table ∷ [])
+holds_put last parts loads tables table h other =
+    let at = 1 + last in
+    let new : List Part = part_with at table ∷ [] in
+    let places : places_of (parts ++ new) ≡ places_of parts ++ loaded_place at table ∷ [] = places-append parts new in
+    let positions : positions_of (parts ++ new) ≡ positions_of parts ++ at ∷ [] = ap positions_in places ∙ map-append (λ (p : Place). p.position) (places_of parts) (loaded_place at table ∷ []) in
+    record {
+      unmarked = ap unmarked places ∙ filter-append (λ (p : Place). not p.marked) (places_of parts) (loaded_place at table ∷ []) ∙ ap (λ ps. ps ++ loaded_place at table ∷ []) h.unmarked;
+      loaded = map-append (λ (p : Place). p.table) loads (loaded_place at table ∷ []) ∙ ap (λ ts. ts ++ table ∷ []) h.loaded;
+      names = subst AreDistinct (sym (map-append (λ (t : Table). t.name) tables (table ∷ []))) (distinct_push (map (λ (t : Table). t.name) tables) table.name h.names other);
+      rising = subst Rises (sym positions) (rises_push (positions_of parts) at h.rising (all_weaker (λ (n : ℕ). n ≤ last) (λ n. n < at) (positions_of parts) (λ n le. omega arith) h.past));
+      past = subst (AllByRecursion (λ (n : ℕ). n ≤ at)) (sym positions) (all_append (λ (n : ℕ). n ≤ at) (positions_of parts) (at ∷ []) (all_weaker (λ (n : ℕ). n ≤ last) (λ n. n ≤ at) (positions_of parts) (λ n le. omega arith) h.past) (omega arith, tt));
+      filled = all_append IsFilled parts new h.filled (omega arith, tt);
+    }
+
+-- the table of a name is marked
+holds_marked : (last : ℕ) (parts : List Part) (loads : List Place) (tables : List Table) (name : Text) → Holds last parts loads tables
+    → Holds last (map (mark name) parts) (filter (λ place. not (has_name name place.table)) loads) (without name tables)
+holds_marked last parts loads tables name h =
+    let free : Table → Bool = λ t. not (has_name name t) in
+    let positions : positions_of (map (mark name) parts) ≡ positions_of parts = positions_dropped name parts in
+    record {
+      unmarked = ap unmarked (places_marked name parts) ∙ unmarked_dropped name (places_of parts) ∙ ap (filter (λ (p : Place). free p.table)) h.unmarked;
+      loaded = map_filter (λ (p : Place). p.table) free loads ∙ ap (filter free) h.loaded;
+      names = distinct_filter (λ (t : Table). t.name) free tables h.names;
+      rising = subst Rises (sym positions) h.rising;
+      past = subst (AllByRecursion (λ (n : ℕ). n ≤ last)) (sym positions) h.past;
+      filled = filled_marked name parts h.filled;
+    }
+
+-- it holds behind an entry
+laid_as : (journal : List Entry) (who : Who) (what : What) (last : ℕ) (parts : List Part) (loads : List Place) (tables : List Table) → layout (more journal who what) ≡ parts → live_loads (more journal who what) ≡ loads
+    → live (more journal who what) ≡ tables → last ≤ 1 + length journal → Holds last parts loads tables → IsLaidOut (more journal who what)
+laid_as journal who what last parts loads tables laid loaded lived le h = record {
+  unmarked = ap unmarked_of laid ∙ h.unmarked ∙ sym loaded;
+  tables = ap (map (λ (p : Place). p.table)) loaded ∙ h.loaded ∙ sym lived;
+  names = subst (λ (ts : List Table). AreDistinct (map (λ (t : Table). t.name) ts)) (sym lived) h.names;
+  rising = subst (λ (ps : List Part). Rises (positions_of ps)) (sym laid) h.rising;
+  past = subst (λ (ps : List Part). AllByRecursion (WithinLonger journal who what) (positions_of ps)) (sym laid) (all_weaker (λ (n : ℕ). n ≤ last) (WithinLonger journal who what) (positions_of parts) (λ n within. omega (arith, long journal who what, le)) h.past);
+  numbers = layout_numbers (more journal who what);
+  made = numbers_made (more journal who what);
+  filled = subst (AllByRecursion IsFilled) (sym laid) h.filled;
+}
+
 laid_load : (journal : List Entry) (who : Who) (table : Table) → IsLaidOut journal → is_live journal table.name ≡ false → IsLaidOut (more journal who (Loaded table))
 laid_load journal who table h k =
-    let at = 1 + length journal in
-    let new : List Part = part_of at (loaded_place at table ∷ []) ∷ [] in
-    let laid : layout (more journal who (Loaded table)) ≡ layout journal ++ new = layout_more journal (entry_with who (Loaded table)) in
-    let loads : live_loads (more journal who (Loaded table)) ≡ live_loads journal ++ loaded_place at table ∷ [] = loads_more journal (entry_with who (Loaded table)) in
-    let lived : live (more journal who (Loaded table)) ≡ live journal ++ table ∷ [] = live_more journal (entry_with who (Loaded table)) in
-    let places : places_of (layout journal ++ new) ≡ places_of (layout journal) ++ loaded_place at table ∷ [] = places-append (layout journal) new in
-    let positions : positions_of (layout (more journal who (Loaded table))) ≡ positions_of (layout journal) ++ at ∷ [] = ap positions_of laid ∙ ap positions_in places ∙ map-append (λ (p : Place). p.position) (places_of (layout journal)) (loaded_place at table ∷ []) in
-    let here : WithinLonger journal who (Loaded table) at = omega (arith, long journal who (Loaded table)) in
-    record {
-      unmarked = ap unmarked_of laid ∙ ap unmarked places ∙ filter-append (λ (p : Place). not p.marked) (places_of (layout journal)) (loaded_place at table ∷ []) ∙ ap (λ ps. ps ++ loaded_place at table ∷ []) h.unmarked ∙ sym loads;
-      tables = ap (map (λ (p : Place). p.table)) loads ∙ map-append (λ (p : Place). p.table) (live_loads journal) (loaded_place at table ∷ []) ∙ ap (λ ts. ts ++ table ∷ []) h.tables ∙ sym lived;
-      names = subst AreDistinct (sym (ap (map (λ (t : Table). t.name)) lived ∙ map-append (λ (t : Table). t.name) (live journal) (table ∷ []))) (distinct_push (map (λ (t : Table). t.name) (live journal)) table.name h.names (lacks_names (live journal) table.name k));
-      rising = subst Rises (sym positions) (rises_push (positions_of (layout journal)) at h.rising (all_weaker (λ (n : ℕ). n ≤ length journal) (λ n. n < at) (positions_of (layout journal)) (λ n le. omega arith) h.past));
-      past = subst (AllByRecursion (WithinLonger journal who (Loaded table))) (sym positions) (all_append (WithinLonger journal who (Loaded table)) (positions_of (layout journal)) (at ∷ []) (longer_past journal who (Loaded table) (positions_of (layout journal)) h.past) (here, tt));
-      numbers = layout_numbers (more journal who (Loaded table));
-      made = numbers_made (more journal who (Loaded table));
-      filled = subst (AllByRecursion IsFilled) (sym laid) (all_append IsFilled (layout journal) new h.filled (omega arith, tt));
-    }
+    let entry = entry_with who (Loaded table) in
+    laid_as journal who (Loaded table) (1 + length journal) _ _ _ (layout_more journal entry) (loads_more journal entry) (live_more journal entry) (omega arith)
+    (holds_put (length journal) (layout journal) (live_loads journal) (live journal) table (holds_now journal h) (lacks_names (live journal) table.name k))
 
 laid_drop : (journal : List Entry) (who : Who) (name : Text) → IsLaidOut journal → IsLaidOut (more journal who (Dropped name))
 laid_drop journal who name h =
-    let free : Table → Bool = λ t. not (has_name name t) in
-    let laid : layout (more journal who (Dropped name)) ≡ map (mark name) (layout journal) = layout_more journal (entry_with who (Dropped name)) in
-    let loads : live_loads (more journal who (Dropped name)) ≡ filter (λ (p : Place). free p.table) (live_loads journal) = loads_more journal (entry_with who (Dropped name)) in
-    let lived : live (more journal who (Dropped name)) ≡ filter free (live journal) = live_more journal (entry_with who (Dropped name)) in
-    let positions : positions_of (layout (more journal who (Dropped name))) ≡ positions_of (layout journal) = ap positions_of laid ∙ positions_dropped name (layout journal) in
-    record {
-      unmarked = ap unmarked_of laid ∙ ap unmarked (places_marked name (layout journal)) ∙ unmarked_dropped name (places_of (layout journal)) ∙ ap (filter (λ (p : Place). free p.table)) h.unmarked ∙ sym loads;
-      tables = ap (map (λ (p : Place). p.table)) loads ∙ map_filter (λ (p : Place). p.table) free (live_loads journal) ∙ ap (filter free) h.tables ∙ sym lived;
-      names = subst (λ (ts : List Table). AreDistinct (map (λ (t : Table). t.name) ts)) (sym lived) (distinct_filter (λ (t : Table). t.name) free (live journal) h.names);
-      rising = subst Rises (sym positions) h.rising;
-      past = subst (AllByRecursion (WithinLonger journal who (Dropped name))) (sym positions) (longer_past journal who (Dropped name) (positions_of (layout journal)) h.past);
-      numbers = layout_numbers (more journal who (Dropped name));
-      made = numbers_made (more journal who (Dropped name));
-      filled = subst (AllByRecursion IsFilled) (sym laid) (filled_marked name (layout journal) h.filled);
-    }
+    let entry = entry_with who (Dropped name) in
+    laid_as journal who (Dropped name) (length journal) _ _ _ (layout_more journal entry) (loads_more journal entry) (live_more journal entry) (omega arith)
+    (holds_marked (length journal) (layout journal) (live_loads journal) (live journal) name (holds_now journal h))
+
+laid_replace : (journal : List Entry) (who : Who) (table : Table) → IsLaidOut journal → IsLaidOut (more journal who (Replaced table))
+laid_replace journal who table h =
+    let entry = entry_with who (Replaced table) in
+    let free : Place → Bool = λ p. not (has_name table.name p.table) in
+    laid_as journal who (Replaced table) (1 + length journal) _ _ _ (layout_more journal entry) (loads_more journal entry) (live_more journal entry) (omega arith)
+    (holds_put (length journal) (map (mark table.name) (layout journal)) (filter free (live_loads journal)) (without table.name (live journal)) table
+    (holds_marked (length journal) (layout journal) (live_loads journal) (live journal) table.name (holds_now journal h)) (lacks_name (live journal) table.name))
 
 laid_swap : (journal : List Entry) (who : Who) (planned kept : List ℕ) → IsLaidOut journal → may_swap (layout journal) planned kept ≡ true → IsLaidOut (more journal who (Swapped planned kept))
 laid_swap journal who planned kept h k =
@@ -163,6 +202,7 @@ laid_swap journal who planned kept h k =
 pub laid_more : (journal : List Entry) (who : Who) (what : What) → IsLaidOut journal → may_follow journal what ≡ true → IsLaidOut (more journal who what)
 laid_more journal who (Loaded table) h k = laid_load journal who table h (not-true (is_live journal table.name) k)
 laid_more journal who (Dropped name) h k = laid_drop journal who name h
+laid_more journal who (Replaced table) h k = laid_replace journal who table h
 laid_more journal who (Swapped planned kept) h k = laid_swap journal who planned kept h k
 
 pub laid_none : IsLaidOut []

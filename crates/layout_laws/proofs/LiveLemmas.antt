@@ -1,15 +1,16 @@
 -- The unmarked places of the layout of a legal journal are the loads of its live tables.
 use Rattle.std.proofs.Common.{◌≡◌, refl, ap, sym, ◌∙◌, ℕ, ◌+◌, List, [], ◌∷◌, ◌++◌, append-nil, Bool, true, false, not, ◌||◌, cond, map, length, arith}
 use Rattle.std.specs.List.{AllByRecursion, filter, list_any}
+use Rattle.std.proofs.lemmas.Bool.{not-true}
 use Rattle.std.proofs.lemmas.List.{map-append}
 use Rattle.std.proofs.lemmas.List.Concat.{flat_map-append}
 use Rattle.lake_model.specs.Texts.{Text}
 use Rattle.lake_model.specs.Tables.{Table}
-use Rattle.lake_model.specs.Journal.{Entry, has_name}
+use Rattle.lake_model.specs.Journal.{Entry, has_name, without}
 use Rattle.lake_model.specs.Layout.{Place, Part, mark, mark_place, positions_of, is_among}
 use Rattle.list_laws.specs.Distinct.{Lacks}
 use Rattle.layout_laws.specs.Steps.{positions_in, loads_after, loads_from, live_loads}
-use Rattle.list_laws.proofs.ListLemmas.{not_both, texts_same, all_weaker, all_map, none_any, filter-append, filter_filter}
+use Rattle.list_laws.proofs.ListLemmas.{not_both, texts_same, all_weaker, all_map, all_passed, none_any, filter-append, filter_filter}
 use Rattle.layout_laws.proofs.SwapLemmas.{places_of, kept_places, one_part}
 
 -- ---- one more entry
@@ -85,3 +86,10 @@ unmarked_kept kept places h = filter_filter (λ (p : Place). not p.marked) (λ p
 
 pub lacks_names : (tables : List Table) (name : Text) → list_any (has_name name) tables ≡ false → Lacks (map (λ table. table.name) tables) name
 lacks_names tables name h = all_map (λ (t : Text). t ≡ name → ⊥) (λ (t : Table). t.name) tables (all_weaker (λ (t : Table). has_name name t ≡ false) (λ t. t.name ≡ name → ⊥) tables (λ t f e. not_both ⊥ (has_name name t) (texts_same t.name name e) f) (none_any (has_name name) tables h))
+
+-- no table of a name is left where they were taken out
+pub lacks_name : (tables : List Table) (name : Text) → Lacks (map (λ table. table.name) (without name tables)) name
+lacks_name tables name =
+    let free : Table → Bool = λ t. not (has_name name t) in
+    all_map (λ (t : Text). t ≡ name → ⊥) (λ (t : Table). t.name) (filter free tables) (all_weaker (λ (t : Table). free t ≡ true) (λ t. t.name ≡ name → ⊥) (filter free tables)
+    (λ t f e. not_both ⊥ (has_name name t) (texts_same t.name name e) (not-true (has_name name t) f)) (all_passed free tables))

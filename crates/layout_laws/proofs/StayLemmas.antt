@@ -5,12 +5,13 @@ use Rattle.std.specs.List.{AllByRecursion, filter}
 use Rattle.std.proofs.lemmas.Bool.{ne_eqb}
 use Rattle.std.proofs.lemmas.List.{map-append}
 use Rattle.lake_model.specs.Texts.{Text}
-use Rattle.lake_model.specs.Journal.{What, Loaded, Dropped, Swapped, Entry, has_name}
-use Rattle.lake_model.specs.Layout.{Place, Part, layout, parts_from, parts_after, mark, mark_place, is_among}
+use Rattle.lake_model.specs.Tables.{Table}
+use Rattle.lake_model.specs.Journal.{What, Loaded, Dropped, Replaced, Swapped, Entry, has_name}
+use Rattle.lake_model.specs.Layout.{Place, Part, part_with, layout, parts_from, parts_after, mark, mark_place, is_among}
 use Rattle.list_laws.specs.Distinct.{Lacks, AreDistinct}
 use Rattle.layout_laws.specs.Steps.{numbers_of, IsSamePlace, ArePlaces, IsSamePart, AreParts}
 use Rattle.list_laws.proofs.ListLemmas.{split_bool, not_both, all_append, all_weaker, all_both, all_map, all_unmap, all_filter, all_passed, any_none, none_any, filter-append, filter_all, distinct_push, distinct_filter}
-use Rattle.layout_laws.proofs.SwapLemmas.{is_planned, kept_places, one_part, all_one, swapped, swapped_here, swapped_next, all_swapped, all_after}
+use Rattle.layout_laws.proofs.SwapLemmas.{is_planned, kept_places, one_part, all_one, swapped, swapped_here, swapped_next, all_swapped, all_marked, all_after}
 
 -- ---- a journal that goes on
 
@@ -103,10 +104,15 @@ numbers_swapped position planned kept (part ∷ parts) h k =
     (λ e. subst (λ (ps : List Part). AreDistinct (numbers_of ps)) (sym (swapped_next position planned kept part parts e))
     (all_map (λ (n : ℕ). n ≡ part.number → ⊥) (λ (p : Part). p.number) (swapped position planned kept parts) others, rest))
 
-pub numbers_after : (position : ℕ) (what : What) (parts : List Part) → AllByRecursion (λ part. part.number < position) parts → AreDistinct (numbers_of parts) → AreDistinct (numbers_of (parts_after position parts what))
-numbers_after position (Loaded table) parts h k =
+numbers_put : (position : ℕ) (table : Table) (parts : List Part) → AllByRecursion (λ part. part.number < position) parts → AreDistinct (numbers_of parts) → AreDistinct (numbers_of (parts ++ part_with position table ∷ []))
+numbers_put position table parts h k =
     subst AreDistinct (sym (map-append (λ (p : Part). p.number) parts _)) (distinct_push (numbers_of parts) position k (all_map (λ (n : ℕ). n ≡ position → ⊥) (λ (p : Part). p.number) parts (all_weaker (λ (p : Part). p.number < position) (IsOther position) parts (λ p lt e. omega arith) h)))
+
+pub numbers_after : (position : ℕ) (what : What) (parts : List Part) → AllByRecursion (λ part. part.number < position) parts → AreDistinct (numbers_of parts) → AreDistinct (numbers_of (parts_after position parts what))
+numbers_after position (Loaded table) parts h k = numbers_put position table parts h k
 numbers_after position (Dropped name) parts h k = subst AreDistinct (sym (numbers_marked name parts)) k
+numbers_after position (Replaced table) parts h k =
+    numbers_put position table (map (mark table.name) parts) (all_marked (λ (p : Part). p.number < position) table.name parts (λ p lt. lt) h) (subst AreDistinct (sym (numbers_marked table.name parts)) k)
 numbers_after position (Swapped planned kept) parts h k = numbers_swapped position planned kept parts h k
 
 pub before_after : (position : ℕ) (what : What) (parts : List Part) → AllByRecursion (λ part. part.number < position) parts → AllByRecursion (λ part. part.number < position + 1) (parts_after position parts what)
@@ -219,13 +225,20 @@ stay_swapped position planned kept (part ∷ front) run back h =
     })
     (λ e. record { front = part ∷ rest.front; now = rest.now; back = rest.back; whole = swapped_next position planned kept part (front ++ (run ++ back)) e ∙ ap (λ ps. part ∷ ps) rest.whole; same = rest.same })
 
+stay_marked : (name : Text) (front run back : List Part) → StayIn run (map (mark name) (front ++ (run ++ back)))
+stay_marked name front run back =
+    record { front = map (mark name) front; now = map (mark name) run; back = map (mark name) back; whole = map-append (mark name) front (run ++ back) ∙ ap (λ ps. map (mark name) front ++ ps) (map-append (mark name) run back); same = parts_marked name run }
+
 stay_after : (position : ℕ) (what : What) (front run back : List Part) → AllByRecursion (λ part. part.number < position) run
     → AllByRecursion (λ part. has_number (parts_after position (front ++ (run ++ back)) what) part.number ≡ true) run → StayIn run (parts_after position (front ++ (run ++ back)) what)
 stay_after position (Loaded table) front run back h k =
     let new = parts_after position [] (Loaded table) in
     record { front = front; now = run; back = back ++ new; whole = append_assoc front (run ++ back) new ∙ ap (λ ps. front ++ ps) (append_assoc run back new); same = parts_themselves run }
-stay_after position (Dropped name) front run back h k =
-    record { front = map (mark name) front; now = map (mark name) run; back = map (mark name) back; whole = map-append (mark name) front (run ++ back) ∙ ap (λ ps. map (mark name) front ++ ps) (map-append (mark name) run back); same = parts_marked name run }
+stay_after position (Dropped name) front run back h k = stay_marked name front run back
+stay_after position (Replaced table) front run back h k =
+    let s = stay_marked table.name front run back in
+    let new = parts_after position [] (Loaded table) in
+    record { front = s.front; now = s.now; back = s.back ++ new; whole = ap (λ ps. ps ++ new) s.whole ∙ append_assoc s.front (s.now ++ s.back) new ∙ ap (λ ps. s.front ++ ps) (append_assoc s.now s.back new); same = s.same }
 stay_after position (Swapped planned kept) front run back h k =
     stay_swapped position planned kept front run back (all_both (λ (p : Part). p.number < position) (λ p. has_number (swapped position planned kept (front ++ (run ++ back))) p.number ≡ true) (λ p. is_planned planned p ≡ false) run
     (λ p lt there. split_bool (is_planned planned p ≡ false) (is_planned planned p)

@@ -3,7 +3,7 @@ use Rattle.std.proofs.Common.{◌≡◌, refl, ap, sym, ◌∙◌, subst, ℕ, s
 use Rattle.std.specs.List.{AllByRecursion, filter, flat_map, prefix_len}
 use Rattle.lake_model.specs.Texts.{Text}
 use Rattle.lake_model.specs.Tables.{Table}
-use Rattle.lake_model.specs.Journal.{What, Loaded, Dropped, Swapped}
+use Rattle.lake_model.specs.Journal.{What, Loaded, Dropped, Replaced, Swapped}
 use Rattle.lake_model.specs.Layout.{Place, Part, parts_after, mark, merged, is_among}
 use Rattle.list_laws.proofs.ListLemmas.{split_bool, all_append, all_filter}
 
@@ -65,7 +65,7 @@ all_swapped P position planned kept (part ∷ parts) new h =
     (all_one P position (kept_places kept (filter (is_planned planned) (part ∷ parts))) new) (all_filter P (λ p. not (is_planned planned p)) (part ∷ parts) h)))
     (λ e. subst (AllByRecursion P) (sym (swapped_next position planned kept part parts e)) (h.0, rest))
 
-all_marked : (P : Part → Type 0) (name : Text) (parts : List Part) → ((part : Part) → P part → P (mark name part)) → AllByRecursion P parts → AllByRecursion P (map (mark name) parts)
+pub all_marked : (P : Part → Type 0) (name : Text) (parts : List Part) → ((part : Part) → P part → P (mark name part)) → AllByRecursion P parts → AllByRecursion P (map (mark name) parts)
 all_marked P name [] f h = tt
 all_marked P name (part ∷ parts) f h = (f part h.0, all_marked P name parts f h.1)
 
@@ -74,4 +74,6 @@ pub all_after : (P : Part → Type 0) (position : ℕ) (what : What) (parts : Li
     → AllByRecursion P parts → AllByRecursion P (parts_after position parts what)
 all_after P position (Loaded table) parts new more h = all_append P parts (part_of position (loaded_place position table ∷ []) ∷ []) h (new (loaded_place position table ∷ []), tt)
 all_after P position (Dropped name) parts new more h = all_marked P name parts (more name) h
+all_after P position (Replaced table) parts new more h =
+    all_append P (map (mark table.name) parts) (part_of position (loaded_place position table ∷ []) ∷ []) (all_marked P table.name parts (more table.name) h) (new (loaded_place position table ∷ []), tt)
 all_after P position (Swapped planned kept) parts new more h = all_swapped P position planned kept parts new h

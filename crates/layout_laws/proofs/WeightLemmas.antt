@@ -1,5 +1,5 @@
--- A load raises the number of parts and marks by one, a drop by at most one, and a swap that merges lowers it.
-use Rattle.std.proofs.Common.{◌≡◌, refl, ap, sym, ◌∙◌, subst, ℕ, ◌+◌, ◌<◌, ◌≤◌, List, [], ◌∷◌, ◌++◌, append_assoc, append-nil, Bool, true, false, not, ◌||◌, cond, map, length, inl, inr, arith}
+-- A load raises the number of parts and marks by one, a drop by at most one, a replace by at most two, and a swap that merges lowers it.
+use Rattle.std.proofs.Common.{◌≡◌, refl, ap, sym, ◌∙◌, subst, ℕ, ◌+◌, ◌*◌, ◌<◌, ◌≤◌, List, [], ◌∷◌, ◌++◌, append_assoc, append-nil, Bool, true, false, not, ◌||◌, cond, map, length, inl, inr, arith}
 use Rattle.std.specs.Prelude.{◌⊎◌, nat_lt, sum_by}
 use Rattle.std.specs.List.{AllByRecursion, filter}
 use Rattle.std.proofs.lemmas.Bool.{ltb-true, eqb-false, or_cases}
@@ -8,7 +8,7 @@ use Rattle.std.proofs.lemmas.List.Sums.{sum_by-cons, sum_by-append, sum_by_push}
 use Rattle.lake_model.specs.declared.Who.{Who}
 use Rattle.lake_model.specs.Texts.{Text}
 use Rattle.lake_model.specs.Tables.{Table}
-use Rattle.lake_model.specs.Journal.{What, Loaded, Dropped, Swapped, Entry, entry_with, has_name, is_update, counts}
+use Rattle.lake_model.specs.Journal.{What, Loaded, Dropped, Replaced, Swapped, Entry, entry_with, has_name, is_update, counts}
 use Rattle.lake_model.specs.Layout.{Place, Part, layout, parts_after, mark, mark_place, positions_of, run_of, is_among, may_swap, may_follow, is_legal_behind}
 use Rattle.lake_model.specs.Plan.{marks}
 use Rattle.lake_model.proofs.LayoutLemmas.{layout_more}
@@ -109,6 +109,10 @@ pub weight_drop : (position : ℕ) (parts : List Part) (name : Text) → AreDist
 weight_drop position parts name h =
     omega (arith, weight_is (map (mark name) parts), weight_is parts, length-map parts (mark name), ap marked_in (places_marked name parts), one_marked name (places_of parts) h)
 
+pub weight_replace : (position : ℕ) (parts : List Part) (table : Table) → AreDistinct (names_in (places_of parts)) → weight (parts_after position parts (Replaced table)) ≤ weight parts + 2
+weight_replace position parts table h =
+    omega (arith, weight_load position (map (mark table.name) parts) table, weight_drop position parts table.name h)
+
 one_at_most : (number : ℕ) (places : List Place) → length (one_part number places) ≤ 1
 one_at_most number [] = omega arith
 one_at_most number (place ∷ places) = omega arith
@@ -150,7 +154,7 @@ weight_swap position parts planned kept distinct h k =
 -- ---- a journal
 
 abbrev pub IsLight : List Entry → Type 0
-IsLight journal = weight (layout journal) + swaps journal ≤ (counts journal).updates
+IsLight journal = weight (layout journal) + swaps journal ≤ 2 * (counts journal).updates
 
 updates_more : (journal : List Entry) (entry : Entry) → (counts (journal ++ entry ∷ [])).updates ≡ (counts journal).updates + cond (is_update entry.what) 1 0
 updates_more journal entry = sum_by_push (λ (e : Entry). cond (is_update e.what) 1 0) journal entry
@@ -166,6 +170,8 @@ light_more journal who (Loaded table) h f m light =
     omega (arith, ap weight (layout_more journal (entry_with who (Loaded table))), weight_load (1 + length journal) (layout journal) table, updates_more journal (entry_with who (Loaded table)), swaps_more journal (entry_with who (Loaded table)), light)
 light_more journal who (Dropped name) h f m light =
     omega (arith, ap weight (layout_more journal (entry_with who (Dropped name))), weight_drop (1 + length journal) (layout journal) name (live_names journal h), updates_more journal (entry_with who (Dropped name)), swaps_more journal (entry_with who (Dropped name)), light)
+light_more journal who (Replaced table) h f m light =
+    omega (arith, ap weight (layout_more journal (entry_with who (Replaced table))), weight_replace (1 + length journal) (layout journal) table (live_names journal h), updates_more journal (entry_with who (Replaced table)), swaps_more journal (entry_with who (Replaced table)), light)
 light_more journal who (Swapped planned kept) h f m light =
     omega (arith, ap weight (layout_more journal (entry_with who (Swapped planned kept))), weight_swap (1 + length journal) (layout journal) planned kept h.numbers f m, updates_more journal (entry_with who (Swapped planned kept)), swaps_more journal (entry_with who (Swapped planned kept)), light)
 

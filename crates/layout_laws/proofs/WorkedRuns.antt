@@ -4,7 +4,7 @@ use Rattle.std.specs.Prelude.{codes}
 use Rattle.lake_model.specs.declared.Policy.TheVariants.{Tier}
 use Rattle.lake_model.specs.Texts.{Text}
 use Rattle.lake_model.specs.Tables.{Column, column_with, table_with}
-use Rattle.lake_model.specs.Journal.{What, Loaded, Dropped, Swapped, Entry, entry_with, who_with}
+use Rattle.lake_model.specs.Journal.{What, Loaded, Dropped, Replaced, Swapped, Entry, entry_with, who_with}
 use Rattle.lake_model.specs.Layout.{layout, shown, is_legal, may_swap}
 use Rattle.lake_model.specs.Plan.{plan}
 use Rattle.layout_laws.specs.Steps.{live_loads, positions_in}
@@ -55,3 +55,17 @@ weighs_less = refl
 
 merging : do_merge (made swapped) ≡ true
 merging = refl
+
+-- a table of the plan is replaced before the swap: its old place is marked, and the new one stands behind
+abbrev replaced : List What
+replaced = four ++ Replaced (table_with (codes "a2") (column (codes "y" ∷ []))) ∷ Swapped (1 ∷ 2 ∷ 3 ∷ 4 ∷ []) (1 ∷ 2 ∷ 3 ∷ 4 ∷ []) ∷ []
+
+replaced_late : shown (layout (made replaced)) ≡ (6, (1, false) ∷ (2, true) ∷ (3, false) ∷ (4, false) ∷ []) ∷ (5, (5, false) ∷ []) ∷ []
+replaced_late = refl
+
+replaced_loads : positions_in (live_loads (made replaced)) ≡ 1 ∷ 3 ∷ 4 ∷ 5 ∷ []
+replaced_loads = refl
+
+-- the four parts, one more, and a mark
+replace_weighs : weight (layout (made (four ++ Replaced (table_with (codes "a2") (column (codes "y" ∷ []))) ∷ []))) ≡ 6
+replace_weighs = refl

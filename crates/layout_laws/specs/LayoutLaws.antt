@@ -1,5 +1,5 @@
 -- The laws of layouts.
-use Rattle.std.specs.Prelude.{◌≡◌, ◌<◌, ◌≤◌, ℕ, true, not, ◌∷◌, List, [], ◌++◌, length, map, find, Option, Some, None}
+use Rattle.std.specs.Prelude.{◌≡◌, ◌<◌, ◌≤◌, ◌*◌, ℕ, true, not, ◌∷◌, List, [], ◌++◌, length, map, find, Option, Some, None}
 use Rattle.std.specs.List.{AllByRecursion, list_all}
 use Rattle.lake_model.specs.declared.Who.{Who}
 use Rattle.lake_model.specs.declared.Policy.{Policy}
@@ -22,7 +22,7 @@ abbrev pub AnswersStay : Type 0
 AnswersStay = (journal : List Entry) (who : Who) (planned kept : List ℕ) (query : List Text) (k : ℕ) (except : Option Text)
     → answer (live (journal ++ entry_with who (Swapped planned kept) ∷ [])) query k except ≡ answer (live journal) query k except
 
--- What holds of the layout of a legal journal: its unmarked places are the loads of the live tables, each once, in the order of loading;
+-- What holds of the layout of a legal journal: its unmarked places are those of the live tables, each once, in the order of their entries;
 -- its positions rise, and its parts have numbers of their own, all within the journal; and no part is empty.
 pub record IsLaidOut (journal : List Entry) : Type 0 where
   pub unmarked : unmarked_of (layout journal) ≡ live_loads journal
@@ -66,6 +66,6 @@ abbrev pub SwapsLower : Type 0
 SwapsLower = (journal : List Entry) (who : Who) (planned kept : List ℕ) → may_swap (layout journal) planned kept ≡ true → does_merge (layout journal) planned kept ≡ true
     → weight (layout (journal ++ entry_with who (Swapped planned kept) ∷ [])) < weight (layout journal)
 
--- Where each swap merges, there are at most as many swaps as loads and drops.
+-- Where each swap merges, there are at most twice as many swaps as loads, drops and replaces: a replace adds a part and a mark.
 abbrev pub SwapsAreFew : Type 0
-SwapsAreFew = (journal : List Entry) → is_legal journal ≡ true → do_merge journal ≡ true → swaps journal ≤ (counts journal).updates
+SwapsAreFew = (journal : List Entry) → is_legal journal ≡ true → do_merge journal ≡ true → swaps journal ≤ 2 * (counts journal).updates

@@ -1,7 +1,7 @@
--- What stays of the parts of a layout from one entry of a journal to a later one, and where its live tables were loaded.
+-- What stays of the parts of a layout from one entry of a journal to a later one, and where its live tables were put.
 use Rattle.std.specs.Prelude.{◌≡◌, ℕ, ◌+◌, ◌&&◌, Bool, true, false, List, [], ◌∷◌, ◌++◌, map, filter, not, nat_eq, bytes_eq}
 use Rattle.std.specs.List.{list_any}
-use Rattle.lake_model.specs.Journal.{What, Loaded, Dropped, Swapped, Entry, has_name}
+use Rattle.lake_model.specs.Journal.{What, Loaded, Dropped, Replaced, Swapped, Entry, has_name}
 use Rattle.lake_model.specs.Layout.{Place, Part}
 
 abbrev pub numbers_of : List Part → List ℕ
@@ -10,10 +10,11 @@ numbers_of parts = map (λ part. part.number) parts
 abbrev pub positions_in : List Place → List ℕ
 positions_in places = map (λ place. place.position) places
 
--- the loads of the live tables behind an entry at a position, from those before it
+-- where the live tables were put, behind an entry at a position, from those before it
 abbrev pub loads_after : ℕ → List Place → What → List Place
 loads_after position places (Loaded table) = places ++ record { position = position; table = table; marked = false } ∷ []
 loads_after position places (Dropped name) = filter (λ place. not (has_name name place.table)) places
+loads_after position places (Replaced table) = filter (λ place. not (has_name table.name place.table)) places ++ record { position = position; table = table; marked = false } ∷ []
 loads_after position places (Swapped planned kept) = places
 
 -- the same, entry by entry, where the first entry has this position
@@ -21,7 +22,7 @@ abbrev pub loads_from : ℕ → List Place → List Entry → List Place
 loads_from position places [] = places
 loads_from position places (entry ∷ entries) = loads_from (position + 1) (loads_after position places entry.what) entries
 
--- the loads of the live tables of a journal, with their positions, in the order of loading
+-- where the live tables of a journal were put, by a load or a replace, in the order of these entries
 abbrev pub live_loads : List Entry → List Place
 live_loads journal = loads_from 1 [] journal
 

@@ -1,6 +1,6 @@
 -- How much there is to merge in a layout, and the swaps of a journal.
 use Rattle.std.specs.Prelude.{ℕ, ◌+◌, Bool, true, ◌||◌, ◌&&◌, nat_lt, List, [], ◌∷◌, ◌++◌, length, not, sum_by, count_by}
-use Rattle.lake_model.specs.Journal.{What, Loaded, Dropped, Swapped, Entry, is_update}
+use Rattle.lake_model.specs.Journal.{What, Loaded, Dropped, Replaced, Swapped, Entry, is_update}
 use Rattle.lake_model.specs.Layout.{Part, layout, positions_of, run_of}
 use Rattle.lake_model.specs.Plan.{marks}
 
@@ -18,6 +18,7 @@ does_merge parts planned kept = nat_lt 1 (length planned) || nat_lt (length kept
 abbrev pub merges : List Entry → What → Bool
 merges before (Loaded table) = true
 merges before (Dropped name) = true
+merges before (Replaced table) = true
 merges before (Swapped planned kept) = does_merge (layout before) planned kept
 
 -- each swap behind these entries merges

@@ -8,8 +8,8 @@ pub fn swaps_law()
     ensures answers { AnswersStay }
 {}
 
-/// Behind each entry of a legal journal the unmarked places of its layout are the loads of the live tables, each once and in the order
-/// of loading. The number of a part fixes its places, of which only marks change.
+/// Behind each entry of a legal journal the unmarked places of its layout are those of the live tables, each once and in the order in
+/// which they were loaded or replaced. The number of a part fixes its places, of which only marks change.
 pub fn layout_law()
     ensures legal { LegalIsLaidOut }
     ensures fixed { NumbersFix }
@@ -24,7 +24,7 @@ pub fn plans_law()
 {}
 
 /// A swap that takes two parts or more, or leaves a position out, lowers the number of parts and marks. So where each swap does, there
-/// are at most as many swaps as loads and drops.
+/// are at most twice as many swaps as loads, drops and replaces.
 pub fn weight_law()
     ensures lower { SwapsLower }
     ensures few { SwapsAreFew }

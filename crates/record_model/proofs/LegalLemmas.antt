@@ -14,10 +14,10 @@ use Rattle.lake_model.specs.Layout.{Part, layout, may_follow, is_legal, is_legal
 use Rattle.lake_model.specs.Plan.{plan_of, planned_parts}
 use Rattle.layout_laws.specs.Steps.{has_part}
 use Rattle.layout_laws.specs.LayoutLaws.{PlansStay}
-use Rattle.script_model.specs.Commands.{Task, Load, LoadFile, DropTable, Tables, Search, Like, Merge, Command, Batch, updates}
-use Rattle.lake_model.specs.Limits.{Bounded, is_passed, load_bounds, drop_bounds}
-use Rattle.record_model.specs.Replies.{Loaded, Dropped, Repeated, Unknown, unless_lake_full, merge_planned, merge_gone, merge_reply}
-use Rattle.record_model.specs.Answered.{TableRead, IsTable, NoTable, table_read, file_read, load_answer, loads, swaps, policy_of, answer_to, adds, has_pin, is_accepted, standing}
+use Rattle.script_model.specs.Commands.{Task, Load, LoadFile, DropTable, Replace, Tables, Search, Like, Merge, Command, Batch, updates}
+use Rattle.lake_model.specs.Limits.{Bounded, is_passed, load_bounds, drop_bounds, replace_bounds}
+use Rattle.record_model.specs.Replies.{Loaded, Dropped, Replaced, Repeated, Unknown, unless_lake_full, merge_planned, merge_gone, merge_reply}
+use Rattle.record_model.specs.Answered.{TableRead, IsTable, NoTable, table_read, file_read, load_answer, replace_answer, loads, replaces, swaps, policy_of, answer_to, adds, has_pin, is_accepted, standing}
 use Rattle.script_model.specs.Options.{Options}
 use Rattle.record_model.specs.Record.{RunRecord, empty, with_end}
 use Rattle.record_model.specs.Play.{Done, done_with, Lane, lane_with, Play, play_with, who_of, entries_of, reply_or_denied, answered, step_of, lane_step, step_at, step, with_denials, play, play_batch, whole_order, lane_of, lanes_of, batch_after, head_or_empty, merger_commands, pieces_of, played_from, played, IsPlayed}
@@ -62,6 +62,16 @@ drop_follows limits who name now = by (is_live now name) (find is_passed (drop_b
     by true (Some bound) e = refl
     by false o e = refl
 
+replace_follows : (limits : Counts) (who : Who) (read : TableRead) (now : List Entry) → is_legal_behind now (map (entry_with who) (cond (is_accepted (standing (replace_answer limits read now))) (replaces read) [])) ≡ true
+replace_follows limits who (NoTable fault) now = ap (λ whats. is_legal_behind now (map (entry_with who) whats)) (either_none (is_accepted (standing (replace_answer limits (NoTable fault) now))))
+replace_follows limits who (IsTable table) now = by (is_live now table.name) (find is_passed (replace_bounds limits table (counts now))) refl
+  where
+    by : (b : Bool) (o : Option Bounded) → is_live now table.name ≡ b
+        → is_legal_behind now (map (entry_with who) (cond (is_accepted (standing (cond b (unless_lake_full (length now) (Replaced table.name (length table.columns) (members table) (length now + 1)) o) (Unknown table.name (length now))))) (journal.Replaced table ∷ []) [])) ≡ true
+    by true None e = ap (λ b. b && true) e
+    by true (Some bound) e = refl
+    by false o e = refl
+
 merge_follows : PlansStay → (who : Who) (policy : Policy) (pinned behind : List Entry) → is_legal (pinned ++ behind) ≡ true
     → is_legal_behind (pinned ++ behind) (map (entry_with who) (cond (is_accepted (standing (merge_reply policy pinned (pinned ++ behind)))) (swaps (plan_of (planned_parts policy (layout pinned)))) [])) ≡ true
 merge_follows stay who policy pinned behind legal = by (planned_parts policy (layout pinned)) refl
@@ -83,6 +93,7 @@ task_follows : PlansStay → (limits : Counts) (who : Who) (task : Task) (pinned
 task_follows stay limits who (Load name body) pinned behind legal = load_follows limits who (table_read name body) (pinned ++ behind)
 task_follows stay limits who (LoadFile name file) pinned behind legal = load_follows limits who (file_read name file) (pinned ++ behind)
 task_follows stay limits who (DropTable name) pinned behind legal = drop_follows limits who name (pinned ++ behind)
+task_follows stay limits who (Replace name body) pinned behind legal = replace_follows limits who (table_read name body) (pinned ++ behind)
 task_follows stay limits who Tables pinned behind legal = refl
 task_follows stay limits who (Search k body) pinned behind legal =
     ap (λ whats. is_legal_behind (pinned ++ behind) (map (entry_with who) whats)) (either_none (is_accepted (standing (answer_to limits (Search k body) pinned (pinned ++ behind)))))

@@ -19,13 +19,13 @@ use Rattle.record_model.proofs.RightLemmas.{rises_on, all_placed_stay, accepted_
 use Rattle.lake_model.specs.Texts.{Text}
 use Rattle.lake_model.specs.Tables.{Table, Column, members}
 use Rattle.lake_model.specs.Journal.{What, Entry, is_live, live_table, counts, entry_with}
-use Rattle.lake_model.specs.Limits.{Bounded, is_passed, load_bounds, drop_bounds}
+use Rattle.lake_model.specs.Limits.{Bounded, is_passed, load_bounds, drop_bounds, replace_bounds}
 use Rattle.lake_model.specs.Layout.{Part, layout, unmarked_of}
 use Rattle.lake_model.specs.Plan.{planned_parts, plan_of}
 use Rattle.layout_laws.specs.Steps.{has_part}
-use Rattle.script_model.specs.Commands.{Task, Load, LoadFile, DropTable, Tables, Search, Like, Merge, Command}
-use Rattle.record_model.specs.Replies.{Reply, NoMemory, Repeated, Unknown, Loaded, Dropped, fault_reply, Fault, FileFault, OfCsv, OfSets, OfQuery, OfFile, FailedFault, MissingFault, TooLongFault, csv_reply, sets_reply, query_reply, file_reply, unless_lake_full, drop_reply, like_table, like_column, merge_planned, merge_gone}
-use Rattle.record_model.specs.Answered.{TableRead, IsTable, NoTable, QueryRead, IsQuery, NoQuery, file_read, load_answer, search_answer, policy_of, loads, swaps, table_read, query_read, answer_to, change_of, has_pin, Standing, Nowhere, Saw, Added, PlannedAndSaw, PlannedAndAdded, standing, is_accepted}
+use Rattle.script_model.specs.Commands.{Task, Load, LoadFile, DropTable, Replace, Tables, Search, Like, Merge, Command}
+use Rattle.record_model.specs.Replies.{Reply, NoMemory, Repeated, Unknown, Loaded, Dropped, Replaced, fault_reply, Fault, FileFault, OfCsv, OfSets, OfQuery, OfFile, FailedFault, MissingFault, TooLongFault, csv_reply, sets_reply, query_reply, file_reply, unless_lake_full, drop_reply, like_table, like_column, merge_planned, merge_gone}
+use Rattle.record_model.specs.Answered.{TableRead, IsTable, NoTable, QueryRead, IsQuery, NoQuery, file_read, load_answer, replace_answer, search_answer, policy_of, loads, replaces, swaps, table_read, query_read, answer_to, change_of, has_pin, Standing, Nowhere, Saw, Added, PlannedAndSaw, PlannedAndAdded, standing, is_accepted}
 use Rattle.record_model.specs.Play.{Done, done_with, who_of, entries_of, reply_or_denied}
 use Rattle.record_model.specs.Right.{Moment, moments, moments_by, Rises, IsPlaced, IsUnplaced, own_entries, entries_by, at_position, accepted, IsRight}
 
@@ -85,6 +85,16 @@ drop_shape limits name now = by (is_live now name) (find is_passed (drop_bounds 
     by true (Some bound) e = Sees refl e
     by false o e = Sees refl e
 
+replace_shape : (limits : Counts) (name : Text) (body : List ℕ) (now : List Entry) (read : TableRead) → table_read name body ≡ read → Shape limits (Replace name body) now now (replace_answer limits read now)
+replace_shape limits name body now (NoTable fault) e = Static (fault_nowhere fault) (ap (λ r. replace_answer limits r []) (sym e))
+replace_shape limits name body now (IsTable table) e = by (is_live now table.name) (find is_passed (replace_bounds limits table (counts now))) (ap (λ r. replace_answer limits r now) (sym e))
+  where
+    by : (b : Bool) (o : Option Bounded) → cond b (unless_lake_full (length now) (Replaced table.name (length table.columns) (members table) (length now + 1)) o) (Unknown table.name (length now)) ≡ answer_to limits (Replace name body) now now
+        → Shape limits (Replace name body) now now (cond b (unless_lake_full (length now) (Replaced table.name (length table.columns) (members table) (length now + 1)) o) (Unknown table.name (length now)))
+    by true None f = Adds refl refl f (journal.Replaced table) (ap replaces e)
+    by true (Some bound) f = Sees refl f
+    by false o f = Sees refl f
+
 search_shape : (limits : Counts) (k : ℕ) (body : List ℕ) (pinned now : List Entry) (read : QueryRead) → query_read body ≡ read → Shape limits (Search k body) pinned now (search_answer k read pinned)
 search_shape limits k body pinned now (IsQuery keys) e = Sees refl (ap (λ r. search_answer k r pinned) (sym e))
 search_shape limits k body pinned now (NoQuery fault) e = Static (fault_nowhere fault) (ap (λ r. search_answer k r []) (sym e))
@@ -116,6 +126,7 @@ pub shape : (limits : Counts) (task : Task) (pinned now : List Entry) → (has_p
 shape limits (Load name body) pinned now same = subst (λ q. Shape limits (Load name body) q now (load_answer limits (table_read name body) now)) (sym (same refl)) (load_shape limits (Load name body) (table_read name body) now (λ q h. refl) (λ q. refl))
 shape limits (LoadFile name file) pinned now same = subst (λ q. Shape limits (LoadFile name file) q now (load_answer limits (file_read name file) now)) (sym (same refl)) (load_shape limits (LoadFile name file) (file_read name file) now (λ q h. refl) (λ q. refl))
 shape limits (DropTable name) pinned now same = subst (λ q. Shape limits (DropTable name) q now (drop_reply limits name now)) (sym (same refl)) (drop_shape limits name now)
+shape limits (Replace name body) pinned now same = subst (λ q. Shape limits (Replace name body) q now (replace_answer limits (table_read name body) now)) (sym (same refl)) (replace_shape limits name body now (table_read name body) refl)
 shape limits Tables pinned now same = subst (λ q. Shape limits Tables q now (answer_to limits Tables now now)) (sym (same refl)) (Sees refl refl)
 shape limits (Search k body) pinned now same = search_shape limits k body pinned now (query_read body) refl
 shape limits (Like k name place) pinned now same = like_shape limits k name place pinned now

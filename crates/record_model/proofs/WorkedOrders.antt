@@ -12,6 +12,8 @@ use Rattle.lake_model.specs.Records.{rows_fault, text_fault}
 use Rattle.lake_model.specs.Queries.{line_fault}
 use Rattle.lake_model.specs.Sorting.{in_order, put_in_order}
 use Rattle.lake_model.specs.Journal.{standard_limits}
+use Rattle.search_model.specs.Looks.{log, looks_of, run, run_within}
+use Rattle.search_model.specs.Segment.{segment, tokens_of}
 use Rattle.script_model.specs.Reading.{read}
 use Rattle.script_model.specs.Script.{commands, standard}
 use Rattle.record_model.specs.Answered.{table_read, query_read}
@@ -20,6 +22,7 @@ use Rattle.record_model.specs.Record.{with_end}
 use Rattle.record_model.specs.Play.{play, played, played_from}
 use Rattle.script_model.specs.Words.{line_text}
 use Rattle.record_model.specs.Texts.{text}
+use Rattle.record_model.specs.Work.{lists_read, sets_probed}
 
 abbrev lines : List (List ℕ) → List ℕ
 lines texts = flat_map line_text texts
@@ -46,3 +49,8 @@ same_parts_merged_twice = refl
 merger_with_a_trace : written (options_with 1 (Some ((1 ∷ 1 ∷ 1 ∷ 1 ∷ 0 ∷ 0 ∷ []) ∷ [])) true true) (lines (codes "load a1" ∷ codes "c" ∷ codes "x" ∷ codes "." ∷ codes "load a2" ∷ codes "c" ∷ codes "x" ∷ codes "." ∷ codes "load a3" ∷ codes "c" ∷ codes "x" ∷ codes "." ∷ codes "load a4" ∷ codes "c" ∷ codes "x" ∷ codes "." ∷ [])) ≡ lines (codes "1 loaded a1 columns 1 members 1 at 1" ∷ codes "2 loaded a2 columns 1 members 1 at 2" ∷ codes "3 loaded a3 columns 1 members 1 at 3" ∷ codes "4 loaded a4 columns 1 members 1 at 4" ∷ codes "m1 merged 4 parts into 4 tables at 5" ∷ codes "  layout at 4 parts 1:1 2:2 3:3 4:4" ∷ codes "m2 refused nothing to merge at 5" ∷ codes "  layout at 5 parts 5:1,2,3,4" ∷ codes "m3 refused nothing to merge at 5" ∷ codes "  layout at 5 parts 5:1,2,3,4" ∷ codes "m4 refused nothing to merge at 5" ∷ codes "  layout at 5 parts 5:1,2,3,4" ∷ codes "journal 5" ∷ codes "  1 load lane 1 command 1 a1" ∷ codes "  2 load lane 1 command 2 a2" ∷ codes "  3 load lane 1 command 3 a3" ∷ codes "  4 load lane 1 command 4 a4" ∷ codes "  5 swap lane 0 command m1 from 1,2,3,4 kept 1,2,3,4" ∷ [])
 unfolding lines_of read next_record records_from strip_bom is_utf8 caseless trim_start trim_end chars encode digits in_order put_in_order rows_fault text_fault line_fault table_read query_read play played_from
 merger_with_a_trace = refl
+
+-- A table is replaced between the plan of a merge and its end: its old columns never answer again.
+replaced_before_a_swap : written (options_with 2 (Some ((1 ∷ 1 ∷ 1 ∷ 2 ∷ 1 ∷ 1 ∷ 1 ∷ []) ∷ [])) false true) (lines (codes "load a" ∷ codes "c" ∷ codes "x" ∷ codes "." ∷ codes "load b" ∷ codes "c" ∷ codes "x" ∷ codes "." ∷ codes "merge all" ∷ codes "@2 replace a" ∷ codes "c" ∷ codes "y" ∷ codes "." ∷ codes "search 9" ∷ codes "x" ∷ codes "." ∷ [])) ≡ lines (codes "1 loaded a columns 1 members 1 at 1" ∷ codes "2 loaded b columns 1 members 1 at 2" ∷ codes "3 merged 2 parts into 2 tables at 4" ∷ codes "  layout at 2 parts 1:1 2:2" ∷ codes "4 replaced a columns 1 members 1 at 3" ∷ codes "5 answer 1 of 1 at 4" ∷ codes "  1 b 1 \"c\"" ∷ codes "  work reads 1 probes 0" ∷ codes "  layout at 4 parts 4:1-,2 3:3" ∷ codes "journal 4" ∷ codes "  1 load lane 1 command 1 a" ∷ codes "  2 load lane 1 command 2 b" ∷ codes "  3 replace lane 2 command 4 a" ∷ codes "  4 swap lane 1 command 3 from 1,2 kept 1,2" ∷ [])
+unfolding lines_of read next_record records_from strip_bom is_utf8 caseless trim_start trim_end chars encode digits in_order put_in_order rows_fault text_fault line_fault table_read query_read play played_from tokens_of segment run_within run looks_of log lists_read sets_probed
+replaced_before_a_swap = refl

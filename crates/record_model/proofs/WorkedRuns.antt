@@ -78,6 +78,11 @@ returns : written (codes "load t\r\nc\nx\n.\r\nsearch 1\nx\n.") ≡ lines (codes
 unfolding lines_of read next_record records_from strip_bom is_utf8 caseless trim_start trim_end chars encode digits in_order put_in_order rows_fault text_fault line_fault table_read query_read play played_from
 returns = refl
 
+-- a table is replaced as a whole; a name that is not live is unknown
+replaced : written (lines (codes "load t" ∷ codes "c" ∷ codes "a" ∷ codes "." ∷ codes "replace t" ∷ codes "c" ∷ codes "b" ∷ codes "." ∷ codes "search 1" ∷ codes "a" ∷ codes "." ∷ codes "search 1" ∷ codes "b" ∷ codes "." ∷ codes "replace z" ∷ codes "c" ∷ codes "a" ∷ codes "." ∷ [])) ≡ lines (codes "1 loaded t columns 1 members 1 at 1" ∷ codes "2 replaced t columns 1 members 1 at 2" ∷ codes "3 answer 0 of 1 at 2" ∷ codes "4 answer 1 of 1 at 2" ∷ codes "  1 t 1 \"c\"" ∷ codes "5 refused unknown z at 2" ∷ [])
+unfolding lines_of read next_record records_from strip_bom is_utf8 caseless trim_start trim_end chars encode digits in_order put_in_order rows_fault text_fault line_fault table_read query_read play played_from
+replaced = refl
+
 -- ---- traces
 
 abbrev traced : Options

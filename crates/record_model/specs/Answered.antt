@@ -14,8 +14,8 @@ use Rattle.lake_model.specs.Journal.{What, Entry}
 use Rattle.lake_model.specs.Journal as journal
 use Rattle.lake_model.specs.Answer.{Query}
 use Rattle.lake_model.specs.Plan.{plan}
-use Rattle.script_model.specs.Commands.{File, Bytes, Failed, Missing, TooLong, Task, Load, LoadFile, DropTable, Tables, Search, Like, Merge}
-use Rattle.record_model.specs.Replies.{Reply, Loaded, Dropped, Listed, Found, Merged, Repeated, Unknown, NoColumn, Full, NothingToMerge, Stale, Fault, OfCsv, OfSets, OfQuery, OfFile, FailedFault, MissingFault, TooLongFault, fault_reply, load_reply, drop_reply, tables_reply, search_reply, like_reply, merge_reply}
+use Rattle.script_model.specs.Commands.{File, Bytes, Failed, Missing, TooLong, Task, Load, LoadFile, DropTable, Replace, Tables, Search, Like, Merge}
+use Rattle.record_model.specs.Replies.{Reply, Loaded, Dropped, Replaced, Listed, Found, Merged, Repeated, Unknown, NoColumn, Full, NothingToMerge, Stale, Fault, OfCsv, OfSets, OfQuery, OfFile, FailedFault, MissingFault, TooLongFault, fault_reply, load_reply, drop_reply, replace_reply, tables_reply, search_reply, like_reply, merge_reply}
 
 -- the table of bytes, or the refusal of these bytes
 pub data TableRead : Type 0 where
@@ -64,6 +64,10 @@ abbrev pub load_answer : Counts → TableRead → List Entry → Reply
 load_answer limits (IsTable table) now = load_reply limits table now
 load_answer limits (NoTable fault) now = fault_reply fault
 
+abbrev pub replace_answer : Counts → TableRead → List Entry → Reply
+replace_answer limits (IsTable table) now = replace_reply limits table now
+replace_answer limits (NoTable fault) now = fault_reply fault
+
 abbrev pub search_answer : ℕ → QueryRead → List Entry → Reply
 search_answer k (IsQuery keys) pinned = search_reply (plain_query k keys) pinned
 search_answer k (NoQuery fault) pinned = fault_reply fault
@@ -73,6 +77,7 @@ abbrev pub answer_to : Counts → Task → List Entry → List Entry → Reply
 answer_to limits (Load name body) pinned now = load_answer limits (table_read name body) now
 answer_to limits (LoadFile name file) pinned now = load_answer limits (file_read name file) now
 answer_to limits (DropTable name) pinned now = drop_reply limits name now
+answer_to limits (Replace name body) pinned now = replace_answer limits (table_read name body) now
 answer_to limits Tables pinned now = tables_reply now
 answer_to limits (Search k body) pinned now = search_answer k (query_read body) pinned
 answer_to limits (Like k name place) pinned now = like_reply k name place pinned
@@ -83,6 +88,7 @@ abbrev pub has_pin : Task → Bool
 has_pin (Load name body) = false
 has_pin (LoadFile name file) = false
 has_pin (DropTable name) = false
+has_pin (Replace name body) = false
 has_pin Tables = false
 has_pin (Search k body) = true
 has_pin (Like k name place) = true
@@ -93,6 +99,10 @@ abbrev pub loads : TableRead → List What
 loads (IsTable table) = journal.Loaded table ∷ []
 loads (NoTable fault) = []
 
+abbrev pub replaces : TableRead → List What
+replaces (IsTable table) = journal.Replaced table ∷ []
+replaces (NoTable fault) = []
+
 abbrev pub swaps : Option (List ℕ × List ℕ) → List What
 swaps None = []
 swaps (Some planned) = journal.Swapped planned.0 planned.1 ∷ []
@@ -101,6 +111,7 @@ abbrev pub change_of : Task → List Entry → List What
 change_of (Load name body) pinned = loads (table_read name body)
 change_of (LoadFile name file) pinned = loads (file_read name file)
 change_of (DropTable name) pinned = journal.Dropped name ∷ []
+change_of (Replace name body) pinned = replaces (table_read name body)
 change_of Tables pinned = []
 change_of (Search k body) pinned = []
 change_of (Like k name place) pinned = []
@@ -117,6 +128,7 @@ pub data Standing : Type 0 where
 abbrev pub standing : Reply → Standing
 standing (Loaded name columns members at) = Added at
 standing (Dropped name at) = Added at
+standing (Replaced name columns members at) = Added at
 standing (Listed tables at) = Saw at
 standing (Found query rows reads probes layout) = Saw layout.at
 standing (Merged layout parts tables at) = PlannedAndAdded layout.at at

@@ -13,7 +13,7 @@ use Rattle.lake_model.specs.Texts.{Text}
 use Rattle.lake_model.specs.Tables.{Column, Table, Line, line_of, members}
 use Rattle.lake_model.specs.Answer.{Row, answer, Query}
 use Rattle.lake_model.specs.Journal.{Entry, counts, live, is_live, live_table}
-use Rattle.lake_model.specs.Limits.{Bounded, is_passed, load_bounds, drop_bounds}
+use Rattle.lake_model.specs.Limits.{Bounded, is_passed, load_bounds, drop_bounds, replace_bounds}
 use Rattle.lake_model.specs.Layout.{Part, Shown, layout, shown_layout, unmarked_of}
 use Rattle.lake_model.specs.Plan.{planned_parts}
 use Rattle.layout_laws.specs.Steps.{has_part}
@@ -22,6 +22,7 @@ use Rattle.record_model.specs.Work.{lists_read, sets_probed}
 pub data Reply : Type 0 where
   Loaded : (name : Text) (columns members at : ℕ) → Reply
   Dropped : (name : Text) (at : ℕ) → Reply
+  Replaced : (name : Text) (columns members at : ℕ) → Reply
   Listed : (tables : List Line) (at : ℕ) → Reply
   Found : (query : ℕ) (rows : List Row) (reads probes : ℕ) (layout : Shown) → Reply
   Merged : (layout : Shown) (parts tables at : ℕ) → Reply
@@ -94,6 +95,12 @@ abbrev pub drop_reply : Counts → Text → List Entry → Reply
 drop_reply limits name journal =
     let at = length journal in
     if is_live journal name then unless_lake_full at (Dropped name (at + 1)) (find is_passed (drop_bounds limits (counts journal))) else Unknown name at
+
+abbrev pub replace_reply : Counts → Table → List Entry → Reply
+replace_reply limits table journal =
+    let at = length journal in
+    if is_live journal table.name then unless_lake_full at (Replaced table.name (length table.columns) (members table) (at + 1)) (find is_passed (replace_bounds limits table (counts journal)))
+    else Unknown table.name at
 
 abbrev pub tables_reply : List Entry → Reply
 tables_reply journal = Listed (map line_of (live journal)) (length journal)

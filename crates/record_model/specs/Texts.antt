@@ -11,7 +11,7 @@ use Rattle.lake_model.specs.Journal as journal
 use Rattle.lake_model.specs.Layout.{Shown}
 use Rattle.lake_model.specs.Tables.{Line}
 use Rattle.script_model.specs.Words.{line_text}
-use Rattle.record_model.specs.Replies.{Reply, Loaded, Dropped, Listed, Found, Merged, Repeated, Unknown, NoColumn, Full, NothingToMerge, Stale, NoHeader, TooManyColumns, Unequal, NotUtf8, TooManyValues, FileFailed, FileMissing, FileTooLong, QueryNotUtf8, QueryTooLarge, NoMemory}
+use Rattle.record_model.specs.Replies.{Reply, Loaded, Dropped, Replaced, Listed, Found, Merged, Repeated, Unknown, NoColumn, Full, NothingToMerge, Stale, NoHeader, TooManyColumns, Unequal, NotUtf8, TooManyValues, FileFailed, FileMissing, FileTooLong, QueryNotUtf8, QueryTooLarge, NoMemory}
 use Rattle.record_model.specs.Record.{Answered, RunRecord}
 
 -- words with one space between
@@ -74,6 +74,7 @@ at_words at = codes "at" ∷ decimal at ∷ []
 abbrev pub reply_words : Reply → List Text
 reply_words (Loaded name columns members at) = codes "loaded" ∷ name ∷ codes "columns" ∷ decimal columns ∷ codes "members" ∷ decimal members ∷ at_words at
 reply_words (Dropped name at) = codes "dropped" ∷ name ∷ at_words at
+reply_words (Replaced name columns members at) = codes "replaced" ∷ name ∷ codes "columns" ∷ decimal columns ∷ codes "members" ∷ decimal members ∷ at_words at
 reply_words (Listed tables at) = codes "tables" ∷ decimal (length tables) ∷ at_words at
 reply_words (Found query rows reads probes layout) = codes "answer" ∷ decimal (length rows) ∷ codes "of" ∷ decimal query ∷ at_words layout.at
 reply_words (Merged layout parts tables at) = codes "merged" ∷ decimal parts ∷ codes "parts" ∷ codes "into" ∷ decimal tables ∷ codes "tables" ∷ at_words at
@@ -134,6 +135,7 @@ written_lines trace answer = if answer.who.caller == 0 && not trace then [] else
 abbrev pub what_words : What → Text × List Text
 what_words (journal.Loaded table) = (codes "load", table.name ∷ [])
 what_words (journal.Dropped name) = (codes "drop", name ∷ [])
+what_words (journal.Replaced table) = (codes "replace", table.name ∷ [])
 what_words (journal.Swapped planned kept) = (codes "swap", codes "from" ∷ listed decimal planned ∷ codes "kept" ∷ listed decimal kept ∷ [])
 
 abbrev pub entry_line : ℕ × Entry → Text
