@@ -4,7 +4,7 @@ use Rattle.script_model.specs.Commands as model
 use Rattle.commands.specs.declared.command.FileBody.{FileBody}
 use Rattle.commands.specs.declared.command.FileBody.TheVariants.{Bytes, Failed, Missing, TooLong}
 use Rattle.commands.specs.declared.command.Task.{Task}
-use Rattle.commands.specs.declared.command.Task.TheVariants.{Load, LoadFile, Drop, Tables, Search, Like, Merge}
+use Rattle.commands.specs.declared.command.Task.TheVariants.{Load, LoadFile, Drop, Replace, Tables, Search, Like, Merge}
 
 abbrev pub file_of : FileBody → model.File
 file_of (Bytes body) = model.Bytes body
@@ -16,6 +16,7 @@ abbrev pub task_of : Task → model.Task
 task_of (Load name body) = model.Load name body
 task_of (LoadFile name file) = model.LoadFile name (file_of file)
 task_of (Drop name) = model.DropTable name
+task_of (Replace name body) = model.Replace name body
 task_of Tables = model.Tables
 task_of (Search k body) = model.Search k body
 task_of (Like k name place) = model.Like k name place
@@ -26,6 +27,7 @@ abbrev pub IsTaskInRange : Task → Type 0
 IsTaskInRange (Load name body) = ⊤
 IsTaskInRange (LoadFile name file) = ⊤
 IsTaskInRange (Drop name) = ⊤
+IsTaskInRange (Replace name body) = ⊤
 IsTaskInRange Tables = ⊤
 IsTaskInRange (Search k body) = (1 ≤ k) × (k ≤ 10000)
 IsTaskInRange (Like k name place) = (1 ≤ k) × (k ≤ 10000) × (1 ≤ place)

@@ -42,6 +42,8 @@ pub enum Task {
     LoadFile { name: Name, file: FileBody },
     /// The live table of the name is dropped.
     Drop { name: Name },
+    /// The table of the body, which is CSV, takes the place of the live table of the name.
+    Replace { name: Name, body: Body },
     /// The live tables are listed.
     Tables,
     /// The `k` columns with the greatest overlap with the lines of the body are searched for, `k` from 1 to 10,000.
@@ -100,12 +102,13 @@ impl Command {
         &self.task
     }
 
-    // Whether the command is a load or a drop.
+    // Whether the command is a load, a drop or a replace.
     fn is_update(&self) -> bool
         ensures { result ≡ is_update_task self.now.task }
     {
         match &self.task {
-            Task::Load { .. } | Task::LoadFile { .. } | Task::Drop { .. } => true,
+            Task::Load { .. } | Task::LoadFile { .. } | Task::Drop { .. } | Task::Replace { .. } =>
+                true,
             Task::Tables | Task::Search { .. } | Task::Like { .. } | Task::Merge { .. } => false,
         }
     }
@@ -141,7 +144,7 @@ impl Batch {
         &self.commands
     }
 
-    /// How many of the commands are loads and drops.
+    /// How many of the commands are loads, drops and replaces.
     pub fn updates(&self) -> u64
         ensures { result ≡ updates self.now }
     {
