@@ -23,9 +23,9 @@ use Rattle.lake_model.specs.Limits.{Bounded, is_passed, load_bounds, drop_bounds
 use Rattle.lake_model.specs.Layout.{Part, layout, unmarked_of}
 use Rattle.lake_model.specs.Plan.{planned_parts, plan_of}
 use Rattle.layout_laws.specs.Steps.{has_part}
-use Rattle.script_model.specs.Commands.{Task, Load, LoadFile, DropTable, Replace, Tables, Search, Like, Merge, Command}
+use Rattle.script_model.specs.Commands.{Task, Load, LoadFile, DropTable, Replace, Tables, Search, Like, Contain, Merge, Command}
 use Rattle.record_model.specs.Replies.{Reply, NoMemory, Repeated, Unknown, Loaded, Dropped, Replaced, fault_reply, Fault, FileFault, OfCsv, OfSets, OfQuery, OfFile, FailedFault, MissingFault, TooLongFault, csv_reply, sets_reply, query_reply, file_reply, unless_lake_full, drop_reply, like_table, like_column, merge_planned, merge_gone}
-use Rattle.record_model.specs.Answered.{TableRead, IsTable, NoTable, QueryRead, IsQuery, NoQuery, file_read, load_answer, replace_answer, search_answer, policy_of, loads, replaces, swaps, table_read, query_read, answer_to, change_of, has_pin, Standing, Nowhere, Saw, Added, PlannedAndSaw, PlannedAndAdded, standing, is_accepted}
+use Rattle.record_model.specs.Answered.{TableRead, IsTable, NoTable, QueryRead, IsQuery, NoQuery, file_read, load_answer, replace_answer, search_answer, contain_answer, policy_of, loads, replaces, swaps, table_read, query_read, answer_to, change_of, has_pin, Standing, Nowhere, Saw, Added, PlannedAndSaw, PlannedAndAdded, standing, is_accepted}
 use Rattle.record_model.specs.Play.{Done, done_with, who_of, entries_of, reply_or_denied}
 use Rattle.record_model.specs.Right.{Moment, moments, moments_by, Rises, IsPlaced, IsUnplaced, own_entries, entries_by, at_position, accepted, IsRight}
 
@@ -99,6 +99,10 @@ search_shape : (limits : Counts) (k : ℕ) (body : List ℕ) (pinned now : List 
 search_shape limits k body pinned now (IsQuery keys) e = Sees refl (ap (λ r. search_answer k r pinned) (sym e))
 search_shape limits k body pinned now (NoQuery fault) e = Static (fault_nowhere fault) (ap (λ r. search_answer k r []) (sym e))
 
+contain_shape : (limits : Counts) (a b : ℕ) (body : List ℕ) (pinned now : List Entry) (read : QueryRead) → query_read body ≡ read → Shape limits (Contain a b body) pinned now (contain_answer a b read pinned)
+contain_shape limits a b body pinned now (IsQuery keys) e = Sees refl (ap (λ r. contain_answer a b r pinned) (sym e))
+contain_shape limits a b body pinned now (NoQuery fault) e = Static (fault_nowhere fault) (ap (λ r. contain_answer a b r []) (sym e))
+
 like_shape : (limits : Counts) (k : ℕ) (name : Text) (place : ℕ) (pinned now : List Entry) → Shape limits (Like k name place) pinned now (answer_to limits (Like k name place) pinned now)
 like_shape limits k name place pinned now = by (live_table pinned name) refl
   where
@@ -130,6 +134,7 @@ shape limits (Replace name body) pinned now same = subst (λ q. Shape limits (Re
 shape limits Tables pinned now same = subst (λ q. Shape limits Tables q now (answer_to limits Tables now now)) (sym (same refl)) (Sees refl refl)
 shape limits (Search k body) pinned now same = search_shape limits k body pinned now (query_read body) refl
 shape limits (Like k name place) pinned now same = like_shape limits k name place pinned now
+shape limits (Contain a b body) pinned now same = contain_shape limits a b body pinned now (query_read body) refl
 shape limits (Merge all) pinned now same = merge_shape limits all pinned now
 
 -- ---- a reply fits behind its pin

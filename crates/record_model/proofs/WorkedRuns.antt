@@ -13,6 +13,7 @@ use Rattle.lake_model.specs.Queries.{line_fault}
 use Rattle.lake_model.specs.Sorting.{in_order, put_in_order}
 use Rattle.lake_model.specs.Journal.{standard_limits}
 use Rattle.search_model.specs.Looks.{log, looks_of, run, run_within}
+use Rattle.search_model.specs.Contain.{contain_log}
 use Rattle.search_model.specs.Segment.{segment, tokens_of}
 use Rattle.script_model.specs.Reading.{read}
 use Rattle.script_model.specs.Script.{Commands, commands, standard}
@@ -22,7 +23,7 @@ use Rattle.record_model.specs.Record.{with_end}
 use Rattle.record_model.specs.Play.{play, played, played_from}
 use Rattle.script_model.specs.Words.{line_text}
 use Rattle.record_model.specs.Texts.{text}
-use Rattle.record_model.specs.Work.{lists_read, sets_probed}
+use Rattle.record_model.specs.Work.{lists_read, sets_probed, contain_reads, contain_probes}
 
 abbrev lines : List (List ℕ) → List ℕ
 lines texts = flat_map line_text texts
@@ -100,3 +101,8 @@ one_read_one_probe = refl
 like_by_two_columns : written_traced (lines (codes "load stations" ∷ ((239 ∷ 187 ∷ 191 ∷ []) ++ codes "station_id,city,country\r") ∷ (codes "1,\"S" ++ (195 ∷ 163 ∷ []) ++ codes "o Paulo, SP\",Brazil\r") ∷ (codes "2,Z" ++ (195 ∷ 188 ∷ []) ++ codes "rich,Switzerland\r") ∷ codes "3,\"New" ∷ codes "York\",USA\r" ∷ codes "." ∷ codes "load weather" ∷ codes "place,temp" ∷ (codes "Z" ++ (195 ∷ 156 ∷ []) ++ codes "RICH,12") ∷ (codes "\"S" ++ (195 ∷ 163 ∷ []) ++ codes "o Paulo, SP\",25") ∷ codes "Lima,18" ∷ codes "." ∷ codes "load census" ∷ codes "City,Country,Pop" ∷ (codes "z" ++ (195 ∷ 188 ∷ []) ++ codes "rich,switzerland,400000") ∷ codes "Oslo,Norway,700000" ∷ (codes "\"s" ++ (195 ∷ 163 ∷ []) ++ codes "o paulo, sp\",Brazil,12000000") ∷ codes "." ∷ codes "like 10 stations 2" ∷ codes "like 10 stations 3" ∷ [])) ≡ lines (codes "1 loaded stations columns 3 members 9 at 1" ∷ codes "2 loaded weather columns 2 members 6 at 2" ∷ codes "3 loaded census columns 3 members 9 at 3" ∷ codes "4 answer 2 of 3 at 3" ∷ codes "  2 census 1 \"City\"" ∷ codes "  2 weather 1 \"place\"" ∷ codes "  work reads 7 probes 2" ∷ codes "  layout at 3 parts 1:1 2:2 3:3" ∷ codes "5 answer 1 of 3 at 3" ∷ codes "  2 census 2 \"Country\"" ∷ codes "  work reads 5 probes 1" ∷ codes "  layout at 3 parts 1:1 2:2 3:3" ∷ codes "journal 3" ∷ codes "  1 load lane 1 command 1 stations" ∷ codes "  2 load lane 1 command 2 weather" ∷ codes "  3 load lane 1 command 3 census" ∷ [])
 unfolding lines_of read next_record records_from strip_bom is_utf8 caseless trim_start trim_end chars encode digits in_order put_in_order rows_fault text_fault line_fault table_read query_read play played_from tokens_of segment run_within run looks_of log lists_read sets_probed
 like_by_two_columns = refl
+
+-- Half of four values: three lists of the first part tell all but the last value of its column, one list of the second is enough, and the third has too few.
+half_held : written_traced (lines (codes "load t1" ∷ codes "c" ∷ codes "a" ∷ codes "b" ∷ codes "c" ∷ codes "d" ∷ codes "." ∷ codes "load t2" ∷ codes "c" ∷ codes "a" ∷ codes "b" ∷ codes "." ∷ codes "load t3" ∷ codes "c" ∷ codes "a" ∷ codes "." ∷ codes "contain 1 2" ∷ codes "a" ∷ codes "b" ∷ codes "c" ∷ codes "d" ∷ codes "." ∷ [])) ≡ lines (codes "1 loaded t1 columns 1 members 4 at 1" ∷ codes "2 loaded t2 columns 1 members 2 at 2" ∷ codes "3 loaded t3 columns 1 members 1 at 3" ∷ codes "4 answer 2 of 4 at 3" ∷ codes "  4 t1 1 \"c\"" ∷ codes "  2 t2 1 \"c\"" ∷ codes "  work reads 4 probes 2" ∷ codes "  layout at 3 parts 1:1 2:2 3:3" ∷ codes "journal 3" ∷ codes "  1 load lane 1 command 1 t1" ∷ codes "  2 load lane 1 command 2 t2" ∷ codes "  3 load lane 1 command 3 t3" ∷ [])
+unfolding lines_of read next_record records_from strip_bom is_utf8 caseless trim_start trim_end chars encode digits in_order put_in_order rows_fault text_fault line_fault table_read query_read play played_from tokens_of segment contain_log contain_reads contain_probes
+half_held = refl

@@ -14,8 +14,8 @@ use Rattle.lake_model.specs.Journal.{What, Entry}
 use Rattle.lake_model.specs.Journal as journal
 use Rattle.lake_model.specs.Answer.{Query}
 use Rattle.lake_model.specs.Plan.{plan}
-use Rattle.script_model.specs.Commands.{File, Bytes, Failed, Missing, TooLong, Task, Load, LoadFile, DropTable, Replace, Tables, Search, Like, Merge}
-use Rattle.record_model.specs.Replies.{Reply, Loaded, Dropped, Replaced, Listed, Found, Merged, Repeated, Unknown, NoColumn, Full, NothingToMerge, Stale, Fault, OfCsv, OfSets, OfQuery, OfFile, FailedFault, MissingFault, TooLongFault, fault_reply, load_reply, drop_reply, replace_reply, tables_reply, search_reply, like_reply, merge_reply}
+use Rattle.script_model.specs.Commands.{File, Bytes, Failed, Missing, TooLong, Task, Load, LoadFile, DropTable, Replace, Tables, Search, Like, Contain, Merge}
+use Rattle.record_model.specs.Replies.{Reply, Loaded, Dropped, Replaced, Listed, Found, Merged, Repeated, Unknown, NoColumn, Full, NothingToMerge, Stale, Fault, OfCsv, OfSets, OfQuery, OfFile, FailedFault, MissingFault, TooLongFault, fault_reply, load_reply, drop_reply, replace_reply, tables_reply, search_reply, like_reply, contain_reply, merge_reply}
 
 -- the table of bytes, or the refusal of these bytes
 pub data TableRead : Type 0 where
@@ -72,6 +72,10 @@ abbrev pub search_answer : ℕ → QueryRead → List Entry → Reply
 search_answer k (IsQuery keys) pinned = search_reply (plain_query k keys) pinned
 search_answer k (NoQuery fault) pinned = fault_reply fault
 
+abbrev pub contain_answer : ℕ → ℕ → QueryRead → List Entry → Reply
+contain_answer a b (IsQuery keys) pinned = contain_reply keys a b pinned
+contain_answer a b (NoQuery fault) pinned = fault_reply fault
+
 -- the reply to a command that was pinned at one journal and is answered at another
 abbrev pub answer_to : Counts → Task → List Entry → List Entry → Reply
 answer_to limits (Load name body) pinned now = load_answer limits (table_read name body) now
@@ -81,9 +85,10 @@ answer_to limits (Replace name body) pinned now = replace_answer limits (table_r
 answer_to limits Tables pinned now = tables_reply now
 answer_to limits (Search k body) pinned now = search_answer k (query_read body) pinned
 answer_to limits (Like k name place) pinned now = like_reply k name place pinned
+answer_to limits (Contain a b body) pinned now = contain_answer a b (query_read body) pinned
 answer_to limits (Merge all) pinned now = merge_reply (policy_of all) pinned now
 
--- a search, a like and a merge have a pin of their own
+-- a search, a like, a contain and a merge have a pin of their own
 abbrev pub has_pin : Task → Bool
 has_pin (Load name body) = false
 has_pin (LoadFile name file) = false
@@ -92,6 +97,7 @@ has_pin (Replace name body) = false
 has_pin Tables = false
 has_pin (Search k body) = true
 has_pin (Like k name place) = true
+has_pin (Contain a b body) = true
 has_pin (Merge all) = true
 
 -- what a command adds, where it is accepted
@@ -115,6 +121,7 @@ change_of (Replace name body) pinned = replaces (table_read name body)
 change_of Tables pinned = []
 change_of (Search k body) pinned = []
 change_of (Like k name place) pinned = []
+change_of (Contain a b body) pinned = []
 change_of (Merge all) pinned = swaps (plan (policy_of all) pinned)
 
 -- where a reply stands: at no position, at one it has seen, at its own entry; a merge has the position of its plan besides

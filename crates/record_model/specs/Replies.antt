@@ -17,7 +17,8 @@ use Rattle.lake_model.specs.Limits.{Bounded, is_passed, load_bounds, drop_bounds
 use Rattle.lake_model.specs.Layout.{Part, Shown, layout, shown_layout, unmarked_of}
 use Rattle.lake_model.specs.Plan.{planned_parts}
 use Rattle.layout_laws.specs.Steps.{has_part}
-use Rattle.record_model.specs.Work.{lists_read, sets_probed}
+use Rattle.search_model.specs.Contain.{contain}
+use Rattle.record_model.specs.Work.{lists_read, sets_probed, contain_reads, contain_probes}
 
 pub data Reply : Type 0 where
   Loaded : (name : Text) (columns members at : ℕ) → Reply
@@ -109,6 +110,11 @@ abbrev pub search_reply : Query → List Entry → Reply
 search_reply query journal =
     let parts = layout journal in
     Found (length query.keys) (answer (live journal) query.keys query.k query.except) (lists_read query parts) (sets_probed query parts) (shown_layout journal)
+
+abbrev pub contain_reply : List Text → ℕ → ℕ → List Entry → Reply
+contain_reply keys a b journal =
+    let parts = layout journal in
+    Found (length keys) (contain (live journal) keys a b) (contain_reads keys a b parts) (contain_probes keys a b parts) (shown_layout journal)
 
 abbrev pub excepting : Text → ℕ → List Text → Query
 excepting name k keys = record { keys = keys; k = k; except = Some name }

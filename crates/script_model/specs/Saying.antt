@@ -1,12 +1,12 @@
 -- What one line outside a block says, by its words alone.
-use Rattle.std.specs.Prelude.{ℕ, ◌==◌, Bool, ◌&&◌, ◌||◌, if◌then◌else◌, List, [], ◌∷◌, drop, find, get_or, nat_lt, bytes_eq, codes, true, false, Option, Some, None}
+use Rattle.std.specs.Prelude.{ℕ, ◌==◌, Bool, ◌&&◌, ◌||◌, if◌then◌else◌, List, [], ◌∷◌, drop, find, get_or, nat_le, nat_lt, bytes_eq, codes, true, false, Option, Some, None}
 use Rattle.std.specs.List.{list_all}
 use Rattle.std.specs.Str.{is_utf8}
 use Rattle.script_model.specs.declared.Reason.{Reason}
 use Rattle.script_model.specs.declared.Reason.TheVariants as reason
 use Rattle.lake_model.specs.Texts.{Text}
 use Rattle.lake_model.specs.Tables.{is_name}
-use Rattle.script_model.specs.Commands.{Task, Load, DropTable, Replace, Tables, Search, Like, Merge}
+use Rattle.script_model.specs.Commands.{Task, Load, DropTable, Replace, Tables, Search, Like, Contain, Merge}
 use Rattle.script_model.specs.Words.{is_space, before_spaces, first_word, behind_word, words, number, number_of}
 
 -- the front of a command that has a block
@@ -14,11 +14,13 @@ pub data Front : Type 0 where
   LoadBlock : (name : Text) → Front
   ReplaceBlock : (name : Text) → Front
   SearchBlock : (k : ℕ) → Front
+  ContainBlock : (a b : ℕ) → Front
 
 abbrev pub closed : Front → List ℕ → Task
 closed (LoadBlock name) body = Load name body
 closed (ReplaceBlock name) body = Replace name body
 closed (SearchBlock k) body = Search k body
+closed (ContainBlock a b) body = Contain a b body
 
 pub data Said : Type 0 where
   Nothing : Said
@@ -39,12 +41,12 @@ said_if holds said = if holds then said else Wrong reason.Words
 -- ---- the forms of a command
 
 pub data Form : Type 0 where
-  LoadForm LoadFileForm DropForm ReplaceForm TablesForm SearchForm LikeForm MergeForm SyncForm : Form
+  LoadForm LoadFileForm DropForm ReplaceForm TablesForm SearchForm LikeForm ContainForm MergeForm SyncForm : Form
 
 -- the command words
 abbrev pub forms : List (Text × Form)
 forms = (codes "load", LoadForm) ∷ (codes "loadfile", LoadFileForm) ∷ (codes "drop", DropForm) ∷ (codes "replace", ReplaceForm)
-    ∷ (codes "tables", TablesForm) ∷ (codes "search", SearchForm) ∷ (codes "like", LikeForm) ∷ (codes "merge", MergeForm) ∷ (codes "sync", SyncForm) ∷ []
+    ∷ (codes "tables", TablesForm) ∷ (codes "search", SearchForm) ∷ (codes "like", LikeForm) ∷ (codes "contain", ContainForm) ∷ (codes "merge", MergeForm) ∷ (codes "sync", SyncForm) ∷ []
 
 -- a path is the text behind the name, without the spaces at its end, and is UTF-8
 abbrev pub fetch_said : ℕ → Text → Text → Said
@@ -52,6 +54,10 @@ fetch_said lane name path = said_if (is_name name && is_utf8 path) (Fetches lane
 
 abbrev pub like_said : ℕ → Text → Text → Text → Said
 like_said lane k name place = said_with (number 10000 k) (λ k. said_with (number 4294967295 place) (λ place. said_if (is_name name) (Does lane (Like k name place))))
+
+-- a fraction is at most 1
+abbrev pub contain_said : ℕ → Text → Text → Said
+contain_said lane a b = said_with (number 10000 a) (λ a. said_with (number 10000 b) (λ b. said_if (nat_le a b) (Opens lane (ContainBlock a b))))
 
 -- a command of this form, where these words stand behind its command word; `text` is what they stand in
 abbrev pub says : Form → ℕ → List Text → Text → Said
@@ -62,6 +68,7 @@ says ReplaceForm lane (name ∷ []) text = said_if (is_name name) (Opens lane (R
 says TablesForm lane [] text = Does lane Tables
 says SearchForm lane (k ∷ []) text = said_with (number 10000 k) (λ k. Opens lane (SearchBlock k))
 says LikeForm lane (k ∷ name ∷ place ∷ []) text = like_said lane k name place
+says ContainForm lane (a ∷ b ∷ []) text = contain_said lane a b
 says MergeForm lane [] text = Does lane (Merge false)
 says MergeForm lane (word ∷ []) text = said_if (bytes_eq word (codes "all")) (Does lane (Merge true))
 says SyncForm lane [] text = Sync
