@@ -6,7 +6,7 @@ use Rattle.lake_model.specs.declared.Counts.{Counts}
 use Rattle.lake_model.specs.declared.Policy.{Policy}
 use Rattle.lake_model.specs.declared.Who.{Who}
 use Rattle.lake_model.specs.Journal.{What, Entry}
-use Rattle.script_model.specs.Commands.{Command, Task, Load, LoadFile, DropTable, Replace, Tables, Search, Like, Merge}
+use Rattle.script_model.specs.Commands.{Command, Task, Load, LoadFile, DropTable, Replace, Tables, Search, Like, Contain, Merge}
 use Rattle.record_model.specs.Replies.{Reply, NoMemory}
 use Rattle.record_model.specs.Answered.{answer_to, adds, change_of, has_pin, is_accepted, policy_of, standing}
 use Rattle.record_model.specs.Play.{done_with, lane_with, play_with, reply_or_denied, entries_of, lane_step, step_of, step}
@@ -58,6 +58,7 @@ no_change (Replace name body) pinned kind plain = absurd (let f : false ≡ true
 no_change Tables pinned kind plain = absurd (let f : false ≡ true = kind in cc)
 no_change (Search k body) pinned kind plain = refl
 no_change (Like k name place) pinned kind plain = refl
+no_change (Contain a b body) pinned kind plain = refl
 no_change (Merge all) pinned kind plain = absurd (let f : Some (policy_of all) ≡ None = plain in cc)
 
 none_added : (task : Task) (pinned : List Entry) (reply : Reply) → has_pin task ≡ true → merge_policy task ≡ None → adds task pinned reply ≡ []
@@ -97,6 +98,7 @@ pinned_alone limits (Replace name body) pinned now kind plain = absurd (let f : 
 pinned_alone limits Tables pinned now kind plain = absurd (let f : false ≡ true = kind in cc)
 pinned_alone limits (Search k body) pinned now kind plain = refl
 pinned_alone limits (Like k name place) pinned now kind plain = refl
+pinned_alone limits (Contain a b body) pinned now kind plain = refl
 pinned_alone limits (Merge all) pinned now kind plain = absurd (let f : Some (policy_of all) ≡ None = plain in cc)
 
 held_at_grows : (journal more : List Entry) (policy : Option Policy) (held : Held) → IsHeldAt journal policy held → IsHeldAt (journal ++ more) policy held
@@ -153,6 +155,7 @@ held_swap limits (Replace name body) journal planned reply is answers = absurd i
 held_swap limits Tables journal planned reply is answers = absurd is
 held_swap limits (Search k body) journal planned reply is answers = absurd is
 held_swap limits (Like k name place) journal planned reply is answers = absurd is
+held_swap limits (Contain a b body) journal planned reply is answers = absurd is
 
 -- and what it adds
 pub held_adds : (task : Task) (journal made : List Entry) (planned : Planned) (reply : Reply) → IsHeldAt journal (merge_policy task) (Swap planned) → made ≡ journal
@@ -167,6 +170,7 @@ held_adds (Replace name body) journal made planned reply is same = absurd is
 held_adds Tables journal made planned reply is same = absurd is
 held_adds (Search k body) journal made planned reply is same = absurd is
 held_adds (Like k name place) journal made planned reply is same = absurd is
+held_adds (Contain a b body) journal made planned reply is same = absurd is
 
 -- ---- what a step leaves to do
 

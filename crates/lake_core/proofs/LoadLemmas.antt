@@ -23,8 +23,8 @@ use Rattle.catalogue.specs.declared.refusal.DropRefused.TheVariants as dropping
 use Rattle.catalogue.specs.Refusals.{load_refusal, drop_refusal}
 use Rattle.catalogue.specs.Kept.{CatalogueOf, catalogue_with}
 use Rattle.script_model.specs.Commands.{Load, DropTable, Tables, Search}
-use Rattle.record_model.specs.Replies.{Reply, Loaded, Dropped, Unknown, Full, Repeated, OfCsv, OfSets, csv_reply, sets_reply, query_reply, load_reply, drop_reply, search_reply, unless_lake_full}
-use Rattle.record_model.specs.Answered.{plain_query, TableRead, IsTable, IsQuery, table_read, query_read, records_read, sets_read, keys_read, load_answer, search_answer, loads, adds, is_accepted, standing}
+use Rattle.record_model.specs.Replies.{Reply, Fault, Loaded, Dropped, Unknown, Full, Repeated, OfCsv, OfSets, OfQuery, fault_reply, csv_reply, sets_reply, query_reply, load_reply, drop_reply, search_reply, unless_lake_full}
+use Rattle.record_model.specs.Answered.{TableRead, IsTable, QueryRead, IsQuery, NoQuery, table_read, query_read, records_read, sets_read, keys_read, load_answer, search_answer, loads, adds, is_accepted, standing}
 use Rattle.record_model.specs.Play.{reply_or_denied}
 use Rattle.record_model.specs.Record.{RunRecord}
 use Rattle.record_model.proofs.PlayLemmas.{fault_nowhere}
@@ -117,17 +117,16 @@ loaded_answer limits journal read table reply is answers = (answers.0, answers.1
 
 -- ---- searches
 
-pub query_refused : (k : ℕ) (bytes : List ℕ) (journal : List Entry) (e : QueryRefused) → (e ≡ query.NoMemory) ⊎ (query_fault bytes ≡ Some e)
-    → Answers (query_reply e) (search_answer k (query_read bytes) journal)
+-- whatever is answered to a query, a body that is none is refused for its fault
+pub query_refused : (answer : QueryRead → Reply) → ((fault : Fault) → answer (NoQuery fault) ≡ fault_reply fault) → (bytes : List ℕ) (e : QueryRefused) → (e ≡ query.NoMemory) ⊎ (query_fault bytes ≡ Some e)
+    → Answers (query_reply e) (answer (query_read bytes))
 unfolding query_read
-query_refused k bytes journal e (inl none) = (true, ap query_reply none)
-query_refused k bytes journal e (inr h) = (false, ap (λ fault. search_answer k (keys_read bytes fault) journal) (sym h))
+query_refused answer refuses bytes e (inl none) = (true, ap query_reply none)
+query_refused answer refuses bytes e (inr h) = (false, sym (refuses (OfQuery e)) ∙ ap (λ fault. answer (keys_read bytes fault)) (sym h))
 
-pub query_found : (k : ℕ) (bytes : List ℕ) (journal : List Entry) (keys : List Text) → query_fault bytes ≡ None → keys ≡ query_of bytes
-    → Answers (search_reply (plain_query k keys) journal) (search_answer k (query_read bytes) journal)
+pub query_found : (answer : QueryRead → Reply) (bytes : List ℕ) (keys : List Text) → query_fault bytes ≡ None → keys ≡ query_of bytes → answer (IsQuery keys) ≡ answer (query_read bytes)
 unfolding query_read
-query_found k bytes journal keys none same =
-    (false, ap (λ ks. search_answer k (IsQuery ks) journal) same ∙ ap (λ fault. search_answer k (keys_read bytes fault) journal) (sym none))
+query_found answer bytes keys none same = ap (λ ks. answer (IsQuery ks)) same ∙ ap (λ fault. answer (keys_read bytes fault)) (sym none)
 
 pub search_adds : (who : Who) (k : ℕ) (bytes : List ℕ) (reply : Reply) (made : RunRecord) → made ≡ with_added who (adds (Search k bytes) made.journal reply) made
 search_adds who k bytes reply made = added_none who made ∙ ap (λ whats. with_added who whats made) (sym (either_none (is_accepted (standing reply))))

@@ -10,30 +10,44 @@ use Rattle.lake_model.specs.Tables.{Column, Table, Line, line_of}
 use Rattle.lake_model.specs.Texts.{Text}
 use Rattle.search_model.specs.declared.Look.{Look}
 use Rattle.search_model.specs.Choosers.{profile}
-use Rattle.search_model.specs.Looks.{is_read, log}
+use Rattle.search_model.specs.Looks.{log}
+use Rattle.search_model.specs.Contain.{contain, contain_log}
+use Rattle.contain_search.specs.Contained.{ContainOf, contain_with}
 use Rattle.josie_search.specs.Search.{SearchOf, answer_of, search_with}
 use Rattle.segment_core.specs.declared.column.ColumnRefused.{ColumnRefused}
 use Rattle.segment_core.specs.declared.column.ColumnRefused.TheVariants as refused
 use Rattle.segment_core.specs.Lines.{live_lines}
 use Rattle.segment_core.specs.LiveColumn.{column_fault, column_keys, column_of, fault_in, fault_of, keys_in, keys_of}
 use Rattle.segment_core.specs.Versions.{VersionOf, live_of}
-use Rattle.record_model.specs.Replies.{Found, Listed, search_reply, tables_reply, excepting, like_column, like_table, like_reply}
-use Rattle.record_model.specs.Work.{lists_read, sets_probed}
-use Rattle.lake_core.specs.Searches.{IsPinOf, found_at, column_reply}
+use Rattle.record_model.specs.Replies.{Found, Listed, search_reply, contain_reply, tables_reply, excepting, like_column, like_table, like_reply}
+use Rattle.record_model.specs.Work.{lists_read, sets_probed, contain_reads, contain_probes}
+use Rattle.lake_core.specs.Searches.{IsPinOf, found_at, found_with, contained_at, column_reply}
 use Rattle.lake_core.proofs.LoadLemmas.{Answers}
 
--- A reply of what a search gave, and of how much is in its log, is what a query finds at the version.
-pub found_here : (version : VersionOf) (query : Query) (search : SearchOf) (keys reads probes : ℕ) (rows kept : List Row) (looks : List Look) (layout : Shown)
-    → search ≡ search_with version query → keys ≡ length query.keys → rows ≡ answer_of (live_of search.version.parts) search.query → kept ≡ rows
-    → looks ≡ log profile search.query search.version.parts → reads ≡ count_by is_read looks → probes ≡ count_by (λ look. not (is_read look)) looks
-    → layout ≡ shown_with version.at (shown version.parts) → Found keys kept reads probes layout ≡ found_at version query
+-- What a search gave, and its log, are what a query finds at the version.
+pub found_here : (version : VersionOf) (query : Query) (search : SearchOf) (rows : List Row) (looks : List Look) (layout : Shown)
+    → search ≡ search_with version query → rows ≡ answer_of (live_of search.version.parts) search.query → looks ≡ log profile search.query search.version.parts
+    → layout ≡ shown_with version.at (shown version.parts) → found_with query.keys rows looks layout ≡ found_at version query
 unfolding lists_read sets_probed
-found_here version query search keys reads probes rows kept looks layout asked many answered same logged read probed at =
-    let all : kept ≡ answer_of (live_of version.parts) query = same ∙ answered ∙ ap (λ (s : SearchOf). answer_of (live_of s.version.parts) s.query) asked in
+found_here version query search rows looks layout asked answered logged at =
+    let all : rows ≡ answer_of (live_of version.parts) query = answered ∙ ap (λ (s : SearchOf). answer_of (live_of s.version.parts) s.query) asked in
     let entries : looks ≡ log profile query version.parts = logged ∙ ap (λ (s : SearchOf). log profile s.query s.version.parts) asked in
-    let lists : reads ≡ count_by is_read (log profile query version.parts) = read ∙ ap (λ (ls : List Look). count_by is_read ls) entries in
-    let sets : probes ≡ count_by (λ look. not (is_read look)) (log profile query version.parts) = probed ∙ ap (λ (ls : List Look). count_by (λ look. not (is_read look)) ls) entries in
-    λ i. Found (many i) (all i) (lists i) (sets i) (at i)
+    λ i. found_with query.keys (all i) (entries i) (at i)
+
+-- the same of a search for the columns that hold a fraction of the keys
+pub contained_here : (version : VersionOf) (keys : List Text) (a b : ℕ) (search : ContainOf) (rows : List Row) (looks : List Look) (layout : Shown)
+    → search ≡ contain_with version keys a b → rows ≡ contain (live_of search.version.parts) search.keys search.a search.b → looks ≡ contain_log search.keys search.a search.b search.version.parts
+    → layout ≡ shown_with version.at (shown version.parts) → found_with keys rows looks layout ≡ contained_at version keys a b
+unfolding contain_reads contain_probes
+contained_here version keys a b search rows looks layout asked answered logged at =
+    let all : rows ≡ contain (live_of version.parts) keys a b = answered ∙ ap (λ (s : ContainOf). contain (live_of s.version.parts) s.keys s.a s.b) asked in
+    let entries : looks ≡ contain_log keys a b version.parts = logged ∙ ap (λ (s : ContainOf). contain_log s.keys s.a s.b s.version.parts) asked in
+    λ i. found_with keys (all i) (entries i) (at i)
+
+pub contained_now : (version : VersionOf) (journal : List Entry) (keys : List Text) (a b : ℕ) → IsPinOf journal version → contained_at version keys a b ≡ contain_reply keys a b journal
+contained_now version journal keys a b is = λ i.
+    Found (length keys) (contain (is.searched i) keys a b) (contain_reads keys a b (is.current i).parts) (contain_probes keys a b (is.current i).parts)
+    (shown_with (is.current i).at (shown (is.current i).parts))
 
 pub found_now : (version : VersionOf) (journal : List Entry) (query : Query) → IsPinOf journal version → found_at version query ≡ search_reply query journal
 found_now version journal query is = λ i.

@@ -163,7 +163,8 @@ fn reply_now(
         Task::Drop { name } => drop_table(catalogue, who, name, out),
         Task::Replace { name, body } => replace(alloc, catalogue, who, name, body, out),
         Task::Tables => list_now(alloc, catalogue),
-        Task::Search { .. } | Task::Like { .. } | Task::Merge { .. } => unreachable!(),
+        Task::Search { .. } | Task::Like { .. } | Task::Contain { .. } | Task::Merge { .. } =>
+            unreachable!(),
     }
 }
 

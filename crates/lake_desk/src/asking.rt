@@ -96,7 +96,7 @@ pub(crate) fn drop_named<B: Bounds, R: Wait>(
     drop_table(rt, lake, pass, number, name)
 }
 
-/// Answers a search, a like or a request for the live tables at a pin of the newest version. The lock is free from the pin on.
+/// Answers a search, a like, a contain or a request for the live tables at a pin of the newest version. The lock is free from the pin on.
 pub(crate) fn ask<B: Bounds, R: Wait, G: Gate>(
     rt: &R,
     alloc: Global,

@@ -142,7 +142,7 @@ impl<'a, B: Bounds> LakeDesk<'a, B> {
                 name,
                 body,
             ),
-            Task::Tables | Task::Search { .. } | Task::Like { .. } => ask(
+            Task::Tables | Task::Search { .. } | Task::Like { .. } | Task::Contain { .. } => ask(
                 rt,
                 alloc,
                 lake,
