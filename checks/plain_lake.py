@@ -1,8 +1,8 @@
 """A plain model of a lake: the reply to each command at a version, and the version after it.
 
-A version is the position of the journal, the live tables in the order of their loads, and the parts of the layout. It never changes, so a pin is
+A version is the position of the journal, the live tables in the order in which they were loaded or replaced, and the parts of the layout. It never changes, so a pin is
 the version itself. A table is a name and its columns, a column a title and an ordered list of distinct values. A part is a number and its places; a
-place is the position of a load, its table, and whether that was dropped. All text is ASCII, so that `str.casefold` and `str.strip` make the
+place is the position of a load or a replace, its table, and whether that was dropped or replaced. All text is ASCII, so that `str.casefold` and `str.strip` make the
 key of a value.
 """
 from typing import NamedTuple
@@ -72,20 +72,46 @@ def load(at, name, records):
         return [f"refused csv {fault}"], at, None
     if find(at, name):
         return [f"refused repeated {name} at {at.position}"], at, None
+    columns = columns_of(records)
+    after = put(at, name, columns)
+    return [f"loaded {line(name, columns)} at {after.position}"], after, ("load", name)
+
+
+def columns_of(records):
+    """The columns of records without a fault."""
     header, *rows = records
-    columns = tuple((title, set_of(row[place] for row in rows)) for place, title in enumerate(header))
+    return tuple((title, set_of(row[place] for row in rows)) for place, title in enumerate(header))
+
+
+def put(at, name, columns):
+    """The next version, with one more table in a part of its own."""
     position = at.position + 1
     part = Part(position, (Place(position, (name, columns), False),))
-    return [f"loaded {line(name, columns)} at {position}"], Version(position, at.tables + ((name, columns),), at.parts + (part,)), ("load", name)
+    return Version(position, at.tables + ((name, columns),), at.parts + (part,))
+
+
+def without(at, name):
+    """The tables and the parts of a version with the table of a name taken out and marked."""
+    parts = tuple(part._replace(places=tuple(place._replace(is_dropped=place.is_dropped or place.table[0] == name) for place in part.places))
+                  for part in at.parts)
+    return tuple(table for table in at.tables if table[0] != name), parts
 
 
 def drop(at, name):
     if not find(at, name):
         return [f"refused unknown {name} at {at.position}"], at, None
-    parts = tuple(part._replace(places=tuple(place._replace(is_dropped=place.is_dropped or place.table[0] == name) for place in part.places))
-                  for part in at.parts)
-    tables = tuple(table for table in at.tables if table[0] != name)
-    return [f"dropped {name} at {at.position + 1}"], Version(at.position + 1, tables, parts), ("drop", name)
+    return [f"dropped {name} at {at.position + 1}"], Version(at.position + 1, *without(at, name)), ("drop", name)
+
+
+def replace(at, name, records):
+    fault = csv_fault(records)
+    if fault:
+        return [f"refused csv {fault}"], at, None
+    if not find(at, name):
+        return [f"refused unknown {name} at {at.position}"], at, None
+    columns = columns_of(records)
+    after = put(Version(at.position, *without(at, name)), name, columns)
+    return [f"replaced {line(name, columns)} at {after.position}"], after, ("replace", name)
 
 
 def tier(part):

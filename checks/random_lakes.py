@@ -3,7 +3,7 @@
 
     checks/random_lakes.py [JOSIE]
 
-The seeds are fixed, so the scripts are always the same. They load from blocks and from files, drop, list, merge, and search by values and by
+The seeds are fixed, so the scripts are always the same. They load from blocks and from files, drop, replace, list, merge, and search by values and by
 columns over a few names and values, in batches: names that are taken or unknown, files and places that do not exist, tables with two columns of one name, fields
 without a value, values that differ only by case and by the white space around them, quoted fields, lines with a carriage return or a further dot, tables without a
 header or with a record of another length, fields and lines that are not UTF-8, words of lanes, and further spaces between words. The model is
@@ -136,6 +136,12 @@ class Script:
         name = self.chance.choice(live if live and self.chance.random() < 0.8 else NAMES)
         self.update(f"drop {name}", plain_lake.drop(self.lake, name))
 
+    def replace(self):
+        live = [name for name, _ in self.lake.tables]
+        name = self.chance.choice(live if live and self.chance.random() < 0.8 else NAMES)
+        records = self.records()
+        self.update(f"replace {name}", plain_lake.replace(self.lake, name, records), self.block_of(records))
+
     def search(self):
         chance = self.chance
         most = chance.choice([1, 2, 3, 5, 10, 10000])
@@ -175,7 +181,9 @@ class Script:
             self.search()
         elif pick < 0.42:
             self.like()
-        elif len(self.lake.tables) >= MOST_TABLES or pick < 0.68:
+        elif pick < 0.52:
+            self.replace()
+        elif len(self.lake.tables) >= MOST_TABLES or pick < 0.7:
             self.drop()
         elif pick < 0.9:
             self.load()

@@ -3,7 +3,7 @@
 
     checks/random_lanes.py [--all] [JOSIE]
 
-Random scripts of loads, drops, lists, searches and merges on two to sixteen lanes, with a merger and without, run without a stated order. The journal of each
+Random scripts of loads, drops, replaces, lists, searches and merges on two to sixteen lanes, with a merger and without, run without a stated order. The journal of each
 trace is replayed on the model of `plain_lake.py`: each entry is that of one command, which was accepted at its position, and the version after it is the
 model's. Then each reply is the model's reply at the positions that it shows, with its work and its layout; along a lane the positions never fall, and an
 entry's position is greater than all before it; each position lies between the ends of the batch before and of its own; each accepted command has one entry.
@@ -48,7 +48,7 @@ def numbered(batches, merger):
         for lane, words, block in batch:
             number += 1
             commands[-1].append(Command(place, lane, str(number), words, block))
-        for _ in range(sum(words.split(" ")[0] in ("load", "drop") for _, words, _ in batch) if merger else 0):
+        for _ in range(sum(words.split(" ")[0] in ("load", "drop", "replace") for _, words, _ in batch) if merger else 0):
             merge_number += 1
             commands[-1].append(Command(place, 0, f"m{merge_number}", "merge", None))
     return commands
@@ -83,7 +83,7 @@ def placed(command, lines):
     if command.words.startswith(("search", "like", "merge")) and at is not None:
         planned = re.search(r"^  layout at (\d+) ", lines[-1])
         pinned = int(planned[1]) if planned else at
-    return Reply(command, lines, pinned, at, lines[0].startswith(("loaded ", "dropped ", "merged ")))
+    return Reply(command, lines, pinned, at, lines[0].startswith(("loaded ", "dropped ", "replaced ", "merged ")))
 
 
 def made_again(command, pinned, now):
@@ -93,6 +93,8 @@ def made_again(command, pinned, now):
         return plain_lake.load(now, more[0], [[text] for text in command.block])
     if kind == "drop":
         return plain_lake.drop(now, more[0])
+    if kind == "replace":
+        return plain_lake.replace(now, more[0], [[text] for text in command.block])
     if kind == "merge":
         return plain_lake.merge(pinned, now, more == ["all"])
     if kind == "tables":

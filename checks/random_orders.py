@@ -3,10 +3,10 @@
 
     checks/random_orders.py [JOSIE]
 
-The first part: random scripts of loads, drops, lists, searches and merges on one to five lanes, with a merger and without, each in a random order
+The first part: random scripts of loads, drops, replaces, lists, searches and merges on one to five lanes, with a merger and without, each in a random order
 (pieces with too few and too many steps, and lanes that have none left) and lane by lane. The second: one script of three lanes, a search and a list, a
 load and a drop, and a merge of the whole layout, in every order of its seven steps. What josie writes, mostly with a trace, is the model's, byte for
-byte. The model is a list of versions (`plain_lake.py`): a load, a drop and a list take one step, a search and a merge two, of which the first takes
+byte. The model is a list of versions (`plain_lake.py`): a load, a drop, a replace and a list take one step, a search and a merge two, of which the first takes
 the version that they are answered at. The seeds are fixed. It prints one line, and ends with 0 if everything is as the model says.
 """
 import itertools
@@ -26,8 +26,10 @@ def random_command(chance):
     pick = chance.random()
     if pick < 0.4:
         return f"load {chance.choice(NAMES)}", ["c"] + chance.sample(VALUES, chance.randint(1, 3))
-    if pick < 0.52:
+    if pick < 0.48:
         return f"drop {chance.choice(NAMES)}", None
+    if pick < 0.54:
+        return f"replace {chance.choice(NAMES)}", ["c"] + chance.sample(VALUES, chance.randint(1, 3))
     if pick < 0.6:
         return "tables", None
     if pick < 0.75:
@@ -70,6 +72,8 @@ def step(lane, play):
         reply, at, change = plain_lake.load(at, more[0], [[text] for text in block])
     elif kind == "drop":
         reply, at, change = plain_lake.drop(at, more[0])
+    elif kind == "replace":
+        reply, at, change = plain_lake.replace(at, more[0], [[text] for text in block])
     elif kind == "merge":
         reply, at, change = plain_lake.merge(pinned, at, more == ["all"])
     elif kind == "tables":
@@ -91,7 +95,7 @@ def wanted(batches, lanes, pieces, merger, trace):
     for place, batch in enumerate(batches):
         numbered = [(number + i, lane, words, block) for i, (lane, words, block) in enumerate(batch, 1)]
         number += len(batch)
-        updates = sum(words.split(" ")[0] in ("load", "drop") for _, words, _ in batch) if merger else 0
+        updates = sum(words.split(" ")[0] in ("load", "drop", "replace") for _, words, _ in batch) if merger else 0
         merges = [(merger_number + i, "merge", None) for i in range(1, updates + 1)]
         merger_number += updates
         play["todo"] = {lane: [(n, words, block) for n, l, words, block in numbered if l == lane] for lane in range(1, lanes + 1)}

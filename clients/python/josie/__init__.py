@@ -35,7 +35,7 @@ from .lake import Lake
 from .names import table_name
 from .partners import Asked, Partner, Survey, joinable, survey
 from .profiles import Profile, profile
-from .replies import Answer, Dropped, FolderLoad, Loaded, Match, Merged, Table
+from .replies import Answer, Dropped, FolderLoad, Loaded, Match, Merged, Replaced, Table
 from .reports import report
 from .sharded import Shard, ShardedAnswer, ShardedLake
 
@@ -66,6 +66,7 @@ __all__ = [
     "Profile",
     "QueryRefused",
     "Refused",
+    "Replaced",
     "report",
     "Shard",
     "ShardedAnswer",

@@ -127,7 +127,7 @@ _FILES = {
     "missing": "there is no such file",
     "longer": "the file has more than 67,108,864 bytes",
 }
-_FULL = {"tables": "live tables", "updates": "loads and drops", "members": "distinct values", "key-bytes": "bytes of distinct values"}
+_FULL = {"tables": "live tables", "updates": "loads, drops and replaces", "members": "distinct values", "key-bytes": "bytes of distinct values"}
 
 
 def refusal(reply: str) -> Refused:

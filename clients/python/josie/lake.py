@@ -15,7 +15,7 @@ from .findings import Findings, checked_k, cuts, found
 from .names import checked, table_name
 from .profiles import HEADER_BYTES, Profile, header, profile
 from .program import BATCH_COMMANDS, BLOCK_BYTES, Program, block
-from .replies import Answer, Dropped, FolderLoad, Loaded, Match, Merged, Table
+from .replies import Answer, Dropped, FolderLoad, Loaded, Match, Merged, Replaced, Table
 
 Path: TypeAlias = "str | os.PathLike[str]"
 
@@ -95,8 +95,21 @@ class Lake:
         self._forget(name)
         return dropped
 
+    def replace(self, name: str, table: Any) -> Replaced:
+        """Puts a table in the place of the live one of this name, as one change: no search finds both or neither.
+
+        The table is given as for `load`. Raises `NameInvalid` or `TooLong` before anything is sent, and `TableUnknown`, `TableRefused` or
+        `LakeFull`, after which the lake is as before.
+        """
+        data = table_bytes(table)
+        source = _Source(b"replace " + checked(name) + b"\n" + block(data), data, len(data))
+        replaced: Replaced = self._ask(source.command)
+        self._forget(name)
+        self._remember(replaced, source)
+        return replaced
+
     def tables(self) -> list[Table]:
-        """The live tables, in the order in which they were loaded."""
+        """The live tables, in the order in which they were loaded or put in the place of another."""
         tables: list[Table] = self._ask(b"tables\n")
         return tables
 
@@ -206,7 +219,7 @@ class Lake:
         (reply,) = self._program.ask([command])
         return _raised(reply)
 
-    def _remember(self, loaded: Loaded, source: _Source) -> tuple[str, ...]:
+    def _remember(self, loaded: Loaded | Replaced, source: _Source) -> tuple[str, ...]:
         """Keeps what Python reads from a table, if it finds as many columns as the program did, and gives the warnings."""
         known = profile(source.table) if self._reads_tables else None
         known = known or header(_head(source.table))

@@ -32,6 +32,16 @@ class Dropped:
 
 
 @dataclass(frozen=True)
+class Replaced:
+    """A table took the place of another, with its number of columns and of distinct values over all of them, at this position of the history."""
+
+    name: str
+    columns: int
+    members: int
+    position: int
+
+
+@dataclass(frozen=True)
 class Table:
     """A live table."""
 
@@ -153,6 +163,8 @@ def parsed(first: bytes, further: list[bytes]) -> Any:
         return Loaded(words[2].decode(), int(words[4]), int(words[6]), int(words[8]))
     if kind == b"dropped":
         return Dropped(words[2].decode(), int(words[4]))
+    if kind == b"replaced":
+        return Replaced(words[2].decode(), int(words[4]), int(words[6]), int(words[8]))
     if kind == b"tables":
         return [_table(line) for line in further]
     if kind == b"answer":

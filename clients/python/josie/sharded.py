@@ -15,7 +15,7 @@ from .findings import checked_k
 from .lake import Lake, Path, folder_files, progress, table_bytes
 from .names import checked, table_name
 from .program import BLOCK_BYTES
-from .replies import Answer, Dropped, FolderLoad, Loaded, Match, Matches, Merged, Table
+from .replies import Answer, Dropped, FolderLoad, Loaded, Match, Matches, Merged, Replaced, Table
 
 if TYPE_CHECKING:
     from distributed import Client
@@ -68,6 +68,9 @@ class Shard:
 
     def drop(self, name: str) -> Dropped:
         return self._lake.drop(name)
+
+    def replace(self, name: str, table: bytes) -> Replaced:
+        return self._lake.replace(name, table)
 
     def tables(self) -> list[Table]:
         return self._lake.tables()
@@ -167,6 +170,12 @@ class ShardedLake:
         """Drops a live table, or raises `TableUnknown`."""
         dropped: Dropped = self._one(name, lambda shard: shard.drop(name))
         return dropped
+
+    def replace(self, name: str, table: Any) -> Replaced:
+        """Puts a table in the place of the live one of this name, as `Lake.replace` does: its bytes are sent to its shard."""
+        data = _sendable(table_bytes(table))
+        replaced: Replaced = self._one(name, lambda shard: shard.replace(name, data))
+        return replaced
 
     def tables(self) -> list[Table]:
         """The live tables of all shards, in the order of their names' bytes."""

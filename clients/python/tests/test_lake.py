@@ -21,7 +21,7 @@ import unittest
 from unittest import mock
 
 import josie
-from josie import Dropped, Lake, Loaded, Match, Merged, Table
+from josie import Dropped, Lake, Loaded, Match, Merged, Replaced, Table
 from josie.errors import refusal
 from josie.names import is_name
 from josie.program import find_program
@@ -45,8 +45,11 @@ class Calls(InALake):
         self.assertEqual(self.lake.merge(), Merged(2, 2, 3))
         self.assertIsNone(self.lake.merge())
         self.assertIsNone(self.lake.merge(whole=False))
-        self.assertEqual(self.lake.drop("stations"), Dropped("stations", 4))
-        self.assertEqual(len(self.lake.like("rivers", "mouth")), 0)
+        self.assertEqual(self.lake.replace("rivers", b"name,source\nTiber,Verghereto\n"), Replaced("rivers", 2, 2, 4))
+        self.assertEqual(self.lake.columns("rivers"), ("name", "source"))
+        self.assertEqual(list(self.lake.search(["oslo", "rome", "tiber"])), [Match(2, "stations", 2, "city"), Match(1, "rivers", 1, "name")])
+        self.assertEqual(self.lake.drop("stations"), Dropped("stations", 5))
+        self.assertEqual(len(self.lake.like("rivers", "name")), 0)
 
     def test_answers_are_those_of_a_plain_count(self):
         draw = random.Random(7)
@@ -105,6 +108,8 @@ class Refusals(InALake):
         for kind, call in [
             (josie.NameTaken, lambda: self.lake.load("stations", RIVERS)),
             (josie.TableUnknown, lambda: self.lake.drop("rivers")),
+            (josie.TableUnknown, lambda: self.lake.replace("rivers", RIVERS)),
+            (josie.TableRefused, lambda: self.lake.replace("stations", b"a,b\n1\n")),
             (josie.TableUnknown, lambda: self.lake.like("rivers", 1)),
             (josie.ColumnUnknown, lambda: self.lake.like("stations", 4)),
             (josie.ColumnUnknown, lambda: self.lake.like("stations", "town")),

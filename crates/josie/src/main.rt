@@ -18,13 +18,15 @@ const HELP: &str = "josie run [--lanes N] [--order LIST] [--merge] [--trace]
     load NAME           loads the CSV table on the lines that follow, up to a line `.`
     loadfile NAME PATH  loads the CSV table in the file at PATH
     drop NAME           drops the table of this name
+    replace NAME        puts the CSV table on the lines that follow, up to a line `.`, in the place
+                        of the live table of this name
     tables              lists the live tables
     search K            finds the K columns (1 to 10000) that share the most values with the lines
                         that follow, up to a line `.`
     like K NAME PLACE   finds the K columns that share the most values with the column at this place
                         of a live table, whose own columns are left out
     merge               merges four adjacent parts of the index of one size, or else rewrites a part
-                        half of whose tables were dropped
+                        half of whose tables were dropped or replaced
     merge all           merges the whole index into one part; no merge changes an answer
     sync                ends a batch: its replies are written before more is read
     @L ...              a command of lane L; without `@L` the lane is 1
@@ -33,8 +35,8 @@ const HELP: &str = "josie run [--lanes N] [--order LIST] [--merge] [--trace]
                         batch run at the same time, each on a thread of its own
     --order LIST        runs the lanes step by step in this order, on one thread: for each batch a
                         list of lane numbers separated by commas, the lists separated by /
-    --merge             runs a merger, which is lane 0, beside the lanes: one merge for each load
-                        and drop of a batch
+    --merge             runs a merger, which is lane 0, beside the lanes: one merge for each load,
+                        drop and replace of a batch
     --trace             also writes what each search read, the layout of the lake after each answer
                         and merge, and the journal at the end
 josie make SEED TABLES ROWS

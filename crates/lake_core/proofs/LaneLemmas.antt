@@ -6,7 +6,7 @@ use Rattle.lake_model.specs.declared.Counts.{Counts}
 use Rattle.lake_model.specs.declared.Policy.{Policy}
 use Rattle.lake_model.specs.declared.Who.{Who}
 use Rattle.lake_model.specs.Journal.{What, Entry}
-use Rattle.script_model.specs.Commands.{Command, Task, Load, LoadFile, DropTable, Tables, Search, Like, Merge}
+use Rattle.script_model.specs.Commands.{Command, Task, Load, LoadFile, DropTable, Replace, Tables, Search, Like, Merge}
 use Rattle.record_model.specs.Replies.{Reply, NoMemory}
 use Rattle.record_model.specs.Answered.{answer_to, adds, change_of, has_pin, is_accepted, policy_of, standing}
 use Rattle.record_model.specs.Play.{done_with, lane_with, play_with, reply_or_denied, entries_of, lane_step, step_of, step}
@@ -54,6 +54,7 @@ no_change : (task : Task) (pinned : List Entry) → has_pin task ≡ true → me
 no_change (Load name body) pinned kind plain = absurd (let f : false ≡ true = kind in cc)
 no_change (LoadFile name file) pinned kind plain = absurd (let f : false ≡ true = kind in cc)
 no_change (DropTable name) pinned kind plain = absurd (let f : false ≡ true = kind in cc)
+no_change (Replace name body) pinned kind plain = absurd (let f : false ≡ true = kind in cc)
 no_change Tables pinned kind plain = absurd (let f : false ≡ true = kind in cc)
 no_change (Search k body) pinned kind plain = refl
 no_change (Like k name place) pinned kind plain = refl
@@ -92,6 +93,7 @@ pub pinned_alone : (limits : Counts) (task : Task) (pinned now : List Entry) →
 pinned_alone limits (Load name body) pinned now kind plain = absurd (let f : false ≡ true = kind in cc)
 pinned_alone limits (LoadFile name file) pinned now kind plain = absurd (let f : false ≡ true = kind in cc)
 pinned_alone limits (DropTable name) pinned now kind plain = absurd (let f : false ≡ true = kind in cc)
+pinned_alone limits (Replace name body) pinned now kind plain = absurd (let f : false ≡ true = kind in cc)
 pinned_alone limits Tables pinned now kind plain = absurd (let f : false ≡ true = kind in cc)
 pinned_alone limits (Search k body) pinned now kind plain = refl
 pinned_alone limits (Like k name place) pinned now kind plain = refl
@@ -147,6 +149,7 @@ held_swap limits (Merge all) journal planned reply is answers = (answers.0, answ
 held_swap limits (Load name body) journal planned reply is answers = absurd is
 held_swap limits (LoadFile name file) journal planned reply is answers = absurd is
 held_swap limits (DropTable name) journal planned reply is answers = absurd is
+held_swap limits (Replace name body) journal planned reply is answers = absurd is
 held_swap limits Tables journal planned reply is answers = absurd is
 held_swap limits (Search k body) journal planned reply is answers = absurd is
 held_swap limits (Like k name place) journal planned reply is answers = absurd is
@@ -160,6 +163,7 @@ held_adds (Merge all) journal made planned reply is same =
 held_adds (Load name body) journal made planned reply is same = absurd is
 held_adds (LoadFile name file) journal made planned reply is same = absurd is
 held_adds (DropTable name) journal made planned reply is same = absurd is
+held_adds (Replace name body) journal made planned reply is same = absurd is
 held_adds Tables journal made planned reply is same = absurd is
 held_adds (Search k body) journal made planned reply is same = absurd is
 held_adds (Like k name place) journal made planned reply is same = absurd is

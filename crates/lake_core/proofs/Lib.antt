@@ -1,4 +1,5 @@
 pub mod LoadLemmas
+pub mod ReplaceLemmas
 mod SearchLemmas
 pub mod MergeLemmas
 mod WorkLemmas

@@ -23,7 +23,7 @@ use Rattle.catalogue.specs.declared.refusal.DropRefused.TheVariants as dropping
 use Rattle.catalogue.specs.Refusals.{load_refusal, drop_refusal}
 use Rattle.catalogue.specs.Kept.{CatalogueOf, catalogue_with}
 use Rattle.script_model.specs.Commands.{Load, DropTable, Tables, Search}
-use Rattle.record_model.specs.Replies.{Reply, Loaded, Unknown, Repeated, OfCsv, OfSets, csv_reply, sets_reply, query_reply, load_reply, drop_reply, search_reply, unless_lake_full}
+use Rattle.record_model.specs.Replies.{Reply, Loaded, Dropped, Unknown, Full, Repeated, OfCsv, OfSets, csv_reply, sets_reply, query_reply, load_reply, drop_reply, search_reply, unless_lake_full}
 use Rattle.record_model.specs.Answered.{plain_query, TableRead, IsTable, IsQuery, table_read, query_read, records_read, sets_read, keys_read, load_answer, search_answer, loads, adds, is_accepted, standing}
 use Rattle.record_model.specs.Play.{reply_or_denied}
 use Rattle.record_model.specs.Record.{RunRecord}
@@ -137,19 +137,32 @@ tables_add who reply made = added_none who made ∙ ap (λ whats. with_added who
 
 -- ---- drops
 
-drop_said : (name : Text) (n : ℕ) (accepted : Reply) (b : Bool) (o : Option Bounded) (e : DropRefused)
-    → cond b (option_map (λ x. dropping.Full x.which x.count x.more n) o) (Some (dropping.Unknown n)) ≡ Some e
-    → drop_refusal_reply name e ≡ cond b (unless_lake_full n accepted o) (Unknown name n)
-drop_said name n accepted false o e h = let same : e ≡ dropping.Unknown n = cc in ap (drop_refusal_reply name) same
-drop_said name n accepted true None e h = absurd (let f : None ≡ Some e = h in cc)
-drop_said name n accepted true (Some x) e h = let same : e ≡ dropping.Full x.which x.count x.more n = cc in ap (drop_refusal_reply name) same
+-- What must be live is unknown, or else a limit refuses it, or it is accepted: as a refusal says it, and as a reply does.
+module _ {R : Type 0} (say : R → Reply) (name : Text) (n : ℕ) (accepted : Reply) (unknown : R) (full : Bounded → R) where
+  pub live_refused : say unknown ≡ Unknown name n → ((x : Bounded) → say (full x) ≡ Full x.which x.count x.more n) → (b : Bool) (o : Option Bounded) (e : R)
+      → cond b (option_map full o) (Some unknown) ≡ Some e → say e ≡ cond b (unless_lake_full n accepted o) (Unknown name n)
+  live_refused unknown_said full_said false o e h = let same : e ≡ unknown = cc in ap say same ∙ unknown_said
+  live_refused unknown_said full_said true None e h = absurd (let f : None ≡ Some e = h in cc)
+  live_refused unknown_said full_said true (Some x) e h = let same : e ≡ full x = cc in ap say same ∙ full_said x
+
+  pub live_accepted : (b : Bool) (o : Option Bounded) → cond b (option_map full o) (Some unknown) ≡ None → cond b (unless_lake_full n accepted o) (Unknown name n) ≡ accepted
+  live_accepted false o h = absurd (let f : Some unknown ≡ None = h in cc)
+  live_accepted true None h = refl
+  live_accepted true (Some x) h = absurd (let f : Some (full x) ≡ None = h in cc)
 
 -- a drop that the catalogue refuses
 pub refused_drop : (limits : Counts) (name : Text) (journal : List Entry) (e : DropRefused) → (e ≡ dropping.NoMemory) ⊎ (drop_refusal limits name journal ≡ Some e)
     → Answers (drop_refusal_reply name e) (drop_reply limits name journal)
 refused_drop limits name journal e (inl none) = (true, ap (drop_refusal_reply name) none)
 refused_drop limits name journal e (inr h) =
-    (false, drop_said name (length journal) _ (is_live journal name) (find is_passed (drop_bounds limits (counts journal))) e h)
+    (false, live_refused (drop_refusal_reply name) name (length journal) (Dropped name (length journal + 1)) (dropping.Unknown (length journal)) (λ b. dropping.Full b.which b.count b.more (length journal)) refl (λ b. refl)
+    (is_live journal name) (find is_passed (drop_bounds limits (counts journal))) e h)
+
+-- a drop that nothing refuses
+pub accepted_drop : (limits : Counts) (name : Text) (journal : List Entry) → drop_refusal limits name journal ≡ None → drop_reply limits name journal ≡ Dropped name (length journal + 1)
+accepted_drop limits name journal h =
+    live_accepted (drop_refusal_reply name) name (length journal) (Dropped name (length journal + 1)) (dropping.Unknown (length journal)) (λ b. dropping.Full b.which b.count b.more (length journal))
+    (is_live journal name) (find is_passed (drop_bounds limits (counts journal))) h
 
 refusal_adds_none : (name : Text) (e : DropRefused) → is_accepted (standing (drop_refusal_reply name e)) ≡ false
 refusal_adds_none name (dropping.Unknown at) = refl

@@ -11,7 +11,7 @@ use Rattle.lake_model.specs.declared.Counts.{Counts}
 use Rattle.lake_model.specs.declared.Who.{Who}
 use Rattle.lake_model.specs.declared.Policy.{Policy}
 use Rattle.lake_model.specs.Tables.{Table, members}
-use Rattle.lake_model.specs.Journal.{Entry, What, Loaded, Dropped, Swapped, live, live_after, loads_of, counts, entry_with, has_name}
+use Rattle.lake_model.specs.Journal.{Entry, What, Loaded, Dropped, Replaced, Swapped, live, live_after, without, loads_of, counts, entry_with, has_name}
 use Rattle.lake_model.specs.Layout.{Place, Part, Shown, layout, is_legal, shown, shown_with, shown_layout, unmarked_of}
 use Rattle.lake_model.specs.Plan.{plan, plan_of, planned_parts}
 use Rattle.layout_laws.specs.Steps.{positions_in}
@@ -85,6 +85,11 @@ live_sum f tables (entry ∷ entries) = by entry.who entry.what (live_sum f (liv
     by who (Dropped name) h =
         let fewer = sum_by-filter_both (has_name name) (λ table. not (has_name name table)) (λ table. refl) f tables in
         omega (arith, h, fewer)
+    by who (Replaced table) h =
+        let fewer = sum_by-filter_both (has_name table.name) (λ other. not (has_name table.name other)) (λ other. refl) f tables in
+        let more = sum_by_push f (without table.name tables) table in
+        let first : sum_by f (loads_of (entry_with who (Replaced table) ∷ entries)) ≡ 0 + f table + sum_by f (loads_of entries) = sum_by-append f (table ∷ []) (loads_of entries) in
+        omega (arith, h, fewer, more, first)
     by who (Swapped planned kept) h = h
 
 -- the live tables of a layout, and those of a run of it

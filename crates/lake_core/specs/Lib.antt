@@ -1,6 +1,7 @@
 pub mod Merging
 pub mod Loads
 pub mod Drops
+pub mod Replaces
 pub mod Searches
 pub mod Lanes
 pub mod Plays

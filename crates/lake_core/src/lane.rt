@@ -16,6 +16,7 @@ ghost use Rattle.batch_work.specs.Works.{merge_policy, work_of};
 use crate::dropping::drop_table;
 use crate::loading::{load, load_file};
 use crate::merging::{Planned, plan_now, swap};
+use crate::replacing::replace;
 use crate::searching::finish;
 use batch_work::{Done, Work, next_answer};
 use catalogue::Catalogue;
@@ -139,7 +140,7 @@ fn list_now(alloc: Global, catalogue: &Catalogue) -> Reply
     }
 }
 
-// The reply to work that has no pin. An accepted load or drop puts its entry into the record.
+// The reply to work that has no pin. An accepted load, drop or replace puts its entry into the record.
 fn reply_now(
     alloc: Global,
     catalogue: &mut Catalogue,
@@ -160,6 +161,7 @@ fn reply_now(
         Task::Load { name, body } => load(alloc, catalogue, who, name, body, out),
         Task::LoadFile { name, file } => load_file(alloc, catalogue, who, name, file, out),
         Task::Drop { name } => drop_table(catalogue, who, name, out),
+        Task::Replace { name, body } => replace(alloc, catalogue, who, name, body, out),
         Task::Tables => list_now(alloc, catalogue),
         Task::Search { .. } | Task::Like { .. } | Task::Merge { .. } => unreachable!(),
     }

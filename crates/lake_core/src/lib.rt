@@ -6,12 +6,14 @@ mod dropping;
 mod lane;
 mod loading;
 mod merging;
+mod replacing;
 mod searching;
 
 pub use driving::drive;
 pub use dropping::reply_to_drop;
 pub use loading::{Loadable, make_table, make_table_of_file, reply_to_load};
 pub use merging::{Planned, plan_pinned};
+pub use replacing::reply_to_replace;
 pub use searching::finish;
 
 #[cfg(test)]

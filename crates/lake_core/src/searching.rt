@@ -126,7 +126,11 @@ pub fn finish(alloc: Global, pin: Pin, task: &Task) -> Reply
         Task::Search { k, body } => search(alloc, &pin, *k, body),
         Task::Like { k, name, place } => like(alloc, &pin, *k, name, *place),
         Task::Tables => list(alloc, &pin),
-        Task::Load { .. } | Task::LoadFile { .. } | Task::Drop { .. } | Task::Merge { .. } =>
+        Task::Load { .. }
+        | Task::LoadFile { .. }
+        | Task::Drop { .. }
+        | Task::Replace { .. }
+        | Task::Merge { .. } =>
             unreachable!(),
     }
 }

@@ -12,9 +12,9 @@ use Rattle.turn_lock.specs.History.{Grows}
 use Rattle.turn_lock.specs.Passes.{Known, after_seeing, callers_of}
 use Rattle.turn_lock.proofs.Histories.{grows_self, grows_trans}
 use Rattle.lake.specs.Lawful.{caller_of}
-use Rattle.script_model.specs.Commands.{Command, Task, command_with, Load, LoadFile, DropTable, Tables, Search, Like, Merge, File, is_update_task}
-use Rattle.record_model.specs.Replies.{Reply, NoMemory, load_reply, NothingToMerge, merge_reply}
-use Rattle.record_model.specs.Answered.{TableRead, IsTable, answer_to, adds, is_accepted, standing, load_answer, loads, table_read, file_read, change_of, policy_of, swaps}
+use Rattle.script_model.specs.Commands.{Command, Task, command_with, Load, LoadFile, DropTable, Replace, Tables, Search, Like, Merge, File, is_update_task}
+use Rattle.record_model.specs.Replies.{Reply, NoMemory, load_reply, replace_reply, NothingToMerge, merge_reply}
+use Rattle.record_model.specs.Answered.{TableRead, IsTable, answer_to, adds, is_accepted, standing, load_answer, replace_answer, loads, replaces, table_read, file_read, change_of, policy_of, swaps}
 use Rattle.record_model.specs.Play.{done_with, entries_of, reply_or_denied, who_of}
 use Rattle.record_model.specs.Right.{IsRight}
 use Rattle.record_model.proofs.RightLemmas.{right_stays}
@@ -26,7 +26,9 @@ use Rattle.segment_core.specs.Versions.{VersionOf, version_with}
 use Rattle.segment_merge.specs.Planned.{plan_at}
 use Rattle.batch_work.specs.Works.{merge_policy}
 use Rattle.lake_core.specs.Loads.{IsRefusal, loaded_by}
+use Rattle.lake_core.specs.Replaces.{replaced_by}
 use Rattle.lake_core.proofs.LoadLemmas.{Answers, refused_answer, refused_nowhere}
+use Rattle.lake_core.proofs.ReplaceLemmas.{refused_replace_answer}
 use Rattle.lake_core.proofs.MergeLemmas.{planned_later, planned_now, planned_reply, planned_change}
 use Rattle.lake_core.specs.Merging.{IsPlanned, merge_of, swap_reply, swapped_by}
 use Rattle.lake_core.specs.declared.merging.Planned.{Planned}
@@ -135,12 +137,26 @@ pub file_refused : (limits : Counts) (number : ℕ) (name : Text) (file : File) 
     → IsAnswered limits (command_with number before.caller (LoadFile name file)) before reply before.seen
 file_refused limits number name file before reply why = unmoved limits (command_with number before.caller (LoadFile name file)) before reply (refused_answer limits before.seen (file_read name file) reply why) (refused_nowhere (file_read name file) reply why)
 
+-- ---- replaces
+
+pub replace_answered : (limits : Counts) (number : ℕ) (name : Text) (bytes : List ℕ) (table : Table) (before : Known Entry) (reply : Reply) (after : List Entry) → table_read name bytes ≡ IsTable table
+    → IsMade (replace_reply limits table) (replaced_by table) number before reply after → IsAnswered limits (command_with number before.caller (Replace name bytes)) before reply after
+replace_answered limits number name bytes table before reply after is made =
+    made_answered limits number (Replace name bytes) (replace_reply limits table) (replaced_by table) before reply after
+    (λ found. ap (λ (r : TableRead). replace_answer limits r found) (sym is)) (λ found. ap (λ (r : TableRead). cond (is_accepted (standing reply)) (replaces r) []) (sym is)) made
+
+pub replace_refused : (limits : Counts) (number : ℕ) (name : Text) (bytes : List ℕ) (before : Known Entry) (reply : Reply) → IsRefusal (table_read name bytes) reply
+    → IsAnswered limits (command_with number before.caller (Replace name bytes)) before reply before.seen
+replace_refused limits number name bytes before reply why =
+    unmoved limits (command_with number before.caller (Replace name bytes)) before reply (refused_replace_answer limits before.seen (table_read name bytes) reply why) (refused_nowhere (table_read name bytes) reply why)
+
 -- ---- what is asked
 
 asks_nothing : (task : Task) → is_update_task task ≡ false → merge_policy task ≡ None → (pinned : List Entry) → change_of task pinned ≡ []
 asks_nothing (Load name body) u m pinned = absurd (let f : true ≡ false = u in cc)
 asks_nothing (LoadFile name file) u m pinned = absurd (let f : true ≡ false = u in cc)
 asks_nothing (DropTable name) u m pinned = absurd (let f : true ≡ false = u in cc)
+asks_nothing (Replace name body) u m pinned = absurd (let f : true ≡ false = u in cc)
 asks_nothing Tables u m pinned = refl
 asks_nothing (Search k body) u m pinned = refl
 asks_nothing (Like k name place) u m pinned = refl

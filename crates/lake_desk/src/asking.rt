@@ -1,13 +1,13 @@
-//! Loads of what was read, and what is asked of the lake at a pin.
+//! Loads and replaces by what was read, and what is asked of the lake at a pin.
 ghost use Rattle.std.specs.Prelude.{◌≡◌, false, None};
 ghost use Rattle.turn_lock.specs.Passes.{after_seeing};
-ghost use Rattle.script_model.specs.Commands.{is_update_task, command_with, Load, LoadFile, DropTable};
+ghost use Rattle.script_model.specs.Commands.{is_update_task, command_with, Load, LoadFile, DropTable, Replace};
 ghost use Rattle.run_record.specs.Replies.{reply_of};
 ghost use Rattle.commands.specs.Tasks.{file_of, task_of, IsTaskInRange};
 ghost use Rattle.batch_work.specs.Works.{merge_policy};
 ghost use Rattle.lake_desk.specs.Answering.{IsAnswered};
 
-use crate::changing::{drop_table, load};
+use crate::changing::{drop_table, load, replace};
 use column_set::Name;
 use commands::{Body, FileBody, Task};
 use lake::{Bounds, Lake, Pass};
@@ -55,6 +55,27 @@ pub(crate) fn load_file<B: Bounds, R: Wait>(
 {
     match make_table_of_file(alloc, name, file) {
         Ok(Loadable { table, segment }) => load(rt, lake, pass, number, table, segment),
+        Err(reply) => reply,
+    }
+}
+
+/// Answers a replace by a block. The lock is free while the table is made.
+pub(crate) fn replace_by_block<B: Bounds, R: Wait>(
+    rt: &R,
+    alloc: Global,
+    lake: &Lake<B>,
+    pass: &mut Pass<B>,
+    number: u64,
+    name: &Name,
+    body: &Body,
+) -> Reply
+    requires lock { pass.old.lock ≡ lake.now }
+    requires free { pass.old.holds ≡ false }
+    ensures pass { pass.new ≡ after_seeing pass.old pass.new.seen false }
+    ensures answered { IsAnswered B.limits (command_with number pass.old.caller (Replace name.now body.now)) pass.old (reply_of result) pass.new.seen }
+{
+    match make_table(alloc, name, body) {
+        Ok(Loadable { table, segment }) => replace(rt, lake, pass, number, table, segment),
         Err(reply) => reply,
     }
 }

@@ -1,14 +1,15 @@
-//! Loads and drops at a lake.
+//! Loads, drops and replaces at a lake.
 ghost use Rattle.std.specs.Prelude.{◌≡◌, ◌∷◌, [], false};
 ghost use Rattle.turn_lock.specs.Passes.{after_seeing};
-ghost use Rattle.record_model.specs.Replies.{drop_reply, load_reply};
+ghost use Rattle.record_model.specs.Replies.{drop_reply, load_reply, replace_reply};
 ghost use Rattle.run_record.specs.Replies.{reply_of};
 ghost use Rattle.lake_core.specs.Loads.{loaded_by};
+ghost use Rattle.lake_core.specs.Replaces.{replaced_by};
 ghost use Rattle.lake_desk.specs.Answering.{dropped_by, IsMade};
 
 use column_set::{Name, SharedTable};
 use lake::{Bounds, Lake, Pass};
-use lake_core::{reply_to_drop, reply_to_load};
+use lake_core::{reply_to_drop, reply_to_load, reply_to_replace};
 use run_record::Reply;
 use segment_core::Segment;
 use std::sync::{Arc, Wait};
@@ -60,5 +61,34 @@ pub(crate) fn drop_table<B: Bounds, R: Wait>(
             at,
         },
         Err(refused) => reply_to_drop(refused, name.copy()),
+    }
+}
+
+/// Puts a table, with the segment of this table alone, in the place of the live table of its name, and answers the command of this
+/// number. What the reply keeps of the table is made first, so that nothing can be refused once the entry is there.
+pub(crate) fn replace<B: Bounds, R: Wait>(
+    rt: &R,
+    lake: &Lake<B>,
+    pass: &mut Pass<B>,
+    number: u64,
+    table: SharedTable,
+    segment: Arc<Segment>,
+) -> Reply
+    requires lock { pass.old.lock ≡ lake.now }
+    requires segment { segment.value ≡ table ∷ [] }
+    ensures pass { pass.new ≡ after_seeing pass.old pass.new.seen false }
+    ensures made { IsMade (replace_reply B.limits table) (replaced_by table) number pass.old (reply_of result) pass.new.seen }
+{
+    let name = table.table().name().copy();
+    let columns = table.table().columns();
+    let members = table.table().members();
+    match lake.replace(rt, pass, number, table, segment) {
+        Ok(at) => Reply::Replaced {
+            name,
+            columns,
+            members,
+            at,
+        },
+        Err(refused) => reply_to_replace(refused, name),
     }
 }

@@ -11,7 +11,7 @@ ghost use Rattle.run_record.specs.Replies.{reply_of};
 ghost use Rattle.commands.specs.Tasks.{task_of, IsTaskInRange};
 ghost use Rattle.lake_desk.specs.Answering.{IsAnswered, IsStep};
 
-use crate::asking::{ask, drop_named, load_block, load_file};
+use crate::asking::{ask, drop_named, load_block, load_file, replace_by_block};
 use crate::merging::merge_parts;
 use catalogue::Entry;
 use commands::Task;
@@ -133,6 +133,15 @@ impl<'a, B: Bounds> LakeDesk<'a, B> {
                 file,
             ),
             Task::Drop { name } => drop_named(rt, lake, &mut self.pass, number, name),
+            Task::Replace { name, body } => replace_by_block(
+                rt,
+                alloc,
+                lake,
+                &mut self.pass,
+                number,
+                name,
+                body,
+            ),
             Task::Tables | Task::Search { .. } | Task::Like { .. } => ask(
                 rt,
                 alloc,
