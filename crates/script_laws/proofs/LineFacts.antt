@@ -8,7 +8,7 @@ use Rattle.std.proofs.lemmas.Slice.Eq.{bytes_eq-Decides}
 use Rattle.std.proofs.lemmas.List.{get_or-append-add, length-take-le}
 use Rattle.lake_model.specs.Tables.{is_name}
 use Rattle.lake_model.specs.Texts.{Text, Lines, lines_of, lines_with, onto_first}
-use Rattle.script_model.specs.Commands.{Task, Load, LoadFile, DropTable, Tables, Search, Like, Merge}
+use Rattle.script_model.specs.Commands.{Task, Load, LoadFile, DropTable, Replace, Tables, Search, Like, Merge}
 use Rattle.script_model.specs.declared.ScriptLimits.{ScriptLimits}
 use Rattle.script_model.specs.Reading.{is_end, undotted}
 use Rattle.script_model.specs.Words.{line_text, NoFeed, without_return}
@@ -143,6 +143,7 @@ pub task_ends : (limits : ScriptLimits) (path : Text) (task : Task) → IsTask l
 task_ends limits path (Load name body) is = word_ends (codes "load") name (name_ends name is.0)
 task_ends limits path (LoadFile name file) is = word_ends (codes "loadfile") (with_word name path) (word_ends name path (is.1.some, is.1.end))
 task_ends limits path (DropTable name) is = word_ends (codes "drop") name (name_ends name is)
+task_ends limits path (Replace name body) is = word_ends (codes "replace") name (name_ends name is.0)
 task_ends limits path Tables is = (omega arith, refl)
 task_ends limits path (Search k body) is = word_ends (codes "search") (decimal k) (number_ends k (omega (arith, is.0.1)))
 task_ends limits path (Like k name place) is =
@@ -157,6 +158,7 @@ pub task_no_feed : (limits : ScriptLimits) (path : Text) (task : Task) → IsTas
 task_no_feed limits path (Load name body) is = word_no_feed (codes "load") name (refl, (refl, (refl, (refl, tt)))) (name_no_feed name is.0)
 task_no_feed limits path (LoadFile name file) is = word_no_feed (codes "loadfile") (with_word name path) (refl, (refl, (refl, (refl, (refl, (refl, (refl, (refl, tt)))))))) (word_no_feed name path (name_no_feed name is.0) is.1.no_feed)
 task_no_feed limits path (DropTable name) is = word_no_feed (codes "drop") name (refl, (refl, (refl, (refl, tt)))) (name_no_feed name is)
+task_no_feed limits path (Replace name body) is = word_no_feed (codes "replace") name (refl, (refl, (refl, (refl, (refl, (refl, (refl, tt))))))) (name_no_feed name is.0)
 task_no_feed limits path Tables is = (refl, (refl, (refl, (refl, (refl, (refl, tt))))))
 task_no_feed limits path (Search k body) is = word_no_feed (codes "search") (decimal k) (refl, (refl, (refl, (refl, (refl, (refl, tt)))))) (number_no_feed k (omega (arith, is.0.1)))
 task_no_feed limits path (Like k name place) is =
@@ -182,6 +184,7 @@ pub body_no_feed : (task : Task) → AllByRecursion NoFeed (body_lines task)
 body_no_feed (Load name body) = block_no_feed body
 body_no_feed (LoadFile name file) = tt
 body_no_feed (DropTable name) = tt
+body_no_feed (Replace name body) = block_no_feed body
 body_no_feed Tables = tt
 body_no_feed (Search k body) = block_no_feed body
 body_no_feed (Like k name place) = tt

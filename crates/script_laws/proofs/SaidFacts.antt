@@ -6,7 +6,7 @@ use Rattle.lake_model.specs.Tables.{is_name}
 use Rattle.lake_model.specs.Texts.{Text}
 use Rattle.script_model.specs.declared.Reason.{Reason}
 use Rattle.script_model.specs.Commands.{Task, DropTable, Tables, Like, Merge, is_fetch}
-use Rattle.script_model.specs.Saying.{Does, Fetches, Form, Front, Nothing, Opens, Said, Sync, Wrong, LoadForm, LoadFileForm, DropForm, TablesForm, SearchForm, LikeForm, MergeForm, SyncForm, LoadBlock, SearchBlock, command_said, lane_said, of_form, said, said_if, said_with, says}
+use Rattle.script_model.specs.Saying.{Does, Fetches, Form, Front, Nothing, Opens, Said, Sync, Wrong, LoadForm, LoadFileForm, DropForm, ReplaceForm, TablesForm, SearchForm, LikeForm, MergeForm, SyncForm, LoadBlock, ReplaceBlock, SearchBlock, command_said, lane_said, of_form, said, said_if, said_with, says}
 use Rattle.script_model.specs.declared.Reason.TheVariants as reason
 use Rattle.script_model.specs.Words.{behind_word, digits_value, first_word, is_number, number, number_of}
 use Rattle.script_model.proofs.NumberLemmas.{positive}
@@ -54,6 +54,9 @@ module _ (P : Said → Type 0) (L : ℕ → Type 0) (holds : HoldsOf P L) where
   by_form DropForm lane [] text l = holds.wrong reason.Words
   by_form DropForm lane (name ∷ []) text l = by_if _ _ (holds.does lane (DropTable name) l refl)
   by_form DropForm lane (name ∷ word ∷ more) text l = holds.wrong reason.Words
+  by_form ReplaceForm lane [] text l = holds.wrong reason.Words
+  by_form ReplaceForm lane (name ∷ []) text l = by_if _ _ (holds.opens lane (ReplaceBlock name) l)
+  by_form ReplaceForm lane (name ∷ word ∷ more) text l = holds.wrong reason.Words
   by_form TablesForm lane [] text l = holds.does lane Tables l refl
   by_form TablesForm lane (word ∷ more) text l = holds.wrong reason.Words
   by_form SearchForm lane [] text l = holds.wrong reason.Words

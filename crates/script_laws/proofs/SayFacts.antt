@@ -9,8 +9,8 @@ use Rattle.lake_model.specs.Tables.{is_name}
 use Rattle.lake_model.specs.Texts.{Text}
 use Rattle.script_model.specs.declared.Reason.TheVariants as reason
 use Rattle.script_model.specs.declared.ScriptLimits.{ScriptLimits}
-use Rattle.script_model.specs.Commands.{Task, Load, LoadFile, DropTable, Tables, Search, Like, Merge}
-use Rattle.script_model.specs.Saying.{Does, Fetches, Form, LoadBlock, Opens, Said, SearchBlock, Wrong, LoadForm, LoadFileForm, DropForm, TablesForm, SearchForm, LikeForm, MergeForm, command_said, fetch_said, forms, lane_said, of_form, said, said_if, said_with, says}
+use Rattle.script_model.specs.Commands.{Task, Load, LoadFile, DropTable, Replace, Tables, Search, Like, Merge}
+use Rattle.script_model.specs.Saying.{Does, Fetches, Form, LoadBlock, Opens, ReplaceBlock, Said, SearchBlock, Wrong, LoadForm, LoadFileForm, DropForm, ReplaceForm, TablesForm, SearchForm, LikeForm, MergeForm, command_said, fetch_said, forms, lane_said, of_form, said, said_if, said_with, says}
 use Rattle.script_model.specs.Words.{before_spaces, behind_word, first_word, is_space, number, number_of, words}
 use Rattle.script_laws.specs.Printed.{IsPath, IsTask, with_word, task_text}
 use Rattle.script_laws.proofs.DigitFacts.{last_of, number_back, number_within, number_word}
@@ -19,6 +19,7 @@ use Rattle.script_laws.proofs.WordFacts.{BeginsWell, IsWord, behind_alone, behin
 -- what a command of this task says
 abbrev pub task_said : ℕ → Text → Task → Said
 task_said lane path (Load name body) = Opens lane (LoadBlock name)
+task_said lane path (Replace name body) = Opens lane (ReplaceBlock name)
 task_said lane path (Search k body) = Opens lane (SearchBlock k)
 task_said lane path (LoadFile name file) = Fetches lane name path
 task_said lane path (DropTable name) = Does lane (DropTable name)
@@ -100,6 +101,9 @@ load_file_word = (omega arith, (refl, (refl, (refl, (refl, (refl, (refl, (refl, 
 drop_word : IsWord (codes "drop")
 drop_word = (omega arith, (refl, (refl, (refl, (refl, tt)))))
 
+replace_word : IsWord (codes "replace")
+replace_word = (omega arith, (refl, (refl, (refl, (refl, (refl, (refl, (refl, tt))))))))
+
 tables_word : IsWord (codes "tables")
 tables_word = (omega arith, (refl, (refl, (refl, (refl, (refl, (refl, tt)))))))
 
@@ -121,6 +125,13 @@ says_drop lane name h =
     by_word lane (with_word (codes "drop") name) (codes "drop") (first_of (codes "drop") name drop_word)
     ∙ by_rest DropForm lane (with_word (codes "drop") name) name (behind_of (codes "drop") name drop_word (word_begins_alone name is))
     ∙ by_words DropForm lane name (name ∷ []) (words_alone name is) ∙ ap (λ (b : Bool). said_if b (Does lane (DropTable name))) h
+
+says_replace : (lane : ℕ) (name : Text) → is_name name ≡ true → command_said lane (with_word (codes "replace") name) ≡ Opens lane (ReplaceBlock name)
+says_replace lane name h =
+    let is = name_word name h in
+    by_word lane (with_word (codes "replace") name) (codes "replace") (first_of (codes "replace") name replace_word)
+    ∙ by_rest ReplaceForm lane (with_word (codes "replace") name) name (behind_of (codes "replace") name replace_word (word_begins_alone name is))
+    ∙ by_words ReplaceForm lane name (name ∷ []) (words_alone name is) ∙ ap (λ (b : Bool). said_if b (Opens lane (ReplaceBlock name))) h
 
 says_tables : (lane : ℕ) → command_said lane (codes "tables") ≡ Does lane Tables
 says_tables lane =
@@ -183,6 +194,7 @@ pub says_task : (limits : ScriptLimits) (lane : ℕ) (path : Text) (task : Task)
 says_task limits lane path (Load name body) is = says_load lane name is.0
 says_task limits lane path (LoadFile name file) is = says_file lane name path is.0 is.1
 says_task limits lane path (DropTable name) is = says_drop lane name is
+says_task limits lane path (Replace name body) is = says_replace lane name is.0
 says_task limits lane path Tables is = says_tables lane
 says_task limits lane path (Search k body) is = says_search lane k is.0.0 is.0.1
 says_task limits lane path (Like k name place) is = says_like lane k place name is.0.0 is.0.1 is.1 is.2.0 is.2.1
@@ -200,6 +212,7 @@ begins_task : (path : Text) (task : Task) → BeginsTask path task
 begins_task path (Load name body) = record { front = refl; other = ap (λ (w : Text). bytes_eq w (codes "sync")) (first_of (codes "load") name load_word) }
 begins_task path (LoadFile name file) = record { front = refl; other = ap (λ (w : Text). bytes_eq w (codes "sync")) (first_of (codes "loadfile") (with_word name path) load_file_word) }
 begins_task path (DropTable name) = record { front = refl; other = ap (λ (w : Text). bytes_eq w (codes "sync")) (first_of (codes "drop") name drop_word) }
+begins_task path (Replace name body) = record { front = refl; other = ap (λ (w : Text). bytes_eq w (codes "sync")) (first_of (codes "replace") name replace_word) }
 begins_task path Tables = record { front = refl; other = ap (λ (w : Text). bytes_eq w (codes "sync")) (first_alone (codes "tables") tables_word) }
 begins_task path (Search k body) = record { front = refl; other = ap (λ (w : Text). bytes_eq w (codes "sync")) (first_of (codes "search") (decimal k) search_word) }
 begins_task path (Like k name place) = record { front = refl; other = ap (λ (w : Text). bytes_eq w (codes "sync")) (first_of (codes "like") (with_word (decimal k) (with_word name (decimal place))) like_word) }

@@ -4,7 +4,7 @@ use Rattle.std.specs.Str.{is_utf8}
 use Rattle.lake_model.specs.Tables.{is_name}
 use Rattle.lake_model.specs.Texts.{Text, lines_of}
 use Rattle.script_model.specs.declared.ScriptLimits.{ScriptLimits}
-use Rattle.script_model.specs.Commands.{Batch, Command, File, Task, Load, LoadFile, DropTable, Tables, Search, Like, Merge}
+use Rattle.script_model.specs.Commands.{Batch, Command, File, Task, Load, LoadFile, DropTable, Replace, Tables, Search, Like, Merge}
 use Rattle.script_model.specs.Lanes.{IsOfLanes}
 use Rattle.script_model.specs.Reading.{file_size}
 use Rattle.script_model.specs.Words.{line_text, NoFeed, before_spaces, is_space}
@@ -20,6 +20,7 @@ abbrev pub task_text : Text → Task → Text
 task_text path (Load name body) = with_word (codes "load") name
 task_text path (LoadFile name file) = with_word (codes "loadfile") (with_word name path)
 task_text path (DropTable name) = with_word (codes "drop") name
+task_text path (Replace name body) = with_word (codes "replace") name
 task_text path Tables = codes "tables"
 task_text path (Search k body) = with_word (codes "search") (decimal k)
 task_text path (Like k name place) = with_word (codes "like") (with_word (decimal k) (with_word name (decimal place)))
@@ -40,6 +41,7 @@ block_lines body = map dotted (lines_of body).ended ++ codes "." ∷ []
 
 abbrev pub body_lines : Task → List Text
 body_lines (Load name body) = block_lines body
+body_lines (Replace name body) = block_lines body
 body_lines (Search k body) = block_lines body
 body_lines (LoadFile name file) = []
 body_lines (DropTable name) = []
@@ -56,6 +58,7 @@ abbrev pub paths_in : Task → Text → List Text
 paths_in (LoadFile name file) path = path ∷ []
 paths_in (Load name body) path = []
 paths_in (DropTable name) path = []
+paths_in (Replace name body) path = []
 paths_in Tables path = []
 paths_in (Search k body) path = []
 paths_in (Like k name place) path = []
@@ -66,6 +69,7 @@ abbrev pub paths_behind : Task → List Text → List Text
 paths_behind (LoadFile name file) paths = drop 1 paths
 paths_behind (Load name body) paths = paths
 paths_behind (DropTable name) paths = paths
+paths_behind (Replace name body) paths = paths
 paths_behind Tables paths = paths
 paths_behind (Search k body) paths = paths
 paths_behind (Like k name place) paths = paths
@@ -86,6 +90,7 @@ abbrev pub files_in : Task → List File
 files_in (LoadFile name file) = file ∷ []
 files_in (Load name body) = []
 files_in (DropTable name) = []
+files_in (Replace name body) = []
 files_in Tables = []
 files_in (Search k body) = []
 files_in (Like k name place) = []
@@ -122,6 +127,7 @@ abbrev pub IsTask : ScriptLimits → Text → Task → Type 0
 IsTask limits path (Load name body) = (is_name name ≡ true) × IsBody limits body
 IsTask limits path (LoadFile name file) = (is_name name ≡ true) × IsPath path
 IsTask limits path (DropTable name) = is_name name ≡ true
+IsTask limits path (Replace name body) = (is_name name ≡ true) × IsBody limits body
 IsTask limits path Tables = ⊤
 IsTask limits path (Search k body) = IsFrom1To 10000 k × IsBody limits body
 IsTask limits path (Like k name place) = IsFrom1To 10000 k × (is_name name ≡ true) × IsFrom1To 4294967295 place
@@ -136,6 +142,7 @@ AreTasks limits paths (command ∷ commands) = IsTask limits (first_path paths) 
 -- the bytes of a task's body or file
 abbrev pub task_size : Task → ℕ
 task_size (Load name body) = length body
+task_size (Replace name body) = length body
 task_size (Search k body) = length body
 task_size (LoadFile name file) = file_size file
 task_size (DropTable name) = 0

@@ -6,7 +6,7 @@ use Rattle.std.specs.Str.{is_utf8}
 use Rattle.lake_model.specs.Tables.{is_name}
 use Rattle.lake_model.specs.Texts.{Text}
 use Rattle.script_model.specs.declared.Reason.TheVariants as reason
-use Rattle.script_model.specs.Saying.{DropForm, Form, LikeForm, LoadFileForm, LoadForm, SearchForm, SyncForm, TablesForm, Fetches, Said, Wrong, command_said, fetch_said, lane_said, like_said, of_form, said_if, says}
+use Rattle.script_model.specs.Saying.{DropForm, Form, LikeForm, LoadFileForm, LoadForm, ReplaceForm, SearchForm, SyncForm, TablesForm, Fetches, Said, Wrong, command_said, fetch_said, lane_said, like_said, of_form, said_if, says}
 use Rattle.script_model.specs.Words.{before_spaces, behind_word, first_word, words}
 use Rattle.script_text.specs.Fronts.{IsNotOne, has_none}
 use Rattle.script_text.proofs.WordLemmas.{words_more, words_none, words_one, words_some}
@@ -66,6 +66,11 @@ pub not_one_drop : (lane : ℕ) (text : Text) (ws : List Text) → IsNotOne ws �
 not_one_drop lane text [] h = refl
 not_one_drop lane text (w ∷ []) h = absurd h
 not_one_drop lane text (w ∷ v ∷ ws) h = refl
+
+pub not_one_replace : (lane : ℕ) (text : Text) (ws : List Text) → IsNotOne ws → says ReplaceForm lane ws text ≡ Wrong reason.Words
+not_one_replace lane text [] h = refl
+not_one_replace lane text (w ∷ []) h = absurd h
+not_one_replace lane text (w ∷ v ∷ ws) h = refl
 
 pub not_one_search : (lane : ℕ) (text : Text) (ws : List Text) → IsNotOne ws → says SearchForm lane ws text ≡ Wrong reason.Words
 not_one_search lane text [] h = refl

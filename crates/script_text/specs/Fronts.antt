@@ -8,7 +8,7 @@ use Rattle.script_text.specs.Readings.{body_size}
 use Rattle.script_text.specs.declared.front.Form.{Form}
 use Rattle.script_text.specs.declared.front.Form.TheVariants as form
 use Rattle.script_text.specs.declared.front.Front.{Front}
-use Rattle.script_text.specs.declared.front.Front.TheVariants.{Load, Search}
+use Rattle.script_text.specs.declared.front.Front.TheVariants.{Load, Replace, Search}
 use Rattle.script_text.specs.declared.front.Said.{Said}
 use Rattle.script_text.specs.declared.front.Said.TheVariants.{Nothing, Sync, Opens, Does, Fetches}
 
@@ -26,6 +26,7 @@ abbrev pub form_of : Form → model.Form
 form_of form.Load = model.LoadForm
 form_of form.LoadFile = model.LoadFileForm
 form_of form.Drop = model.DropForm
+form_of form.Replace = model.ReplaceForm
 form_of form.Tables = model.TablesForm
 form_of form.Search = model.SearchForm
 form_of form.Like = model.LikeForm
@@ -34,11 +35,13 @@ form_of form.Sync = model.SyncForm
 
 abbrev pub front_of : Front → model.Front
 front_of (Load name) = model.LoadBlock name
+front_of (Replace name) = model.ReplaceBlock name
 front_of (Search k) = model.SearchBlock k
 
 -- a search asks for 1 to 10,000 columns
 abbrev pub IsFrontInRange : Front → Type 0
 IsFrontInRange (Load name) = ⊤
+IsFrontInRange (Replace name) = ⊤
 IsFrontInRange (Search k) = (1 ≤ k) × (k ≤ 10000)
 
 abbrev pub said_of : Said → model.Said

@@ -109,6 +109,7 @@ impl OpenBlock {
         };
         match front {
             Front::Load { name } => Task::Load { name, body },
+            Front::Replace { name } => Task::Replace { name, body },
             Front::Search { k } => Task::Search { k, body },
         }
     }

@@ -25,6 +25,7 @@ pub(crate) enum Form {
     Load,
     LoadFile,
     Drop,
+    Replace,
     Tables,
     Search,
     Like,
@@ -36,6 +37,7 @@ pub(crate) enum Form {
 #[derive(Drop)]
 pub(crate) enum Front {
     Load { name: Name },
+    Replace { name: Name },
     Search { k: u32 },
 }
 
@@ -121,6 +123,9 @@ fn read_form(word: &[u8]) -> Option<Form>
     if b"drop".as_slice() == word {
         return Some(Form::Drop);
     }
+    if b"replace".as_slice() == word {
+        return Some(Form::Replace);
+    }
     if b"tables".as_slice() == word {
         return Some(Form::Tables);
     }
@@ -149,6 +154,7 @@ fn says(form: Form, lane: u32, text: &[u8]) -> Result<Said<'_>, Reason>
         Form::Load => load_said(lane, text),
         Form::LoadFile => load_file_said(lane, text),
         Form::Drop => drop_said(lane, text),
+        Form::Replace => replace_said(lane, text),
         Form::Tables => tables_said(lane, text),
         Form::Search => search_said(lane, text),
         Form::Like => like_said(lane, text),
@@ -207,6 +213,24 @@ fn drop_said(lane: u32, text: &[u8]) -> Result<Said<'_>, Reason>
         Some(name) => Ok(Said::Does {
             lane,
             task: Task::Drop { name },
+        }),
+        None => Err(Reason::Words),
+    }
+}
+
+// `replace NAME`.
+fn replace_said(lane: u32, text: &[u8]) -> Result<Said<'_>, Reason>
+    requires { 0 < lane }
+    ensures said { Says (says model.ReplaceForm lane (words text.now) text.now) result }
+    ensures in_range { IfOk result (λ said. (lanes : ℕ) → lane ≤ lanes → IsSaidInRange lanes said) }
+{
+    let Some(word) = only_word(text) else {
+        return Err(Reason::Words);
+    };
+    match Name::read(word) {
+        Some(name) => Ok(Said::Opens {
+            lane,
+            front: Front::Replace { name },
         }),
         None => Err(Reason::Words),
     }

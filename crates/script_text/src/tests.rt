@@ -34,6 +34,11 @@ fn push_task(text: &mut String, task: &Task) -> Result<(), AllocError> {
             let name = name.text();
             write!(text, "drop {name};")
         }
+        Task::Replace { name, body } => {
+            let name = name.text();
+            let body = str::from_utf8(body.bytes()).unwrap_or("?");
+            write!(text, "replace {name} {body:?};")
+        }
         Task::Tables => text.push_str("tables;"),
         Task::Search { k, body } => {
             let body = str::from_utf8(body.bytes()).unwrap_or("?");
@@ -159,7 +164,7 @@ fn repeated(alloc: Global, line: &str, count: usize, last: &str) -> Result<Strin
     Ok(script)
 }
 
-const WORKED: [(&str, &str); 65] = [
+const WORKED: [(&str, &str); 68] = [
     ("", "end"),
     ("\n  \n# x\n#\n\r\n", "end"),
     ("tables", "[1@1 tables;]"),
@@ -187,6 +192,8 @@ const WORKED: [(&str, &str); 65] = [
     ("load é\n", "line 1 Words"),
     ("drop\n", "line 1 Words"),
     ("drop a b\n", "line 1 Words"),
+    ("replace\n", "line 1 Words"),
+    ("replace é\n.\n", "line 1 Words"),
     ("tables a\n", "line 1 Words"),
     ("search\n", "line 1 Words"),
     ("search 1 2\n", "line 1 Words"),
@@ -220,6 +227,10 @@ const WORKED: [(&str, &str); 65] = [
     (
         "load a\r\nx\r\n..\n.b\n\n# c\n.\r\n",
         "[1@1 load a \"x\\r\\n.\\nb\\n\\n# c\\n\";]",
+    ),
+    (
+        " @2  replace  t1 \r\nc\n..\n.\nreplace t1\n.",
+        "[1@2 replace t1 \"c\\n.\\n\";2@1 replace t1 \"\";]",
     ),
     ("load a\n.\r\r\n.", "[1@1 load a \"\\r\\r\\n\";]"),
     ("load a\nx\n.\r", "[1@1 load a \"x\\n\";]"),
