@@ -51,13 +51,17 @@ pub enum Task {
     /// The `k` columns with the greatest overlap with the column at the place of the live table of the name are searched for, `k` from 1
     /// to 10,000, and places from 1. That table is excepted.
     Like { k: u32, name: Name, place: u32 },
+    /// The columns that hold at least `a` of `b` parts of the lines of the body are searched for, all of them; `a` is 1 to `b`, and `b` at
+    /// most 10,000.
+    Contain { a: u32, b: u32, body: Body },
     /// Parts of the layout are merged: the first four adjacent ones of one tier, or else the first of which half or more of the tables are
     /// dropped; or, where `all` says so, the whole layout.
     Merge { all: bool },
 }
 
 /// A command of a script. A contract sees its number, its lane and its task. Commands are numbered from 1, in the order of the
-/// script, and lanes from 1. The `k` of a search is 1 to 10,000, and so is that of a like, whose place counts from 1.
+/// script, and lanes from 1. The `k` of a search is 1 to 10,000, and so is that of a like, whose place counts from 1; the fraction
+/// of a contain is above 0 and at most 1.
 #[derive(Drop)]
 pub struct Command {
     pub number: u64,
@@ -109,7 +113,11 @@ impl Command {
         match &self.task {
             Task::Load { .. } | Task::LoadFile { .. } | Task::Drop { .. } | Task::Replace { .. } =>
                 true,
-            Task::Tables | Task::Search { .. } | Task::Like { .. } | Task::Merge { .. } => false,
+            Task::Tables
+            | Task::Search { .. }
+            | Task::Like { .. }
+            | Task::Contain { .. }
+            | Task::Merge { .. } => false,
         }
     }
 }

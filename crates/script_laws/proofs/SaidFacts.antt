@@ -1,12 +1,12 @@
 -- What a line may say.
 use Rattle.std.proofs.Common.{◌≡◌, refl, ℕ, ◌<◌, ◌≤◌, List, [], ◌∷◌, Bool, true, false, arith}
-use Rattle.std.specs.Prelude.{Option, None, Some, if◌then◌else◌, drop, nat_lt}
+use Rattle.std.specs.Prelude.{Option, None, Some, if◌then◌else◌, drop, nat_le, nat_lt}
 use Rattle.std.proofs.lemmas.Bool.{ltb-false}
 use Rattle.lake_model.specs.Tables.{is_name}
 use Rattle.lake_model.specs.Texts.{Text}
 use Rattle.script_model.specs.declared.Reason.{Reason}
 use Rattle.script_model.specs.Commands.{Task, DropTable, Tables, Like, Merge, is_fetch}
-use Rattle.script_model.specs.Saying.{Does, Fetches, Form, Front, Nothing, Opens, Said, Sync, Wrong, LoadForm, LoadFileForm, DropForm, ReplaceForm, TablesForm, SearchForm, LikeForm, MergeForm, SyncForm, LoadBlock, ReplaceBlock, SearchBlock, command_said, lane_said, of_form, said, said_if, said_with, says}
+use Rattle.script_model.specs.Saying.{Does, Fetches, Form, Front, Nothing, Opens, Said, Sync, Wrong, LoadForm, LoadFileForm, DropForm, ReplaceForm, TablesForm, SearchForm, LikeForm, ContainForm, MergeForm, SyncForm, ContainBlock, LoadBlock, ReplaceBlock, SearchBlock, command_said, lane_said, of_form, said, said_if, said_with, says}
 use Rattle.script_model.specs.declared.Reason.TheVariants as reason
 use Rattle.script_model.specs.Words.{behind_word, digits_value, first_word, is_number, number, number_of}
 use Rattle.script_model.proofs.NumberLemmas.{positive}
@@ -69,6 +69,12 @@ module _ (P : Said → Type 0) (L : ℕ → Type 0) (holds : HoldsOf P L) where
       by_number (number 10000 k) (λ n. said_with (number 4294967295 place) (λ at. said_if (is_name name) (Does lane (Like n name at))))
       (λ n. by_number (number 4294967295 place) (λ at. said_if (is_name name) (Does lane (Like n name at))) (λ at. by_if (is_name name) (Does lane (Like n name at)) (holds.does lane (Like n name at) l refl)))
   by_form LikeForm lane (k ∷ name ∷ place ∷ word ∷ more) text l = holds.wrong reason.Words
+  by_form ContainForm lane [] text l = holds.wrong reason.Words
+  by_form ContainForm lane (a ∷ []) text l = holds.wrong reason.Words
+  by_form ContainForm lane (a ∷ b ∷ []) text l =
+      by_number (number 10000 a) (λ n. said_with (number 10000 b) (λ m. said_if (nat_le n m) (Opens lane (ContainBlock n m))))
+      (λ n. by_number (number 10000 b) (λ m. said_if (nat_le n m) (Opens lane (ContainBlock n m))) (λ m. by_if (nat_le n m) (Opens lane (ContainBlock n m)) (holds.opens lane (ContainBlock n m) l)))
+  by_form ContainForm lane (a ∷ b ∷ word ∷ more) text l = holds.wrong reason.Words
   by_form MergeForm lane [] text l = holds.does lane (Merge false) l refl
   by_form MergeForm lane (word ∷ []) text l = by_if _ _ (holds.does lane (Merge true) l refl)
   by_form MergeForm lane (word ∷ other ∷ more) text l = holds.wrong reason.Words

@@ -3,14 +3,14 @@ use Rattle.std.proofs.Common.{◌≡◌, refl, ap, ◌∙◌, ℕ, ◌-◌, ◌^
 use Rattle.std.specs.Prelude.{◌==◌, ◌&&◌, bytes_eq, find, if◌then◌else◌, nat_le, nat_lt, Option}
 use Rattle.std.specs.List.{AllByRecursion, list_all}
 use Rattle.std.specs.Str.{is_utf8}
-use Rattle.std.proofs.lemmas.Bool.{and_parts, leb-true, le-ltb}
+use Rattle.std.proofs.lemmas.Bool.{and_parts, leb-true, le-leb, le-ltb}
 use Rattle.std.proofs.lemmas.Bool.Decides.{nat_tests}
 use Rattle.lake_model.specs.Tables.{is_name}
 use Rattle.lake_model.specs.Texts.{Text}
 use Rattle.script_model.specs.declared.Reason.TheVariants as reason
 use Rattle.script_model.specs.declared.ScriptLimits.{ScriptLimits}
-use Rattle.script_model.specs.Commands.{Task, Load, LoadFile, DropTable, Replace, Tables, Search, Like, Merge}
-use Rattle.script_model.specs.Saying.{Does, Fetches, Form, LoadBlock, Opens, ReplaceBlock, Said, SearchBlock, Wrong, LoadForm, LoadFileForm, DropForm, ReplaceForm, TablesForm, SearchForm, LikeForm, MergeForm, command_said, fetch_said, forms, lane_said, of_form, said, said_if, said_with, says}
+use Rattle.script_model.specs.Commands.{Task, Load, LoadFile, DropTable, Replace, Tables, Search, Like, Contain, Merge}
+use Rattle.script_model.specs.Saying.{ContainBlock, Does, Fetches, Form, LoadBlock, Opens, ReplaceBlock, Said, SearchBlock, Wrong, LoadForm, LoadFileForm, DropForm, ReplaceForm, TablesForm, SearchForm, LikeForm, ContainForm, MergeForm, command_said, fetch_said, forms, lane_said, of_form, said, said_if, said_with, says}
 use Rattle.script_model.specs.Words.{before_spaces, behind_word, first_word, is_space, number, number_of, words}
 use Rattle.script_laws.specs.Printed.{IsPath, IsTask, with_word, task_text}
 use Rattle.script_laws.proofs.DigitFacts.{last_of, number_back, number_within, number_word}
@@ -21,6 +21,7 @@ abbrev pub task_said : ℕ → Text → Task → Said
 task_said lane path (Load name body) = Opens lane (LoadBlock name)
 task_said lane path (Replace name body) = Opens lane (ReplaceBlock name)
 task_said lane path (Search k body) = Opens lane (SearchBlock k)
+task_said lane path (Contain a b body) = Opens lane (ContainBlock a b)
 task_said lane path (LoadFile name file) = Fetches lane name path
 task_said lane path (DropTable name) = Does lane (DropTable name)
 task_said lane path Tables = Does lane Tables
@@ -113,6 +114,9 @@ search_word = (omega arith, (refl, (refl, (refl, (refl, (refl, (refl, tt)))))))
 like_word : IsWord (codes "like")
 like_word = (omega arith, (refl, (refl, (refl, (refl, tt)))))
 
+contain_word : IsWord (codes "contain")
+contain_word = (omega arith, (refl, (refl, (refl, (refl, (refl, (refl, (refl, tt))))))))
+
 merge_word : IsWord (codes "merge")
 merge_word = (omega arith, (refl, (refl, (refl, (refl, (refl, tt))))))
 
@@ -176,6 +180,21 @@ says_like lane k place name some low h first last =
     ∙ ap (λ (n : Option ℕ). said_with n (λ at. said_if (is_name name) (Does lane (Like k name at)))) (number_within 4294967295 place (omega (arith, first)) last few)
     ∙ ap (λ (b : Bool). said_if b (Does lane (Like k name place))) h
 
+says_contain : (lane a b : ℕ) → 1 ≤ a → a ≤ b → b ≤ 10000 → command_said lane (with_word (codes "contain") (with_word (decimal a) (decimal b))) ≡ Opens lane (ContainBlock a b)
+says_contain lane a b some whole low =
+    let small : a < 2 ^ 64 = omega (arith, whole, low) in
+    let few : b < 2 ^ 64 = omega (arith, low) in
+    let is_a = number_word a small in
+    let is_b = number_word b few in
+    by_word lane (with_word (codes "contain") (with_word (decimal a) (decimal b))) (codes "contain") (first_of (codes "contain") (with_word (decimal a) (decimal b)) contain_word)
+    ∙ by_rest ContainForm lane (with_word (codes "contain") (with_word (decimal a) (decimal b))) (with_word (decimal a) (decimal b))
+    (behind_of (codes "contain") (with_word (decimal a) (decimal b)) contain_word (word_begins (decimal a) (decimal b) is_a))
+    ∙ by_words ContainForm lane (with_word (decimal a) (decimal b)) (decimal a ∷ decimal b ∷ [])
+    (words_of (decimal a) (decimal b) is_a ∙ ap (λ (ws : List Text). decimal a ∷ ws) (words_alone (decimal b) is_b))
+    ∙ ap (λ (n : Option ℕ). said_with n (λ a. said_with (number 10000 (decimal b)) (λ b. said_if (nat_le a b) (Opens lane (ContainBlock a b))))) (number_within 10000 a (omega (arith, some)) (omega (arith, whole, low)) small)
+    ∙ ap (λ (n : Option ℕ). said_with n (λ b. said_if (nat_le a b) (Opens lane (ContainBlock a b)))) (number_within 10000 b (omega (arith, some, whole)) low few)
+    ∙ ap (λ (t : Bool). said_if t (Opens lane (ContainBlock a b))) (le-leb a b whole)
+
 says_file : (lane : ℕ) (name path : Text) → is_name name ≡ true → IsPath path → command_said lane (with_word (codes "loadfile") (with_word name path)) ≡ Fetches lane name path
 says_file lane name path h path_is =
     let is = name_word name h in
@@ -198,6 +217,7 @@ says_task limits lane path (Replace name body) is = says_replace lane name is.0
 says_task limits lane path Tables is = says_tables lane
 says_task limits lane path (Search k body) is = says_search lane k is.0.0 is.0.1
 says_task limits lane path (Like k name place) is = says_like lane k place name is.0.0 is.0.1 is.1 is.2.0 is.2.1
+says_task limits lane path (Contain a b body) is = says_contain lane a b is.0 is.1 is.2.0
 says_task limits lane path (Merge false) is = says_merge lane
 says_task limits lane path (Merge true) is = says_merge_all lane
 
@@ -216,6 +236,7 @@ begins_task path (Replace name body) = record { front = refl; other = ap (λ (w 
 begins_task path Tables = record { front = refl; other = ap (λ (w : Text). bytes_eq w (codes "sync")) (first_alone (codes "tables") tables_word) }
 begins_task path (Search k body) = record { front = refl; other = ap (λ (w : Text). bytes_eq w (codes "sync")) (first_of (codes "search") (decimal k) search_word) }
 begins_task path (Like k name place) = record { front = refl; other = ap (λ (w : Text). bytes_eq w (codes "sync")) (first_of (codes "like") (with_word (decimal k) (with_word name (decimal place))) like_word) }
+begins_task path (Contain a b body) = record { front = refl; other = ap (λ (w : Text). bytes_eq w (codes "sync")) (first_of (codes "contain") (with_word (decimal a) (decimal b)) contain_word) }
 begins_task path (Merge false) = record { front = refl; other = ap (λ (w : Text). bytes_eq w (codes "sync")) (first_alone (codes "merge") merge_word) }
 begins_task path (Merge true) = record { front = refl; other = ap (λ (w : Text). bytes_eq w (codes "sync")) (first_of (codes "merge") (codes "all") merge_word) }
 

@@ -6,7 +6,7 @@ use Rattle.std.specs.Str.{is_utf8}
 use Rattle.lake_model.specs.Tables.{is_name}
 use Rattle.lake_model.specs.Texts.{Text}
 use Rattle.script_model.specs.declared.Reason.TheVariants as reason
-use Rattle.script_model.specs.Saying.{DropForm, Form, LikeForm, LoadFileForm, LoadForm, ReplaceForm, SearchForm, SyncForm, TablesForm, Fetches, Said, Wrong, command_said, fetch_said, lane_said, like_said, of_form, said_if, says}
+use Rattle.script_model.specs.Saying.{ContainForm, DropForm, Form, LikeForm, LoadFileForm, LoadForm, ReplaceForm, SearchForm, SyncForm, TablesForm, Fetches, Said, Wrong, command_said, contain_said, fetch_said, lane_said, like_said, of_form, said_if, says}
 use Rattle.script_model.specs.Words.{before_spaces, behind_word, first_word, words}
 use Rattle.script_text.specs.Fronts.{IsNotOne, has_none}
 use Rattle.script_text.proofs.WordLemmas.{words_more, words_none, words_one, words_some}
@@ -158,6 +158,30 @@ like_by lane text behind behind_both k name place e f one g h =
 
 pub no_like_by : (lane : ℕ) (text behind behind_both : Text) → behind ≡ behind_word text → behind_both ≡ behind_word behind → IsNotOne (words behind_both) → says LikeForm lane (words text) text ≡ Wrong reason.Words
 no_like_by lane text behind behind_both e f h = no_like lane text (subst (λ (t : Text). IsNotOne (words t)) (f ∙ ap behind_word e) h)
+
+-- ---- `contain`
+
+two_contain : (lane : ℕ) (text a : Text) (ws : List Text) → IsNotOne ws → says ContainForm lane (a ∷ ws) text ≡ Wrong reason.Words
+two_contain lane text a [] h = refl
+two_contain lane text a (w ∷ []) h = absurd h
+two_contain lane text a (w ∷ v ∷ ws) h = refl
+
+-- Where no word or more than one stands behind the first, it is no `contain`.
+no_contain : (lane : ℕ) (text : Text) → IsNotOne (words (behind_word text)) → says ContainForm lane (words text) text ≡ Wrong reason.Words
+no_contain lane text h =
+    elim (cases_Bool (length (first_word text) == 0)) [
+      | inl t ↦ ap (λ (ws : List Text). says ContainForm lane ws text) (words_none text t)
+      | inr f ↦ ap (λ (ws : List Text). says ContainForm lane ws text) (words_some text f) ∙ two_contain lane text (first_word text) (words (behind_word text)) h
+    ]
+
+pub contain_by : (lane : ℕ) (text behind a b : Text) → behind ≡ behind_word text → words behind ≡ b ∷ [] → a ≡ first_word text → says ContainForm lane (words text) text ≡ contain_said lane a b
+contain_by lane text behind a b e one g =
+    let second : words (behind_word text) ≡ b ∷ [] = ap words (sym e) ∙ one in
+    ap (λ (ws : List Text). says ContainForm lane ws text) (words_more text (one_some b (words (behind_word text)) second) ∙ ap (λ (ws : List Text). first_word text ∷ ws) second)
+    ∙ ap (λ (w : Text). contain_said lane w b) (sym g)
+
+pub no_contain_by : (lane : ℕ) (text behind : Text) → behind ≡ behind_word text → IsNotOne (words behind) → says ContainForm lane (words text) text ≡ Wrong reason.Words
+no_contain_by lane text behind e h = no_contain lane text (subst (λ (t : Text). IsNotOne (words t)) e h)
 
 pub lane_in : (lanes lane : ℕ) (text : Text) → lane ≤ lanes → bytes_eq (first_word text) (codes "sync") ≡ false → lane_said lanes (Some lane) text ≡ command_said lane text
 lane_in lanes lane text h e =

@@ -8,7 +8,7 @@ use Rattle.script_text.specs.Readings.{body_size}
 use Rattle.script_text.specs.declared.front.Form.{Form}
 use Rattle.script_text.specs.declared.front.Form.TheVariants as form
 use Rattle.script_text.specs.declared.front.Front.{Front}
-use Rattle.script_text.specs.declared.front.Front.TheVariants.{Load, Replace, Search}
+use Rattle.script_text.specs.declared.front.Front.TheVariants.{Load, Replace, Search, Contain}
 use Rattle.script_text.specs.declared.front.Said.{Said}
 use Rattle.script_text.specs.declared.front.Said.TheVariants.{Nothing, Sync, Opens, Does, Fetches}
 
@@ -30,6 +30,7 @@ form_of form.Replace = model.ReplaceForm
 form_of form.Tables = model.TablesForm
 form_of form.Search = model.SearchForm
 form_of form.Like = model.LikeForm
+form_of form.Contain = model.ContainForm
 form_of form.Merge = model.MergeForm
 form_of form.Sync = model.SyncForm
 
@@ -37,12 +38,14 @@ abbrev pub front_of : Front → model.Front
 front_of (Load name) = model.LoadBlock name
 front_of (Replace name) = model.ReplaceBlock name
 front_of (Search k) = model.SearchBlock k
+front_of (Contain a b) = model.ContainBlock a b
 
--- a search asks for 1 to 10,000 columns
+-- a search asks for 1 to 10,000 columns, and a fraction is at most 1
 abbrev pub IsFrontInRange : Front → Type 0
 IsFrontInRange (Load name) = ⊤
 IsFrontInRange (Replace name) = ⊤
 IsFrontInRange (Search k) = (1 ≤ k) × (k ≤ 10000)
+IsFrontInRange (Contain a b) = (1 ≤ a) × (a ≤ b) × (b ≤ 10000)
 
 abbrev pub said_of : Said → model.Said
 said_of Nothing = model.Nothing

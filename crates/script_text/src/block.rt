@@ -111,6 +111,7 @@ impl OpenBlock {
             Front::Load { name } => Task::Load { name, body },
             Front::Replace { name } => Task::Replace { name, body },
             Front::Search { k } => Task::Search { k, body },
+            Front::Contain { a, b } => Task::Contain { a, b, body },
         }
     }
 }

@@ -1,7 +1,7 @@
 //! What a line outside a block says.
 ghost use Rattle.std.specs.Prelude.{ℕ, ◌<◌, ◌≡◌, ◌≤◌, IfOk, bytes_eq, find, option_map};
 ghost use Rattle.script_model.specs.Saying as model;
-ghost use Rattle.script_model.specs.Saying.{command_said, forms, lane_said, like_said, said, says};
+ghost use Rattle.script_model.specs.Saying.{command_said, contain_said, forms, lane_said, like_said, said, says};
 ghost use Rattle.script_model.specs.Words.{number_of, words};
 ghost use Rattle.script_text.specs.Fronts.{IsSaidInRange, Says, form_of};
 
@@ -16,6 +16,9 @@ use std::str;
 /// The greatest `k` that a search may ask for.
 const MOST_ROWS: u32 = 10000;
 
+/// The most parts that a fraction may count.
+const MOST_PARTS: u32 = 10000;
+
 /// The greatest place of a column.
 const MOST_PLACE: u32 = u32::MAX;
 
@@ -29,6 +32,7 @@ pub(crate) enum Form {
     Tables,
     Search,
     Like,
+    Contain,
     Merge,
     Sync,
 }
@@ -39,6 +43,7 @@ pub(crate) enum Front {
     Load { name: Name },
     Replace { name: Name },
     Search { k: u32 },
+    Contain { a: u32, b: u32 },
 }
 
 /// What a line says.
@@ -135,6 +140,9 @@ fn read_form(word: &[u8]) -> Option<Form>
     if b"like".as_slice() == word {
         return Some(Form::Like);
     }
+    if b"contain".as_slice() == word {
+        return Some(Form::Contain);
+    }
     if b"merge".as_slice() == word {
         return Some(Form::Merge);
     }
@@ -158,6 +166,7 @@ fn says(form: Form, lane: u32, text: &[u8]) -> Result<Said<'_>, Reason>
         Form::Tables => tables_said(lane, text),
         Form::Search => search_said(lane, text),
         Form::Like => like_said(lane, text),
+        Form::Contain => contain_said(lane, text),
         Form::Merge => merge_said(lane, text),
         Form::Sync => sync_said(text),
     }
@@ -300,6 +309,39 @@ fn read_like(lane: u32, k: &[u8], name: &[u8], place: &[u8]) -> Result<Said<'sta
     Ok(Said::Does {
         lane,
         task: Task::Like { k, name, place },
+    })
+}
+
+// `contain A B`.
+fn contain_said(lane: u32, text: &[u8]) -> Result<Said<'_>, Reason>
+    requires { 0 < lane }
+    ensures said { Says (says model.ContainForm lane (words text.now) text.now) result }
+    ensures in_range { IfOk result (λ said. (lanes : ℕ) → lane ≤ lanes → IsSaidInRange lanes said) }
+{
+    let Some(b) = only_word(behind_word(text)) else {
+        return Err(Reason::Words);
+    };
+    read_contain(lane, first_word(text), b)
+}
+
+// A search for the columns that hold at least `a` of `b` parts of the lines of the block.
+fn read_contain(lane: u32, a: &[u8], b: &[u8]) -> Result<Said<'static>, Reason>
+    requires { 0 < lane }
+    ensures said { Says (contain_said lane a.now b.now) result }
+    ensures in_range { IfOk result (λ said. (lanes : ℕ) → lane ≤ lanes → IsSaidInRange lanes said) }
+{
+    let Some(a) = read_number(a, MOST_PARTS) else {
+        return Err(Reason::Words);
+    };
+    let Some(b) = read_number(b, MOST_PARTS) else {
+        return Err(Reason::Words);
+    };
+    if a > b {
+        return Err(Reason::Words);
+    }
+    Ok(Said::Opens {
+        lane,
+        front: Front::Contain { a, b },
     })
 }
 

@@ -48,6 +48,10 @@ fn push_task(text: &mut String, task: &Task) -> Result<(), AllocError> {
             let name = name.text();
             write!(text, "like {k} {name} {place};")
         }
+        Task::Contain { a, b, body } => {
+            let body = str::from_utf8(body.bytes()).unwrap_or("?");
+            write!(text, "contain {a} {b} {body:?};")
+        }
         Task::Merge { all: false } => text.push_str("merge;"),
         Task::Merge { all: true } => text.push_str("merge all;"),
     }
