@@ -160,7 +160,8 @@ def quoted(title):
     return "".join(signs.get(sign, sign) for sign in title)
 
 
-def answer(at, most, query, excepted):
+def shared_rows(at, query, excepted):
+    """A row for each column that shares a key with the query, in the order of an answer: its overlap with a minus, table, title and place."""
     found = []
     for name, columns in at.tables:
         if name == excepted:
@@ -169,17 +170,35 @@ def answer(at, most, query, excepted):
             shared = len(query.intersection(keys))
             if shared:
                 found.append((-shared, name.encode(), title.encode(), place))
-    found = sorted(found)[:most]
+    return sorted(found)
+
+
+def answered(at, query, found, work):
+    """The reply of these rows and this work."""
     rows = [f"  {-less} {name.decode()} {place} \"{quoted(title.decode())}\"" for less, name, title, place in found]
-    reads, probes = plain_search.work(at.parts, query, most, excepted)
+    reads, probes = work
     return [f"answer {len(found)} of {len(query)} at {at.position}"] + rows + [f"  work reads {reads} probes {probes}", layout(at)]
 
 
+def answer(at, most, query, excepted):
+    return answered(at, query, shared_rows(at, query, excepted)[:most], plain_search.work(at.parts, query, most, excepted))
+
+
+def query_fault(lines):
+    """The reply to lines of which one is not UTF-8, or None."""
+    return next(([f"refused query line {number} not UTF-8"] for number, text in enumerate(lines, 1) if NOT_UTF8 in text), None)
+
+
 def search(at, most, lines):
-    for number, text in enumerate(lines, 1):
-        if NOT_UTF8 in text:
-            return [f"refused query line {number} not UTF-8"]
-    return answer(at, most, set(set_of(lines)), None)
+    return query_fault(lines) or answer(at, most, set(set_of(lines)), None)
+
+
+def contain(at, part, whole, lines):
+    """All columns that hold at least `part` of `whole` parts of the lines' values."""
+    query = set(set_of(lines))
+    least = max(1, -(-part * len(query) // whole))
+    found = [row for row in shared_rows(at, query, None) if -row[0] >= least]
+    return query_fault(lines) or answered(at, query, found, plain_search.contain_work(at.parts, query, least))
 
 
 def like(at, most, name, place):

@@ -108,3 +108,18 @@ def work(parts, query, most, excepted):
         else:
             known += [row(len(column.lists), column) for column in columns if column.lists and column not in probed]
     return reads, probes
+
+
+def contain_work(parts, query, least):
+    """How many lists a search for all columns that hold at least this many keys reads, and how many sets it probes."""
+    reads, probes = 0, 0
+    for part in parts:
+        lengths, columns = met(part, query, None)
+        read = max(0, len(lengths) - least + 1)
+        reads += read
+        for column in columns:
+            count = bisect_left(column.lists, read)
+            if count:
+                bound = count + min(len(lengths) - read, column.size - 1 - column.positions[count - 1])
+                probes += bound >= least and bound > count
+    return reads, probes

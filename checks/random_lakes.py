@@ -3,7 +3,7 @@
 
     checks/random_lakes.py [JOSIE]
 
-The seeds are fixed, so the scripts are always the same. They load from blocks and from files, drop, replace, list, merge, and search by values and by
+The seeds are fixed, so the scripts are always the same. They load from blocks and from files, drop, replace, list, merge, ask which columns contain a part of some values, and search by values and by
 columns over a few names and values, in batches: names that are taken or unknown, files and places that do not exist, tables with two columns of one name, fields
 without a value, values that differ only by case and by the white space around them, quoted fields, lines with a carriage return or a further dot, tables without a
 header or with a record of another length, fields and lines that are not UTF-8, words of lanes, and further spaces between words. The model is
@@ -148,6 +148,13 @@ class Script:
         block = [self.value() for _ in range(chance.randint(0, 7))]
         self.command(f"search {most}", plain_lake.search(self.lake, most, block), block)
 
+    def contain(self):
+        chance = self.chance
+        whole = chance.choice([1, 2, 3, 10, 10000])
+        part = chance.randint(1, whole)
+        block = [self.value() for _ in range(chance.randint(0, 7))]
+        self.command(f"contain {part} {whole}", plain_lake.contain(self.lake, part, whole, block), block)
+
     def ask(self, searches):
         """These searches, one after another."""
         for most, block in searches:
@@ -177,8 +184,10 @@ class Script:
             self.merge()
         elif pick < 0.13:
             self.command("tables", plain_lake.list_tables(self.lake))
-        elif pick < 0.30:
+        elif pick < 0.24:
             self.search()
+        elif pick < 0.30:
+            self.contain()
         elif pick < 0.42:
             self.like()
         elif pick < 0.52:

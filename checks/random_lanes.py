@@ -80,7 +80,7 @@ def placed(command, lines):
     at = re.search(r" at (\d+)$", lines[0])
     at = int(at[1]) if at else None
     pinned = None
-    if command.words.startswith(("search", "like", "merge")) and at is not None:
+    if command.words.startswith(("search", "like", "contain", "merge")) and at is not None:
         planned = re.search(r"^  layout at (\d+) ", lines[-1])
         pinned = int(planned[1]) if planned else at
     return Reply(command, lines, pinned, at, lines[0].startswith(("loaded ", "dropped ", "replaced ", "merged ")))
@@ -101,6 +101,8 @@ def made_again(command, pinned, now):
         return plain_lake.list_tables(now), now, None
     if kind == "search":
         return plain_lake.search(pinned, int(more[0]), command.block), now, None
+    if kind == "contain":
+        return plain_lake.contain(pinned, int(more[0]), int(more[1]), command.block), now, None
     return plain_lake.like(pinned, int(more[0]), more[1], int(more[2])), now, None
 
 
@@ -159,7 +161,7 @@ def check_positions(replies, ends):
 def steps_of(reply):
     """The steps of a command, each as the length of the journal before it, and whether it makes an entry; None if the reply does not show it."""
     last = (reply.at - reply.is_entry if reply.at is not None else None, reply.is_entry)
-    if not reply.command.words.startswith(("search", "like", "merge")):
+    if not reply.command.words.startswith(("search", "like", "contain", "merge")):
         return [last]
     if reply.command.words.startswith("merge") and not reply.lines[0].startswith("refused nothing"):
         return [(reply.pinned, False), last]

@@ -6,7 +6,7 @@
 The first part: random scripts of loads, drops, replaces, lists, searches and merges on one to five lanes, with a merger and without, each in a random order
 (pieces with too few and too many steps, and lanes that have none left) and lane by lane. The second: one script of three lanes, a search and a list, a
 load and a drop, and a merge of the whole layout, in every order of its seven steps. What josie writes, mostly with a trace, is the model's, byte for
-byte. The model is a list of versions (`plain_lake.py`): a load, a drop, a replace and a list take one step, a search and a merge two, of which the first takes
+byte. The model is a list of versions (`plain_lake.py`): a load, a drop, a replace and a list take one step, a search, a contain and a merge two, of which the first takes
 the version that they are answered at. The seeds are fixed. It prints one line, and ends with 0 if everything is as the model says.
 """
 import itertools
@@ -32,8 +32,10 @@ def random_command(chance):
         return f"replace {chance.choice(NAMES)}", ["c"] + chance.sample(VALUES, chance.randint(1, 3))
     if pick < 0.6:
         return "tables", None
-    if pick < 0.75:
+    if pick < 0.71:
         return f"search {chance.choice([1, 2, 9])}", chance.sample(VALUES, chance.randint(1, 4))
+    if pick < 0.75:
+        return f"contain {chance.randint(1, 2)} {chance.randint(2, 4)}", chance.sample(VALUES, chance.randint(1, 4))
     if pick < 0.82:
         return f"like {chance.choice([1, 9])} {chance.choice(NAMES)} {chance.randint(1, 2)}", None
     return chance.choice(["merge", "merge", "merge all"]), None
@@ -62,7 +64,7 @@ def step(lane, play):
     number, words, block = todo[0]
     kind, *more = words.split(" ")
     at = play["lake"]
-    if kind in ("search", "like", "merge") and lane not in pins:
+    if kind in ("search", "like", "contain", "merge") and lane not in pins:
         pins[lane] = at
         return
     todo.pop(0)
@@ -80,6 +82,8 @@ def step(lane, play):
         reply = plain_lake.list_tables(at)
     elif kind == "search":
         reply = plain_lake.search(pinned, int(more[0]), block)
+    elif kind == "contain":
+        reply = plain_lake.contain(pinned, int(more[0]), int(more[1]), block)
     else:
         reply = plain_lake.like(pinned, int(more[0]), more[1], int(more[2]))
     play["lake"] = at

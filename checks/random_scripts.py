@@ -19,7 +19,7 @@ from check import Wrong, main
 
 WORDS, LANE, UNKNOWN, NO_END, LONG = "bad words", "no such lane", "no such command", "block without end", "line too long"
 TEMPLATES = [
-    b"load t", b"loadfile t x.csv", b"drop t", b"replace t", b"tables", b"search 5", b"like 5 t 1", b"merge", b"merge all", b"sync", b"@1 tables", b"# note", b"  tables  ",
+    b"load t", b"loadfile t x.csv", b"drop t", b"replace t", b"tables", b"search 5", b"like 5 t 1", b"contain 1 2", b"merge", b"merge all", b"sync", b"@1 tables", b"# note", b"  tables  ",
 ]
 NAME_BYTES = set(range(0x21, 0x7F))
 
@@ -55,7 +55,7 @@ def says(text):
             raise ValueError
         if lane > 1:
             raise Fault(LANE)
-    if not words or words[0] not in (b"load", b"loadfile", b"drop", b"replace", b"tables", b"search", b"like", b"merge", b"sync"):
+    if not words or words[0] not in (b"load", b"loadfile", b"drop", b"replace", b"tables", b"search", b"like", b"contain", b"merge", b"sync"):
         raise Fault(UNKNOWN)
     kind, more = words[0], words[1:]
     if kind == b"loadfile":
@@ -69,13 +69,18 @@ def says(text):
         if more not in ([], [b"all"]):
             raise ValueError
         return kind, ()
-    wanted = {b"load": 1, b"drop": 1, b"replace": 1, b"tables": 0, b"search": 1, b"like": 3, b"sync": 0}[kind]
+    wanted = {b"load": 1, b"drop": 1, b"replace": 1, b"tables": 0, b"search": 1, b"like": 3, b"contain": 2, b"sync": 0}[kind]
     if len(more) != wanted:
         raise ValueError
     if kind in (b"load", b"drop", b"replace"):
         return kind, (name(more[0]),)
     if kind == b"search":
         return kind, (number(more[0], 10000),)
+    if kind == b"contain":
+        part, whole = number(more[0], 10000), number(more[1], 10000)
+        if part > whole:
+            raise ValueError
+        return kind, (part, whole)
     if kind == b"like":
         return kind, (number(more[0], 10000), name(more[1]), number(more[2], 4294967295))
     return kind, ()
@@ -123,7 +128,7 @@ def model(script):
                 done, batch = done + batch, []
                 continue
             body = []
-            if kind in (b"load", b"replace", b"search"):
+            if kind in (b"load", b"replace", b"search", b"contain"):
                 opened = at
                 while True:
                     if at == len(lines):
@@ -171,7 +176,7 @@ def random_line(chance):
     """One line, or a command with its block."""
     pick = chance.random()
     if pick < 0.25:
-        return [b"search %d" % chance.randint(1, 10000)] + block(chance)
+        return [chance.choice([b"search %d" % chance.randint(1, 10000), b"contain %d %d" % (chance.randint(1, 50), chance.randint(50, 10000))])] + block(chance)
     if pick < 0.3:
         return [chance.choice([b"load t", b"replace t"]), chance.choice([b".", b".\r"])]
     if pick < 0.9:
@@ -179,7 +184,7 @@ def random_line(chance):
         return [line + chance.choice([b"", b"", b"\r"])]
     return [chance.choice([
         b"@0 tables", b"@01 tables", b"@2 tables", b"@", b"@ tables", b"@1 sync", b"@1", b"@99999999999999999999 tables", b"find 3", b"Tables", b"tables x",
-        b"search 0", b"search 01", b"search 10001", b"like 1 a 0", b"like 1 a 4294967296", b"drop", b"drop \xc3\xa9", b"replace", b"replace a b", b"replaced a", b"load " + b"n" * 256,
+        b"search 0", b"search 01", b"search 10001", b"contain 2 1", b"contain 0 1", b"contain 1", b"contain 1 10001", b"contain 1 2 3", b"like 1 a 0", b"like 1 a 4294967296", b"drop", b"drop \xc3\xa9", b"replace", b"replace a b", b"replaced a", b"load " + b"n" * 256,
         b"loadfile a", b"loadfile a \xff", b"merge al", b"merge all all", b"merges", b" # x", b"\rtables", b"tables\r\r", b"." , b"x" * 4097, b"#" * 4097, b" " * 4097,
     ])]
 

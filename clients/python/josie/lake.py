@@ -10,7 +10,7 @@ from dataclasses import dataclass
 from types import TracebackType
 from typing import Any, Protocol, TypeAlias
 
-from .errors import ColumnUnknown, FolderEmpty, JosieError, NameInvalid, Refused, TableUnknown, TooLong, ValueInvalid
+from .errors import ColumnUnknown, CountInvalid, FolderEmpty, JosieError, NameInvalid, Refused, TableUnknown, TooLong, ValueInvalid
 from .findings import Findings, checked_k, cuts, found
 from .names import checked, table_name
 from .profiles import HEADER_BYTES, Profile, header, profile
@@ -135,6 +135,16 @@ class Lake:
         Raises `CountInvalid`, `ValueInvalid` or `TooLong` before anything is sent.
         """
         answer: Answer = self._ask(_search_command(_query_block(values), k))
+        return answer
+
+    def contain(self, values: Iterable[str], part: int = 1, whole: int = 1) -> Answer:
+        """All columns that hold at least `part` of `whole` parts of these distinct values, and one value at least: with 9 and 10, nine of ten.
+
+        Raises `CountInvalid` if `part` is not 1 to `whole`, or `whole` not 1 to 10,000, and `ValueInvalid` or `TooLong`, before anything is sent.
+        """
+        if not 1 <= part <= whole <= 10_000:
+            raise CountInvalid(f"{part} of {whole} is no fraction of 1 to 10,000 parts")
+        answer: Answer = self._ask(b"contain %d %d\n" % (part, whole) + _query_block(values))
         return answer
 
     def like(self, table: str, column: int | str, k: int = 10) -> Answer:

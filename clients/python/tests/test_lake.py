@@ -42,6 +42,8 @@ class Calls(InALake):
         self.assertEqual(self.lake.search(["oslo", "rome"], k=1).matches, (Match(2, "stations", 2, "city"),))
         self.assertEqual(self.lake.like("stations", "city"), self.lake.like("stations", 2))
         self.assertEqual(list(self.lake.like("stations", "city")), [Match(2, "rivers", 2, "mouth")])
+        self.assertEqual(list(self.lake.contain(["oslo", "rome", "lima", "bern"], 3, 4)), [Match(3, "stations", 2, "city")])
+        self.assertEqual(list(self.lake.contain(["oslo", "rome"])), [Match(2, "rivers", 2, "mouth"), Match(2, "stations", 2, "city")])
         self.assertEqual(self.lake.merge(), Merged(2, 2, 3))
         self.assertIsNone(self.lake.merge())
         self.assertIsNone(self.lake.merge(whole=False))
@@ -111,6 +113,7 @@ class Refusals(InALake):
             (josie.TableUnknown, lambda: self.lake.replace("rivers", RIVERS)),
             (josie.TableRefused, lambda: self.lake.replace("stations", b"a,b\n1\n")),
             (josie.TableUnknown, lambda: self.lake.like("rivers", 1)),
+            (josie.CountInvalid, lambda: self.lake.contain(["Oslo"], 2, 1)),
             (josie.ColumnUnknown, lambda: self.lake.like("stations", 4)),
             (josie.ColumnUnknown, lambda: self.lake.like("stations", "town")),
             (josie.TableUnknown, lambda: self.lake.like("rivers", "mouth")),

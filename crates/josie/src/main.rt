@@ -25,6 +25,8 @@ const HELP: &str = "josie run [--lanes N] [--order LIST] [--merge] [--trace]
                         that follow, up to a line `.`
     like K NAME PLACE   finds the K columns that share the most values with the column at this place
                         of a live table, whose own columns are left out
+    contain A B         finds all columns that hold at least A of B parts of the lines that follow, up
+                        to a line `.`
     merge               merges four adjacent parts of the index of one size, or else rewrites a part
                         half of whose tables were dropped or replaced
     merge all           merges the whole index into one part; no merge changes an answer
