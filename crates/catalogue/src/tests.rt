@@ -383,7 +383,7 @@ fn the_second_of_two_swaps_is_stale(rt: HostRuntime) -> Result<(), Fail> {
 fn a_shared_drop_is_the_drop(rt: HostRuntime) -> Result<(), Fail> {
     let entry = Entry::dropped(SECOND, name("a")?).share()?;
     match &entry.what {
-        What::Loaded(_) | What::Swapped { .. } => Err(Fail::from("no drop")),
+        What::Loaded(_) | What::Replaced(_) | What::Swapped { .. } => Err(Fail::from("no drop")),
         What::Dropped(name) => {
             assert!(rt; name.text() == "a");
             Ok(())
