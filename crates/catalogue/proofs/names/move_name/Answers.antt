@@ -14,5 +14,5 @@ pub returns : goal.returns
 returns c q =
     let is : get_by_text c.args.positions.now c.text.result.now ≡ Some c.in-Some.position.now = sym c.in-Some.ensures.value in
     let some : is_some (get_by_text c.args.positions.now c.text.result.now) ≡ true = ap (λ (o : Option ℕ). is_some o) is in
-    btree_map_updates_text c.text.result.now c.args.positions.now _ _ ((c.get_mut.follows.holds c.args.at).3 some) q
+    btree_map_updates_text c.text.result.now c.args.positions.now (c.get_mut.follows.lender c.args.at) (Some c.args.at) ((c.get_mut.follows.holds c.args.at).3 some) q
     ∙ ap (λ (n : List ℕ). cond (bytes_eq n q) (Some c.args.at) (get_by_text c.args.positions.now q)) c.text.ensures
