@@ -25,7 +25,7 @@ use Rattle.catalogue.proofs.PlaceLemmas.{places_of, unmarked, HasPlaces, name_sa
 use Rattle.catalogue.proofs.KeptLemmas.{counts_with, is_legal_behind-push, merging-push}
 use Rattle.layout_laws.proofs.LiveLemmas.{places_marked, positions_dropped as marked_positions}
 
-filled_mark : (name : Text) (parts : List Part) → AllByRecursion HasPlaces parts → AllByRecursion HasPlaces (map (mark name) parts)
+pub filled_mark : (name : Text) (parts : List Part) → AllByRecursion HasPlaces parts → AllByRecursion HasPlaces (map (mark name) parts)
 filled_mark name [] h = tt
 filled_mark name (part ∷ parts) h = (subst (λ (n : ℕ). 0 < n) (sym (length-map part.places (mark_place name))) h.0, filled_mark name parts h.1)
 
@@ -68,7 +68,7 @@ load_mark name q (place ∷ places) =
     ∙ mark_step place.marked (has_name name place.table) (has_name q place.table) (bytes_eq name q) (load_in q places) (load_in q (map (mark_place name) places)) place.position (load_mark name q places) h g
     ∙ ap (cond (bytes_eq name q) None) (sym (load_step q place places))
 
-load_drop : (name q : Text) (parts : List Part) → load_of (map (mark name) parts) q ≡ cond (bytes_eq name q) None (load_of parts q)
+pub load_drop : (name q : Text) (parts : List Part) → load_of (map (mark name) parts) q ≡ cond (bytes_eq name q) None (load_of parts q)
 load_drop name q parts = ap (load_in q) (places_marked name parts) ∙ load_mark name q (places_of parts)
 
 -- one table less
@@ -88,7 +88,7 @@ pub one_less : (name : Text) (tables : List Table) → AreDistinct (map (λ tabl
 one_less name [] h k = cc
 one_less name (table ∷ tables) h k = one_by name table tables (filter (λ t. not (has_name name t)) tables) (has_name name table) refl refl h.0 (one_less name tables h.1) k
 
-either_none : {X : Type 0} (b : Bool) (o : Option X) (x : X) → cond b o (Some x) ≡ None → (b ≡ true) × (o ≡ None)
+pub either_none : {X : Type 0} (b : Bool) (o : Option X) (x : X) → cond b o (Some x) ≡ None → (b ≡ true) × (o ≡ None)
 either_none true o x h = (refl, h)
 either_none false o x h = cc
 

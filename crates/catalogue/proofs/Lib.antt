@@ -1,8 +1,10 @@
 pub mod ListLemmas
 pub mod PlaceLemmas
 pub mod KeptLemmas
+pub mod PutLemmas
 pub mod LoadLemmas
 pub mod DropLemmas
+pub mod ReplaceLemmas
 pub mod KeySegment
 pub mod ThereLemmas
 pub mod MarksLemmas

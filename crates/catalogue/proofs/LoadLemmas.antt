@@ -13,6 +13,7 @@ use Rattle.lake_model.specs.Journal.{Entry, Loaded, is_live, live, counts, loads
 use Rattle.lake_model.specs.Layout.{Place, Part, layout, positions_of, unmarked_of}
 use Rattle.lake_model.specs.Limits.{Bounded, is_passed, load_bounds}
 use Rattle.lake_model.proofs.LayoutLemmas.{live_more, layout_more, searchable-load}
+use Rattle.layout_laws.proofs.LiveLemmas.{lacks_names}
 use Rattle.segment_core.specs.Distinct.{AreDistinct, Lacks, unmarked_names}
 use Rattle.segment_core.specs.Versions.{VersionOf, live_of, version_with, part_with, place_with, places_with}
 use Rattle.catalogue.specs.declared.refusal.LoadRefused.TheVariants.{Full}
@@ -22,46 +23,8 @@ use Rattle.catalogue.specs.Refusals.{load_refusal}
 use Rattle.list_laws.proofs.ListLemmas.{all_append, all_weaker, filter-append, find_none}
 use Rattle.catalogue.proofs.ListLemmas.{le_from, distinct_push, rises_push, open_by, map_none, find_push, none_from}
 use Rattle.catalogue.proofs.PlaceLemmas.{places_of, unmarked, HasPlaces, names_append, name_same, name_is, names_in}
-use Rattle.catalogue.proofs.KeptLemmas.{counts_with, is_legal_behind-push, merging-push, parts_kept, named_kept, names_kept, names_differ, positions_differ}
-
--- the part of one load
-abbrev pub loaded_part : ℕ → Table → Part
-loaded_part at table = part_with at (place_with at table false ∷ [])
-
-abbrev lone_place : ℕ → Table → Place
-lone_place at table = place_with at table false
-
-places_push : (parts : List Part) (at : ℕ) (table : Table) → places_of (parts ++ loaded_part at table ∷ []) ≡ places_of parts ++ lone_place at table ∷ []
-places_push parts at table = flat_map-append (λ (part : Part). part.places) parts (loaded_part at table ∷ [])
-
-positions_push : (parts : List Part) (at : ℕ) (table : Table) → positions_of (parts ++ loaded_part at table ∷ []) ≡ positions_of parts ++ at ∷ []
-positions_push parts at table = ap (map (λ (place : Place). place.position)) (places_push parts at table) ∙ map-append (λ (place : Place). place.position) (places_of parts) (lone_place at table ∷ [])
-
-names_push : (parts : List Part) (at : ℕ) (table : Table) → unmarked_names (parts ++ loaded_part at table ∷ []) ≡ unmarked_names parts ++ table.name ∷ []
-names_push parts at table = ap (λ (places : List Place). names_in places) (places_push parts at table) ∙ names_append (places_of parts) (lone_place at table ∷ [])
-
-unmarked_push : (parts : List Part) (at : ℕ) (table : Table) → unmarked_of (parts ++ loaded_part at table ∷ []) ≡ unmarked_of parts ++ lone_place at table ∷ []
-unmarked_push parts at table = ap (λ (places : List Place). unmarked places) (places_push parts at table) ∙ filter-append (λ (place : Place). not place.marked) (places_of parts) (lone_place at table ∷ [])
-
-map_cond : (b : Bool) (place : Place) (rest : Option Place) → option_map (λ (p : Place). p.position) (cond b (Some place) rest) ≡ cond b (Some place.position) (option_map (λ (p : Place). p.position) rest)
-map_cond true place rest = refl
-map_cond false place rest = refl
-
-load_push : (parts : List Part) (at : ℕ) (table : Table) (q : Text) → (has_name q table ≡ true → load_of parts q ≡ None) → load_of (parts ++ loaded_part at table ∷ []) q ≡ cond (has_name q table) (Some at) (load_of parts q)
-load_push parts at table q h =
-    ap (λ (places : List Place). option_map (λ (p : Place). p.position) (find (is_of q) places)) (unmarked_push parts at table)
-    ∙ ap (option_map (λ (p : Place). p.position)) (find_push (is_of q) (unmarked_of parts) (lone_place at table) (λ e. map_none (λ (p : Place). p.position) (find (is_of q) (unmarked_of parts)) (h e)))
-    ∙ map_cond (has_name q table) (lone_place at table) (find (is_of q) (unmarked_of parts))
-
-apart : (a b : Bool) → (a || b) ≡ false → (a ≡ false) × (b ≡ false)
-apart true b h = cc
-apart false b h = (refl, h)
-
-lacks_names : (tables : List Table) (name : Text) → list_any (has_name name) tables ≡ false → Lacks (map (λ table. table.name) tables) name
-lacks_names [] name h = tt
-lacks_names (table ∷ tables) name h =
-    let p = apart (has_name name table) (list_any (has_name name) tables) h in
-    ((λ (e : table.name ≡ name). let f : true ≡ false = sym (name_is table.name name e) ∙ p.0 in cc), lacks_names tables name p.1)
+use Rattle.catalogue.proofs.KeptLemmas.{counts_with, is_legal_behind-push, merging-push, named_kept, names_kept, names_differ}
+use Rattle.catalogue.proofs.PutLemmas.{Fits, few_by, fits_by, load_push, loaded_part, names_push, positions_push, put_bytes, put_differ, put_members, put_past, put_positions, put_rise}
 
 module _ (limits : Counts) (journal : List Entry) (version : VersionOf) (counted : Counts) (position : Text → Option ℕ) (kept : IsKept limits journal version counted position)
     (table : Table) (accepted : load_refusal limits table journal ≡ None) where
@@ -79,32 +42,36 @@ module _ (limits : Counts) (journal : List Entry) (version : VersionOf) (counted
       by true h = sym (kept.placed q ∙ loads_none q h)
       by false h = refl
 
+  bounded : AllByRecursion (λ b. is_passed b ≡ false) (load_bounds limits table (counts journal))
+  bounded = find_none is_passed (load_bounds limits table (counts journal)) (map_none _ _ opened.1)
+
+  fitting : Fits limits counted table
+  fitting = fits_by limits journal version counted position kept table bounded.1
+
   pub fits : IsWithin limits (counts_with (counted.live + 1) (counted.updates + 1) (counted.members + members table) (counted.key_bytes + key_bytes table))
   fits =
-      let n = find_none is_passed (load_bounds limits table (counts journal)) (map_none _ _ opened.1) in
       record {
-        live = omega (arith, le_from _ _ n.0, ap (λ (c : Counts). c.live) kept.count);
-        updates = omega (arith, le_from _ _ n.1.0, ap (λ (c : Counts). c.updates) kept.count);
-        members = omega (arith, le_from _ _ n.1.1.0, ap (λ (c : Counts). c.members) kept.count);
-        key_bytes = omega (arith, le_from _ _ n.1.1.1.0, ap (λ (c : Counts). c.key_bytes) kept.count);
+        live = omega (arith, le_from _ _ bounded.0, ap (λ (c : Counts). c.live) kept.count);
+        updates = fitting.updates;
+        members = fitting.members;
+        key_bytes = fitting.key_bytes;
       }
 
   abbrev pub grown : List Part
   grown = layout journal ++ loaded_part (length journal + 1) table ∷ []
 
-  rising_more : AllByRecursion (λ n. n < length journal + 1) (positions_of (layout journal))
-  rising_more = all_weaker (λ n. n ≤ length journal) (λ n. n < length journal + 1) (positions_of (layout journal)) (λ n le. omega arith) kept.past
+  -- the positions behind the load
+  pushed : positions_of grown ≡ put_positions journal
+  pushed = positions_push (layout journal) (length journal + 1) table
 
   grown_lacks : Lacks (unmarked_names (layout journal)) table.name
   grown_lacks = subst (λ (names : List Text). Lacks names table.name) (sym (names_kept limits journal version counted position kept)) (lacks_names (live journal) table.name opened.0)
 
   pub few_more : length version.parts + 1 < 2 ^ 32
-  few_more = omega (arith, ap (λ (ps : List Part). length ps) (parts_kept limits journal version counted position kept), kept.few, fits.updates, kept.narrow, ap (λ (c : Counts). c.updates) kept.count)
+  few_more = few_by limits journal version counted position kept table fitting
 
   pub positions_more : AreDistinct (positions_of grown)
-  positions_more =
-      subst AreDistinct (sym (positions_push (layout journal) (length journal + 1) table)) (distinct_push (positions_of (layout journal)) (length journal + 1) (positions_differ limits journal version counted position kept)
-      (all_weaker (λ n. n ≤ length journal) (λ n. n ≡ length journal + 1 → ⊥) (positions_of (layout journal)) (λ n le e. omega arith) kept.past))
+  positions_more = subst AreDistinct (sym pushed) (put_differ limits journal version counted position kept)
 
   pub names_more : AreDistinct (unmarked_names grown)
   names_more = subst AreDistinct (sym (names_push (layout journal) (length journal + 1) table)) (distinct_push (unmarked_names (layout journal)) table.name (names_differ limits journal version counted position kept) grown_lacks)
@@ -133,11 +100,8 @@ module _ (limits : Counts) (journal : List Entry) (version : VersionOf) (counted
     count_updates : counted.updates + 1 ≡ count_by (λ (e : Entry). is_update e.what) longer
     count_updates = ap (λ (c : Counts). c.updates + 1) kept.count ∙ sym (sum_by_push _ journal (entry_with who (Loaded table)))
 
-    count_members : counted.members + members table ≡ sum_by members (loads_of longer)
-    count_members = ap (λ (c : Counts). c.members + members table) kept.count ∙ sym (sum_by_push members (loads_of journal) table) ∙ ap (sum_by members) (sym loads)
-
-    count_bytes : counted.key_bytes + key_bytes table ≡ sum_by key_bytes (loads_of longer)
-    count_bytes = ap (λ (c : Counts). c.key_bytes + key_bytes table) kept.count ∙ sym (sum_by_push key_bytes (loads_of journal) table) ∙ ap (sum_by key_bytes) (sym loads)
+    positions_longer : positions_of (layout longer) ≡ put_positions journal
+    positions_longer = ap (λ (parts : List Part). positions_of parts) laid ∙ pushed
 
     names_longer : AreDistinct (map (λ table. table.name) (live longer))
     names_longer =
@@ -148,7 +112,7 @@ module _ (limits : Counts) (journal : List Entry) (version : VersionOf) (counted
         → IsKept limits longer (version_with (length journal + 1) grown) (counts_with (counted.live + 1) (counted.updates + 1) (counted.members + members table) (counted.key_bytes + key_bytes table)) position'
     kept_load position' h = record {
       current = λ i. version_with (sym long i) (sym laid i);
-      count = λ i. counts_with (count_live i) (count_updates i) (count_members i) (count_bytes i);
+      count = λ i. counts_with (count_live i) (count_updates i) (put_members limits journal version counted position kept table longer loads i) (put_bytes limits journal version counted position kept table longer loads i);
       placed = λ q. h q ∙ ap (cond (bytes_eq table.name q) (Some (length journal + 1))) (kept.placed q) ∙ sym (load_push (layout journal) (length journal + 1) table q (loads_none q)) ∙ ap (λ (parts : List Part). load_of parts q) (sym laid);
       legal = is_legal_behind-push [] journal (entry_with who (Loaded table)) kept.legal (ap not opened.0);
       within = fits;
@@ -156,14 +120,10 @@ module _ (limits : Counts) (journal : List Entry) (version : VersionOf) (counted
       searched = ap (λ (parts : List Part). live_of parts) (layout_more journal (entry_with who (Loaded table))) ∙ searchable-load (1 + length journal) (layout journal) table
           ∙ ap (λ (ts : List Table). ts ++ table ∷ []) kept.searched ∙ sym lived;
       names = names_longer;
-      rising = subst Rises (sym (ap (λ (parts : List Part). positions_of parts) laid ∙ positions_push (layout journal) (length journal + 1) table)) (rises_push (positions_of (layout journal)) (length journal + 1) kept.rising rising_more);
-      past = subst (AllByRecursion (λ n. n ≤ length longer)) (sym (ap (λ (parts : List Part). positions_of parts) laid ∙ positions_push (layout journal) (length journal + 1) table))
-          (all_append (λ n. n ≤ length longer) (positions_of (layout journal)) ((length journal + 1) ∷ []) (all_weaker (λ n. n ≤ length journal) (λ n. n ≤ length longer) (positions_of (layout journal)) (λ n le. omega (arith, long)) kept.past) (omega (arith, long), tt));
+      rising = subst Rises (sym positions_longer) (put_rise limits journal version counted position kept);
+      past = subst (AllByRecursion (λ n. n ≤ length longer)) (sym positions_longer) (subst (λ (m : ℕ). AllByRecursion (λ n. n ≤ m) (put_positions journal)) (sym long) (put_past limits journal version counted position kept));
       filled = subst (AllByRecursion HasPlaces) (sym laid) (all_append HasPlaces (layout journal) (loaded_part (length journal + 1) table ∷ []) kept.filled (omega arith, tt));
-      room = omega (arith, ap (λ (parts : List Part). length (positions_of parts)) laid, ap (λ (ns : List ℕ). length ns) (positions_push (layout journal) (length journal + 1) table), length-append (positions_of (layout journal)) ((length journal + 1) ∷ []), kept.room, count_updates, ap (λ (c : Counts). c.updates) kept.count);
+      room = omega (arith, ap (λ (ns : List ℕ). length ns) positions_longer, length-append (positions_of (layout journal)) ((length journal + 1) ∷ []), kept.room, count_updates, ap (λ (c : Counts). c.updates) kept.count);
       few = omega (arith, ap (λ (ps : List Part). length ps) laid, length-append (layout journal) (loaded_part (length journal + 1) table ∷ []), kept.few, count_updates, ap (λ (c : Counts). c.updates) kept.count);
       merging = merging-push [] journal (entry_with who (Loaded table)) kept.merging refl;
     }
-
-pub part_is : (part : Part) (at n : ℕ) (tables : List Table) (table : Table) → part ≡ part_with at (places_with (at ∷ []) tables (false ∷ [])) → tables ≡ table ∷ [] → at ≡ n → part ≡ loaded_part n table
-part_is part at n tables table e f g = e ∙ ap (λ (ts : List Table). part_with at (places_with (at ∷ []) ts (false ∷ []))) f ∙ ap (λ (m : ℕ). loaded_part m table) g

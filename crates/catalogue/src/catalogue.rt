@@ -1,16 +1,17 @@
 //! The catalogue of a lake.
-ghost use Rattle.std.specs.Prelude.{◌≡◌, ◌≤◌, ◌<◌, ◌+◌, ◌^◌, ◌++◌, ◌∷◌, ◌⊎◌, [], false, length, map, nat_lt, slice_set, true, vec_capacity, vec_len, IfErr, IfOk, None, OnErr, Some};
+ghost use Rattle.std.specs.Prelude.{◌≡◌, ◌≤◌, ◌<◌, ◌+◌, ◌*◌, ◌^◌, ◌++◌, ◌∷◌, ◌⊎◌, [], false, find, length, map, nat_lt, option_map, slice_set, true, vec_capacity, vec_len, IfErr, IfOk, None, OnErr, Some};
 ghost use Rattle.lake_model.specs.Journal.{counts, entry_with, is_live, live, Dropped, Loaded};
 ghost use Rattle.lake_model.specs.Layout.{is_legal, layout, mark};
+ghost use Rattle.lake_model.specs.Limits.{is_passed, replace_bounds};
 ghost use Rattle.lake_model.specs.Tables.{key_bytes, members};
 ghost use Rattle.layout_laws.specs.Weight.{swaps};
 ghost use Rattle.segment_core.specs.Versions.{live_of, marked_at, part_at, part_with, places_with, version_with};
 ghost use Rattle.catalogue.specs.Kept.{catalogue_with, IsWithin};
-ghost use Rattle.catalogue.specs.Refusals.{drop_refusal, load_refusal};
+ghost use Rattle.catalogue.specs.Refusals.{drop_refusal, load_refusal, passed_of};
 
 use crate::entry::Entry;
 use crate::names::{add_name, remove_name};
-use crate::refusal::{DropRefused, LoadRefused};
+use crate::refusal::{DropRefused, LoadRefused, Passed};
 use column_set::{Name, SharedTable, TableSets};
 use lake_model::{Counts, Which, Who};
 use no_memory::NoMemory;
@@ -21,18 +22,18 @@ use std::marker::Model;
 use std::sync::Arc;
 
 /// The journal of a lake and the limits that it keeps. A contract sees both. Beside them it keeps the newest version, which is the
-/// layout of the journal, the positions of the loads of the live tables by name, and the counts.
+/// layout of the journal, the positions of the loads and replaces of the live tables by name, and the counts.
 ///
-/// A load or a drop changes the newest version in place, and costs its own table and a logarithm, but where a pin holds that
-/// version: then the list of its parts is copied once. No table and no segment ever is.
+/// A load, a drop or a replace changes the newest version in place, and costs its own table and a logarithm, but where a pin holds
+/// that version: then the list of its parts is copied once. No table and no segment ever is.
 #[derive(Drop)]
 pub struct Catalogue {
     pub(crate) alloc: Global,
     limits: Counts,
     pub(crate) journal: Vec<Entry>,
     pub(crate) version: Arc<Version>,
-    positions: BTreeMap<String, u64>,
-    counts: Counts,
+    pub(crate) positions: BTreeMap<String, u64>,
+    pub(crate) counts: Counts,
 }
 
 impl Model for Catalogue {
@@ -67,11 +68,11 @@ impl Catalogue {
         })
     }
 
-    /// The entries, in order.
+    /// The entries, in order. There are never more than twice as many swaps as updates, which are the loads, drops and replaces.
     pub fn journal(&self) -> &[Entry]
         ensures same { result.now ≡ self.now.journal }
         ensures legal { is_legal self.now.journal ≡ true }
-        ensures few { swaps self.now.journal ≤ (counts self.now.journal).updates }
+        ensures few { swaps self.now.journal ≤ 2 * (counts self.now.journal).updates }
     {
         &self.journal
     }
@@ -136,29 +137,43 @@ impl Catalogue {
         if self.live(table.name()) {
             return Some(LoadRefused::Repeated { at });
         }
-        let full = |which: Which, count: u64, more: u64| Some(LoadRefused::Full {
+        let live = u64::from(self.counts.live);
+        if is_passed(live, 1, u64::from(self.limits.live)) {
+            return Some(LoadRefused::Full {
+                which: Which::Live,
+                count: live,
+                more: 1,
+                at,
+            });
+        }
+        let Passed { which, count, more } = self.passed_by(table)?;
+        Some(LoadRefused::Full {
             which,
             count,
             more,
             at,
-        });
+        })
+    }
+
+    // The first limit, but that of the live tables, that one more update with this table would pass.
+    pub(crate) fn passed_by(&self, table: &TableSets) -> Option<Passed>
+        ensures { result ≡ option_map passed_of (find is_passed (replace_bounds self.now.limits table.now (counts self.now.journal))) }
+    {
         let Counts {
-            live,
+            live: _,
             updates,
             members,
             key_bytes,
         } = self.counts;
-        if is_passed(u64::from(live), 1, u64::from(self.limits.live)) {
-            return full(Which::Live, u64::from(live), 1);
-        }
+        let passed = |which: Which, count: u64, more: u64| Some(Passed { which, count, more });
         if is_passed(updates, 1, self.limits.updates) {
-            return full(Which::Updates, updates, 1);
+            return passed(Which::Updates, updates, 1);
         }
         if is_passed(members, table.members(), self.limits.members) {
-            return full(Which::Members, members, table.members());
+            return passed(Which::Members, members, table.members());
         }
         if is_passed(key_bytes, table.key_bytes(), self.limits.key_bytes) {
-            return full(Which::KeyBytes, key_bytes, table.key_bytes());
+            return passed(Which::KeyBytes, key_bytes, table.key_bytes());
         }
         None
     }
@@ -225,7 +240,7 @@ impl Catalogue {
     }
 
     // Where the newest version has the live table of a name: the index of its part, and its index in the part, both from 0.
-    fn place_of(&self, name: &Name) -> (u32, u32)
+    pub(crate) fn place_of(&self, name: &Name) -> (u32, u32)
         requires { is_live self.now.journal name.now ≡ true }
         ensures part { result.0 < length (layout self.now.journal) }
         ensures place { result.1 < length (part_at (layout self.now.journal) result.0).places }
@@ -257,8 +272,8 @@ impl Catalogue {
     }
 }
 
-// The part of one load: its number is the position of the load.
-fn loaded_part(alloc: Global, at: u64, segment: Arc<Segment>) -> Result<Part, NoMemory>
+// The part of one load or replace: its number is the position of the entry.
+pub(crate) fn loaded_part(alloc: Global, at: u64, segment: Arc<Segment>) -> Result<Part, NoMemory>
     requires { length segment.value ≡ 1 }
     ensures { IfOk result (λ part. part ≡ part_with at (places_with (at ∷ []) segment.value (false ∷ []))) }
 {
@@ -291,6 +306,22 @@ fn counts_with(counts: Counts, table: &TableSets) -> Counts
 {
     Counts {
         live: counts.live + 1,
+        ..counts_replaced(counts, table)
+    }
+}
+
+// The counts behind a replace by this table.
+pub(crate) fn counts_replaced(counts: Counts, table: &TableSets) -> Counts
+    requires updates { counts.updates + 1 < 2 ^ 64 }
+    requires members { counts.members + members table.now < 2 ^ 64 }
+    requires key_bytes { counts.key_bytes + key_bytes table.now < 2 ^ 64 }
+    ensures live { result.live ≡ counts.live }
+    ensures updates { result.updates ≡ counts.updates + 1 }
+    ensures members { result.members ≡ counts.members + members table.now }
+    ensures key_bytes { result.key_bytes ≡ counts.key_bytes + key_bytes table.now }
+{
+    Counts {
+        live: counts.live,
         updates: counts.updates + 1,
         members: counts.members + table.members(),
         key_bytes: counts.key_bytes + table.key_bytes(),

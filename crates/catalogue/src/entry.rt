@@ -1,6 +1,6 @@
 //! An entry of the journal.
 ghost use Rattle.std.specs.Prelude.{◌≡◌, IfOk};
-ghost use Rattle.lake_model.specs.Journal.{entry_with, Dropped, Loaded, Swapped};
+ghost use Rattle.lake_model.specs.Journal.{entry_with, Dropped, Loaded, Replaced, Swapped};
 
 use column_set::{Name, SharedTable};
 use lake_model::Who;
@@ -8,12 +8,14 @@ use no_memory::NoMemory;
 use segment_core::Numbers;
 use std::marker::Model;
 
-/// What an entry of the journal says: the table that was loaded, of which it keeps a share, or the name of the table that was
-/// dropped, or the numbers of the parts that gave way to one and the positions of the loads that this one keeps.
+/// What an entry of the journal says: the table that was loaded, or the table that came in the place of the live one of its name, of
+/// either of which it keeps a share; or the name of the table that was dropped; or the numbers of the parts that gave way to one, and
+/// the positions of the loads and replaces that this one keeps.
 #[derive(Drop)]
 pub enum What {
     Loaded(SharedTable),
     Dropped(Name),
+    Replaced(SharedTable),
     Swapped { from: Numbers, kept: Numbers },
 }
 
@@ -54,6 +56,16 @@ impl Entry {
         }
     }
 
+    /// The entry of a replace.
+    pub fn replaced(who: Who, table: SharedTable) -> Entry
+        ensures { result ≡ entry_with who (Replaced table) }
+    {
+        Entry {
+            who,
+            what: What::Replaced(table),
+        }
+    }
+
     /// The entry of a swap.
     pub fn swapped(who: Who, from: Numbers, kept: Numbers) -> Entry
         ensures { result ≡ entry_with who (Swapped from kept) }
@@ -71,6 +83,7 @@ impl Entry {
         match &self.what {
             What::Loaded(table) => Ok(Entry::loaded(self.who, table.share()?)),
             What::Dropped(name) => Ok(Entry::dropped(self.who, name.copy())),
+            What::Replaced(table) => Ok(Entry::replaced(self.who, table.share()?)),
             What::Swapped { from, kept } => Ok(Entry::swapped(
                 self.who,
                 from.copy()?,

@@ -1,25 +1,28 @@
-//! A thousand random loads, drops and merges of two parts against a plain list of loads: the answer to each, and, every twenty calls,
-//! the layout, the live tables and the counts.
+//! Random loads, drops, replaces and merges of two parts against a plain list of loads: the answer to each, and, every twenty calls, the
+//! layout, the live tables and the counts.
 ghost use Rattle.std.specs.Prelude.{◌<◌, ◌^◌};
 
-use crate::tests::{counts, drops, drops_then_swaps, entries, loads, merged, swaps};
-use crate::{Catalogue, Counts, DropRefused, Limits, LoadRefused, Which};
+use crate::tests::{
+    counts, drops, drops_then_swaps, entries, loads, merged, replaces, replaces_then_swaps, swaps,
+};
+use crate::{Catalogue, Counts, DropRefused, Limits, LoadRefused, ReplaceRefused, Which};
 use segment_core::Pin;
 use std::alloc::Global;
 use std::test::Fail;
 
 const NAMES: [&str; 8] = ["a", "b", "c", "d", "e", "f", "g", "h"];
 
-// A load: its position in the journal, the number of its part, which of the names its table has, and whether that was dropped since.
+// A load or a replace: its position in the journal, the number of its part, which of the names its table has, and whether that was
+// dropped or replaced since.
 #[derive(Clone, Copy)]
 struct Load {
     at: u64,
     part: u64,
     name: usize,
-    dropped: bool,
+    marked: bool,
 }
 
-// The loads that the layout has, one in each part, in their order; how many loads there were, how many loads and drops, and how many
+// The loads and replaces that the layout has, one in each part, in their order; how many there were, how many updates, and how many
 // entries; and the limits. Each table has one member, of three bytes.
 #[derive(Drop)]
 struct Plain {
@@ -33,17 +36,33 @@ struct Plain {
 impl Plain {
     // How many tables are live.
     fn live(&self) -> usize {
-        self.loads.iter().filter(|load| !load.dropped).count()
+        self.loads.iter().filter(|load| !load.marked).count()
     }
 
     // Whether a table of the name is live.
     fn has(&self, name: usize) -> bool {
         for load in &self.loads {
-            if load.name == name && !load.dropped {
+            if load.name == name && !load.marked {
                 return true;
             }
         }
         false
+    }
+
+    // The first limit that one more table would pass, which is one more live table or none.
+    fn passed(&self, more_live: u64) -> Option<(Which, u64, u64)> {
+        let (live, made, limits) = (self.live() as u64, self.made, self.limits);
+        for (which, count, more, limit) in [
+            (Which::Live, live, more_live, u64::from(limits.live)),
+            (Which::Updates, self.updates, 1, limits.updates),
+            (Which::Members, made, 1, limits.members),
+            (Which::KeyBytes, made.saturating_mul(3), 3, limits.key_bytes),
+        ] {
+            if count.saturating_add(more) > limit {
+                return Some((which, count, more));
+            }
+        }
+        None
     }
 
     // What a load of the name is answered.
@@ -52,33 +71,32 @@ impl Plain {
         if self.has(name) {
             return Err(LoadRefused::Repeated { at });
         }
-        let loads = self.made;
-        for (which, count, more, limit) in [
-            (
-                Which::Live,
-                self.live() as u64,
-                1,
-                u64::from(self.limits.live),
-            ),
-            (Which::Updates, self.updates, 1, self.limits.updates),
-            (Which::Members, loads, 1, self.limits.members),
-            (
-                Which::KeyBytes,
-                loads.saturating_mul(3),
-                3,
-                self.limits.key_bytes,
-            ),
-        ] {
-            if count.saturating_add(more) > limit {
-                return Err(LoadRefused::Full {
-                    which,
-                    count,
-                    more,
-                    at,
-                });
-            }
+        match self.passed(1) {
+            Some((which, count, more)) => Err(LoadRefused::Full {
+                which,
+                count,
+                more,
+                at,
+            }),
+            None => Ok(at.saturating_add(1)),
         }
-        Ok(at.saturating_add(1))
+    }
+
+    // What a replace of the name is answered.
+    fn replace_answer(&self, name: usize) -> Result<u64, ReplaceRefused> {
+        let at = self.at;
+        if !self.has(name) {
+            return Err(ReplaceRefused::Unknown { at });
+        }
+        match self.passed(0) {
+            Some((which, count, more)) => Err(ReplaceRefused::Full {
+                which,
+                count,
+                more,
+                at,
+            }),
+            None => Ok(at.saturating_add(1)),
+        }
     }
 
     // What a drop of the name is answered.
@@ -98,25 +116,46 @@ impl Plain {
         Ok(at.saturating_add(1))
     }
 
-    // How many tables of two loads are live, from an index on.
-    fn live_from(&self, first: usize) -> usize {
-        self.loads
-            .iter()
-            .skip(first)
-            .take(2)
-            .filter(|load| !load.dropped)
-            .count()
-    }
-
-    // The name of a live table of two loads, from an index on.
-    fn name_from(&self, first: usize) -> Option<usize> {
-        let pair = self.loads.iter().skip(first).take(2);
-        for load in pair {
-            if !load.dropped {
-                return Some(load.name);
+    // Marks the tables of the name.
+    fn mark(&mut self, name: usize) {
+        for load in self.loads.iter_mut() {
+            if load.name == name {
+                load.marked = true;
             }
         }
-        None
+    }
+
+    // The table of the name goes, by an entry at a position.
+    fn lose(&mut self, name: usize, at: u64) {
+        self.mark(name);
+        self.updates = self.updates.saturating_add(1);
+        self.at = at;
+    }
+
+    // A table of the name comes, in the place of the one that is live, if one is, by an entry at a position.
+    fn put(&mut self, name: usize, at: u64) -> Result<(), Fail> {
+        self.lose(name, at);
+        self.made = self.made.saturating_add(1);
+        let part = at;
+        let marked = false;
+        self.loads.push(Load {
+            at,
+            part,
+            name,
+            marked,
+        })?;
+        Ok(())
+    }
+
+    // Two adjacent loads, from an index on, of which at most one is live.
+    fn pair(&self, first: usize) -> Option<(Load, Load)> {
+        let [one, other, ..] = self.loads.get(first..)? else {
+            return None;
+        };
+        if !one.marked && !other.marked {
+            return None;
+        }
+        Some((*one, *other))
     }
 
     // Puts one part in the place of two, from an index on, with what is live of them.
@@ -125,95 +164,89 @@ impl Plain {
         for (index, load) in self.loads.iter().enumerate() {
             if index < first || index > first.saturating_add(1) {
                 loads.push(*load)?;
-            } else if !load.dropped {
+            } else if !load.marked {
                 loads.push(Load { part, ..*load })?;
             }
         }
         self.loads = loads;
-        self.at = part;
         Ok(())
-    }
-
-    // Drops the table of the name.
-    fn mark(&mut self, name: usize) {
-        self.updates = self.updates.saturating_add(1);
-        for load in self.loads.iter_mut() {
-            if load.name == name {
-                load.dropped = true;
-            }
-        }
     }
 }
 
-// One load or drop by chance, against the plain list, which it changes likewise.
+// One load, drop or replace by chance, against the plain list, which it changes likewise.
 fn call(lake: &mut Catalogue, plain: &mut Plain, alloc: Global, chance: u64) -> Result<(), Fail> {
     let name = (chance / 8 % 8) as usize;
-    if chance % 8 < 3 {
+    if chance % 8 < 2 {
         let answer = plain.drop_answer(name);
         drops(lake, NAMES[name], answer)?;
         if let Ok(at) = answer {
-            plain.at = at;
-            plain.mark(name);
+            plain.lose(name, at);
+        }
+        return Ok(());
+    }
+    if chance % 8 < 4 {
+        let answer = plain.replace_answer(name);
+        replaces(lake, alloc, NAMES[name], answer)?;
+        if let Ok(at) = answer {
+            plain.put(name, at)?;
         }
         return Ok(());
     }
     let answer = plain.load_answer(name);
     loads(lake, alloc, NAMES[name], answer)?;
     if let Ok(at) = answer {
-        plain.at = at;
-        plain.updates = plain.updates.saturating_add(1);
-        plain.made = plain.made.saturating_add(1);
-        plain.loads.push(Load {
-            at,
-            part: at,
-            name,
-            dropped: false,
-        })?;
+        plain.put(name, at)?;
     }
     Ok(())
 }
 
 // A merge of two adjacent parts by chance, of which at most one table is live, against the plain list, which it changes likewise. That
-// table is dropped by chance after the merge was planned.
+// table is dropped or replaced by chance after the merge was planned.
 fn merge(lake: &mut Catalogue, plain: &mut Plain, alloc: Global, chance: u64) -> Result<(), Fail> {
-    let first = (chance / 8 % 16) as u32;
-    if plain.loads.len() < first as usize + 2 || plain.live_from(first as usize) > 1 {
+    let first = (chance / 8 % 16) as usize;
+    let Some((one, other)) = plain.pair(first) else {
         return Ok(());
+    };
+    let name = if one.marked { other.name } else { one.name };
+    let planned = merged(lake, alloc, first as u32)?;
+    let (next, behind) = (plain.at.saturating_add(1), plain.at.saturating_add(2));
+    let by_chance = chance / 128 % 3;
+    if by_chance == 0 && plain.drop_answer(name).is_ok() {
+        plain.merge(alloc, first, behind)?;
+        plain.lose(name, behind);
+        return drops_then_swaps(lake, NAMES[name % 8], planned, behind);
     }
-    let planned = merged(lake, alloc, first)?;
-    if let Some(name) = plain.name_from(first as usize) {
-        if chance / 128 % 2 == 0 && plain.drop_answer(name).is_ok() {
-            let part = plain.at.saturating_add(2);
-            plain.merge(alloc, first as usize, part)?;
-            plain.mark(name);
-            return drops_then_swaps(lake, NAMES[name % 8], planned, part);
-        }
+    if by_chance == 1 && plain.replace_answer(name).is_ok() {
+        plain.merge(alloc, first, behind)?;
+        plain.put(name, next)?;
+        plain.at = behind;
+        return replaces_then_swaps(lake, alloc, NAMES[name % 8], planned, behind);
     }
-    let part = plain.at.saturating_add(1);
-    plain.merge(alloc, first as usize, part)?;
-    swaps(lake, planned, part)
+    plain.merge(alloc, first, next)?;
+    plain.at = next;
+    swaps(lake, planned, next)
 }
 
-// Each load is in a part of its own, in order, and is marked where the table was dropped.
+// Each load is in a part of its own, in order, and is marked where the table was dropped or replaced.
 fn same_layout(pin: &Pin, plain: &Plain, alloc: Global) -> Result<(), Fail> {
     let layout = pin.layout(alloc)?;
     if layout.at() != plain.at || layout.parts().len() != plain.loads.len() {
         return Err(Fail::from("another layout"));
     }
     for ((number, places), load) in layout.parts().iter().zip(plain.loads.iter()) {
-        if *number != load.part || places.list() != [(load.at, load.dropped)].as_slice() {
+        if *number != load.part || places.list() != [(load.at, load.marked)].as_slice() {
             return Err(Fail::from("another part"));
         }
     }
     Ok(())
 }
 
-// The live tables are those that were not dropped, in the order of their loads.
+// The live tables are those that are not marked, in the order of their loads.
 fn same_tables(pin: &Pin, plain: &Plain, alloc: Global) -> Result<(), Fail> {
     let lines = pin.tables(alloc)?;
     let mut rest = lines.list();
     for load in &plain.loads {
-        if load.dropped {
+        if load.marked {
             continue;
         }
         let [(name, columns, members), others @ ..] = rest else {
@@ -239,9 +272,9 @@ fn same(lake: &Catalogue, plain: &Plain, alloc: Global) -> Result<(), Fail> {
     same_tables(&pin, plain, alloc)
 }
 
-// Two hundred calls on an empty lake of these limits. The numbers are those of a linear congruential generator (D. E. Knuth, The Art of
+// A hundred calls on an empty lake of these limits. The numbers are those of a linear congruential generator (D. E. Knuth, The Art of
 // Computer Programming, volume 2, section 3.3.4: the multiplier of the 64 bit generator MMIX).
-fn two_hundred_calls(alloc: Global, limits: Counts, seed: u64) -> Result<(), Fail>
+fn a_hundred_calls(alloc: Global, limits: Counts, seed: u64) -> Result<(), Fail>
     requires { limits.updates < 2 ^ 32 }
 {
     let mut lake = Catalogue::new(alloc, limits)?;
@@ -253,7 +286,7 @@ fn two_hundred_calls(alloc: Global, limits: Counts, seed: u64) -> Result<(), Fai
         at: 0,
     };
     let mut state = seed;
-    for number in 0..200u32 {
+    for number in 0..100u32 {
         state = state
             .wrapping_mul(6_364_136_223_846_793_005)
             .wrapping_add(1_442_695_040_888_963_407);
@@ -268,7 +301,7 @@ fn two_hundred_calls(alloc: Global, limits: Counts, seed: u64) -> Result<(), Fai
 
 #[test]
 fn no_limit_is_reached(rt: HostRuntime) -> Result<(), Fail> {
-    two_hundred_calls(rt.alloc(), Limits::standard(), 1)
+    a_hundred_calls(rt.alloc(), Limits::standard(), 1)
 }
 
 #[test]
@@ -277,33 +310,33 @@ fn few_tables_may_be_live(rt: HostRuntime) -> Result<(), Fail> {
         live: 3,
         ..Limits::standard()
     };
-    two_hundred_calls(rt.alloc(), limits, 2)
+    a_hundred_calls(rt.alloc(), limits, 2)
 }
 
 #[test]
-fn few_loads_and_drops_may_be_made(rt: HostRuntime) -> Result<(), Fail> {
+fn few_updates_may_be_made(rt: HostRuntime) -> Result<(), Fail> {
     let limits = Counts {
-        updates: 60,
+        updates: 30,
         ..Limits::standard()
     };
-    two_hundred_calls(rt.alloc(), limits, 3)
+    a_hundred_calls(rt.alloc(), limits, 3)
 }
 
 #[test]
-fn few_members_may_be_loaded(rt: HostRuntime) -> Result<(), Fail> {
+fn few_members_may_be_put(rt: HostRuntime) -> Result<(), Fail> {
     let limits = Counts {
-        members: 40,
+        members: 20,
         ..Limits::standard()
     };
-    two_hundred_calls(rt.alloc(), limits, 4)
+    a_hundred_calls(rt.alloc(), limits, 4)
 }
 
 #[test]
-fn few_key_bytes_may_be_loaded(rt: HostRuntime) -> Result<(), Fail> {
+fn few_key_bytes_may_be_put(rt: HostRuntime) -> Result<(), Fail> {
     let limits = Counts {
         live: 6,
-        key_bytes: 100,
+        key_bytes: 50,
         ..Limits::standard()
     };
-    two_hundred_calls(rt.alloc(), limits, 5)
+    a_hundred_calls(rt.alloc(), limits, 5)
 }

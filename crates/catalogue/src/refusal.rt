@@ -1,4 +1,4 @@
-//! Why a load, a drop or a swap is refused.
+//! Why a load, a drop, a replace or a swap is refused.
 use lake_model::Which;
 use no_memory::NoMemory;
 
@@ -29,7 +29,7 @@ pub enum DropRefused {
         at: u64,
     },
     /// What counts against a limit of the lake is `count`, and with `more`, which the drop would add, it would pass the limit. A
-    /// drop can pass that of the loads and drops alone.
+    /// drop can pass that of the loads, drops and replaces alone.
     Full {
         which: Which,
         count: u64,
@@ -38,6 +38,33 @@ pub enum DropRefused {
     },
     /// Memory was wanting.
     NoMemory,
+}
+
+/// Why a replace is refused. In each of the first two, `at` is how many entries the journal has.
+#[derive(Clone, Copy, Debug, PartialEq, Eq)]
+pub enum ReplaceRefused {
+    /// No table of the name is live.
+    Unknown {
+        at: u64,
+    },
+    /// What counts against a limit of the lake is `count`, and with `more`, which the replace would add, it would pass the limit. Of
+    /// the limits that would be passed it is the first, in the order of `Which`. A replace cannot pass that of the live tables.
+    Full {
+        which: Which,
+        count: u64,
+        more: u64,
+        at: u64,
+    },
+    /// Memory was wanting.
+    NoMemory,
+}
+
+/// A limit of the lake that would be passed: what counts against it, and what would be added.
+#[derive(Clone, Copy)]
+pub struct Passed {
+    pub which: Which,
+    pub count: u64,
+    pub more: u64,
 }
 
 /// Why a swap is refused.
@@ -68,6 +95,17 @@ impl From<NoMemory> for DropRefused {
 
     fn from(_error: NoMemory) -> DropRefused {
         DropRefused::NoMemory
+    }
+}
+
+impl From<NoMemory> for ReplaceRefused {
+    ghost use Rattle.std.specs.Prelude.{◌≡◌};
+    ghost use Rattle.catalogue.specs.declared.refusal.ReplaceRefused.TheVariants as refused;
+
+    ghost from_gives = { λ _ e. e ≡ refused.NoMemory };
+
+    fn from(_error: NoMemory) -> ReplaceRefused {
+        ReplaceRefused::NoMemory
     }
 }
 

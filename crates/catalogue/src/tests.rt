@@ -5,7 +5,8 @@ ghost use Rattle.lake_model.specs.Tables.{keys_at, Table};
 ghost use Rattle.catalogue.specs.Swaps.{IsMergeOf};
 
 use crate::{
-    Catalogue, Counts, DropRefused, Entry, Limits, LoadRefused, SwapRefused, What, Which, Who,
+    Catalogue, Counts, DropRefused, Entry, Limits, LoadRefused, ReplaceRefused, SwapRefused, What,
+    Which, Who,
 };
 use column_set::{Name, SharedTable, TableSets};
 use csv_table::read_table;
@@ -114,6 +115,21 @@ pub fn loads(
     Ok(())
 }
 
+// Replaces a table by such a one, and expects this answer.
+pub fn replaces(
+    lake: &mut Catalogue,
+    alloc: Global,
+    text: &str,
+    answer: Result<u64, ReplaceRefused>,
+) -> Result<(), Fail> {
+    let table = table(alloc, text)?;
+    let segment = segment(alloc, table.share()?)?;
+    if lake.replace(SECOND, table, segment) != answer {
+        return Err(Fail::from("another answer to a replace"));
+    }
+    Ok(())
+}
+
 // Drops a table, and expects this answer.
 pub fn drops(
     lake: &mut Catalogue,
@@ -213,6 +229,28 @@ pub fn drops_then_swaps(
     Ok(())
 }
 
+// Replaces a table, and then swaps in what was merged before, and expects this position.
+pub fn replaces_then_swaps(
+    lake: &mut Catalogue,
+    alloc: Global,
+    text: &str,
+    merged: Merged,
+    at: u64,
+) -> Result<(), Fail>
+    requires at { merged.at ≡ length lake.old.journal }
+    requires merges { IsMergeOf (layout lake.old.journal) merged }
+{
+    let table = table(alloc, text)?;
+    let segment = segment(alloc, table.share()?)?;
+    let Ok(_) = lake.replace(SECOND, table, segment) else {
+        return Err(Fail::from("a refused replace"));
+    };
+    if lake.swap(FIRST, merged) != Ok(at) {
+        return Err(Fail::from("another answer to a swap"));
+    }
+    Ok(())
+}
+
 // Swaps in the first of two merges of the newest version, and expects this refusal of the other.
 fn second_is_refused(
     lake: &mut Catalogue,
@@ -255,7 +293,7 @@ fn shows(layout: &Layout, at: u64, loads: &[(u64, bool)]) -> Result<(), Fail> {
     Ok(())
 }
 
-// Expects so many live tables, so many loads and drops, and so many loads of a table of one key.
+// Expects so many live tables, so many loads, drops and replaces, and so many loads and replaces by a table of one key.
 pub fn counts(lake: &Catalogue, live: usize, updates: usize, loads: u64) -> Result<(), Fail> {
     let counts = lake.counts();
     if counts.live as usize != live || counts.updates as usize != updates {
@@ -275,50 +313,105 @@ pub fn entries(lake: &Catalogue, at: u64) -> Result<(), Fail> {
     Ok(())
 }
 
-// An empty lake of at most two loads and drops.
-fn small_lake(alloc: Global) -> Result<Catalogue, Fail> {
+// A lake of at most four updates, which it had, of each kind one: `a` is live, and `b` is not.
+fn full_lake(alloc: Global) -> Result<Catalogue, Fail> {
     let limits = Counts {
-        live: 10,
-        updates: 2,
-        members: 100,
-        key_bytes: 1_000,
+        updates: 4,
+        ..Limits::standard()
     };
-    Ok(Catalogue::new(alloc, limits)?)
+    let mut lake = Catalogue::new(alloc, limits)?;
+    loads(&mut lake, alloc, "a", Ok(1))?;
+    loads(&mut lake, alloc, "b", Ok(2))?;
+    replaces(&mut lake, alloc, "a", Ok(3))?;
+    drops(&mut lake, "b", Ok(4))?;
+    counts(&lake, 1, 4, 3)?;
+    Ok(lake)
 }
 
 #[test]
-fn loads_and_drops_up_to_their_limit(rt: HostRuntime) -> Result<(), Fail> {
+fn loads_drops_and_replaces_up_to_their_limit(rt: HostRuntime) -> Result<(), Fail> {
     let alloc = rt.alloc();
-    let mut lake = small_lake(alloc)?;
-    loads(&mut lake, alloc, "a", Ok(1))?;
-    loads(&mut lake, alloc, "b", Ok(2))?;
+    let mut lake = full_lake(alloc)?;
+    let (which, count, more, at) = (Which::Updates, 4, 1, 4);
     let no_load = LoadRefused::Full {
-        which: Which::Updates,
-        count: 2,
-        more: 1,
-        at: 2,
+        which,
+        count,
+        more,
+        at,
     };
-    loads(&mut lake, alloc, "c", Err(no_load))?;
+    loads(&mut lake, alloc, "b", Err(no_load))?;
     let no_drop = DropRefused::Full {
-        which: Which::Updates,
-        count: 2,
-        more: 1,
-        at: 2,
+        which,
+        count,
+        more,
+        at,
     };
     drops(&mut lake, "a", Err(no_drop))?;
-    entries(&lake, 2)?;
-    counts(&lake, 2, 2, 2)
+    let no_replace = ReplaceRefused::Full {
+        which,
+        count,
+        more,
+        at,
+    };
+    replaces(&mut lake, alloc, "a", Err(no_replace))?;
+    entries(&lake, 4)?;
+    counts(&lake, 1, 4, 3)
 }
 
 #[test]
 fn a_full_lake_says_first_what_is_repeated_or_unknown(rt: HostRuntime) -> Result<(), Fail> {
     let alloc = rt.alloc();
-    let mut lake = small_lake(alloc)?;
+    let mut lake = full_lake(alloc)?;
+    loads(&mut lake, alloc, "a", Err(LoadRefused::Repeated { at: 4 }))?;
+    drops(&mut lake, "b", Err(DropRefused::Unknown { at: 4 }))?;
+    replaces(
+        &mut lake,
+        alloc,
+        "b",
+        Err(ReplaceRefused::Unknown { at: 4 }),
+    )?;
+    counts(&lake, 1, 4, 3)
+}
+
+#[test]
+fn a_replace_counts_its_members_and_no_live_table(rt: HostRuntime) -> Result<(), Fail> {
+    let alloc = rt.alloc();
+    let limits = Counts {
+        live: 1,
+        members: 2,
+        ..Limits::standard()
+    };
+    let mut lake = Catalogue::new(alloc, limits)?;
     loads(&mut lake, alloc, "a", Ok(1))?;
-    loads(&mut lake, alloc, "b", Ok(2))?;
-    loads(&mut lake, alloc, "a", Err(LoadRefused::Repeated { at: 2 }))?;
-    drops(&mut lake, "z", Err(DropRefused::Unknown { at: 2 }))?;
-    counts(&lake, 2, 2, 2)
+    replaces(&mut lake, alloc, "a", Ok(2))?;
+    let full = ReplaceRefused::Full {
+        which: Which::Members,
+        count: 2,
+        more: 1,
+        at: 2,
+    };
+    replaces(&mut lake, alloc, "a", Err(full))?;
+    counts(&lake, 1, 2, 2)
+}
+
+#[test]
+fn a_replace_leaves_the_new_table_alone(rt: HostRuntime) -> Result<(), Fail> {
+    let alloc = rt.alloc();
+    let mut lake = Catalogue::new(alloc, Limits::standard())?;
+    loads(&mut lake, alloc, "t", Ok(1))?;
+    let loaded = lake.pin()?;
+    replaces(&mut lake, alloc, "t", Ok(2))?;
+    replaces(
+        &mut lake,
+        alloc,
+        "z",
+        Err(ReplaceRefused::Unknown { at: 2 }),
+    )?;
+    let newest = lake.pin()?;
+    holds(alloc, &loaded, 1, 1)?;
+    holds(alloc, &newest, 2, 1)?;
+    shows(&newest.layout(alloc)?, 2, &[(1, true), (2, false)])?;
+    counts(&lake, 1, 2, 2)
 }
 
 #[test]
@@ -380,10 +473,28 @@ fn the_second_of_two_swaps_is_stale(rt: HostRuntime) -> Result<(), Fail> {
 }
 
 #[test]
+fn a_swap_keeps_the_mark_of_a_replace_since_its_plan(rt: HostRuntime) -> Result<(), Fail> {
+    let alloc = rt.alloc();
+    let mut lake = Catalogue::new(alloc, Limits::standard())?;
+    loads(&mut lake, alloc, "a", Ok(1))?;
+    loads(&mut lake, alloc, "b", Ok(2))?;
+    drops(&mut lake, "a", Ok(3))?;
+    let planned = merged(&lake, alloc, 0)?;
+    replaces_then_swaps(&mut lake, alloc, "b", planned, 5)?;
+    let layout = lake.pin()?.layout(alloc)?;
+    let [(merged, kept), (replaced, new)] = layout.parts() else {
+        return Err(Fail::from("other parts"));
+    };
+    assert!(rt; *merged == 5 && kept.list() == [(2, true)].as_slice());
+    assert!(rt; *replaced == 4 && new.list() == [(4, false)].as_slice());
+    Ok(())
+}
+
+#[test]
 fn a_shared_drop_is_the_drop(rt: HostRuntime) -> Result<(), Fail> {
     let entry = Entry::dropped(SECOND, name("a")?).share()?;
     match &entry.what {
-        What::Loaded(_) | What::Swapped { .. } => Err(Fail::from("no drop")),
+        What::Loaded(_) | What::Replaced(_) | What::Swapped { .. } => Err(Fail::from("no drop")),
         What::Dropped(name) => {
             assert!(rt; name.text() == "a");
             Ok(())

@@ -1,14 +1,16 @@
 //! What lies behind the lock of a lake.
 ghost use Rattle.std.specs.Prelude.{◌≡◌, ◌≤◌, ◌<◌, ◌^◌, ◌++◌, ◌∷◌, ◌⊎◌, [], drop, length, take, IfErr, IfOk, None, OnErr, Some};
-ghost use Rattle.lake_model.specs.Journal.{entry_with, live, standard_limits, Dropped, Loaded, Swapped};
+ghost use Rattle.lake_model.specs.Journal.{entry_with, live, standard_limits, Dropped, Loaded, Replaced, Swapped};
 ghost use Rattle.lake_model.specs.Layout.{layout};
 ghost use Rattle.segment_core.specs.Versions.{live_of, version_with};
 ghost use Rattle.catalogue.specs.Kept.{IsWithin};
-ghost use Rattle.catalogue.specs.Refusals.{drop_refusal, load_refusal};
+ghost use Rattle.catalogue.specs.Refusals.{drop_refusal, load_refusal, replace_refusal};
 ghost use Rattle.catalogue.specs.Swaps.{numbers_in, swap_refusal, IsMergeOf};
 ghost use Rattle.lake.specs.Lawful.{IsLawful};
 
-use catalogue::{Catalogue, DropRefused, Entry, Limits, LoadRefused, SwapRefused, Who};
+use catalogue::{
+    Catalogue, DropRefused, Entry, Limits, LoadRefused, ReplaceRefused, SwapRefused, Who,
+};
 use column_set::{Name, SharedTable};
 use no_memory::NoMemory;
 use segment_core::{Merged, Pin, Segment};
@@ -108,6 +110,25 @@ impl<B: Bounds> Held<B> {
         ensures room { length self.new < 2 ^ 62 }
     {
         let done = self.catalogue.drop_table(who, name);
+        self.look();
+        done
+    }
+
+    /// Puts a table in the place of the live one of its name, as the catalogue does.
+    pub fn replace(
+        &mut self,
+        who: Who,
+        table: SharedTable,
+        segment: Arc<Segment>,
+    ) -> Result<u64, ReplaceRefused>
+        requires segment { segment.value ≡ table ∷ [] }
+        ensures accepted { IfOk result (λ at. (replace_refusal B.limits table self.old ≡ None) × (self.new ≡ self.old ++ entry_with who (Replaced table) ∷ []) × (at ≡ length self.new)) }
+        ensures err { OnErr result (self.new ≡ self.old) }
+        ensures refused { IfErr result (λ e. (e ≡ ReplaceRefused.NoMemory) ⊎ (replace_refusal B.limits table self.old ≡ Some e)) }
+        ensures lawful { IsLawful B.limits self.new }
+        ensures room { length self.new < 2 ^ 62 }
+    {
+        let done = self.catalogue.replace(who, table, segment);
         self.look();
         done
     }

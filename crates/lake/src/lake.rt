@@ -1,19 +1,19 @@
 //! The lake, and the calls on it.
 ghost use Rattle.std.specs.Prelude.{◌≡◌, ◌≤◌, ◌<◌, ◌-◌, ◌⊎◌, ℕ, ◌∷◌, [], drop, false, length, take, IfErr, IfOk, IfSome, IsSome, None, Some};
 ghost use mathlib.Core.List.{IsPrefix};
-ghost use Rattle.lake_model.specs.Journal.{entry_with, live, standard_limits, who_with, Dropped, Loaded, Swapped};
+ghost use Rattle.lake_model.specs.Journal.{entry_with, live, standard_limits, who_with, Dropped, Loaded, Replaced, Swapped};
 ghost use Rattle.lake_model.specs.Layout.{layout};
 ghost use Rattle.segment_core.specs.Versions.{live_of, version_with};
 ghost use Rattle.turn_lock.specs.History.{longer, Grows, IsOfGiven};
 ghost use Rattle.turn_lock.specs.Passes.{after_ending, after_numbering, after_seeing, callers_of, known, new_pass_of, noted};
 ghost use Rattle.catalogue.specs.Kept.{IsWithin};
-ghost use Rattle.catalogue.specs.Refusals.{drop_refusal, load_refusal};
+ghost use Rattle.catalogue.specs.Refusals.{drop_refusal, load_refusal, replace_refusal};
 ghost use Rattle.catalogue.specs.Swaps.{numbers_in, swap_refusal, IsMergeOf};
 ghost use Rattle.lake.specs.Lawful.{caller_of, IsAccepted, IsLawful};
 
 use crate::held::{Bounds, Held};
 use crate::pass::{Note, Pass};
-use catalogue::{DropRefused, Entry, Limits, LoadRefused, SwapRefused};
+use catalogue::{DropRefused, Entry, Limits, LoadRefused, ReplaceRefused, SwapRefused};
 use column_set::{Name, SharedTable};
 use no_memory::NoMemory;
 use segment_core::{Merged, Pin, Segment};
@@ -92,6 +92,30 @@ impl<B: Bounds> Lake<B> {
         let who = pass.who(command);
         let mut turn = self.lock.take(rt, &mut pass.pass);
         let done = turn.value().drop_table(who, name);
+        self.lock.give(&mut pass.pass, turn);
+        done
+    }
+
+    /// Puts a table in the place of the live one of its name, as a load is done or refused.
+    pub fn replace<R: Wait>(
+        &self,
+        rt: &R,
+        pass: &mut Pass<B>,
+        command: u64,
+        table: SharedTable,
+        segment: Arc<Segment>,
+    ) -> Result<u64, ReplaceRefused>
+        requires lock { pass.old.lock ≡ self.now }
+        requires segment { segment.value ≡ table ∷ [] }
+        ensures pass { pass.new ≡ after_seeing pass.old pass.new.seen false }
+        ensures lawful { IsLawful B.limits pass.new.seen }
+        ensures accepted { IfOk result (λ at. IsAccepted (replace_refusal B.limits table) (callers_of pass.old) pass.old.seen (entry_with (who_with pass.old.caller command) (Replaced table)) at pass.new.seen) }
+        ensures grows { IfErr result (λ e. Grows caller_of (callers_of pass.old) pass.old.seen pass.new.seen) }
+        ensures refused { IfErr result (λ e. (e ≡ ReplaceRefused.NoMemory) ⊎ (replace_refusal B.limits table pass.new.seen ≡ Some e)) }
+    {
+        let who = pass.who(command);
+        let mut turn = self.lock.take(rt, &mut pass.pass);
+        let done = turn.value().replace(who, table, segment);
         self.lock.give(&mut pass.pass, turn);
         done
     }

@@ -1,5 +1,5 @@
 -- Versions: the parts that are searched at a position of the journal; and what a search asks of one, with its log.
-use Rattle.std.specs.Prelude.{ℕ, zero, suc, true, List, [], ◌∷◌, map, get_or, Bool}
+use Rattle.std.specs.Prelude.{ℕ, zero, suc, true, List, [], ◌∷◌, ◌++◌, map, get_or, slice_set, Bool}
 use Rattle.lake_model.specs.Tables.{Table}
 use Rattle.lake_model.specs.Layout.{Place, Part, unmarked_of}
 use Rattle.search_model.specs.Segment.{Segment, segment}
@@ -63,3 +63,7 @@ mark_nth (suc n) (p ∷ ps) = p ∷ mark_nth n ps
 
 abbrev pub marked_at : ℕ → Part → Part
 marked_at n part = part_with part.number (mark_nth n part.places)
+
+-- the parts with the table marked that is at an index of a part, and one more part behind them
+abbrev pub marked_and_added : ℕ → ℕ → Part → List Part → List Part
+marked_and_added part place more parts = slice_set parts part (marked_at place (part_at parts part)) ++ more ∷ []

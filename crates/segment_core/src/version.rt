@@ -1,12 +1,12 @@
 //! Versions: the parts in which the tables of a lake are searched at a position of its journal.
-ghost use Rattle.std.specs.Prelude.{◌≡◌, ◌<◌, ◌≤◌, ◌+◌, ◌^◌, ◌++◌, ◌∷◌, [], length, map, slice_set, IfOk, OnErr, OnOk};
+ghost use Rattle.std.specs.Prelude.{◌≡◌, ◌<◌, ◌≤◌, ◌+◌, ◌^◌, ◌++◌, ◌∷◌, [], length, map, slice_set, vec_capacity, vec_len, IfOk, OnErr, OnOk};
 ghost use Rattle.std.specs.List.{zip};
 ghost use Rattle.lake_model.specs.Layout.{positions_of};
 ghost use Rattle.segment_core.specs.Distinct.{unmarked_names, AreDistinct};
 ghost use Rattle.segment_core.specs.Lines.{line_from, lines_without, shown_places, unmarked_lines};
 ghost use Rattle.segment_core.specs.Plans.{replaced};
 ghost use Rattle.segment_core.specs.Positions.{loads_of};
-ghost use Rattle.segment_core.specs.Versions.{marked_at, marks_of, part_at, part_with, places_with, tables_of, version_with};
+ghost use Rattle.segment_core.specs.Versions.{marked_and_added, marked_at, marks_of, part_at, part_with, places_with, tables_of, version_with};
 
 use crate::layout::Places;
 use crate::numbers::{Marks, Numbers};
@@ -233,6 +233,27 @@ impl Version {
         own.mark_here(at, part, place)
     }
 
+    /// Moves the version to a position, with the table marked that is at an index of a part, both from 0, and with one more part behind
+    /// the others. Nothing is copied but what `mark` copies. Out of memory, the version stays as it was.
+    pub fn mark_and_add(
+        version: &mut Arc<Version>,
+        at: u64,
+        part: u32,
+        place: u32,
+        more: Part,
+    ) -> Result<(), NoMemory>
+        requires few { length version.old.value.parts + 1 < 2 ^ 32 }
+        requires part { part < length version.old.value.parts }
+        requires place { place < length (part_at version.old.value.parts part).places }
+        requires positions { AreDistinct (positions_of (marked_and_added part place more version.old.value.parts)) }
+        requires names { AreDistinct (unmarked_names (marked_and_added part place more version.old.value.parts)) }
+        ensures ok { OnOk result (version.new.value ≡ version_with at (marked_and_added part place more version.old.value.parts)) }
+        ensures err { OnErr result (version.new.value ≡ version.old.value) }
+    {
+        let own = Arc::make_mut(version)?;
+        own.mark_and_push(at, part, place, more)
+    }
+
     // One more part, in a version with no other owner.
     fn push(&mut self, at: u64, part: Part) -> Result<(), NoMemory>
         requires few { length self.old.parts + 1 < 2 ^ 32 }
@@ -256,6 +277,23 @@ impl Version {
         ensures err { OnErr result (self.new ≡ self.old) }
     {
         self.parts[part as usize].mark(place)?;
+        self.at = at;
+        Ok(())
+    }
+
+    // A table marked, and one more part, in a version with no other owner. The room for the part is taken first.
+    fn mark_and_push(&mut self, at: u64, part: u32, place: u32, more: Part) -> Result<(), NoMemory>
+        requires few { length self.old.parts + 1 < 2 ^ 32 }
+        requires part { part < length self.old.parts }
+        requires place { place < length (part_at self.old.parts part).places }
+        requires positions { AreDistinct (positions_of (marked_and_added part place more self.old.parts)) }
+        requires names { AreDistinct (unmarked_names (marked_and_added part place more self.old.parts)) }
+        ensures ok { OnOk result (self.new ≡ version_with at (marked_and_added part place more self.old.parts)) }
+        ensures err { OnErr result (self.new ≡ self.old) }
+    {
+        self.parts.reserve(1)?;
+        self.parts[part as usize].mark(place)?;
+        push_reserved(&mut self.parts, more);
         self.at = at;
         Ok(())
     }
@@ -305,6 +343,17 @@ fn share_all(parts: &Vec<Part>) -> Result<Vec<Part>, NoMemory>
         shared.push(part.share()?)?;
     }
     Ok(shared)
+}
+
+// Pushes where there is room.
+fn push_reserved(parts: &mut Vec<Part>, part: Part)
+    requires { vec_len parts.old < vec_capacity parts.old }
+    ensures { parts.new.items ≡ parts.old.items ++ part ∷ [] }
+{
+    match parts.push(part) {
+        Ok(()) => (),
+        Err(_) => unreachable!(),
+    }
 }
 
 // The numbers, each with the mark at its index.

@@ -8,7 +8,8 @@ use Rattle.lake_model.specs.Layout.{layout}
 use Rattle.segment_core.specs.Versions.{version_with}
 use Rattle.catalogue.specs.Refusals.{load_refusal}
 use Rattle.catalogue.proofs.KeptLemmas.{counts_with, kept_equal, kept_same, parts_kept}
-use Rattle.catalogue.proofs.LoadLemmas.{few_more, positions_more, names_more, fits, kept_load, loaded_part, part_is, unadded}
+use Rattle.catalogue.proofs.PutLemmas.{loaded_part, part_is}
+use Rattle.catalogue.proofs.LoadLemmas.{few_more, positions_more, names_more, fits, kept_load, unadded}
 use Rattle.catalogue.proofs.catalogue.Catalogue.accept_load.Goals as goal
 
 pub add-requires-clause-few : goal.add-requires-clause-few
