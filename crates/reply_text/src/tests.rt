@@ -106,6 +106,18 @@ fn row(alloc: Global, overlap: u32, table: Name, column: &str) -> Result<KeptRow
 }
 
 #[test]
+fn a_replace_shows_the_new_table(rt: HostRuntime) -> Result<(), Fail> {
+    let replaced = Reply::Replaced {
+        name: Name::read(b"t1").ok_or("no name")?,
+        columns: 3,
+        members: 0,
+        at: 2,
+    };
+    shows(&rt, replaced, "7 replaced t1 columns 3 members 0 at 2\n")?;
+    Ok(())
+}
+
+#[test]
 fn a_load_shows_what_was_loaded(rt: HostRuntime) -> Result<(), Fail> {
     let loaded = Reply::Loaded {
         name: Name::read(b"t1").ok_or("no name")?,
@@ -351,7 +363,7 @@ fn the_merger_answers_with_a_trace_alone(rt: HostRuntime) -> Result<(), Fail> {
 fn the_journal_stands_behind_a_traced_record_that_ended(rt: HostRuntime) -> Result<(), Fail> {
     let alloc = rt.alloc();
     let mut record = RunRecord::new(alloc);
-    record.room(0, 3)?;
+    record.room(0, 4)?;
     let first = Who {
         caller: 1,
         command: 1,
@@ -367,11 +379,16 @@ fn the_journal_stands_behind_a_traced_record_that_ended(rt: HostRuntime) -> Resu
         command: 3,
     };
     record.add_entry(Entry::loaded(third, table(alloc, b"b")?));
+    let fourth = Who {
+        caller: 1,
+        command: 4,
+    };
+    record.add_entry(Entry::replaced(fourth, table(alloc, b"b")?));
     writes(&rt, &record, true, "")?;
     record.close();
     writes(&rt, &record, false, "")?;
     let wanted =
-        "journal 3\n  1 load lane 1 command 1 a\n  2 drop lane 1 command 2 a\n  3 load lane 2 command 3 b\n";
+        "journal 4\n  1 load lane 1 command 1 a\n  2 drop lane 1 command 2 a\n  3 load lane 2 command 3 b\n  4 replace lane 1 command 4 b\n";
     writes(&rt, &record, true, wanted)?;
     Ok(())
 }
