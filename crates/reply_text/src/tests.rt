@@ -1,7 +1,7 @@
 //! The text of each reply, letter by letter.
 use crate::{Answered, By, Reply, RunRecord, write_replies};
 use catalogue::Entry;
-use column_set::{KeptRow, KeptRows, Name, Row, SharedTable, TableSets, Titles};
+use column_set::{KeptRow, KeptRows, Keys, Name, Row, SharedTable, TableSets, Titles};
 use commands::{Options, Order};
 use csv_table::read_table;
 use lake_model::{Which, Who};
@@ -82,10 +82,10 @@ fn nothing_found(alloc: Global, layout: Layout) -> Reply {
 // The table of a name with the column `c`, which has the value `x`.
 fn table(alloc: Global, name: &[u8]) -> Result<SharedTable, Fail> {
     let name = Name::read(name).ok_or("no name")?;
-    let Ok(raw) = read_table(alloc, b"c\nx\n") else {
+    let Ok(raw) = read_table(alloc, b"c\nx\n", 1_024) else {
         return Err(Fail::from("no table"));
     };
-    let Ok(sets) = TableSets::build(alloc, name, &raw) else {
+    let Ok(sets) = TableSets::build(alloc, Keys::Canonical, name, &raw) else {
         return Err(Fail::from("no sets"));
     };
     Ok(SharedTable::new(alloc, sets)?)
