@@ -2,7 +2,7 @@
 use Rattle.std.specs.Prelude.{ℕ, ◌≤◌, false, List, map, Option, Some, None}
 use Rattle.std.specs.List.{AllByRecursion}
 use Rattle.lake_model.specs.declared.Policy.{Policy}
-use Rattle.script_model.specs.Commands.{Command, command_with, Task, Load, LoadFile, DropTable, Tables, Search, Like, Merge, Batch}
+use Rattle.script_model.specs.Commands.{Command, command_with, Task, Load, LoadFile, DropTable, Replace, Tables, Search, Like, Contain, Merge, Batch}
 use Rattle.record_model.specs.Answered.{policy_of}
 use Rattle.batch_work.specs.declared.work.Work.{Work}
 use Rattle.batch_work.specs.declared.work.Work.TheVariants as work
@@ -23,7 +23,9 @@ abbrev pub merge_policy : Task → Option Policy
 merge_policy (Load name body) = None
 merge_policy (LoadFile name file) = None
 merge_policy (DropTable name) = None
+merge_policy (Replace name body) = None
 merge_policy Tables = None
 merge_policy (Search k body) = None
 merge_policy (Like k name place) = None
+merge_policy (Contain a b body) = None
 merge_policy (Merge all) = Some (policy_of all)

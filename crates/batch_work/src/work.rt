@@ -90,8 +90,12 @@ fn has_pin(task: &Task) -> bool
     ensures { result ≡ has_pin (task_of task.now) }
 {
     match task {
-        Task::Search { .. } | Task::Like { .. } | Task::Merge { .. } => true,
-        Task::Load { .. } | Task::LoadFile { .. } | Task::Drop { .. } | Task::Tables => false,
+        Task::Search { .. } | Task::Like { .. } | Task::Contain { .. } | Task::Merge { .. } => true,
+        Task::Load { .. }
+        | Task::LoadFile { .. }
+        | Task::Drop { .. }
+        | Task::Replace { .. }
+        | Task::Tables => false,
     }
 }
 
@@ -105,14 +109,16 @@ fn merge_policy(task: &Task) -> Option<Policy>
         Task::Load { .. }
         | Task::LoadFile { .. }
         | Task::Drop { .. }
+        | Task::Replace { .. }
         | Task::Tables
         | Task::Search { .. }
-        | Task::Like { .. } => None,
+        | Task::Like { .. }
+        | Task::Contain { .. } => None,
     }
 }
 
-/// The commands of a batch, and then those of the merger, where there is one: a merge for each load and drop of the batch, numbered
-/// from `merger` on.
+/// The commands of a batch, and then those of the merger, where there is one: a merge for each load, drop and replace of the batch,
+/// numbered from `merger` on.
 pub fn works_of(
     alloc: Global,
     batch: &Batch,

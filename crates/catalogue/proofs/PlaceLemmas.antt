@@ -157,7 +157,7 @@ one_part_marked name (part ∷ parts) (suc i) j d lt within m n h =
     (distinct_apart (names_in part.places) (names_in (places_of parts)) split) in
     λ k. part_with part.number (none_marked name part.places lacks k) ∷ one_part_marked name parts i j d (omega arith) within m n (distinct_right (names_in part.places) (names_in (places_of parts)) split) k
 
--- A drop marks the place at the position of the load of the name.
+-- A drop or a replace marks the place at the position of the load or replace of the name.
 pub drop_marks : (name : Text) (parts : List Part) (i j position : ℕ) → AreDistinct (positions_of parts) → AreDistinct (unmarked_names parts) → load_of parts name ≡ Some position → StandsAt parts position i j
     → map (mark name) parts ≡ slice_set parts i (marked_at j (part_at parts i))
 drop_marks name parts i j position positions names loaded stands =

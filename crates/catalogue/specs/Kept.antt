@@ -28,7 +28,7 @@ pub record IsWithin (limits counted : Counts) : Type 0 where
 
 -- The version, the counts and the positions by name are those of the journal, which is legal and within the limits. The positions
 -- of the layout rise; its tables that are not marked are the live ones, no two of one name; no part is empty; and there are at most as
--- many tables, and parts, as loads and drops. Each swap merges.
+-- many tables, and parts, as loads, drops and replaces. Each swap merges.
 pub record IsKept (limits : Counts) (journal : List Entry) (version : VersionOf) (counted : Counts) (position : Text → Option ℕ) : Type 0 where
   pub current : version ≡ version_with (length journal) (layout journal)
   pub count : counted ≡ counts journal

@@ -30,7 +30,7 @@ kept_marks kept parts = map (λ place. place.marked) (kept_places kept parts)
 
 -- What was merged is of this layout: the planned parts stand next to each other there, in this order and with these positions; the
 -- kept positions are taken from theirs in layout order, and every other one is marked; two parts or more are merged, or not every
--- position is kept; and the tables are those that were loaded at the kept positions.
+-- position is kept; and the tables are those that were put at the kept positions, by a load or a replace.
 pub record IsMergeOf (parts : List Part) (merged : MergedOf) : Type 0 where
   pub adjacent : named (run_of (numbers_in merged.from) parts) ≡ merged.from
   pub may : may_swap parts (numbers_in merged.from) merged.kept ≡ true

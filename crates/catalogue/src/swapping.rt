@@ -25,7 +25,7 @@ impl Catalogue {
     /// its position, counted from 1. Marks that came after the plan are carried over. Pins that were made before keep the parts.
     ///
     /// It is refused where a planned part is no longer there, and where memory is wanting. Then nothing has changed. A swap does not
-    /// count as a load or a drop. It takes two binary searches for each planned part, and a walk over the loads of these parts; where a
+    /// count as an update. It takes two binary searches for each planned part, and a walk over the positions of these parts; where a
     /// pin holds the newest version, the list of its parts is copied too.
     pub fn swap(&mut self, who: Who, merged: Merged) -> Result<u64, SwapRefused>
         requires planned { merged.at ≤ length self.old.journal }
@@ -176,7 +176,7 @@ fn merged_part(
     Ok(Some(part))
 }
 
-// The marks of the kept positions, which stand in these parts in this order: one walk over the loads of the parts.
+// The marks of the kept positions, which stand in these parts in this order: one walk over the positions of the parts.
 fn carried_marks(alloc: Global, run: &[Part], kept: &[u64]) -> Result<Vec<bool>, NoMemory>
     requires distinct { AreDistinct (positions_of run.now) }
     requires taken { filter (is_among kept.now) (positions_of run.now) ≡ kept.now }

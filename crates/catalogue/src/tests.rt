@@ -8,7 +8,7 @@ use crate::{
     Catalogue, Counts, DropRefused, Entry, Limits, LoadRefused, ReplaceRefused, SwapRefused, What,
     Which, Who,
 };
-use column_set::{Name, SharedTable, TableSets};
+use column_set::{Keys, Name, SharedTable, TableSets};
 use csv_table::read_table;
 use no_memory::NoMemory;
 use segment_core::{
@@ -51,8 +51,8 @@ fn table(alloc: Global, text: &str) -> Result<SharedTable, Fail>
     ensures columns { IfOk result (λ table. length table.columns ≡ 1) }
     ensures keys { IfOk result (λ table. keys_at table 1 ≡ codes "key" ∷ []) }
 {
-    let raw = read_table(alloc, b"x\nkey\n")?;
-    let sets = TableSets::build(alloc, name(text)?, &raw)?;
+    let raw = read_table(alloc, b"x\nkey\n", 1_024)?;
+    let sets = TableSets::build(alloc, Keys::Canonical, name(text)?, &raw)?;
     if sets.columns() != 1 {
         return Err(Fail::from("another table"));
     }

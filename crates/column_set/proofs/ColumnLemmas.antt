@@ -4,6 +4,7 @@ use Rattle.std.specs.Prelude.{bytes_eq, sum_by}
 use Rattle.std.specs.List.{AllByRecursion, IsDistinct}
 use Rattle.std.proofs.lemmas.List.FromFn.{length-map-range_with_len}
 use Rattle.std.proofs.lemmas.List.Sums.{sum_by-cons}
+use Rattle.lake_model.specs.declared.Keys.{Keys}
 use Rattle.lake_model.specs.Texts.{Text}
 use Rattle.lake_model.specs.Records.{Record, column_at, column_count, field_at, field_keys, places_of, table_of}
 use Rattle.lake_model.specs.Tables.{Column, Table, Titles, column_with, table_with, titles_of, titles_with, keys_at, members, key_bytes}
@@ -86,19 +87,19 @@ module _ {titles : Titles} {sets : List (List Text)} {members key_bytes : ℕ} (
     different_at = all-at (IsDistinct bytes_eq) sets (place - 1) [] held.different place_held
 
 -- the table that was read: its titles and its sets are of the same places
-module _ (name : Text) (rows : List Record) (names : List Text) (sets : List (List Text)) (named : names ≡ map (field_at rows 0) (places_of rows)) (read : sets ≡ map (λ place. (column_at rows place).keys) (places_of rows)) where
-  pub table_read : table_from (titles_with name names) sets ≡ table_of name rows
-  table_read = (λ i. table_from (titles_with name (named i)) (read i)) ∙ ap (table_with name) (columns_with-map (field_at rows 0) (λ place. (column_at rows place).keys) (places_of rows))
+module _ (kind : Keys) (name : Text) (rows : List Record) (names : List Text) (sets : List (List Text)) (named : names ≡ map (field_at rows 0) (places_of rows)) (read : sets ≡ map (λ place. (column_at kind rows place).keys) (places_of rows)) where
+  pub table_read : table_from (titles_with name names) sets ≡ table_of kind name rows
+  table_read = (λ i. table_from (titles_with name (named i)) (read i)) ∙ ap (table_with name) (columns_with-map (field_at rows 0) (λ place. (column_at kind rows place).keys) (places_of rows))
 
   pub as_many_read : length names ≡ length sets
-  as_many_read = ap length named ∙ length-map-range_with_len (field_at rows 0) 1 (column_count rows) ∙ sym (ap length read ∙ length-map-range_with_len (λ place. (column_at rows place).keys) 1 (column_count rows))
+  as_many_read = ap length named ∙ length-map-range_with_len (field_at rows 0) 1 (column_count rows) ∙ sym (ap length read ∙ length-map-range_with_len (λ place. (column_at kind rows place).keys) 1 (column_count rows))
 
   different_read : AllByRecursion (IsDistinct bytes_eq) sets
   different_read =
       let P : List (List Text) → Type 0 = AllByRecursion (IsDistinct bytes_eq) in
-      subst P (sym read) (all-map (IsDistinct bytes_eq) (λ place. (column_at rows place).keys) (λ place. distinct_differ (field_keys place (drop 1 rows))) (places_of rows))
+      subst P (sym read) (all-map (IsDistinct bytes_eq) (λ place. (column_at kind rows place).keys) (λ place. distinct_differ (field_keys kind place (drop 1 rows))) (places_of rows))
 
-  pub held_read : length sets ≤ 1024 → AllByRecursion IsSmall sets → (titles : Titles) → titles ≡ titles_with name names → (count bytes : ℕ) → count ≡ sum_by (λ keys. length keys) sets → bytes ≡ sum_by (λ keys. sum_by (λ key. length key) keys) sets → IsHeld titles sets count bytes
+  pub held_read : length sets ≤ 4096 → AllByRecursion IsSmall sets → (titles : Titles) → titles ≡ titles_with name names → (count bytes : ℕ) → count ≡ sum_by (λ keys. length keys) sets → bytes ≡ sum_by (λ keys. sum_by (λ key. length key) keys) sets → IsHeld titles sets count bytes
   held_read narrow small titles is count bytes counted weighed =
       let as_many : length titles.columns ≡ length sets = ap (λ (t : Titles). length t.columns) is ∙ as_many_read in
       record {

@@ -7,6 +7,7 @@ use Rattle.std.proofs.lemmas.Bool.{cases_Bool}
 use Rattle.std.proofs.lemmas.List.{length-append}
 use Rattle.std.proofs.lemmas.List.FromFn.{sum_by-map-range_with_len_more}
 use Rattle.std.proofs.lemmas.List.Sums.{sum_by-cons, sum_by-le-sum_by, sum_by-take-le}
+use Rattle.lake_model.specs.declared.Keys.{Keys}
 use Rattle.lake_model.specs.Texts.{Text}
 use Rattle.lake_model.specs.Keys.{key}
 use Rattle.lake_model.specs.Records.{Record, column_at, column_count, field_keys, table_of, text_size}
@@ -26,23 +27,23 @@ distinct-size seen (text ∷ texts) =
     let rest = distinct-size (add_key seen text) texts in
     omega arith
 
-no_key : key [] ≡ None
+no_key : (kind : Keys) → key kind [] ≡ None
 unfolding trim_start trim_end chars
-no_key = refl
+no_key kind = refl
 
 at_most_one : (found : Option Text) (keys : List Text) (n : ℕ) → length keys ≤ n → length (cons_option found keys) ≤ n + 1
 at_most_one None keys n h = omega arith
 at_most_one (Some text) keys n h = omega arith
 
 -- a key comes only of a field with a byte
-key-size : (field : Text) (keys : List Text) (n : ℕ) → length keys ≤ n → length (cons_option (key field) keys) ≤ length field + n
-key-size [] keys n h = rw no_key (omega arith)
-key-size (byte ∷ field) keys n h = let most = at_most_one (key (byte ∷ field)) keys (length field + n) (omega arith) in omega arith
+key-size : (kind : Keys) (field : Text) (keys : List Text) (n : ℕ) → length keys ≤ n → length (cons_option (key kind field) keys) ≤ length field + n
+key-size kind [] keys n h = rw (no_key kind) (omega arith)
+key-size kind (byte ∷ field) keys n h = let most = at_most_one (key kind (byte ∷ field)) keys (length field + n) (omega arith) in omega arith
 
-field_keys-size : (place : ℕ) (rows : List Record) → length (field_keys place rows) ≤ sum_by (λ fields. length (get_or fields (place - 1) [])) rows
-field_keys-size place [] = omega arith
-field_keys-size place (fields ∷ rows) =
-    rw (sum_by-cons (λ (r : Record). length (get_or r (place - 1) [])) fields rows) (key-size (get_or fields (place - 1) []) (field_keys place rows) _ (field_keys-size place rows))
+field_keys-size : (kind : Keys) (place : ℕ) (rows : List Record) → length (field_keys kind place rows) ≤ sum_by (λ fields. length (get_or fields (place - 1) [])) rows
+field_keys-size kind place [] = omega arith
+field_keys-size kind place (fields ∷ rows) =
+    rw (sum_by-cons (λ (r : Record). length (get_or r (place - 1) [])) fields rows) (key-size kind (get_or fields (place - 1) []) (field_keys kind place rows) _ (field_keys-size kind place rows))
 
 fields_more : (fields : Record) (n : ℕ) → sum_by length (take (suc n) fields) ≡ sum_by length (take n fields) + length (get_or fields n [])
 fields_more [] zero = refl
@@ -63,31 +64,31 @@ rows_more (fields ∷ rows) n =
       sum_by-cons (λ (t : Record). length (get_or t n [])) fields rows,
     ) (omega arith)
 
-abbrev keys_up_to : ℕ → List Record → ℕ
-keys_up_to n rows = sum_by (λ c. length c.keys) (map (column_at rows) (range_with_len 1 n))
+abbrev keys_up_to : Keys → ℕ → List Record → ℕ
+keys_up_to kind n rows = sum_by (λ c. length c.keys) (map (column_at kind rows) (range_with_len 1 n))
 
-keys_up_to-suc : (n : ℕ) (rows : List Record) → keys_up_to (suc n) rows ≡ keys_up_to n rows + length (column_at rows (suc n)).keys
-keys_up_to-suc n rows = ap (λ (k : ℕ). keys_up_to k rows) (sym (add-one n)) ∙ sum_by-map-range_with_len_more (λ (c : Column). length c.keys) (column_at rows) 1 n (suc n) (omega arith)
+keys_up_to-suc : (kind : Keys) (n : ℕ) (rows : List Record) → keys_up_to kind (suc n) rows ≡ keys_up_to kind n rows + length (column_at kind rows (suc n)).keys
+keys_up_to-suc kind n rows = ap (λ (k : ℕ). keys_up_to kind k rows) (sym (add-one n)) ∙ sum_by-map-range_with_len_more (λ (c : Column). length c.keys) (column_at kind rows) 1 n (suc n) (omega arith)
 
-column-size : (n : ℕ) (rows : List Record) → length (column_at rows (suc n)).keys ≤ sum_by (λ r. length (get_or r n [])) (drop 1 rows)
-column-size n rows =
+column-size : (kind : Keys) (n : ℕ) (rows : List Record) → length (column_at kind rows (suc n)).keys ≤ sum_by (λ r. length (get_or r n [])) (drop 1 rows)
+column-size kind n rows =
     let place : suc n - 1 ≡ n = omega arith in
     let same = ap (λ (k : ℕ). sum_by (λ (r : Record). length (get_or r k [])) (drop 1 rows)) place in
-    omega (arith, distinct-size [] (field_keys (suc n) (drop 1 rows)), field_keys-size (suc n) (drop 1 rows), same)
+    omega (arith, distinct-size [] (field_keys kind (suc n) (drop 1 rows)), field_keys-size kind (suc n) (drop 1 rows), same)
 
 -- the first n columns have no more keys than their fields have bytes
-first_columns : (n : ℕ) (rows : List Record) → keys_up_to n rows ≤ sum_by (λ r. sum_by length (take n r)) (drop 1 rows)
-first_columns zero rows = omega arith
-first_columns (suc n) rows = omega (arith, keys_up_to-suc n rows, column-size n rows, first_columns n rows, rows_more (drop 1 rows) n)
+first_columns : (kind : Keys) (n : ℕ) (rows : List Record) → keys_up_to kind n rows ≤ sum_by (λ r. sum_by length (take n r)) (drop 1 rows)
+first_columns kind zero rows = omega arith
+first_columns kind (suc n) rows = omega (arith, keys_up_to-suc kind n rows, column-size kind n rows, first_columns kind n rows, rows_more (drop 1 rows) n)
 
 below_header : (rows : List Record) → sum_by (λ r. sum_by length r) (drop 1 rows) ≤ text_size rows
 below_header [] = omega arith
 below_header (fields ∷ rows) = rw (sum_by-cons (λ (r : Record). sum_by length r) fields rows) (omega arith)
 
-pub members-size : (name : Text) (rows : List Record) → members (table_of name rows) ≤ text_size rows
-members-size name rows =
+pub members-size : (kind : Keys) (name : Text) (rows : List Record) → members (table_of kind name rows) ≤ text_size rows
+members-size kind name rows =
     let n = column_count rows in
-    let columns = first_columns n rows in
+    let columns = first_columns kind n rows in
     let cut = sum_by-le-sum_by (λ (r : Record). sum_by length (take n r)) (λ (r : Record). sum_by length r) (drop 1 rows) (λ r. sum_by-take-le (λ (t : Text). length t) r n) in
     let below = below_header rows in
     omega arith

@@ -24,7 +24,7 @@ IsSmall keys = length keys ≤ 4194304
 -- what is held of a table is one set for each column, none too large and none with a key twice, with the numbers of all keys and of their bytes
 pub record IsHeld (titles : Titles) (sets : List (List Text)) (members key_bytes : ℕ) : Type 0 where
   pub as_many : length titles.columns ≡ length sets
-  pub narrow : length sets ≤ 1024
+  pub narrow : length sets ≤ 4096
   pub small : AllByRecursion IsSmall sets
   pub different : AllByRecursion (IsDistinct bytes_eq) sets
   pub counted : members ≡ tables.members (table_from titles sets)

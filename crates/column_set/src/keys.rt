@@ -11,7 +11,7 @@ use crate::texts::Texts;
 use no_memory::NoMemory;
 use std::alloc::Global;
 use std::marker::Model;
-use value_key::key_into;
+use value_key::{Keys, key_into};
 
 /// How many keys a column or a query has at most.
 pub const MOST_KEYS: usize = 4_194_304;
@@ -54,12 +54,18 @@ impl KeySet {
         Ok(KeySet { keys, slots })
     }
 
-    /// Adds the key of a value, where it has one and that is not there. The key is written into the buffer, in place of what
+    /// Adds the key of a value, of this kind, where it has one and that is not there. The key is written into the buffer, in place of what
     /// stands there.
-    pub fn add(&mut self, alloc: Global, value: &str, buffer: &mut String) -> Result<(), NoMemory>
-        ensures { OnOk result (self.new ≡ option_map_or (add_key self.old) (key value.now) self.old) }
+    pub fn add(
+        &mut self,
+        alloc: Global,
+        keys: Keys,
+        value: &str,
+        buffer: &mut String,
+    ) -> Result<(), NoMemory>
+        ensures { OnOk result (self.new ≡ option_map_or (add_key self.old) (key keys value.now) self.old) }
     {
-        if !key_into(alloc, value, buffer)? {
+        if !key_into(alloc, keys, value, buffer)? {
             return Ok(());
         }
         self.insert(alloc, buffer.as_str())

@@ -14,7 +14,7 @@ mod texts;
 mod titles;
 
 pub use keys::{distinct_law, overlap_law};
-pub use lake_model::{QueryRefused, SetRefused};
+pub use lake_model::{Keys, QueryRefused, SetRefused};
 pub use name::Name;
 pub use query::QuerySet;
 pub use row::{KeptRow, KeptRows, Row, Rows};

@@ -8,7 +8,7 @@ ghost use Rattle.lake_model.specs.Texts.{all_lines};
 use crate::keys::{KeySet, MOST_KEYS};
 use crate::lists::KeyLists;
 use crate::table::TableSets;
-use lake_model::QueryRefused;
+use lake_model::{Keys, QueryRefused};
 use no_memory::NoMemory;
 use std::alloc::Global;
 use std::marker::Model;
@@ -32,19 +32,19 @@ impl Model for QuerySet {
 }
 
 impl QuerySet {
-    /// The query of a body with one value a line: the distinct keys of its lines, of which a value with nothing but white space
+    /// The query of a body with one value a line: the distinct keys of its lines, each of this kind, of which a value with nothing but white space
     /// gives none. A line feed ends a line, and what stands behind the last one is a line where it has a byte.
     ///
     /// It is refused at the first line that is not UTF-8, then where there are more than 4,194,304 distinct keys, and where
     /// memory is wanting.
-    pub fn read(alloc: Global, body: &[u8]) -> Result<QuerySet, QueryRefused>
-        ensures keys { IfOk result (λ q. q ≡ query_of body.now) }
-        ensures sound { OnOk result (query_fault body.now ≡ None) }
-        ensures refused { IfErr result (λ e. (e ≡ QueryRefused.NoMemory) ⊎ (query_fault body.now ≡ Some e)) }
+    pub fn read(alloc: Global, keys: Keys, body: &[u8]) -> Result<QuerySet, QueryRefused>
+        ensures keys { IfOk result (λ q. q ≡ query_of keys body.now) }
+        ensures sound { OnOk result (query_fault keys body.now ≡ None) }
+        ensures refused { IfErr result (λ e. (e ≡ QueryRefused.NoMemory) ⊎ (query_fault keys body.now ≡ Some e)) }
     {
-        let keys = read_keys(alloc, body)?;
-        let _count = keys.len();
-        Ok(QuerySet { keys })
+        let set = read_keys(alloc, keys, body)?;
+        let _count = set.len();
+        Ok(QuerySet { keys: set })
     }
 
     /// The keys of the column of a table at a place, counted from 1, as a query.
@@ -94,27 +94,27 @@ impl QuerySet {
 }
 
 // The distinct keys of the lines of a body.
-fn read_keys(alloc: Global, body: &[u8]) -> Result<KeySet, QueryRefused>
-    ensures keys { IfOk result (λ keys. keys ≡ query_of body.now) }
-    ensures small { IfOk result (λ keys. length keys ≤ 4194304) }
-    ensures sound { OnOk result (query_fault body.now ≡ None) }
-    ensures refused { IfErr result (λ e. (e ≡ QueryRefused.NoMemory) ⊎ (query_fault body.now ≡ Some e)) }
+fn read_keys(alloc: Global, keys: Keys, body: &[u8]) -> Result<KeySet, QueryRefused>
+    ensures keys { IfOk result (λ set. set ≡ query_of keys body.now) }
+    ensures small { IfOk result (λ set. length set ≤ 4194304) }
+    ensures sound { OnOk result (query_fault keys body.now ≡ None) }
+    ensures refused { IfErr result (λ e. (e ≡ QueryRefused.NoMemory) ⊎ (query_fault keys body.now ≡ Some e)) }
 {
-    let mut keys = no_keys(alloc, body)?;
+    let mut set = no_keys(alloc, body)?;
     let mut buffer = String::new(alloc);
     let mut rest = body;
     for number in 1..u64::MAX {
         if rest.is_empty() {
-            if keys.len() > MOST_KEYS {
+            if set.len() > MOST_KEYS {
                 return Err(QueryRefused::TooManyValues);
             }
-            return Ok(keys);
+            return Ok(set);
         }
         let (line, after) = next_line(rest);
         let Ok(value) = str::from_utf8(line) else {
             return Err(QueryRefused::NotUtf8 { line: number });
         };
-        if keys.add(alloc, value, &mut buffer).is_err() {
+        if set.add(alloc, keys, value, &mut buffer).is_err() {
             return Err(QueryRefused::NoMemory);
         }
         rest = after;

@@ -12,7 +12,7 @@ use crate::query::QuerySet;
 use crate::texts::Texts;
 use crate::titles::Titles;
 use csv_table::RawTable;
-use lake_model::SetRefused;
+use lake_model::{Keys, SetRefused};
 use no_memory::NoMemory;
 use std::alloc::Global;
 use std::marker::Model;
@@ -21,7 +21,7 @@ use std::sync::Arc;
 /// For how many keys of a column there is room at first.
 const FIRST_ROOM: u64 = 64;
 
-/// A table: its name, and for each of its columns, at most 1,024, the name and the set of its keys, at most 4,194,304 and none
+/// A table: its name, and for each of its columns, at most 4,096, the name and the set of its keys, at most 4,194,304 and none
 /// twice. Columns are found by their place, counted from 1; two of them may have one name.
 #[derive(Drop)]
 pub struct TableSets {
@@ -46,16 +46,21 @@ impl TableSets {
     ghost use Rattle.lake_model.specs.Tables.{members as members_of, key_bytes as key_bytes_of};
 
     /// The table of the name, with a column for each column of the fields: the field of the header is its name, and the keys of
-    /// the fields below it, in the order of the records, are its set.
+    /// the fields below it, each of this kind, in the order of the records, are its set.
     ///
     /// It is refused at the first column of more than 4,194,304 distinct keys, and where memory is wanting.
-    pub fn build(alloc: Global, name: Name, raw: &RawTable) -> Result<TableSets, SetRefused>
-        ensures table { IfOk result (λ t. t ≡ table_of name raw.now) }
-        ensures sound { OnOk result (sets_fault raw.now ≡ None) }
+    pub fn build(
+        alloc: Global,
+        keys: Keys,
+        name: Name,
+        raw: &RawTable,
+    ) -> Result<TableSets, SetRefused>
+        ensures table { IfOk result (λ t. t ≡ table_of keys name raw.now) }
+        ensures sound { OnOk result (sets_fault keys raw.now ≡ None) }
         ensures size { IfOk result (λ t. members_of t ≤ text_size raw.now) }
-        ensures refused { IfErr result (λ e. (e ≡ SetRefused.NoMemory) ⊎ (sets_fault raw.now ≡ Some e)) }
+        ensures refused { IfErr result (λ e. (e ≡ SetRefused.NoMemory) ⊎ (sets_fault keys raw.now ≡ Some e)) }
     {
-        let sets = read_sets(alloc, raw)?;
+        let sets = read_sets(alloc, keys, raw)?;
         let Ok(names) = read_names(alloc, raw) else {
             return Err(SetRefused::NoMemory);
         };
@@ -91,10 +96,10 @@ impl TableSets {
         self.titles.table()
     }
 
-    /// How many columns there are, at most 1,024. The keys of each differ from each other.
+    /// How many columns there are, at most 4,096. The keys of each differ from each other.
     pub fn columns(&self) -> u32
         ensures value { result ≡ length self.now.columns }
-        ensures narrow { result ≤ 1024 }
+        ensures narrow { result ≤ 4096 }
         ensures different { HasDistinctKeys self.now }
     {
         self.sets.len() as u32
@@ -180,7 +185,7 @@ impl TableSets {
 
 // The titles of a table of this name, with columns of these names, to be shared.
 fn shared_titles(alloc: Global, name: Name, names: &[String]) -> Result<Arc<Titles>, NoMemory>
-    requires { length names.now ≤ 1024 }
+    requires { length names.now ≤ 4096 }
     ensures { IfOk result (λ titles. titles.value ≡ titles_with name (map string_bytes names.now)) }
 {
     let titles = Titles::new(alloc, name, names)?;
@@ -199,24 +204,24 @@ fn read_names(alloc: Global, raw: &RawTable) -> Result<Vec<String>, NoMemory>
 }
 
 // The sets of the columns, none too large.
-fn read_sets(alloc: Global, raw: &RawTable) -> Result<Vec<KeySet>, SetRefused>
-    ensures sets { IfOk result (λ sets. sets.items ≡ map (λ place. (column_at raw.now place).keys) (places_of raw.now)) }
-    ensures narrow { IfOk result (λ sets. length sets.items ≤ 1024) }
+fn read_sets(alloc: Global, keys: Keys, raw: &RawTable) -> Result<Vec<KeySet>, SetRefused>
+    ensures sets { IfOk result (λ sets. sets.items ≡ map (λ place. (column_at keys raw.now place).keys) (places_of raw.now)) }
+    ensures narrow { IfOk result (λ sets. length sets.items ≤ 4096) }
     ensures small { IfOk result (λ sets. AllByRecursion IsSmall sets.items) }
-    ensures sound { OnOk result (sets_fault raw.now ≡ None) }
-    ensures refused { IfErr result (λ e. (e ≡ SetRefused.NoMemory) ⊎ (sets_fault raw.now ≡ Some e)) }
+    ensures sound { OnOk result (sets_fault keys raw.now ≡ None) }
+    ensures refused { IfErr result (λ e. (e ≡ SetRefused.NoMemory) ⊎ (sets_fault keys raw.now ≡ Some e)) }
 {
     let mut sets = Vec::new(alloc);
     let mut buffer = String::new(alloc);
     for i in 0..raw.columns() {
         let place = i + 1;
-        let Ok(keys) = read_keys(alloc, raw, place, &mut buffer) else {
+        let Ok(set) = read_keys(alloc, keys, raw, place, &mut buffer) else {
             return Err(SetRefused::NoMemory);
         };
-        if keys.len() > MOST_KEYS {
+        if set.len() > MOST_KEYS {
             return Err(SetRefused::TooManyValues { place });
         }
-        if sets.push(keys).is_err() {
+        if sets.push(set).is_err() {
             return Err(SetRefused::NoMemory);
         }
     }
@@ -226,24 +231,25 @@ fn read_sets(alloc: Global, raw: &RawTable) -> Result<Vec<KeySet>, SetRefused>
 // The keys of the column at a place. Each is written into the buffer, which all columns share.
 fn read_keys(
     alloc: Global,
+    keys: Keys,
     raw: &RawTable,
     place: u32,
     buffer: &mut String,
 ) -> Result<KeySet, NoMemory>
     requires low { 0 < place }
     requires high { place ≤ column_count raw.now }
-    ensures { IfOk result (λ keys. keys ≡ (column_at raw.now place).keys) }
+    ensures { IfOk result (λ set. set ≡ (column_at keys raw.now place).keys) }
 {
-    let mut keys = KeySet::with_room(alloc, raw.rows().min(FIRST_ROOM) as u32)?;
+    let mut set = KeySet::with_room(alloc, raw.rows().min(FIRST_ROOM) as u32)?;
     for row in 0..raw.rows() {
-        keys.add(alloc, raw.field(row + 1, place), buffer)?;
+        set.add(alloc, keys, raw.field(row + 1, place), buffer)?;
     }
-    Ok(keys)
+    Ok(set)
 }
 
 // How many keys the sets have together.
 fn member_count(sets: &[KeySet]) -> u64
-    requires narrow { length sets.now ≤ 1024 }
+    requires narrow { length sets.now ≤ 4096 }
     requires small { AllByRecursion IsSmall sets.now }
     ensures { result ≡ sum_by length sets.now }
 {

@@ -1,4 +1,4 @@
-use crate::{Name, QueryRefused, QuerySet, Row, Rows, SharedTable, TableSets};
+use crate::{Keys, Name, QueryRefused, QuerySet, Row, Rows, SharedTable, TableSets};
 use csv_table::read_table;
 use std::alloc::Global;
 use std::test::Fail;
@@ -6,10 +6,10 @@ use std::test::Fail;
 // The table of a name and of CSV bytes.
 fn table(alloc: Global, name: &[u8], bytes: &[u8]) -> Result<TableSets, Fail> {
     let name = Name::read(name).ok_or("no name")?;
-    let Ok(raw) = read_table(alloc, bytes) else {
+    let Ok(raw) = read_table(alloc, bytes, 1_024) else {
         return Err(Fail::from("no table"));
     };
-    let Ok(table) = TableSets::build(alloc, name, &raw) else {
+    let Ok(table) = TableSets::build(alloc, Keys::Canonical, name, &raw) else {
         return Err(Fail::from("no sets"));
     };
     Ok(table)
@@ -26,7 +26,7 @@ fn names(rt: HostRuntime) {
 
 // The query of a body.
 fn query(alloc: Global, body: &[u8]) -> Result<QuerySet, Fail> {
-    let Ok(query) = QuerySet::read(alloc, body) else {
+    let Ok(query) = QuerySet::read(alloc, Keys::Canonical, body) else {
         return Err(Fail::from("no query"));
     };
     Ok(query)
@@ -96,7 +96,7 @@ fn keys_in_turn(rt: HostRuntime) -> Result<(), Fail> {
 
 // How many keys the query of a body has, and what the body is refused for.
 fn read(alloc: Global, body: &[u8]) -> Result<u32, QueryRefused> {
-    Ok(QuerySet::read(alloc, body)?.len())
+    Ok(QuerySet::read(alloc, Keys::Canonical, body)?.len())
 }
 
 // Blank lines have no key, the last line needs no line feed, and the first line that is no text is named.
@@ -134,5 +134,31 @@ fn rows(rt: HostRuntime) -> Result<(), Fail> {
     list.push(row)?;
     let rows = Rows::new(list).keep_all(alloc)?;
     assert_eq!(rt; rows.list().len(), 1);
+    Ok(())
+}
+
+// How many of the keys of a query, 1 and a, a column of a circled digit and a wide letter has.
+fn shared_by(alloc: Global, keys: Keys) -> Result<u32, Fail> {
+    let Ok(raw) = read_table(alloc, "c\n\u{2460}\n\u{FF21}\n".as_bytes(), 1) else {
+        return Err(Fail::from("no table"));
+    };
+    let name = Name::read(b"t").ok_or("no name")?;
+    let Ok(table) = TableSets::build(alloc, keys, name, &raw) else {
+        return Err(Fail::from("no sets"));
+    };
+    let Ok(asked) = QuerySet::read(alloc, keys, b"1\na\n") else {
+        return Err(Fail::from("no query"));
+    };
+    if table.columns() != 1 {
+        return Err(Fail::from("another width"));
+    }
+    Ok(table.overlap(1, &asked))
+}
+
+// Values that are the same by compatibility alone are one key where keys are of that kind.
+#[test]
+fn kinds_of_keys(rt: HostRuntime) -> Result<(), Fail> {
+    assert_eq!(rt; shared_by(rt.alloc(), Keys::Canonical)?, 0);
+    assert_eq!(rt; shared_by(rt.alloc(), Keys::Compatibility)?, 2);
     Ok(())
 }

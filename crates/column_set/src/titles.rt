@@ -8,7 +8,7 @@ use no_memory::NoMemory;
 use std::alloc::Global;
 use std::marker::Model;
 
-/// A table's name and its columns' names, at most 1,024 of them, each a text that may be empty or that of another column.
+/// A table's name and its columns' names, at most 4,096 of them, each a text that may be empty or that of another column.
 #[derive(Drop)]
 pub struct Titles {
     table: Name,
@@ -23,13 +23,13 @@ impl Model for Titles {
 
     ghost view = { λ t. titles_with t.table t.columns };
 
-    ghost invariant = { λ t. length t.columns ≤ 1024 };
+    ghost invariant = { λ t. length t.columns ≤ 4096 };
 }
 
 impl Titles {
     /// The titles of a table of this name, with columns of these names from the first place on, in the room that they take.
     pub fn new(alloc: Global, table: Name, columns: &[String]) -> Result<Titles, NoMemory>
-        requires { length columns.now ≤ 1024 }
+        requires { length columns.now ≤ 4096 }
         ensures { IfOk result (λ titles. titles ≡ titles_with table (map string_bytes columns.now)) }
     {
         Ok(Titles {
@@ -45,10 +45,10 @@ impl Titles {
         &self.table
     }
 
-    /// How many columns there are, at most 1,024.
+    /// How many columns there are, at most 4,096.
     pub fn columns(&self) -> u32
         ensures value { result ≡ length self.now.columns }
-        ensures narrow { result ≤ 1024 }
+        ensures narrow { result ≤ 4096 }
     {
         self.columns.len()
     }

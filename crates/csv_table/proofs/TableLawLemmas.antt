@@ -50,19 +50,19 @@ unfolding rows_fault
 rows_from row names [] h = refl
 rows_from row names (r ∷ rs) h = rw (row_from row names r h.0) (rows_from (row + 1) names rs h.1)
 
-pub table_of : (rs : List Record) → table_fault rs ≡ None → IsTable rs
-table_of [] e = cc e
-table_of (names ∷ rows) e =
-    let two = both (header_fault names) (rows_fault 2 (length names) rows) e in
-    elim (cases_Bool (nat_lt 1024 (length names))) [
+pub table_of : (most : ℕ) (rs : List Record) → table_fault most rs ≡ None → IsTable most rs
+table_of most [] e = cc e
+table_of most (names ∷ rows) e =
+    let two = both (header_fault most names) (rows_fault 2 (length names) rows) e in
+    elim (cases_Bool (nat_lt most (length names))) [
       | inl t ↦ cc (rw t at two.0)
-      | inr b ↦ (ltb-false 1024 (length names) b, text_of 1 1 names (rw b at two.0), rows_of 2 names rows two.1)
+      | inr b ↦ (ltb-false most (length names) b, text_of 1 1 names (rw b at two.0), rows_of 2 names rows two.1)
     ]
 
-pub table_from : (rs : List Record) → IsTable rs → table_fault rs ≡ None
-table_from [] h = absurd h
-table_from (names ∷ rows) h =
-    elim (cases_Bool (nat_lt 1024 (length names))) [
-      | inl t ↦ absurd (omega (arith, ltb-true 1024 (length names) t))
+pub table_from : (most : ℕ) (rs : List Record) → IsTable most rs → table_fault most rs ≡ None
+table_from most [] h = absurd h
+table_from most (names ∷ rows) h =
+    elim (cases_Bool (nat_lt most (length names))) [
+      | inl t ↦ absurd (omega (arith, ltb-true most (length names) t))
       | inr b ↦ rw (b, text_from 1 1 names h.1) (rows_from 2 names rows h.2)
     ]

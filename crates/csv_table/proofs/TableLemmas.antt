@@ -10,36 +10,36 @@ use Rattle.csv_table.proofs.SplitLemmas.{split_records-more}
 use Rattle.csv_table.proofs.FaultLemmas.{rows_bad, rows_end, rows_good}
 
 -- so many records of so many columns were read and are no fault, and these are left
-pub record IsLeft (bytes : List ℕ) (records columns : ℕ) (flat : List (List ℕ)) (left : List Record) : Type 0 where
+pub record IsLeft (most : ℕ) (bytes : List ℕ) (records columns : ℕ) (flat : List (List ℕ)) (left : List Record) : Type 0 where
   pub stored : length flat ≡ records * columns
   pub read : records_of bytes ≡ split_records records columns flat ++ left
-  pub fault : csv_fault bytes ≡ rows_fault (records + 1) columns left
+  pub fault : csv_fault most bytes ≡ rows_fault (records + 1) columns left
 
-pub no_header : (bytes : List ℕ) → records_of bytes ≡ [] → csv_fault bytes ≡ Some refused.NoHeader
-no_header bytes e = rw e refl
+pub no_header : (most : ℕ) (bytes : List ℕ) → records_of bytes ≡ [] → csv_fault most bytes ≡ Some refused.NoHeader
+no_header most bytes e = rw e refl
 
-pub header_bad : (bytes : List ℕ) (f : Record) (rest : List Record) (e : CsvRefused) → records_of bytes ≡ f ∷ rest → header_fault f ≡ Some e
-    → csv_fault bytes ≡ Some e
-header_bad bytes f rest e is h = rw (is, h) refl
+pub header_bad : (most : ℕ) (bytes : List ℕ) (f : Record) (rest : List Record) (e : CsvRefused) → records_of bytes ≡ f ∷ rest → header_fault most f ≡ Some e
+    → csv_fault most bytes ≡ Some e
+header_bad most bytes f rest e is h = rw (is, h) refl
 
-pub header_good : (bytes : List ℕ) (f flat : Record) (rest : List Record) (columns : ℕ) → records_of bytes ≡ f ∷ rest → header_fault f ≡ None
-    → flat ≡ f → columns ≡ length f → IsLeft bytes 1 columns flat rest
+pub header_good : (most : ℕ) (bytes : List ℕ) (f flat : Record) (rest : List Record) (columns : ℕ) → records_of bytes ≡ f ∷ rest → header_fault most f ≡ None
+    → flat ≡ f → columns ≡ length f → IsLeft most bytes 1 columns flat rest
 unfolding split_records
-header_good bytes f flat rest columns is h same n =
+header_good most bytes f flat rest columns is h same n =
     record {
       stored = omega (arith, ap length same);
       read = is ∙ ap (λ (t : Record). t ∷ rest) (sym (take_all columns flat (omega (arith, ap length same)) ∙ same));
       fault = rw (is, h, n) refl;
     }
 
-pub record_bad : (bytes : List ℕ) (records columns : ℕ) (flat f : Record) (left rest : List Record) (e : CsvRefused) → IsLeft bytes records columns flat left
-    → left ≡ f ∷ rest → record_fault (records + 1) columns f ≡ Some e → csv_fault bytes ≡ Some e
-record_bad bytes records columns flat f left rest e h is bad = h.fault ∙ ap (rows_fault (records + 1) columns) is ∙ rows_bad (records + 1) columns f rest e bad
+pub record_bad : (most : ℕ) (bytes : List ℕ) (records columns : ℕ) (flat f : Record) (left rest : List Record) (e : CsvRefused) → IsLeft most bytes records columns flat left
+    → left ≡ f ∷ rest → record_fault (records + 1) columns f ≡ Some e → csv_fault most bytes ≡ Some e
+record_bad most bytes records columns flat f left rest e h is bad = h.fault ∙ ap (rows_fault (records + 1) columns) is ∙ rows_bad (records + 1) columns f rest e bad
 
-pub record_good : (bytes : List ℕ) (records columns : ℕ) (flat flat2 f : Record) (left rest : List Record) → IsLeft bytes records columns flat left
+pub record_good : (most : ℕ) (bytes : List ℕ) (records columns : ℕ) (flat flat2 f : Record) (left rest : List Record) → IsLeft most bytes records columns flat left
     → left ≡ f ∷ rest → length f ≡ columns → record_fault (records + 1) columns f ≡ None → flat2 ≡ flat ++ f
-    → IsLeft bytes (records + 1) columns flat2 rest
-record_good bytes records columns flat flat2 f left rest h is n good same =
+    → IsLeft most bytes (records + 1) columns flat2 rest
+record_good most bytes records columns flat flat2 f left rest h is n good same =
     let more = split_records-more records columns flat f h.stored n in
     let size = ap length same ∙ length-append flat f in
     let whole = suc-mul records columns in
@@ -50,9 +50,9 @@ record_good bytes records columns flat flat2 f left rest h is n good same =
       fault = h.fault ∙ ap (rows_fault (records + 1) columns) is ∙ rows_good (records + 1) columns f rest good;
     }
 
-pub all_read : (bytes : List ℕ) (records columns : ℕ) (flat : Record) (left : List Record) → IsLeft bytes records columns flat left → left ≡ []
-    → (split_records records columns flat ≡ records_of bytes) × (csv_fault bytes ≡ None)
-all_read bytes records columns flat left h none = (
+pub all_read : (most : ℕ) (bytes : List ℕ) (records columns : ℕ) (flat : Record) (left : List Record) → IsLeft most bytes records columns flat left → left ≡ []
+    → (split_records records columns flat ≡ records_of bytes) × (csv_fault most bytes ≡ None)
+all_read most bytes records columns flat left h none = (
   sym (h.read ∙ ap (λ (t : List Record). split_records records columns flat ++ t) none ∙ append-nil (split_records records columns flat)),
   h.fault ∙ ap (rows_fault (records + 1) columns) none ∙ rows_end (records + 1) columns,
 )

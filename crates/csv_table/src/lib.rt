@@ -1,7 +1,7 @@
 //! CSV bytes as a table, a header and records of its length with each field UTF-8, or the one refusal that the bytes earn.
 #![tactic(auto)]
 
-ghost use Rattle.std.specs.Prelude.{◌≡◌, ◌⊎◌, ◌↔◌, List, ◌+◌, ◌<◌, ◌≤◌, ◌++◌, ◌∷◌, [], true, false, length, Some, None, Ok, Err, IfOk, IfErr, OnOk, OnErr};
+ghost use Rattle.std.specs.Prelude.{◌≡◌, ◌⊎◌, ◌↔◌, ℕ, List, ◌+◌, ◌<◌, ◌≤◌, ◌++◌, ◌∷◌, [], true, false, length, Some, None, Ok, Err, IfOk, IfErr, OnOk, OnErr};
 ghost use Rattle.csv.specs.Reading.{has_failed, strip_bom};
 ghost use Rattle.csv.specs.Records.{fields_of};
 ghost use Rattle.lake_model.specs.Records.{column_count, csv_fault, field_at, header_fault, record_fault, records_of, table_fault, IsTable, Record, text_fault, text_size};
@@ -13,7 +13,7 @@ use std::alloc::Global;
 use std::marker::Model;
 use std::str;
 
-/// A header of at most 1,024 fields and fewer than 2^64 records of its length, each field UTF-8.
+/// A header of at most 4,096 fields and fewer than 2^64 records of its length, each field UTF-8.
 ///
 /// Rows are counted from 0, and row 0 is the header; places within a row, which are the columns, are counted from 1.
 #[derive(Drop)]
@@ -34,14 +34,14 @@ impl Model for RawTable {
 
     ghost view = { λ table. split_records table.records table.columns (fields_of table.store) };
 
-    ghost invariant = { λ table. (length (fields_of table.store) ≡ table.records * table.columns) × (0 < table.records) × (table.columns ≤ 1024) };
+    ghost invariant = { λ table. (length (fields_of table.store) ≡ table.records * table.columns) × (0 < table.records) × (table.columns ≤ 4096) };
 }
 
 impl RawTable {
-    /// How many columns there are: the fields of the header, 0 to 1,024.
+    /// How many columns there are: the fields of the header, 0 to 4,096.
     pub fn columns(&self) -> u32
         ensures value { result ≡ column_count self.now }
-        ensures narrow { result ≤ 1024 }
+        ensures narrow { result ≤ 4096 }
     {
         self.columns
     }
@@ -70,22 +70,24 @@ impl RawTable {
     }
 }
 
-/// The table of CSV bytes (RFC 4180), or why they are none. Commas separate the fields of a record. A field in double quotes may
+/// The table of CSV bytes (RFC 4180) with at most so many columns, 1 to 4,096, or why they are none. Commas separate the fields of a record. A field in double quotes may
 /// hold commas, line breaks and quotes, each quote doubled. A record ends at LF, CR LF or CR, and an empty line is no record. One
 /// byte order mark in front of the bytes is no part of them, nor is a second one, which the crate `csv` drops. No field is trimmed.
 ///
 /// # Errors
 ///
 /// The first of these that holds, with records and fields numbered from 1 and the header as record 1: `NoHeader` where there is no
-/// record; `TooManyColumns` where the header has more than 1,024 fields; `NotUtf8` at the header's first field that is not UTF-8;
+/// record; `TooManyColumns` where the header has more than `most` fields; `NotUtf8` at the header's first field that is not UTF-8;
 /// and at the first record at fault `Unequal` where its length is not the header's, and else `NotUtf8` at its first field that is
 /// not UTF-8. `NoMemory` may come in place of any answer, and says nothing of the bytes.
-pub fn read_table(alloc: Global, bytes: &[u8]) -> Result<RawTable, CsvRefused>
+pub fn read_table(alloc: Global, bytes: &[u8], most: u32) -> Result<RawTable, CsvRefused>
+    requires low { 1 ≤ most }
+    requires high { most ≤ 4096 }
     ensures table { IfOk result (λ t. t ≡ records_of bytes.now) }
-    ensures sound { OnOk result (csv_fault bytes.now ≡ None) }
-    ensures is_table { IfOk result (λ t. IsTable t) }
+    ensures sound { OnOk result (csv_fault most bytes.now ≡ None) }
+    ensures is_table { IfOk result (λ t. IsTable most t) }
     ensures size { IfOk result (λ t. text_size t ≤ length bytes.now) }
-    ensures refused { IfErr result (λ e. (e ≡ CsvRefused.NoMemory) ⊎ (csv_fault bytes.now ≡ Some e)) }
+    ensures refused { IfErr result (λ e. (e ≡ CsvRefused.NoMemory) ⊎ (csv_fault most bytes.now ≡ Some e)) }
 {
     let mut reader = open_reader(alloc, bytes);
     let mut row = ByteRecord::new(alloc);
@@ -93,7 +95,7 @@ pub fn read_table(alloc: Global, bytes: &[u8]) -> Result<RawTable, CsvRefused>
     if !read_next(&mut reader, &mut row)? {
         return Err(CsvRefused::NoHeader);
     }
-    let columns = add_header(&mut store, &row)?;
+    let columns = add_header(&mut store, &row, most)?;
     for records in 1..u64::MAX {
         if !read_next(&mut reader, &mut row)? {
             return Ok(RawTable {
@@ -144,14 +146,14 @@ fn read_next(reader: &mut Reader<&[u8]>, row: &mut ByteRecord) -> Result<bool, C
     Ok(found)
 }
 
-// Adds the header's fields to the store, and tells how many there are.
-fn add_header(store: &mut StringRecord, header: &ByteRecord) -> Result<u32, CsvRefused>
-    ensures ok { IfOk result (λ n. (n ≡ length (fields_of header.now)) × (n ≤ 1024) × (header_fault (fields_of header.now) ≡ None)) }
+// Adds the header's fields to the store, and tells how many there are: at most so many.
+fn add_header(store: &mut StringRecord, header: &ByteRecord, most: u32) -> Result<u32, CsvRefused>
+    ensures ok { IfOk result (λ n. (n ≡ length (fields_of header.now)) × (n ≤ most) × (header_fault most (fields_of header.now) ≡ None)) }
     ensures added { OnOk result (fields_of store.new ≡ fields_of store.old ++ fields_of header.now) }
-    ensures refused { IfErr result (λ e. (e ≡ CsvRefused.NoMemory) ⊎ (header_fault (fields_of header.now) ≡ Some e)) }
+    ensures refused { IfErr result (λ e. (e ≡ CsvRefused.NoMemory) ⊎ (header_fault most (fields_of header.now) ≡ Some e)) }
 {
     let got = header.len();
-    if got > 1024 {
+    if got > most as usize {
         return Err(CsvRefused::TooManyColumns { got: got as u64 });
     }
     add_fields(store, header, 1)?;
@@ -200,10 +202,10 @@ fn add_fields(store: &mut StringRecord, row: &ByteRecord, number: u64) -> Result
     Ok(())
 }
 
-/// The law that joins the refusal to plain words: records have no fault exactly where there is a header of at most 1,024 fields,
+/// The law that joins the refusal to plain words: records have no fault exactly where there is a header of at most so many fields,
 /// every record has its length, and every field is UTF-8.
 pub fn table_law()
-    ensures { (rows : List Record) → (table_fault rows ≡ None) ↔ IsTable rows }
+    ensures { (most : ℕ) (rows : List Record) → (table_fault most rows ≡ None) ↔ IsTable most rows }
 {}
 
 #[cfg(test)]

@@ -22,7 +22,11 @@ fn commas(alloc: Global, count: u32) -> Result<Vec<u8>, AllocError> {
 
 #[test]
 fn fields_of_plain_rows(rt: HostRuntime) -> Result<(), Fail> {
-    let table = read_table(rt.alloc(), b"id,city\n1,Rome\n\n2,\"Oslo, \"\"N\"\"\"")?;
+    let table = read_table(
+        rt.alloc(),
+        b"id,city\n1,Rome\n\n2,\"Oslo, \"\"N\"\"\"",
+        1_024,
+    )?;
     assert!(rt; table.columns() == 2 && table.rows() == 2);
     assert_eq!(rt; table.field(0, 1), "id");
     assert_eq!(rt; table.field(0, 2), "city");
@@ -38,6 +42,7 @@ fn mark_and_line_breaks(rt: HostRuntime) -> Result<(), Fail> {
     let table = read_table(
         rt.alloc(),
         b"\xEF\xBB\xBFa,b\r\n\"x, y\",\"New\r\nYork\"\r\n",
+        1_024,
     )?;
     assert!(rt; table.columns() == 2 && table.rows() == 1);
     assert_eq!(rt; table.field(0, 1), "a");
@@ -85,22 +90,29 @@ fn refusals(rt: HostRuntime) -> Result<(), Fail> {
         ),
     ];
     for (bytes, refused) in cases {
-        assert_eq!(rt; refusal(read_table(rt.alloc(), bytes)), Some(refused));
+        assert_eq!(rt;
+            refusal(read_table(rt.alloc(), bytes, 1_024)),
+            Some(refused)
+        );
     }
     Ok(())
 }
 
-// A header has at most 1,024 fields.
+// A header has at most as many fields as are asked for.
 #[test]
 fn width(rt: HostRuntime) -> Result<(), Fail> {
-    let widest = commas(rt.alloc(), 1023)?;
-    let table = read_table(rt.alloc(), widest.as_slice())?;
-    assert!(rt; table.columns() == 1024 && table.rows() == 0);
-    assert_eq!(rt; table.field(0, 1024), "");
-    let wider = commas(rt.alloc(), 1024)?;
-    assert_eq!(rt;
-        refusal(read_table(rt.alloc(), wider.as_slice())),
-        Some(CsvRefused::TooManyColumns { got: 1025 })
-    );
+    for most in [2, 1_024, 4_096] {
+        let widest = commas(rt.alloc(), most - 1)?;
+        let table = read_table(rt.alloc(), widest.as_slice(), most)?;
+        assert!(rt; table.columns() == most && table.rows() == 0);
+        assert_eq!(rt; table.field(0, most), "");
+        let wider = commas(rt.alloc(), most)?;
+        assert_eq!(rt;
+            refusal(read_table(rt.alloc(), wider.as_slice(), most)),
+            Some(CsvRefused::TooManyColumns {
+                got: most as u64 + 1
+            })
+        );
+    }
     Ok(())
 }

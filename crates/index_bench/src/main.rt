@@ -8,7 +8,7 @@ mod size;
 mod text;
 
 use anyhow::{Result, bail};
-use column_set::{Name, SharedTable, TableSets};
+use column_set::{Keys, Name, SharedTable, TableSets};
 use csv_table::read_table;
 use segment_build::build;
 use size::Size;
@@ -35,13 +35,13 @@ fn size_asked<R: Env + AllocGlobal>(rt: &R) -> Result<Option<Size>> {
 /// The table of this size, read as every table is.
 fn table_of_size(alloc: Global, size: Size) -> Result<SharedTable> {
     let text = text::table_text(alloc, size)?;
-    let Ok(raw) = read_table(alloc, text.as_bytes()) else {
+    let Ok(raw) = read_table(alloc, text.as_bytes(), 1_024) else {
         bail!("the table was not read");
     };
     let Some(name) = Name::read(b"bench") else {
         bail!("the table was not named");
     };
-    let Ok(sets) = TableSets::build(alloc, name, &raw) else {
+    let Ok(sets) = TableSets::build(alloc, Keys::Canonical, name, &raw) else {
         bail!("a column has more values than a set may have");
     };
     Ok(SharedTable::new(alloc, sets)?)

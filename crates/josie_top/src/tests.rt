@@ -302,6 +302,17 @@ fn runs_lanes_in_a_stated_order(rt: HostRuntime) -> Result<(), Fail> {
     Ok(())
 }
 
+#[test]
+fn replaces_a_table_between_a_plan_and_its_swap(rt: HostRuntime) -> Result<(), Fail> {
+    let script = "load a\nc\nx\n.\nload b\nc\nx\n.\nmerge all\n@2 replace a\nc\ny\n.\nsearch 9\nx\n.\n";
+    let written =
+        "1 loaded a columns 1 members 1 at 1\n2 loaded b columns 1 members 1 at 2\n3 merged 2 parts into 2 tables at 4\n  layout at 2 parts 1:1 2:2\n4 replaced a columns 1 members 1 at 3\n5 answer 1 of 1 at 4\n  1 b 1 \"c\"\n  work reads 1 probes 0\n  layout at 4 parts 4:1-,2 3:3\njournal 4\n  1 load lane 1 command 1 a\n  2 load lane 1 command 2 b\n  3 replace lane 2 command 4 a\n  4 swap lane 1 command 3 from 1,2 kept 1,2\n";
+    let words = ["run", "--lanes", "2", "--order", "1,1,1,2,1,1,1", "--trace"];
+    let (status, same) = ends_with(&rt, rt.alloc(), &words, script, SOUND, written)?;
+    assert!(rt; status == Status::Done && same);
+    Ok(())
+}
+
 // The first read would fail.
 #[test]
 fn makes_a_lake_without_reading(rt: HostRuntime) -> Result<(), Fail> {

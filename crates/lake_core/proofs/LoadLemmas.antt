@@ -11,6 +11,7 @@ use Rattle.lake_model.specs.declared.QueryRefused.{QueryRefused}
 use Rattle.lake_model.specs.declared.QueryRefused.TheVariants as query
 use Rattle.lake_model.specs.Texts.{Text}
 use Rattle.lake_model.specs.Tables.{Table, members}
+use Rattle.lake_model.specs.declared.Keys.TheVariants.{Canonical}
 use Rattle.lake_model.specs.Records.{Record, records_of, csv_fault, sets_fault, table_of}
 use Rattle.lake_model.specs.Queries.{query_of, query_fault}
 use Rattle.lake_model.specs.Journal.{What, Entry, entry_with, is_live, live, counts}
@@ -69,25 +70,25 @@ added_at catalogue limits journal entry at is h = h ∙ ap (λ (c : CatalogueOf)
 
 -- ---- what is read of a block
 
-pub csv_refusal : (name : Text) (bytes : List ℕ) (e : CsvRefused) → (e ≡ csv.NoMemory) ⊎ (csv_fault bytes ≡ Some e) → IsRefusal (table_read name bytes) (csv_reply e)
+pub csv_refusal : (name : Text) (bytes : List ℕ) (e : CsvRefused) → (e ≡ csv.NoMemory) ⊎ (csv_fault 1024 bytes ≡ Some e) → IsRefusal (table_read name bytes) (csv_reply e)
 unfolding table_read
 csv_refusal name bytes e (inl none) = inl (ap csv_reply none)
 csv_refusal name bytes e (inr h) = inr (OfCsv e, ap (records_read name (records_of bytes)) h, refl)
 
-sets_of : (name : Text) (bytes : List ℕ) → csv_fault bytes ≡ None → table_read name bytes ≡ sets_read name (records_of bytes) (sets_fault (records_of bytes))
+sets_of : (name : Text) (bytes : List ℕ) → csv_fault 1024 bytes ≡ None → table_read name bytes ≡ sets_read name (records_of bytes) (sets_fault Canonical (records_of bytes))
 unfolding table_read
 sets_of name bytes none = ap (records_read name (records_of bytes)) none
 
-pub sets_refusal : (name : Text) (bytes : List ℕ) (rows : List Record) (e : SetRefused) → csv_fault bytes ≡ None → rows ≡ records_of bytes
-    → (e ≡ sets.NoMemory) ⊎ (sets_fault rows ≡ Some e) → IsRefusal (table_read name bytes) (sets_reply e)
+pub sets_refusal : (name : Text) (bytes : List ℕ) (rows : List Record) (e : SetRefused) → csv_fault 1024 bytes ≡ None → rows ≡ records_of bytes
+    → (e ≡ sets.NoMemory) ⊎ (sets_fault Canonical rows ≡ Some e) → IsRefusal (table_read name bytes) (sets_reply e)
 sets_refusal name bytes rows e none same (inl memory) = inl (ap sets_reply memory)
 sets_refusal name bytes rows e none same (inr h) =
-    inr (OfSets e, sets_of name bytes none ∙ ap (sets_read name (records_of bytes)) (ap sets_fault (sym same) ∙ h), refl)
+    inr (OfSets e, sets_of name bytes none ∙ ap (sets_read name (records_of bytes)) (ap (sets_fault Canonical) (sym same) ∙ h), refl)
 
-pub table_made : (name : Text) (bytes : List ℕ) (rows : List Record) → csv_fault bytes ≡ None → rows ≡ records_of bytes → sets_fault rows ≡ None
-    → table_read name bytes ≡ IsTable (table_of name rows)
+pub table_made : (name : Text) (bytes : List ℕ) (rows : List Record) → csv_fault 1024 bytes ≡ None → rows ≡ records_of bytes → sets_fault Canonical rows ≡ None
+    → table_read name bytes ≡ IsTable (table_of Canonical name rows)
 table_made name bytes rows none same small =
-    sets_of name bytes none ∙ ap (sets_read name (records_of bytes)) (ap sets_fault (sym same) ∙ small) ∙ ap (λ r. IsTable (table_of name r)) (sym same)
+    sets_of name bytes none ∙ ap (sets_read name (records_of bytes)) (ap (sets_fault Canonical) (sym same) ∙ small) ∙ ap (λ r. IsTable (table_of Canonical name r)) (sym same)
 
 -- ---- a load that its bytes refuse
 
@@ -118,13 +119,13 @@ loaded_answer limits journal read table reply is answers = (answers.0, answers.1
 -- ---- searches
 
 -- whatever is answered to a query, a body that is none is refused for its fault
-pub query_refused : (answer : QueryRead → Reply) → ((fault : Fault) → answer (NoQuery fault) ≡ fault_reply fault) → (bytes : List ℕ) (e : QueryRefused) → (e ≡ query.NoMemory) ⊎ (query_fault bytes ≡ Some e)
+pub query_refused : (answer : QueryRead → Reply) → ((fault : Fault) → answer (NoQuery fault) ≡ fault_reply fault) → (bytes : List ℕ) (e : QueryRefused) → (e ≡ query.NoMemory) ⊎ (query_fault Canonical bytes ≡ Some e)
     → Answers (query_reply e) (answer (query_read bytes))
 unfolding query_read
 query_refused answer refuses bytes e (inl none) = (true, ap query_reply none)
 query_refused answer refuses bytes e (inr h) = (false, sym (refuses (OfQuery e)) ∙ ap (λ fault. answer (keys_read bytes fault)) (sym h))
 
-pub query_found : (answer : QueryRead → Reply) (bytes : List ℕ) (keys : List Text) → query_fault bytes ≡ None → keys ≡ query_of bytes → answer (IsQuery keys) ≡ answer (query_read bytes)
+pub query_found : (answer : QueryRead → Reply) (bytes : List ℕ) (keys : List Text) → query_fault Canonical bytes ≡ None → keys ≡ query_of Canonical bytes → answer (IsQuery keys) ≡ answer (query_read bytes)
 unfolding query_read
 query_found answer bytes keys none same = ap (λ ks. answer (IsQuery ks)) same ∙ ap (λ fault. answer (keys_read bytes fault)) (sym none)
 

@@ -10,7 +10,7 @@ ghost use Rattle.commands.specs.Tasks.{file_of};
 ghost use Rattle.lake_core.specs.Loads.{Adds, IsRefusal, refusal_reply, loaded_by};
 
 use catalogue::{Catalogue, Entry, LoadRefused, Who};
-use column_set::{Name, SetRefused, SharedTable, TableSets};
+use column_set::{Keys, Name, SetRefused, SharedTable, TableSets};
 use commands::{Body, FileBody};
 use csv_table::{CsvRefused, read_table};
 use no_memory::NoMemory;
@@ -65,11 +65,11 @@ fn read_sets(alloc: Global, name: &Name, body: &Body) -> Result<SharedTable, Rep
     ensures members { IfOk result (λ table. members table ≤ 67108864) }
     ensures refused { IfErr result (λ reply. IsRefusal (table_read name.now body.now) (reply_of reply)) }
 {
-    let raw = match read_table(alloc, body.bytes()) {
+    let raw = match read_table(alloc, body.bytes(), 1_024) {
         Ok(raw) => raw,
         Err(refused) => return Err(reply_to_csv(refused)),
     };
-    let sets = match TableSets::build(alloc, name.copy(), &raw) {
+    let sets = match TableSets::build(alloc, Keys::Canonical, name.copy(), &raw) {
         Ok(sets) => sets,
         Err(refused) => return Err(reply_to_sets(refused)),
     };

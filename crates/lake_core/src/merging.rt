@@ -73,9 +73,9 @@ fn merge_few(alloc: Global, plan: Plan) -> Result<Merged, NoMemory>
     merge(alloc, plan)
 }
 
-// Each table has at most 1,024 columns, which is known of a table that is looked at.
+// Each table has at most 4,096 columns, which is known of a table that is looked at.
 fn look_at_widths(loads: &[(u64, SharedTable)])
-    ensures { sum_by (λ t. length t.columns) (load_tables loads.now) ≤ 1024 * length loads.now }
+    ensures { sum_by (λ t. length t.columns) (load_tables loads.now) ≤ 4096 * length loads.now }
 {
     for load in loads {
         let _columns = load.1.table().columns();

@@ -12,7 +12,7 @@ ghost use Rattle.lake_core.specs.Searches.{column_reply, contained_at, found_at,
 ghost use Rattle.batch_work.specs.Works.{merge_policy};
 ghost use Rattle.run_record.specs.Replies.{reply_of};
 
-use column_set::{Name, QueryRefused, QuerySet};
+use column_set::{Keys, Name, QueryRefused, QuerySet};
 use commands::{Body, Task};
 use contain_search::prepare_contain;
 use cost_model::Profile;
@@ -104,7 +104,7 @@ fn search(alloc: Global, pin: &Pin, k: u32, body: &Body) -> Reply
     requires high { k ≤ 10000 }
     ensures { (journal : List Entry) → IsPinOf journal pin.now → (denied : Bool) × (reply_of result ≡ reply_or_denied denied (search_answer k (query_read body.now) journal)) }
 {
-    let query = match QuerySet::read(alloc, body.bytes()) {
+    let query = match QuerySet::read(alloc, Keys::Canonical, body.bytes()) {
         Ok(query) => query,
         Err(refused) => return reply_to_query(refused),
     };
@@ -121,7 +121,7 @@ fn contain(alloc: Global, pin: &Pin, a: u32, b: u32, body: &Body) -> Reply
     requires high { b ≤ 10000 }
     ensures { (journal : List Entry) → IsPinOf journal pin.now → (denied : Bool) × (reply_of result ≡ reply_or_denied denied (contain_answer a b (query_read body.now) journal)) }
 {
-    let query = match QuerySet::read(alloc, body.bytes()) {
+    let query = match QuerySet::read(alloc, Keys::Canonical, body.bytes()) {
         Ok(query) => query,
         Err(refused) => return reply_to_query(refused),
     };

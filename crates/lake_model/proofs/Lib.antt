@@ -2,3 +2,4 @@ pub mod SortingLemmas
 pub mod AnswerLemmas
 pub mod LayoutLemmas
 mod WorkedRuns
+mod WorkedKeys

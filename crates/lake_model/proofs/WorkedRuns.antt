@@ -7,6 +7,7 @@ use Rattle.caseless.proofs.Computing.{caseless}
 use Rattle.csv.specs.Machine.{next_record}
 use Rattle.csv.specs.Reading.{records_from, strip_bom}
 use Rattle.lake_model.specs.declared.CsvRefused.TheVariants as csv
+use Rattle.lake_model.specs.declared.Keys.TheVariants.{Canonical}
 use Rattle.lake_model.specs.declared.QueryRefused.TheVariants as refused
 use Rattle.lake_model.specs.declared.Counts.{Counts}
 use Rattle.lake_model.specs.declared.Policy.TheVariants.{Tier, All}
@@ -29,28 +30,28 @@ e_acute = 0xC3 ∷ 0xA9 ∷ []
 abbrev e_and_acute : Text
 e_and_acute = 0x65 ∷ 0xCC ∷ 0x81 ∷ []
 
-sharp_s : key (codes " Stra" ++ 0xC3 ∷ 0x9F ∷ codes "e") ≡ Some (codes "strasse")
+sharp_s : key Canonical (codes " Stra" ++ 0xC3 ∷ 0x9F ∷ codes "e") ≡ Some (codes "strasse")
 unfolding caseless trim_start trim_end chars encode
 sharp_s = refl
 
-capitals : key (codes "STRASSE ") ≡ Some (codes "strasse")
+capitals : key Canonical (codes "STRASSE ") ≡ Some (codes "strasse")
 unfolding caseless trim_start trim_end chars encode
 capitals = refl
 
-one_character : key e_acute ≡ Some e_and_acute
+one_character : key Canonical e_acute ≡ Some e_and_acute
 unfolding caseless trim_start trim_end chars encode
 one_character = refl
 
-two_characters : key e_and_acute ≡ Some e_and_acute
+two_characters : key Canonical e_and_acute ≡ Some e_and_acute
 unfolding caseless trim_start trim_end chars encode
 two_characters = refl
 
-capital_e_acute : key (0xC3 ∷ 0x89 ∷ []) ≡ Some e_and_acute
+capital_e_acute : key Canonical (0xC3 ∷ 0x89 ∷ []) ≡ Some e_and_acute
 unfolding caseless trim_start trim_end chars encode
 capital_e_acute = refl
 
 -- a space, a tab and a no-break space
-missing : key (32 ∷ 9 ∷ 0xC2 ∷ 0xA0 ∷ []) ≡ None
+missing : key Canonical (32 ∷ 9 ∷ 0xC2 ∷ 0xA0 ∷ []) ≡ None
 unfolding caseless trim_start trim_end chars encode
 missing = refl
 
@@ -63,14 +64,14 @@ lines = refl
 abbrev cities : List ℕ
 cities = codes "id,city\n1,Rome\n2,Oslo\n"
 
-cities_are_a_table : csv_fault cities ≡ None
+cities_are_a_table : csv_fault 1024 cities ≡ None
 unfolding next_record records_from strip_bom is_utf8 chars encode rows_fault text_fault
 cities_are_a_table = refl
 
 abbrev t1 : Table
 t1 = table_with (codes "t1") (column_with (codes "id") (codes "1" ∷ codes "2" ∷ []) ∷ column_with (codes "city") (codes "rome" ∷ codes "oslo" ∷ []) ∷ [])
 
-cities_table : table_of (codes "t1") (records_of cities) ≡ t1
+cities_table : table_of Canonical (codes "t1") (records_of cities) ≡ t1
 unfolding next_record records_from strip_bom caseless trim_start trim_end chars encode
 cities_table = refl
 
@@ -79,23 +80,23 @@ quoted : records_of (0xEF ∷ 0xBB ∷ 0xBF ∷ codes "a,b\r\n\"x, y\",\"New\nYo
 unfolding next_record records_from strip_bom
 quoted = refl
 
-no_header : csv_fault [] ≡ Some csv.NoHeader
+no_header : csv_fault 1024 [] ≡ Some csv.NoHeader
 unfolding next_record records_from strip_bom rows_fault text_fault
 no_header = refl
 
-unequal : csv_fault (codes "a,b,c,d\n1,2,3\n") ≡ Some (csv.Unequal 2 4 3)
+unequal : csv_fault 1024 (codes "a,b,c,d\n1,2,3\n") ≡ Some (csv.Unequal 2 4 3)
 unfolding next_record records_from strip_bom is_utf8 chars encode rows_fault text_fault
 unequal = refl
 
-not_utf8 : csv_fault (codes "a\n" ++ 0xFF ∷ 0x0A ∷ []) ≡ Some (csv.NotUtf8 2 1)
+not_utf8 : csv_fault 1024 (codes "a\n" ++ 0xFF ∷ 0x0A ∷ []) ≡ Some (csv.NotUtf8 2 1)
 unfolding next_record records_from strip_bom is_utf8 chars encode rows_fault text_fault
 not_utf8 = refl
 
-query : query_of (codes "rome\nOSLO\nParis\n Rome \n\n") ≡ codes "rome" ∷ codes "oslo" ∷ codes "paris" ∷ []
+query : query_of Canonical (codes "rome\nOSLO\nParis\n Rome \n\n") ≡ codes "rome" ∷ codes "oslo" ∷ codes "paris" ∷ []
 unfolding lines_of caseless trim_start trim_end chars encode
 query = refl
 
-query_not_utf8 : query_fault (codes "a\n" ++ 0xFF ∷ 0x0A ∷ []) ≡ Some (refused.NotUtf8 2)
+query_not_utf8 : query_fault Canonical (codes "a\n" ++ 0xFF ∷ 0x0A ∷ []) ≡ Some (refused.NotUtf8 2)
 unfolding lines_of line_fault is_utf8 caseless trim_start trim_end chars encode
 query_not_utf8 = refl
 

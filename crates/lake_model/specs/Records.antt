@@ -6,6 +6,8 @@ use Rattle.csv.specs.Reading.{default_config, records, strip_bom}
 use Rattle.csv.specs.Records.{AllText}
 use Rattle.lake_model.specs.declared.CsvRefused.{CsvRefused}
 use Rattle.lake_model.specs.declared.CsvRefused.TheVariants as csv
+use Rattle.lake_model.specs.declared.Keys.{Keys}
+use Rattle.lake_model.specs.declared.Keys.TheVariants.{Canonical, Compatibility}
 use Rattle.lake_model.specs.declared.SetRefused.{SetRefused}
 use Rattle.lake_model.specs.declared.SetRefused.TheVariants as sets
 use Rattle.lake_model.specs.Texts.{Text}
@@ -44,23 +46,29 @@ unfoldable pub rows_fault : ℕ → ℕ → List Record → Option CsvRefused
 rows_fault row want [] = None
 rows_fault row want (fields ∷ rows) = or_else (record_fault row want fields) (rows_fault (row + 1) want rows)
 
-abbrev pub header_fault : Record → Option CsvRefused
-header_fault names = if nat_lt 1024 (length names) then Some (csv.TooManyColumns (length names)) else text_fault 1 1 names
+-- the most columns that a table may have
+abbrev pub most_columns : Keys → ℕ
+most_columns Canonical = 1024
+most_columns Compatibility = 4096
 
-abbrev pub table_fault : List Record → Option CsvRefused
-table_fault [] = Some csv.NoHeader
-table_fault (names ∷ rows) = or_else (header_fault names) (rows_fault 2 (length names) rows)
+abbrev pub header_fault : ℕ → Record → Option CsvRefused
+header_fault most names = if nat_lt most (length names) then Some (csv.TooManyColumns (length names)) else text_fault 1 1 names
 
-abbrev pub csv_fault : List ℕ → Option CsvRefused
-csv_fault bytes = table_fault (records_of bytes)
+-- what keeps records from being a table of at most so many columns
+abbrev pub table_fault : ℕ → List Record → Option CsvRefused
+table_fault most [] = Some csv.NoHeader
+table_fault most (names ∷ rows) = or_else (header_fault most names) (rows_fault 2 (length names) rows)
 
--- the same in plain words: there is a record, the first has at most 1,024 fields, all have its length, and every field is UTF-8
+abbrev pub csv_fault : ℕ → List ℕ → Option CsvRefused
+csv_fault most bytes = table_fault most (records_of bytes)
+
+-- the same in plain words: there is a record, the first has at most so many fields, all have its length, and every field is UTF-8
 abbrev pub IsRow : Record → Record → Type 0
 IsRow names fields = (length fields ≡ length names) × AllText fields
 
-abbrev pub IsTable : List Record → Type 0
-IsTable [] = ⊥
-IsTable (names ∷ rows) = (length names ≤ 1024) × AllText names × AllByRecursion (IsRow names) rows
+abbrev pub IsTable : ℕ → List Record → Type 0
+IsTable most [] = ⊥
+IsTable most (names ∷ rows) = (length names ≤ most) × AllText names × AllByRecursion (IsRow names) rows
 
 -- ---- the table of records
 
@@ -77,19 +85,19 @@ abbrev pub text_size : List Record → ℕ
 text_size rows = sum_by (λ fields. sum_by length fields) rows
 
 -- the keys of the fields at a place, one record after another; an empty value has none
-abbrev pub field_keys : ℕ → List Record → List Text
-field_keys place rows = filter_map (λ fields. key (get_or fields (place - 1) [])) rows
+abbrev pub field_keys : Keys → ℕ → List Record → List Text
+field_keys keys place rows = filter_map (λ fields. key keys (get_or fields (place - 1) [])) rows
 
-abbrev pub column_at : List Record → ℕ → Column
-column_at rows place = column_with (field_at rows 0 place) (distinct (field_keys place (drop 1 rows)))
+abbrev pub column_at : Keys → List Record → ℕ → Column
+column_at keys rows place = column_with (field_at rows 0 place) (distinct (field_keys keys place (drop 1 rows)))
 
 -- the places of the columns
 abbrev pub places_of : List Record → List ℕ
 places_of rows = range_with_len 1 (column_count rows)
 
-abbrev pub table_of : Text → List Record → Table
-table_of name rows = table_with name (map (column_at rows) (places_of rows))
+abbrev pub table_of : Keys → Text → List Record → Table
+table_of keys name rows = table_with name (map (column_at keys rows) (places_of rows))
 
 -- the first column of more distinct keys than a column may have
-abbrev pub sets_fault : List Record → Option SetRefused
-sets_fault rows = option_map sets.TooManyValues (find (λ place. nat_lt 4194304 (length (column_at rows place).keys)) (places_of rows))
+abbrev pub sets_fault : Keys → List Record → Option SetRefused
+sets_fault keys rows = option_map sets.TooManyValues (find (λ place. nat_lt 4194304 (length (column_at keys rows place).keys)) (places_of rows))

@@ -8,12 +8,22 @@ ghost use Rattle.lake_model.specs.Journal.{standard_limits};
 
 pub use no_memory::NoMemory;
 
+/// By which match two values are the same (The Unicode Standard, section 3.13).
+#[derive(Clone, Copy, Debug, PartialEq, Eq)]
+pub enum Keys {
+    /// Canonical caseless matching, D145: without regard to case and to the way that accents are written.
+    Canonical,
+    /// Compatibility caseless matching, D146: besides, without regard to compatibility forms, as wide letters, ligatures and
+    /// circled digits are.
+    Compatibility,
+}
+
 /// Why bytes are no table of fields. Records and fields are numbered from 1, and the header is record 1.
 #[derive(Clone, Copy, Debug, PartialEq, Eq)]
 pub enum CsvRefused {
     /// The bytes have no record.
     NoHeader,
-    /// The header has `got` fields, more than 1,024.
+    /// The header has `got` fields, more than a table may have.
     TooManyColumns { got: u64 },
     /// The record has `got` fields where the header has `want`.
     Unequal { row: u64, want: u64, got: u64 },

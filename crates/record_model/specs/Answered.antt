@@ -4,6 +4,7 @@ use Rattle.lake_model.specs.declared.Policy.{Policy}
 use Rattle.lake_model.specs.declared.Policy.TheVariants.{Tier, All}
 use Rattle.lake_model.specs.declared.Counts.{Counts}
 use Rattle.lake_model.specs.declared.CsvRefused.{CsvRefused}
+use Rattle.lake_model.specs.declared.Keys.TheVariants.{Canonical}
 use Rattle.lake_model.specs.declared.SetRefused.{SetRefused}
 use Rattle.lake_model.specs.declared.QueryRefused.{QueryRefused}
 use Rattle.lake_model.specs.Texts.{Text}
@@ -29,23 +30,23 @@ pub data QueryRead : Type 0 where
 
 -- The table of bytes under a name. The first fault of the records refuses them, or else the first of the sets.
 abbrev pub sets_read : Text → List Record → Option SetRefused → TableRead
-sets_read name rows None = IsTable (table_of name rows)
+sets_read name rows None = IsTable (table_of Canonical name rows)
 sets_read name rows (Some why) = NoTable (OfSets why)
 
 abbrev pub records_read : Text → List Record → Option CsvRefused → TableRead
-records_read name rows None = sets_read name rows (sets_fault rows)
+records_read name rows None = sets_read name rows (sets_fault Canonical rows)
 records_read name rows (Some why) = NoTable (OfCsv why)
 
 unfoldable pub table_read : Text → List ℕ → TableRead
-table_read name bytes = records_read name (records_of bytes) (csv_fault bytes)
+table_read name bytes = records_read name (records_of bytes) (csv_fault 1024 bytes)
 
 -- the query of a body, whose first fault refuses it
 abbrev pub keys_read : List ℕ → Option QueryRefused → QueryRead
-keys_read body None = IsQuery (query_of body)
+keys_read body None = IsQuery (query_of Canonical body)
 keys_read body (Some why) = NoQuery (OfQuery why)
 
 unfoldable pub query_read : List ℕ → QueryRead
-query_read body = keys_read body (query_fault body)
+query_read body = keys_read body (query_fault Canonical body)
 
 abbrev pub file_read : Text → File → TableRead
 file_read name (Bytes bytes) = table_read name bytes

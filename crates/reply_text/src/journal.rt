@@ -67,6 +67,13 @@ fn push_entry(position: u64, entry: &Entry, into: &mut Vec<u8>) -> Result<(), No
     match &entry.what {
         What::Loaded(table) => push_update(position, "load", entry.who, table.table().name(), into),
         What::Dropped(name) => push_update(position, "drop", entry.who, name, into),
+        What::Replaced(table) => push_update(
+            position,
+            "replace",
+            entry.who,
+            table.table().name(),
+            into,
+        ),
         What::Swapped { from, kept } => push_swap(
             position,
             entry.who,
@@ -88,9 +95,9 @@ fn push_entries(entries: &[Entry], into: &mut Vec<u8>) -> Result<(), NoMemory>
     Ok(())
 }
 
-/// Appends the text of a journal: `journal L` for its L entries, and for each a line with its position, `load`, `drop` or `swap`, the
-/// lane and the command that made it, and the name of the table, or the numbers of the parts that gave way and the positions that were
-/// kept of them, each with commas between, or `none`.
+/// Appends the text of a journal: `journal L` for its L entries, and for each a line with its position, `load`, `drop`, `replace` or
+/// `swap`, the lane and the command that made it, and the name of the table, or the numbers of the parts that gave way and the positions
+/// that were kept of them, each with commas between, or `none`.
 pub fn push_journal(entries: &[Entry], into: &mut Vec<u8>) -> Result<(), NoMemory>
     ensures ok { OnOk result (into.new.items ≡ into.old.items ++ flat_map line_text (journal_lines entries.now)) }
     ensures kept { Keeps into.old.items into.new.items }

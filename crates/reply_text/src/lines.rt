@@ -1,6 +1,8 @@
 //! The first line of each reply: the number of its command, and the words that say what it is answered.
-ghost use Rattle.std.specs.Prelude.{◌≡◌, ◌++◌, ℕ, OnOk};
+ghost use Rattle.std.specs.Prelude.{◌≡◌, ◌++◌, ◌∷◌, ℕ, codes, decimal, OnOk};
+ghost use Rattle.script_model.specs.Words.{line_text};
 ghost use Rattle.record_model.specs.Replies as model;
+ghost use Rattle.record_model.specs.Texts.{at_words, spaced};
 ghost use Rattle.reply_text.specs.Keeping.{Keeps};
 ghost use Rattle.reply_text.specs.Lines.{first_line};
 ghost use Rattle.run_record.specs.Replies.{reply_of};
@@ -16,20 +18,21 @@ use no_memory::NoMemory;
 use run_record::Reply;
 use segment_core::{Layout, TableLines};
 
-// `N loaded NAME columns C members M at P`
-fn push_loaded(
+// `N WHAT NAME columns C members M at P`
+fn push_new_table<'a>(
     number: u64,
-    name: &Name,
+    what: &'a str,
+    name: &'a Name,
     columns: u32,
     members: u64,
     at: u64,
     into: &mut Vec<u8>,
 ) -> Result<(), NoMemory>
-    ensures ok { OnOk result (into.new.items ≡ into.old.items ++ first_line number (model.Loaded name.now columns members at)) }
+    ensures ok { OnOk result (into.new.items ≡ into.old.items ++ line_text (spaced (decimal number ∷ what.now ∷ name.now ∷ codes "columns" ∷ decimal columns ∷ codes "members" ∷ decimal members ∷ at_words at))) }
     ensures kept { Keeps into.old.items into.new.items }
 {
     let words = [
-        Text("loaded"),
+        Text(what),
         Text(name.text()),
         Text("columns"),
         Number(u64::from(columns)),
@@ -127,8 +130,14 @@ pub fn push_first_line(number: u64, reply: &Reply, into: &mut Vec<u8>) -> Result
             columns,
             members,
             at,
-        } => push_loaded(number, name, *columns, *members, *at, into),
+        } => push_new_table(number, "loaded", name, *columns, *members, *at, into),
         Reply::Dropped { name, at } => push_dropped(number, name, *at, into),
+        Reply::Replaced {
+            name,
+            columns,
+            members,
+            at,
+        } => push_new_table(number, "replaced", name, *columns, *members, *at, into),
         Reply::Listed { tables, at } => push_listed(number, tables, *at, into),
         Reply::Found {
             query,

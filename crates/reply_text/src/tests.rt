@@ -1,7 +1,7 @@
 //! The text of each reply, letter by letter.
 use crate::{Answered, By, Reply, RunRecord, write_replies};
 use catalogue::Entry;
-use column_set::{KeptRow, KeptRows, Name, Row, SharedTable, TableSets, Titles};
+use column_set::{KeptRow, KeptRows, Keys, Name, Row, SharedTable, TableSets, Titles};
 use commands::{Options, Order};
 use csv_table::read_table;
 use lake_model::{Which, Who};
@@ -82,10 +82,10 @@ fn nothing_found(alloc: Global, layout: Layout) -> Reply {
 // The table of a name with the column `c`, which has the value `x`.
 fn table(alloc: Global, name: &[u8]) -> Result<SharedTable, Fail> {
     let name = Name::read(name).ok_or("no name")?;
-    let Ok(raw) = read_table(alloc, b"c\nx\n") else {
+    let Ok(raw) = read_table(alloc, b"c\nx\n", 1_024) else {
         return Err(Fail::from("no table"));
     };
-    let Ok(sets) = TableSets::build(alloc, name, &raw) else {
+    let Ok(sets) = TableSets::build(alloc, Keys::Canonical, name, &raw) else {
         return Err(Fail::from("no sets"));
     };
     Ok(SharedTable::new(alloc, sets)?)
@@ -103,6 +103,18 @@ fn row(alloc: Global, overlap: u32, table: Name, column: &str) -> Result<KeptRow
         place: 2,
     };
     row.keep()
+}
+
+#[test]
+fn a_replace_shows_the_new_table(rt: HostRuntime) -> Result<(), Fail> {
+    let replaced = Reply::Replaced {
+        name: Name::read(b"t1").ok_or("no name")?,
+        columns: 3,
+        members: 0,
+        at: 2,
+    };
+    shows(&rt, replaced, "7 replaced t1 columns 3 members 0 at 2\n")?;
+    Ok(())
 }
 
 #[test]
@@ -351,7 +363,7 @@ fn the_merger_answers_with_a_trace_alone(rt: HostRuntime) -> Result<(), Fail> {
 fn the_journal_stands_behind_a_traced_record_that_ended(rt: HostRuntime) -> Result<(), Fail> {
     let alloc = rt.alloc();
     let mut record = RunRecord::new(alloc);
-    record.room(0, 3)?;
+    record.room(0, 4)?;
     let first = Who {
         caller: 1,
         command: 1,
@@ -367,11 +379,16 @@ fn the_journal_stands_behind_a_traced_record_that_ended(rt: HostRuntime) -> Resu
         command: 3,
     };
     record.add_entry(Entry::loaded(third, table(alloc, b"b")?));
+    let fourth = Who {
+        caller: 1,
+        command: 4,
+    };
+    record.add_entry(Entry::replaced(fourth, table(alloc, b"b")?));
     writes(&rt, &record, true, "")?;
     record.close();
     writes(&rt, &record, false, "")?;
     let wanted =
-        "journal 3\n  1 load lane 1 command 1 a\n  2 drop lane 1 command 2 a\n  3 load lane 2 command 3 b\n";
+        "journal 4\n  1 load lane 1 command 1 a\n  2 drop lane 1 command 2 a\n  3 load lane 2 command 3 b\n  4 replace lane 1 command 4 b\n";
     writes(&rt, &record, true, wanted)?;
     Ok(())
 }

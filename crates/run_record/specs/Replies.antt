@@ -2,11 +2,12 @@
 use Rattle.record_model.specs.Replies.{Reply}
 use Rattle.record_model.specs.Replies as model
 use Rattle.run_record.specs.declared.reply.Reply.{Reply as Declared}
-use Rattle.run_record.specs.declared.reply.Reply.TheVariants.{Loaded, Dropped, Listed, Found, Merged, NoHeader, TooManyColumns, Unequal, NotUtf8, TooManyValues, FileFailed, FileMissing, FileTooLong, Repeated, Unknown, NoColumn, Full, QueryNotUtf8, QueryTooLarge, NothingToMerge, Stale, NoMemory}
+use Rattle.run_record.specs.declared.reply.Reply.TheVariants.{Loaded, Dropped, Replaced, Listed, Found, Merged, NoHeader, TooManyColumns, Unequal, NotUtf8, TooManyValues, FileFailed, FileMissing, FileTooLong, Repeated, Unknown, NoColumn, Full, QueryNotUtf8, QueryTooLarge, NothingToMerge, Stale, NoMemory}
 
 abbrev pub reply_of : Declared → Reply
 reply_of (Loaded name columns members at) = model.Loaded name columns members at
 reply_of (Dropped name at) = model.Dropped name at
+reply_of (Replaced name columns members at) = model.Replaced name columns members at
 reply_of (Listed tables at) = model.Listed tables at
 reply_of (Found query rows reads probes layout) = model.Found query rows reads probes layout
 reply_of (Merged layout parts tables at) = model.Merged layout parts tables at

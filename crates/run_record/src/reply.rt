@@ -19,6 +19,13 @@ pub enum Reply {
         name: Name,
         at: u64,
     },
+    /// The table took the place of the live table of its name, as the entry numbered `at` of the journal.
+    Replaced {
+        name: Name,
+        columns: u32,
+        members: u64,
+        at: u64,
+    },
     /// The live tables, in the order of their loads.
     Listed {
         tables: TableLines,

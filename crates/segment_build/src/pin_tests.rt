@@ -5,7 +5,7 @@ ghost use Rattle.lake_model.specs.Tables.{column_name, keys_at, titles_of};
 ghost use Rattle.segment_core.specs.Versions.{tables_of};
 ghost use Rattle.segment_build.specs.Worked.{worked_owners, worked_postings, worked_table, worked_tokens, worked_version};
 
-use column_set::{Name, QuerySet, SharedTable, TableSets};
+use column_set::{Keys, Name, QuerySet, SharedTable, TableSets};
 use csv_table::read_table;
 use no_memory::NoMemory;
 use segment_core::{
@@ -60,8 +60,8 @@ fn table(alloc: Global) -> Result<SharedTable, Fail>
     ensures { IfOk result (λ table. table ≡ worked_table) }
 {
     let name = Name::read(b"t").ok_or("no name")?;
-    let raw = read_table(alloc, b"p,q\nz,a\na,\n")?;
-    let sets = TableSets::build(alloc, name, &raw)?;
+    let raw = read_table(alloc, b"p,q\nz,a\na,\n", 1_024)?;
+    let sets = TableSets::build(alloc, Keys::Canonical, name, &raw)?;
     expect_names(&sets)?;
     expect_first(&sets)?;
     expect_second(&sets)?;
@@ -183,7 +183,7 @@ fn asked(alloc: Global, looks: &Looks<'_>, body: &[u8]) -> Result<Vec<u32>, Fail
     if looks.parts() == 0 {
         return Err(Fail::from("no part"));
     }
-    let query = QuerySet::read(alloc, body)?;
+    let query = QuerySet::read(alloc, Keys::Canonical, body)?;
     Ok(looks.query_tokens(alloc, 0, &query)?)
 }
 

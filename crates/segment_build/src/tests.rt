@@ -6,7 +6,7 @@ ghost use Rattle.lake_model.specs.Tables.{members};
 
 use crate::build;
 use crate::columns::column_sets;
-use column_set::{Name, SharedTable, TableSets};
+use column_set::{Keys, Name, SharedTable, TableSets};
 use csv_table::read_table;
 use search_model::Owner;
 use segment_core::Segment;
@@ -20,8 +20,8 @@ fn small_table(alloc: Global, name: &[u8], bytes: &[u8]) -> Result<SharedTable, 
     ensures members { IfOk result (λ table. members table ≤ 3) }
 {
     let name = Name::read(name).ok_or("no name")?;
-    let raw = read_table(alloc, bytes)?;
-    let table = TableSets::build(alloc, name, &raw)?;
+    let raw = read_table(alloc, bytes, 1_024)?;
+    let table = TableSets::build(alloc, Keys::Canonical, name, &raw)?;
     if table.members() > 3 || table.columns() > 3 {
         return Err(Fail::from("a large table"));
     }

@@ -1,6 +1,6 @@
 //! The order of the columns of three tables: two of one name, and one between them that comes last.
 use crate::{TitleOrder, order_columns};
-use column_set::{Name, SharedTable, TableSets};
+use column_set::{Keys, Name, SharedTable, TableSets};
 use csv_table::read_table;
 use std::alloc::Global;
 use std::test::Fail;
@@ -8,8 +8,8 @@ use std::test::Fail;
 // The table of a name and of CSV bytes.
 fn table(alloc: Global, name: &[u8], bytes: &[u8]) -> Result<SharedTable, Fail> {
     let name = Name::read(name).ok_or("no name")?;
-    let raw = read_table(alloc, bytes)?;
-    Ok(SharedTable::new(alloc, TableSets::build(alloc, name, &raw)?)?)
+    let raw = read_table(alloc, bytes, 1_024)?;
+    Ok(SharedTable::new(alloc, TableSets::build(alloc, Keys::Canonical, name, &raw)?)?)
 }
 
 // The table `a` has the columns q, p and q, the table `b` a column p, and another table `a` the columns q and b. Tables come by their names,

@@ -3,7 +3,7 @@ ghost use Rattle.std.specs.Prelude.{◌<◌, ◌^◌, length, sum_by, IfOk};
 ghost use Rattle.lake_model.specs.Tables.{members};
 
 use crate::Vocab;
-use column_set::{Name, SharedTable, TableSets};
+use column_set::{Keys, Name, SharedTable, TableSets};
 use csv_table::read_table;
 use std::alloc::Global;
 use std::test::Fail;
@@ -14,8 +14,8 @@ fn one_table(alloc: Global, bytes: &[u8]) -> Result<Vec<SharedTable>, Fail>
     ensures members { IfOk result (λ tables. sum_by members tables.items < 2 ^ 32) }
 {
     let name = Name::read(b"t").ok_or("no name")?;
-    let raw = read_table(alloc, bytes)?;
-    let table = TableSets::build(alloc, name, &raw)?;
+    let raw = read_table(alloc, bytes, 1_024)?;
+    let table = TableSets::build(alloc, Keys::Canonical, name, &raw)?;
     if table.members() > 1000 || table.columns() > 1000 {
         return Err(Fail::from("a large table"));
     }

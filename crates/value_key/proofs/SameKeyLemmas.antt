@@ -1,4 +1,4 @@
--- Two values match exactly where they have one key, or none.
+-- Two values match exactly where they have one key, or none, of either kind.
 use Rattle.std.proofs.Common.{◌≡◌, refl, ap, sym, ◌∙◌, ℕ, ◌<◌, List, [], ◌∷◌, length, arith, Bool, true, false, cond, Option, Some, None, length-append, ◌==◌, encode_utf8_all}
 use Rattle.std.specs.Prelude.{chars, IsUtf8, ◌↔◌}
 use Rattle.std.specs.List.{flat_map}
@@ -7,14 +7,16 @@ use Rattle.std.proofs.lemmas.Bool.Decides.{nat_tests}
 use Rattle.ucd_case.specs.CaseFolding.{full_fold, full_folding}
 use Rattle.ucd_case.specs.CaseFolding as folding
 use Rattle.ucd_normal.specs.Decomposition.{or_itself}
-use Rattle.ucd_normal.specs.declared.forms.Form.TheVariants.{Nfd}
+use Rattle.ucd_normal.specs.declared.forms.Form.TheVariants.{Nfd, Nfkd}
 use Rattle.unicode_normalization.specs.Decompose.{decompose}
 use Rattle.unicode_normalization.specs.Hangul.{is_syllable, decompose_hangul}
-use Rattle.unicode_normalization.specs.Forms.{nfd, normalize, decomposed}
+use Rattle.unicode_normalization.specs.Forms.{Form, nfd, nfkd, normalize, decomposed}
 use Rattle.unicode_normalization.specs.Order.{canonical_order}
 use Rattle.unicode_normalization.proofs.OrderLemmas.{length-canonical_order}
-use Rattle.caseless.specs.Caseless.{default_case_fold, canonical_key}
-use Rattle.lake_model.specs.Keys.{key_of_text}
+use Rattle.caseless.specs.Caseless.{default_case_fold}
+use Rattle.lake_model.specs.declared.Keys.{Keys}
+use Rattle.lake_model.specs.declared.Keys.TheVariants.{Canonical, Compatibility}
+use Rattle.lake_model.specs.Keys.{IsMatch, caseless_key, key_of_text}
 
 flat_map_some : {X A : Type 0} (f : X → List A) (xs : List X) → ((x : X) → 0 < length (f x)) → 0 < length xs → 0 < length (flat_map f xs)
 flat_map_some f [] some h = h
@@ -43,17 +45,29 @@ either_some : (b : Bool) (xs ys : List ℕ) → 0 < length xs → 0 < length ys 
 either_some true xs ys h k = h
 either_some false xs ys h k = k
 
-decompose_some : (c : ℕ) → 0 < length (decompose Nfd c)
+decompose_some : (form : Form) (c : ℕ) → 0 < length (decompose form c)
 unfolding decompose
-decompose_some c = either_some (is_syllable c) (decompose_hangul c) _ (hangul_some c) (decomposed_some c _)
+decompose_some form c = either_some (is_syllable c) (decompose_hangul c) _ (hangul_some c) (decomposed_some c _)
+
+order_some : (form : Form) (cs : List ℕ) → 0 < length cs → 0 < length (decomposed form cs)
+unfolding decomposed
+order_some form cs h = omega (arith, length-canonical_order (flat_map (decompose form) cs), flat_map_some (decompose form) cs (decompose_some form) h)
 
 nfd_some : (cs : List ℕ) → 0 < length cs → 0 < length (nfd cs)
-unfolding normalize decomposed
-nfd_some cs h = omega (arith, length-canonical_order (flat_map (decompose Nfd) cs), flat_map_some (decompose Nfd) cs decompose_some h)
+unfolding normalize
+nfd_some cs h = order_some Nfd cs h
 
-key_some : (cs : List ℕ) → 0 < length cs → 0 < length (canonical_key cs)
+nfkd_some : (cs : List ℕ) → 0 < length cs → 0 < length (nfkd cs)
+unfolding normalize
+nfkd_some cs h = order_some Nfkd cs h
+
+fold_some : (cs : List ℕ) → 0 < length cs → 0 < length (default_case_fold cs)
 unfolding default_case_fold
-key_some cs h = nfd_some _ (flat_map_some full_fold (nfd cs) full_fold_some (nfd_some cs h))
+fold_some cs h = flat_map_some full_fold cs full_fold_some h
+
+key_some : (keys : Keys) (cs : List ℕ) → 0 < length cs → 0 < length (caseless_key keys cs)
+key_some Canonical cs h = nfd_some _ (fold_some _ (nfd_some cs h))
+key_some Compatibility cs h = nfkd_some _ (fold_some _ (nfkd_some _ (fold_some _ (nfd_some cs h))))
 
 chars_some : (bytes : List ℕ) → IsUtf8 bytes → 0 < length bytes → 0 < length (chars bytes)
 chars_some bytes text h = by (chars bytes) (encodes-chars bytes text)
@@ -63,12 +77,13 @@ chars_some bytes text h = by (chars bytes) (encodes-chars bytes text)
     by (c ∷ cs) e = omega arith
 
 -- what `key` gives, by the test
-abbrev pub keyed : Bool → List ℕ → Option (List ℕ)
-keyed b text = cond b None (Some (key_of_text text))
+abbrev pub keyed : Keys → Bool → List ℕ → Option (List ℕ)
+keyed keys b text = cond b None (Some (key_of_text keys text))
 
-key_none : canonical_key [] ≡ []
+key_none : (keys : Keys) → caseless_key keys [] ≡ []
 unfolding normalize decomposed canonical_order default_case_fold
-key_none = refl
+key_none Canonical = refl
+key_none Compatibility = refl
 
 empty_is : (a : List ℕ) → (length a == 0) ≡ true → a ≡ []
 empty_is [] e = refl
@@ -77,10 +92,10 @@ empty_is (x ∷ a) e = absurd (let f : length (x ∷ a) ≡ 0 = grind (arith, na
 some_is : (a : List ℕ) → (length a == 0) ≡ false → 0 < length a
 some_is a e = grind (arith, nat_tests)
 
-apart : (a b : List ℕ) → IsUtf8 b → (length a == 0) ≡ true → (length b == 0) ≡ false → canonical_key (chars a) ≡ canonical_key (chars b) → ⊥
-apart a b tb p q e =
-    let none : canonical_key (chars a) ≡ [] = ap (λ t. canonical_key (chars t)) (empty_is a p) ∙ ap canonical_key chars-nil ∙ key_none in
-    omega (arith, key_some (chars b) (chars_some b tb (some_is b q)), ap length (sym e ∙ none))
+apart : (keys : Keys) (a b : List ℕ) → IsUtf8 b → (length a == 0) ≡ true → (length b == 0) ≡ false → caseless_key keys (chars a) ≡ caseless_key keys (chars b) → ⊥
+apart keys a b tb p q e =
+    let none : caseless_key keys (chars a) ≡ [] = ap (λ t. caseless_key keys (chars t)) (empty_is a p) ∙ ap (caseless_key keys) chars-nil ∙ key_none keys in
+    omega (arith, key_some keys (chars b) (chars_some b tb (some_is b q)), ap length (sym e ∙ none))
 
 same_text : (a b : List ℕ) → Some a ≡ Some b → a ≡ b
 same_text a b e = cc
@@ -88,12 +103,17 @@ same_text a b e = cc
 none_some : {G : Type 0} (a : List ℕ) → None ≡ Some a → G
 none_some a e = absurd (let f : None ≡ Some a = e in cc)
 
--- the keys of two texts are equal, or both are missing, exactly where the texts match
-pub same_keys : (a b : List ℕ) → IsUtf8 a → IsUtf8 b → (keyed (length a == 0) a ≡ keyed (length b == 0) b) ↔ (canonical_key (chars a) ≡ canonical_key (chars b))
-same_keys a b ta tb = by (length a == 0) (length b == 0) refl refl
+-- the keys of two texts are equal, or both are missing, exactly where those of their characters are equal
+key_decides : (keys : Keys) (a b : List ℕ) → IsUtf8 a → IsUtf8 b → (keyed keys (length a == 0) a ≡ keyed keys (length b == 0) b) ↔ (caseless_key keys (chars a) ≡ caseless_key keys (chars b))
+key_decides keys a b ta tb = by (length a == 0) (length b == 0) refl refl
   where
-    by : (p q : Bool) → (length a == 0) ≡ p → (length b == 0) ≡ q → (keyed p a ≡ keyed q b) ↔ (canonical_key (chars a) ≡ canonical_key (chars b))
-    by true true p q = (λ _. ap (λ t. canonical_key (chars t)) (empty_is a p ∙ sym (empty_is b q)), λ _. refl)
-    by true false p q = (λ e. none_some _ e, λ e. absurd (apart a b tb p q e))
-    by false true p q = (λ e. none_some _ (sym e), λ e. absurd (apart b a ta q p (sym e)))
+    by : (p q : Bool) → (length a == 0) ≡ p → (length b == 0) ≡ q → (keyed keys p a ≡ keyed keys q b) ↔ (caseless_key keys (chars a) ≡ caseless_key keys (chars b))
+    by true true p q = (λ _. ap (λ t. caseless_key keys (chars t)) (empty_is a p ∙ sym (empty_is b q)), λ _. refl)
+    by true false p q = (λ e. none_some _ e, λ e. absurd (apart keys a b tb p q e))
+    by false true p q = (λ e. none_some _ (sym e), λ e. absurd (apart keys b a ta q p (sym e)))
     by false false p q = (λ e. encodes_same _ _ (same_text _ _ e), λ e. ap (λ cs. Some (encode_utf8_all cs)) e)
+
+-- and so exactly where the texts match
+pub same_keys : (keys : Keys) (a b : List ℕ) → IsUtf8 a → IsUtf8 b → (keyed keys (length a == 0) a ≡ keyed keys (length b == 0) b) ↔ IsMatch keys (chars a) (chars b)
+same_keys Canonical a b ta tb = key_decides Canonical a b ta tb
+same_keys Compatibility a b ta tb = key_decides Compatibility a b ta tb

@@ -1,12 +1,12 @@
 //! Keys and matches of values out of the Unicode Standard and its data files, which no clause of this crate repeats.
-use crate::{key_into, key_of, same_value};
+use crate::{Keys, key_into, key_of, same_value};
 use no_memory::NoMemory;
 use std::alloc::Global;
 use std::test::Fail;
 
 // Whether a value has the key.
-fn has_key(alloc: Global, value: &str, want: Option<&str>) -> Result<bool, NoMemory> {
-    let found = key_of(alloc, value)?;
+fn has_key(alloc: Global, keys: Keys, value: &str, want: Option<&str>) -> Result<bool, NoMemory> {
+    let found = key_of(alloc, keys, value)?;
     match (&found, want) {
         (Some(key), Some(text)) => Ok(key.as_str() == text),
         (None, None) => Ok(true),
@@ -15,9 +15,9 @@ fn has_key(alloc: Global, value: &str, want: Option<&str>) -> Result<bool, NoMem
 }
 
 // Whether two values have one key, or both none.
-fn same_key(alloc: Global, a: &str, b: &str) -> Result<bool, NoMemory> {
-    let left = key_of(alloc, a)?;
-    let right = key_of(alloc, b)?;
+fn same_key(alloc: Global, keys: Keys, a: &str, b: &str) -> Result<bool, NoMemory> {
+    let left = key_of(alloc, keys, a)?;
+    let right = key_of(alloc, keys, b)?;
     match (&left, &right) {
         (Some(one), Some(other)) => Ok(one.as_str() == other.as_str()),
         (None, None) => Ok(true),
@@ -49,7 +49,43 @@ fn keys_of_values(rt: HostRuntime) -> Result<(), Fail> {
         ("\u{200B}x", "\u{200B}x"),
     ];
     for (value, key) in keys {
-        assert!(rt; has_key(rt.alloc(), value, Some(key))?, "{value:?}");
+        assert!(rt;
+            has_key(rt.alloc(), Keys::Canonical, value, Some(key))?,
+            "{value:?}"
+        );
+    }
+    Ok(())
+}
+
+// The same, decomposed as UnicodeData.txt says for compatibility, and folded before and after that.
+#[test]
+fn compatibility_keys(rt: HostRuntime) -> Result<(), Fail> {
+    let keys = [
+        (" Rome\t", "rome"),
+        ("\u{C9}", "e\u{301}"),
+        ("Stra\u{DF}e", "strasse"),
+        ("\u{130}", "i\u{307}"),
+        ("\u{131}", "\u{131}"),
+        ("\u{2460}", "1"),
+        ("\u{FF21}", "a"),
+        ("\u{B2}", "2"),
+        ("\u{2167}", "viii"),
+        ("\u{3392}", "mhz"),
+        ("\u{2122}", "tm"),
+        ("\u{1D2C}", "a"),
+        ("\u{BD}", "1\u{2044}2"),
+        ("\u{37A}", " \u{3B9}"),
+        ("\u{3D4}", "\u{3C5}\u{308}"),
+        ("\u{345}\u{FF9E}", "\u{3B9}\u{3099}"),
+        ("\u{D55C}", "\u{1112}\u{1161}\u{11AB}"),
+        ("\u{3131}\u{314F}", "\u{1100}\u{1161}"),
+        ("a\u{A0}b", "a b"),
+    ];
+    for (value, key) in keys {
+        assert!(rt;
+            has_key(rt.alloc(), Keys::Compatibility, value, Some(key))?,
+            "{value:?}"
+        );
     }
     Ok(())
 }
@@ -63,12 +99,20 @@ fn blanks_have_no_key(rt: HostRuntime) -> Result<(), Fail> {
         "\u{A0}\u{3000}",
         "\u{85}\u{1680}\u{2028}",
     ] {
-        assert!(rt; has_key(rt.alloc(), value, None)?, "{value:?}");
+        assert!(rt;
+            has_key(rt.alloc(), Keys::Canonical, value, None)?,
+            "{value:?}"
+        );
+        assert!(rt;
+            has_key(rt.alloc(), Keys::Compatibility, value, None)?,
+            "{value:?}"
+        );
     }
     Ok(())
 }
 
-// A buffer holds the key of the last value alone: nothing is left of a longer one, of a blank, or of the way beyond ASCII.
+// A buffer holds the key of the last value alone: nothing is left of a longer one, of a blank, or of the way beyond ASCII. These
+// keys are the same of either kind.
 #[test]
 fn keys_in_turn(rt: HostRuntime) -> Result<(), Fail> {
     let turns = [
@@ -84,14 +128,17 @@ fn keys_in_turn(rt: HostRuntime) -> Result<(), Fail> {
     ];
     let mut buffer = String::new(rt.alloc());
     for (value, key) in turns {
-        let found = key_into(rt.alloc(), value, &mut buffer)?;
-        assert_eq!(rt; found, key.is_some(), "{value:?}");
-        assert!(rt; buffer.as_str() == key.unwrap_or(""), "{value:?}");
+        for keys in [Keys::Canonical, Keys::Compatibility] {
+            let found = key_into(rt.alloc(), keys, value, &mut buffer)?;
+            assert_eq!(rt; found, key.is_some(), "{value:?}");
+            assert!(rt; buffer.as_str() == key.unwrap_or(""), "{value:?}");
+        }
     }
     Ok(())
 }
 
-// The two agree, and match as the standard says: The Unicode Standard, sections 3.13 and 5.18, UAX #15 and CaseFolding.txt.
+// Values that the canonical match and the compatibility match tell apart, or not, alike: The Unicode Standard, sections 3.13 and
+// 5.18, UAX #15 and CaseFolding.txt. The keys agree.
 #[test]
 fn same_values(rt: HostRuntime) -> Result<(), Fail> {
     let pairs = [
@@ -101,29 +148,82 @@ fn same_values(rt: HostRuntime) -> Result<(), Fail> {
         ("\u{E9}", "e", false),
         ("MASSE", "Ma\u{DF}e", true),
         ("\u{1E9E}", "\u{DF}", true),
+        ("\u{1E9E}", "ss", true),
         ("\u{130}", "i\u{307}", true),
         ("\u{130}", "i", false),
         ("I", "\u{131}", false),
         ("\u{3C3}\u{3C2}", "\u{3A3}\u{3A3}", true),
         ("\u{FF21}", "\u{FF41}", true),
-        ("\u{FF21}", "A", false),
         ("\u{D55C}", "\u{1112}\u{1161}\u{11AB}", true),
         ("\u{212A}", "K", true),
         ("\u{212B}", "\u{C5}", true),
         ("\u{FB01}", "FI", true),
         ("q\u{307}\u{323}", "Q\u{323}\u{307}", true),
         ("\u{3B1}\u{345}\u{301}", "\u{1FB4}", true),
+        ("\u{345}", "\u{399}", true),
+        ("\u{1FBC}", "\u{391}\u{399}", true),
         ("\u{A0}x\u{3000}", "X", true),
         ("\u{200B}x", "x", false),
+        ("\u{2467}", "\u{2167}", false),
         ("", "\u{A0} \u{3000}", true),
         ("", "x", false),
     ];
     for (a, b, same) in pairs {
-        assert_eq!(rt; same_value(rt.alloc(), a, b)?, same, "{a:?} and {b:?}");
-        assert_eq!(rt; same_value(rt.alloc(), b, a)?, same, "{b:?} and {a:?}");
-        assert_eq!(rt;
-            same_key(rt.alloc(), a, b)?,
-            same,
+        for keys in [Keys::Canonical, Keys::Compatibility] {
+            assert_eq!(rt;
+                same_value(rt.alloc(), keys, a, b)?,
+                same,
+                "{a:?} and {b:?}"
+            );
+            assert_eq!(rt;
+                same_value(rt.alloc(), keys, b, a)?,
+                same,
+                "{b:?} and {a:?}"
+            );
+            assert_eq!(rt;
+                same_key(rt.alloc(), keys, a, b)?,
+                same,
+                "keys of {a:?} and {b:?}"
+            );
+        }
+    }
+    Ok(())
+}
+
+// Values that match by compatibility alone, by the decompositions with a tag in UnicodeData.txt.
+#[test]
+fn compatible_values(rt: HostRuntime) -> Result<(), Fail> {
+    let pairs = [
+        ("\u{2460}", "1"),
+        ("\u{FF21}", "a"),
+        ("\u{B2}", "2"),
+        ("\u{3392}", "MHz"),
+        ("\u{2167}", "viii"),
+        ("\u{2122}", "tm"),
+        ("\u{1C4}", "D\u{17D}"),
+        ("a\u{A0}b", "A b"),
+        ("x\u{37A}", "X \u{345}"),
+        ("\u{3D4}", "\u{3AB}"),
+        ("\u{345}\u{FF9E}", "\u{3B9}\u{3099}"),
+        ("\u{FF76}\u{FF9E}", "\u{30AC}"),
+        ("\u{3131}", "\u{1100}"),
+        ("\u{FFBE}\u{FFC2}", "\u{D558}"),
+    ];
+    for (a, b) in pairs {
+        assert!(rt;
+            !same_value(rt.alloc(), Keys::Canonical, a, b)?,
+            "{a:?} and {b:?}"
+        );
+        assert!(rt;
+            !same_key(rt.alloc(), Keys::Canonical, a, b)?,
+            "keys of {a:?} and {b:?}"
+        );
+        assert!(rt;
+            same_value(rt.alloc(), Keys::Compatibility, a, b)?,
+            "{a:?} and {b:?}"
+        );
+        assert!(rt;
+            same_key(rt.alloc(), Keys::Compatibility, a, b)?,
             "keys of {a:?} and {b:?}"
         );
     }

@@ -7,6 +7,6 @@ use Rattle.csv_table.proofs.read_table.Given as goal
 abbrev pub invariant-loop-records : goal.invariant-loop-records
 invariant-loop-records l = record {
   reading : IsReading l.reader;
-  narrow : l.columns ≤ 1024;
-  left : IsLeft l.fn.bytes l.records l.columns (fields_of l.store) (records_left l.reader);
+  narrow : l.columns ≤ 4096;
+  left : IsLeft l.fn.most l.fn.bytes l.records l.columns (fields_of l.store) (records_left l.reader);
 }

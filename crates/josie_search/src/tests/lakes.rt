@@ -4,7 +4,7 @@ ghost use Rattle.std.specs.Bool.{OnTrue};
 ghost use Rattle.lake_model.specs.Tables.{members};
 ghost use Rattle.segment_core.specs.Versions.{part_with, places_with};
 
-use column_set::{Name, SharedTable, TableSets};
+use column_set::{Keys, Name, SharedTable, TableSets};
 use csv_table::read_table;
 use segment_build::build;
 use segment_core::{Marks, Numbers, Part, Version};
@@ -25,8 +25,8 @@ pub(crate) struct Tables {
 /// The table of this name and these CSV bytes.
 pub(crate) fn table(alloc: Global, name: &str, text: &str) -> Result<SharedTable, Fail> {
     let name = Name::read(name.as_bytes()).ok_or("no name")?;
-    let raw = read_table(alloc, text.as_bytes())?;
-    let table = TableSets::build(alloc, name, &raw)?;
+    let raw = read_table(alloc, text.as_bytes(), 1_024)?;
+    let table = TableSets::build(alloc, Keys::Canonical, name, &raw)?;
     Ok(SharedTable::new(alloc, table)?)
 }
 

@@ -4,7 +4,7 @@ ghost use Rattle.std.specs.Prelude.{◌≤◌};
 use super::lakes::{Tables, table};
 use super::model::{Column, Counted, Part, search};
 use crate::prepare;
-use column_set::{Name, QuerySet, Row, SharedTable};
+use column_set::{Keys, Name, QuerySet, Row, SharedTable};
 use cost_model::{AlwaysProbe, AlwaysRead, Chooser, Listed, Profile};
 use segment_core::{Pin, Version};
 use std::alloc::Global;
@@ -233,7 +233,7 @@ fn query(alloc: Global, asked: &[usize]) -> Result<QuerySet, Fail> {
         body.push_str(VALUES[*value % 13])?;
         body.push_str("\n")?;
     }
-    Ok(QuerySet::read(alloc, body.as_str().as_bytes())?)
+    Ok(QuerySet::read(alloc, Keys::Canonical, body.as_str().as_bytes())?)
 }
 
 // Whether a row is the one of the plain model.

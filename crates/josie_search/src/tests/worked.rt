@@ -3,7 +3,7 @@
 
 use super::lakes::{Tables, table};
 use crate::prepare;
-use column_set::{QuerySet, Rows};
+use column_set::{Keys, QuerySet, Rows};
 use cost_model::{AlwaysProbe, AlwaysRead, Listed, Profile};
 use segment_core::{Look, Pin};
 use std::alloc::Global;
@@ -11,7 +11,7 @@ use std::process::Abort;
 use std::test::Fail;
 
 fn query(alloc: Global, body: &[u8]) -> Result<QuerySet, Fail> {
-    Ok(QuerySet::read(alloc, body)?)
+    Ok(QuerySet::read(alloc, Keys::Canonical, body)?)
 }
 
 // Compares rows with those that are wanted: overlap, and table of each.

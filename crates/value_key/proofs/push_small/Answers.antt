@@ -6,4 +6,4 @@ use Rattle.value_key.proofs.push_small.Goals as goal
 pub returns-clause-key : goal.returns-clause-key
 returns-clause-key c =
     let pushed = c.in-Ok.ensures.bytes ∙ ap (λ (bytes : List ℕ). bytes ++ c.args.text.now) c.requires.empty in
-    λ _. c.make_ascii_lowercase.ensures.bytes ∙ ap (map to_ascii_lowercase) pushed ∙ sym (key_of_text-ascii c.args.text.now c.if-not-is_ascii.ensures.cases)
+    λ keys _. c.make_ascii_lowercase.ensures.bytes ∙ ap (map to_ascii_lowercase) pushed ∙ sym (key_of_text-ascii keys c.args.text.now c.if-not-is_ascii.ensures.cases)

@@ -10,6 +10,6 @@ use Rattle.column_set.proofs.query.read_keys.Given as goal
 -- the keys so far with those of the lines that are left are the query's, and no line so far is at fault
 abbrev pub invariant-loop-number : goal.invariant-loop-number
 invariant-loop-number l = record {
-  keys : query_of l.fn.body ≡ fold add_key l.keys (filter_map key (all_lines l.rest));
+  keys : query_of l.fn.keys l.fn.body ≡ fold add_key l.set (filter_map (key l.fn.keys) (all_lines l.rest));
   fault : line_fault 1 (all_lines l.fn.body) ≡ line_fault l.number (all_lines l.rest);
 }

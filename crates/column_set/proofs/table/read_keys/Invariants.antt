@@ -6,4 +6,4 @@ use Rattle.column_set.proofs.table.read_keys.Given as goal
 
 -- the keys so far with those of the records that are left are the column's
 abbrev pub invariant-loop-row : goal.invariant-loop-row
-invariant-loop-row l = distinct (field_keys l.place (drop 1 l.raw)) ≡ fold add_key l.keys (field_keys l.place (drop (l.row + 1) l.raw))
+invariant-loop-row l = distinct (field_keys l.fn.keys l.place (drop 1 l.raw)) ≡ fold add_key l.set (field_keys l.fn.keys l.place (drop (l.row + 1) l.raw))

@@ -13,9 +13,9 @@ returns-then-len-gt-MOST_KEYS-clause-refused c =
     let raw = c.args.raw.now in
     let i = c.loop-i.i in
     let within : i < column_count raw = omega (arith, c.columns-i-end.ensures.value) in
-    let size : length c.in-Ok.keys ≡ length (column_at raw (i + 1)).keys = ap length c.in-Ok.ensures in
-    let many : nat_lt 4194304 (length (column_at raw (i + 1)).keys) ≡ true = lt-ltb 4194304 (length (column_at raw (i + 1)).keys) (omega (arith, size, c.len.ensures.value)) in
-    inr (c.loop-i.invariant.fault ∙ fault_behind-here (λ place. nat_lt 4194304 (length (column_at raw place).keys)) i (column_count raw) within many)
+    let size : length c.in-Ok.set ≡ length (column_at c.args.keys raw (i + 1)).keys = ap length c.in-Ok.ensures in
+    let many : nat_lt 4194304 (length (column_at c.args.keys raw (i + 1)).keys) ≡ true = lt-ltb 4194304 (length (column_at c.args.keys raw (i + 1)).keys) (omega (arith, size, c.len.ensures.value)) in
+    inr (c.loop-i.invariant.fault ∙ fault_behind-here (λ place. nat_lt 4194304 (length (column_at c.args.keys raw place).keys)) i (column_count raw) within many)
 
 pub loop-i-preserved : goal.loop-i-preserved
 loop-i-preserved c =
@@ -24,16 +24,16 @@ loop-i-preserved c =
     let within : i < column_count raw = omega (arith, c.columns-i-end.ensures.value) in
     let good : is_ok c.push.result ≡ true = c.is_err.ensures.negation ∙ ap not c.if-is_err.false in
     let items = rw good at c.push.ensures.items in
-    let size : length c.in-Ok.keys ≡ length (column_at raw (i + 1)).keys = ap length c.in-Ok.ensures in
-    let few : nat_lt 4194304 (length (column_at raw (i + 1)).keys) ≡ false = le-ltb 4194304 (length (column_at raw (i + 1)).keys) (omega (arith, size, c.len.ensures.value)) in
-    let more = map-range_with_len_more (λ place. (column_at raw place).keys) 1 i (i + 1) (omega arith) in
+    let size : length c.in-Ok.set ≡ length (column_at c.args.keys raw (i + 1)).keys = ap length c.in-Ok.ensures in
+    let few : nat_lt 4194304 (length (column_at c.args.keys raw (i + 1)).keys) ≡ false = le-ltb 4194304 (length (column_at c.args.keys raw (i + 1)).keys) (omega (arith, size, c.len.ensures.value)) in
+    let more = map-range_with_len_more (λ place. (column_at c.args.keys raw place).keys) 1 i (i + 1) (omega arith) in
     record {
       read = items ∙ (λ j. c.loop-i.invariant.read j ++ c.in-Ok.ensures j ∷ []) ∙ sym more;
-      small = rw items (all-more IsSmall c.loop-i.sets.items c.in-Ok.keys c.loop-i.invariant.small (omega (arith, c.len.ensures.value)));
-      fault = c.loop-i.invariant.fault ∙ fault_behind-later (λ place. nat_lt 4194304 (length (column_at raw place).keys)) i (column_count raw) within few;
+      small = rw items (all-more IsSmall c.loop-i.sets.items c.in-Ok.set c.loop-i.invariant.small (omega (arith, c.len.ensures.value)));
+      fault = c.loop-i.invariant.fault ∙ fault_behind-later (λ place. nat_lt 4194304 (length (column_at c.args.keys raw place).keys)) i (column_count raw) within few;
     }
 
 pub returns-clause-narrow : goal.returns-clause-narrow
 returns-clause-narrow c =
-    let size = ap length c.loop-i.invariant.read ∙ length-map-range_with_len (λ place. (column_at c.args.raw.now place).keys) 1 c.loop-i.i in
+    let size = ap length c.loop-i.invariant.read ∙ length-map-range_with_len (λ place. (column_at c.args.keys c.args.raw.now place).keys) 1 c.loop-i.i in
     omega (arith, size, c.columns-i-end.ensures.narrow)

@@ -9,7 +9,7 @@ use Rattle.column_set.proofs.table.read_sets.Given as goal
 -- the sets of the first columns are read, none is too large, and the first at fault is one of those that are left
 abbrev pub invariant-loop-i : goal.invariant-loop-i
 invariant-loop-i l = record {
-  read : l.sets.items ≡ map (λ place. (column_at l.raw place).keys) (range_with_len 1 l.i);
+  read : l.sets.items ≡ map (λ place. (column_at l.fn.keys l.raw place).keys) (range_with_len 1 l.i);
   small : AllByRecursion IsSmall l.sets.items;
-  fault : sets_fault l.raw ≡ fault_behind (λ place. nat_lt 4194304 (length (column_at l.raw place).keys)) l.i (column_count l.raw);
+  fault : sets_fault l.fn.keys l.raw ≡ fault_behind (λ place. nat_lt 4194304 (length (column_at l.fn.keys l.raw place).keys)) l.i (column_count l.raw);
 }

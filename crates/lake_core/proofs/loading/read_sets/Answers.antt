@@ -1,4 +1,5 @@
 use Rattle.std.proofs.Common.{◌≡◌, ap, sym, ◌∙◌, subst}
+use Rattle.lake_model.specs.declared.Keys.TheVariants.{Canonical}
 use Rattle.lake_model.specs.Records.{table_of}
 use Rattle.record_model.specs.Replies.{csv_reply, sets_reply}
 use Rattle.record_model.specs.Answered.{table_read, IsTable}
@@ -25,6 +26,6 @@ pub returns-in-Ok-new-clause-table : goal.returns-in-Ok-new-clause-table
 returns-in-Ok-new-clause-table c =
     let name = c.args.name.now in
     let raw = c.in-Ok.raw in
-    let made : table_read name c.bytes.result.now ≡ IsTable (table_of name raw) = table_made name c.bytes.result.now raw c.in-Ok.ensures.sound c.in-Ok.ensures.table c.in-Ok-build.ensures.sound in
+    let made : table_read name c.bytes.result.now ≡ IsTable (table_of Canonical name raw) = table_made name c.bytes.result.now raw c.in-Ok.ensures.sound c.in-Ok.ensures.table c.in-Ok-build.ensures.sound in
     ap (table_read name) (sym c.bytes.ensures.value) ∙ made
-    ∙ ap (λ n. IsTable (table_of n raw)) (sym c.copy.ensures) ∙ ap IsTable (sym (c.in-Ok-new.ensures ∙ c.in-Ok-build.ensures.table))
+    ∙ ap (λ n. IsTable (table_of Canonical n raw)) (sym c.copy.ensures) ∙ ap IsTable (sym (c.in-Ok-new.ensures ∙ c.in-Ok-build.ensures.table))

@@ -4,4 +4,4 @@ use Rattle.segment_merge.specs.Planned.{load_tables}
 use Rattle.lake_core.proofs.merging.look_at_widths.Given as goal
 
 abbrev pub invariant-loop-load : goal.invariant-loop-load
-invariant-loop-load l = sum_by (λ table. length table.columns) (load_tables (take l.load-index l.loads)) ≤ 1024 * l.load-index
+invariant-loop-load l = sum_by (λ table. length table.columns) (load_tables (take l.load-index l.loads)) ≤ 4096 * l.load-index
