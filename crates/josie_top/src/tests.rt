@@ -277,7 +277,8 @@ fn traces_a_run(rt: HostRuntime) -> Result<(), Fail> {
 
 #[test]
 fn finds_what_holds_half_of_a_query(rt: HostRuntime) -> Result<(), Fail> {
-    let script = "load t1\nc\na\nb\nc\nd\n.\nload t2\nc\na\nb\n.\nload t3\nc\na\n.\ncontain 1 2\na\nb\nc\nd\n.\n";
+    let script =
+        "load t1\nc\na\nb\nc\nd\n.\nload t2\nc\na\nb\n.\nload t3\nc\na\n.\ncontain 1 2\na\nb\nc\nd\n.\n";
     let written =
         "1 loaded t1 columns 1 members 4 at 1\n2 loaded t2 columns 1 members 2 at 2\n3 loaded t3 columns 1 members 1 at 3\n4 answer 2 of 4 at 3\n  4 t1 1 \"c\"\n  2 t2 1 \"c\"\n  work reads 4 probes 2\n  layout at 3 parts 1:1 2:2 3:3\njournal 3\n  1 load lane 1 command 1 t1\n  2 load lane 1 command 2 t2\n  3 load lane 1 command 3 t3\n";
     let (status, same) = ends_with(&rt, rt.alloc(), &["run", "--trace"], script, SOUND, written)?;
@@ -304,7 +305,8 @@ fn runs_lanes_in_a_stated_order(rt: HostRuntime) -> Result<(), Fail> {
 
 #[test]
 fn replaces_a_table_between_a_plan_and_its_swap(rt: HostRuntime) -> Result<(), Fail> {
-    let script = "load a\nc\nx\n.\nload b\nc\nx\n.\nmerge all\n@2 replace a\nc\ny\n.\nsearch 9\nx\n.\n";
+    let script =
+        "load a\nc\nx\n.\nload b\nc\nx\n.\nmerge all\n@2 replace a\nc\ny\n.\nsearch 9\nx\n.\n";
     let written =
         "1 loaded a columns 1 members 1 at 1\n2 loaded b columns 1 members 1 at 2\n3 merged 2 parts into 2 tables at 4\n  layout at 2 parts 1:1 2:2\n4 replaced a columns 1 members 1 at 3\n5 answer 1 of 1 at 4\n  1 b 1 \"c\"\n  work reads 1 probes 0\n  layout at 4 parts 4:1-,2 3:3\njournal 4\n  1 load lane 1 command 1 a\n  2 load lane 1 command 2 b\n  3 replace lane 2 command 4 a\n  4 swap lane 1 command 3 from 1,2 kept 1,2\n";
     let words = ["run", "--lanes", "2", "--order", "1,1,1,2,1,1,1", "--trace"];

@@ -154,9 +154,11 @@ module _ {R : Type 0} (say : R → Reply) (name : Text) (n : ℕ) (accepted : Re
 pub refused_drop : (limits : Counts) (name : Text) (journal : List Entry) (e : DropRefused) → (e ≡ dropping.NoMemory) ⊎ (drop_refusal limits name journal ≡ Some e)
     → Answers (drop_refusal_reply name e) (drop_reply limits name journal)
 refused_drop limits name journal e (inl none) = (true, ap (drop_refusal_reply name) none)
-refused_drop limits name journal e (inr h) =
-    (false, live_refused (drop_refusal_reply name) name (length journal) (Dropped name (length journal + 1)) (dropping.Unknown (length journal)) (λ b. dropping.Full b.which b.count b.more (length journal)) refl (λ b. refl)
-    (is_live journal name) (find is_passed (drop_bounds limits (counts journal))) e h)
+refused_drop limits name journal e (inr h) = (
+  false,
+  live_refused (drop_refusal_reply name) name (length journal) (Dropped name (length journal + 1)) (dropping.Unknown (length journal)) (λ b. dropping.Full b.which b.count b.more (length journal)) refl (λ b. refl)
+      (is_live journal name) (find is_passed (drop_bounds limits (counts journal))) e h,
+)
 
 -- a drop that nothing refuses
 pub accepted_drop : (limits : Counts) (name : Text) (journal : List Entry) → drop_refusal limits name journal ≡ None → drop_reply limits name journal ≡ Dropped name (length journal + 1)

@@ -23,9 +23,11 @@ use Rattle.lake_core.proofs.LoadLemmas.{Answers, live_refused, live_accepted, re
 pub refused_replace : (limits : Counts) (table : Table) (journal : List Entry) (e : ReplaceRefused) → (e ≡ refused.NoMemory) ⊎ (replace_refusal limits table journal ≡ Some e)
     → Answers (replace_refusal_reply table.name e) (replace_reply limits table journal)
 refused_replace limits table journal e (inl none) = (true, ap (replace_refusal_reply table.name) none)
-refused_replace limits table journal e (inr h) =
-    (false, live_refused (replace_refusal_reply table.name) table.name (length journal) (Replaced table.name (length table.columns) (members table) (length journal + 1))
-    (refused.Unknown (length journal)) (λ b. refused.Full b.which b.count b.more (length journal)) refl (λ b. refl) (is_live journal table.name) (find is_passed (replace_bounds limits table (counts journal))) e h)
+refused_replace limits table journal e (inr h) = (
+  false,
+  live_refused (replace_refusal_reply table.name) table.name (length journal) (Replaced table.name (length table.columns) (members table) (length journal + 1))
+      (refused.Unknown (length journal)) (λ b. refused.Full b.which b.count b.more (length journal)) refl (λ b. refl) (is_live journal table.name) (find is_passed (replace_bounds limits table (counts journal))) e h,
+)
 
 -- a table that nothing refuses
 pub accepted_replace : (limits : Counts) (table : Table) (journal : List Entry) → replace_refusal limits table journal ≡ None

@@ -178,7 +178,6 @@ pub fn finish(alloc: Global, pin: Pin, task: &Task) -> Reply
         | Task::LoadFile { .. }
         | Task::Drop { .. }
         | Task::Replace { .. }
-        | Task::Merge { .. } =>
-            unreachable!(),
+        | Task::Merge { .. } => unreachable!(),
     }
 }
