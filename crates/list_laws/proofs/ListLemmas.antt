@@ -176,7 +176,15 @@ pub distinct_apart : {X : Type 0} (xs ys : List X) → AreDistinct (xs ++ ys) �
 distinct_apart [] ys h = tt
 distinct_apart {X} (x ∷ xs) ys h = (all_right (λ (z : X). z ≡ x → ⊥) xs ys h.0, distinct_apart xs ys h.1)
 
+pub distinct_append : {X : Type 0} (xs ys : List X) → AreDistinct xs → AreDistinct ys → AllByRecursion (Lacks ys) xs → AreDistinct (xs ++ ys)
+distinct_append [] ys h k apart = k
+distinct_append {X} (x ∷ xs) ys h k apart = (all_append (λ (z : X). z ≡ x → ⊥) xs ys h.0 apart.0, distinct_append xs ys h.1 k apart.1)
+
 -- ---- numbers that rise
+
+pub rises_left : (ms ns : List ℕ) → Rises (ms ++ ns) → Rises ms
+rises_left [] ns h = tt
+rises_left (m ∷ ms) ns h = (all_left (λ later. m < later) ms ns h.0, rises_left ms ns h.1)
 
 pub rises_push : (ns : List ℕ) (n : ℕ) → Rises ns → AllByRecursion (λ m. m < n) ns → Rises (ns ++ n ∷ [])
 rises_push [] n h k = (tt, tt)
