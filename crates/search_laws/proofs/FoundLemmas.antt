@@ -39,7 +39,7 @@ same_rows p q f g t (c ∷ cs) h = by (p c) (q c) (t (g c)) refl refl refl (ap t
     by false true false e k l m ih = ih ∙ sym (ap (λ b. cond b (g c ∷ filter t (map g (filter q cs))) (filter t (map g (filter q cs)))) l)
 
 -- what holds of each column and its number
-all_numbered : (P : Numbered → Type 0) (n : ℕ) (cs : List Titled) → ((i : ℕ) (c : Titled) → i < length cs → ((d : Titled) → c ≡ get_or cs i d) → P (n + i, c)) → AllByRecursion P (enumerate_from n cs)
+pub all_numbered : (P : Numbered → Type 0) (n : ℕ) (cs : List Titled) → ((i : ℕ) (c : Titled) → i < length cs → ((d : Titled) → c ≡ get_or cs i d) → P (n + i, c)) → AllByRecursion P (enumerate_from n cs)
 all_numbered P n [] h = tt
 all_numbered P n (c ∷ cs) h =
     let z : n + 0 ≡ n = omega arith in (
