@@ -12,7 +12,7 @@ use Rattle.lake_model.specs.Answer.{Query, Row, row_cmp}
 use Rattle.lake_model.specs.Layout.{is_among}
 use Rattle.search_model.specs.Looks.{Searched}
 use Rattle.lake_model.proofs.SortingLemmas.{by_test, irreflexive, less_order}
-use Rattle.josie_search.specs.declared.tally.Tally.{Tally}
+use Rattle.part_columns.specs.declared.tally.Tally.{Tally}
 use Rattle.josie_search.specs.Rows.{bound_row, first_of, first_pair, FoundAmong, FoundTo, is_before, IsFirst, IsFirstAmong, lead_row, leads}
 
 by_place : {G : Type 0} (y x : ℕ) → (y < x → G) → (y ≡ x → G) → (x < y → G) → G

@@ -1,5 +1,5 @@
 -- A part while it is searched: the looks so far lead from the start to where the code stands.
-use Rattle.std.proofs.Common.{◌≡◌, refl, ap, sym, ◌∙◌, subst, ℕ, zero, suc, ◌+◌, ◌<◌, ◌≤◌, List, [], ◌∷◌, ◌++◌, Bool, true, false, not, ◌&&◌, ◌||◌, length, map, take, set, get_or, arith, cond, append_assoc, append-nil, Option, Some, None, eqb as nat_eq, ltb as nat_lt, leb as nat_le}
+use Rattle.std.proofs.Common.{◌≡◌, refl, ap, sym, ◌∙◌, subst, ℕ, ◌+◌, ◌<◌, ◌≤◌, List, [], ◌∷◌, ◌++◌, Bool, true, false, not, ◌&&◌, ◌||◌, length, map, take, set, get_or, arith, cond, append_assoc, append-nil, Option, Some, None, eqb as nat_eq, ltb as nat_lt, leb as nat_le}
 use Rattle.std.proofs.lemmas.Bool.Decides.{nat_tests}
 use Rattle.std.proofs.lemmas.List.{get_or-set_other, get_or-set_same}
 use Rattle.std.specs.List.{filter}
@@ -9,16 +9,14 @@ use Rattle.search_model.proofs.LooksLemmas.{leads_more, run_is}
 use Rattle.search_model.specs.declared.Look.{Look}
 use Rattle.search_model.specs.declared.Look.TheVariants.{Probe, Read}
 use Rattle.search_model.specs.declared.Summary.{Summary}
-use Rattle.search_model.specs.Looks.{beats, choice, hits, is_eligible, read_next, known_rows, Leads, left_of, next_look, Progress, run, Searched, start, threshold, unseen_open, worst}
+use Rattle.search_model.specs.Looks.{beats, choice, is_eligible, read_next, known_rows, Leads, left_of, next_look, Progress, run, Searched, start, threshold, unseen_open, worst}
 use Rattle.search_model.specs.Segment.{Titled}
 use Rattle.search_laws.proofs.PartLemmas.{candidates, row_for}
 use Rattle.search_laws.specs.Select.{best}
-use Rattle.josie_search.specs.declared.tally.Tally.{Tally}
+use Rattle.part_columns.specs.declared.tally.Tally.{Tally}
 use Rattle.josie_search.specs.State.{IsAt}
-use Rattle.josie_search.specs.Tallies.{AreTallies, no_tally}
+use Rattle.part_columns.specs.Tallies.{AreTallies, no_tally}
 use Rattle.josie_search.proofs.PartLemmas.{known_all, known_probed, rows_by}
-use Rattle.josie_search.proofs.OpenLemmas.{tally_count}
-use Rattle.josie_search.proofs.ProbeLemmas.{hits_few}
 use Rattle.search_state.specs.State.{column_at, open_at, seen_at}
 use Rattle.search_state.proofs.CoverLemmas.{none_open}
 
@@ -139,15 +137,3 @@ module _ (says : Summary → Bool) (query : Query) (part : Searched) (before : L
       let done : length part.query ≤ going.progress.read = (let e = going.at in omega (arith, e, all)) in
       ap (λ us. best row_cmp query.k (before ++ us)) (sym (known_all query part going.progress done))
       ∙ ap (λ (r : List Look × Progress). best row_cmp query.k (before ++ known_rows query part r.1)) (sym (ended now read tallies known rows going (nothing_next going.progress done)))
-
--- no tally counts more than the lists that were read
-pub tallies_small : (sets : List (List ℕ)) (tokens : List ℕ) (read : ℕ) (tallies : List Tally) → AreTallies sets (take read tokens) tallies → (x : ℕ) → (get_or tallies x no_tally).count ≤ read
-tallies_small sets tokens read tallies are x =
-    let set = get_or sets x [] in
-    let c = ap (λ (t : Tally). t.count) (are x) ∙ tally_count set (hits set (take read tokens)) in
-    omega (arith, c, hits_few set (take read tokens), length-take-le read tokens)
-  where
-    length-take-le : (n : ℕ) (xs : List ℕ) → length (take n xs) ≤ n
-    length-take-le zero xs = omega arith
-    length-take-le (suc n) [] = omega arith
-    length-take-le (suc n) (x ∷ xs) = (let l = length-take-le n xs in omega (arith, l))

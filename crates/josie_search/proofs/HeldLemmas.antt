@@ -13,10 +13,10 @@ use Rattle.search_model.specs.Looks.{is_eligible, Searched}
 use Rattle.search_model.specs.declared.Posting.{Posting}
 use Rattle.search_state.specs.State.{column_at}
 use Rattle.josie_search.specs.declared.candidates.Candidate.{Candidate}
-use Rattle.josie_search.specs.declared.tally.Tally.{Tally}
+use Rattle.part_columns.specs.declared.tally.Tally.{Tally}
 use Rattle.josie_search.specs.Candidates.{AreApart, AreHeld, AreHeldBut, candidate, candidate_of, covers, goes_in, is_over, IsAhead, IsOfRank, most_now, NoneExact, weight}
-use Rattle.josie_search.specs.Rows.{leads, most_of, rest_of}
-use Rattle.josie_search.specs.Tallies.{counted, of_column, raised, tally_at}
+use Rattle.josie_search.specs.Rows.{leads}
+use Rattle.part_columns.specs.Tallies.{most_of, rest_of, counted, of_column, raised, tally_at}
 use Rattle.josie_search.proofs.LoopLemmas.{lead_parts}
 
 or_right : (a b : Bool) → b ≡ true → (a || b) ≡ true

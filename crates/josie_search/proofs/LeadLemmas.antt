@@ -8,10 +8,10 @@ use Rattle.search_model.specs.Looks.{row_with, Searched}
 use Rattle.search_model.specs.Ranks.{AreRanks}
 use Rattle.search_state.specs.State.{column_at}
 use Rattle.josie_search.specs.declared.candidates.Candidate.{Candidate}
-use Rattle.josie_search.specs.declared.tally.Tally.{Tally}
+use Rattle.part_columns.specs.declared.tally.Tally.{Tally}
 use Rattle.josie_search.specs.Candidates.{AreHeld, IsAhead, IsExact, IsOfRank, most_now}
-use Rattle.josie_search.specs.Rows.{bound_row, is_before, IsFirst, leads, most_of, NoneFrom}
-use Rattle.josie_search.specs.Tallies.{tally_at}
+use Rattle.josie_search.specs.Rows.{bound_row, is_before, IsFirst, leads, NoneFrom}
+use Rattle.part_columns.specs.Tallies.{most_of, tally_at}
 use Rattle.josie_search.proofs.FirstLemmas.{later, sooner}
 use Rattle.josie_search.proofs.HeldLemmas.{covered_below}
 

@@ -10,12 +10,12 @@ use Rattle.search_model.specs.Segment.{Titled}
 use Rattle.search_laws.specs.Select.{best}
 use Rattle.search_state.specs.State.{column_at, seen_at}
 use Rattle.search_state.proofs.OfferLemmas.{worst_is}
-use Rattle.josie_search.specs.declared.tally.Tally.{Tally}
+use Rattle.part_columns.specs.declared.tally.Tally.{Tally}
 use Rattle.josie_search.specs.Costs.{lengths_of, summary_of, threshold_of}
 use Rattle.josie_search.specs.Open.{chosen, IsHead, overlap_of, taken}
 use Rattle.josie_search.specs.Rows.{FoundFrom, FoundTo, leads}
 use Rattle.josie_search.specs.State.{IsAt}
-use Rattle.josie_search.specs.Tallies.{tally_at, tally_of}
+use Rattle.part_columns.specs.Tallies.{tally_at, tally_of}
 use Rattle.josie_search.proofs.OpenLemmas.{first_beaten, first_open, none_high, none_opens}
 
 -- what the code tells is what the definition tells

@@ -3,10 +3,10 @@ use Rattle.std.proofs.Common.{◌≡◌, refl, sym, ℕ, List, [], ◌∷◌, Bo
 use Rattle.lake_model.specs.Answer.{Query, Row, row_cmp}
 use Rattle.lake_model.specs.Sorting.{put_in_order}
 use Rattle.search_model.specs.Looks.{Searched}
-use Rattle.josie_search.specs.declared.tally.Tally.{Tally}
+use Rattle.part_columns.specs.declared.tally.Tally.{Tally}
 use Rattle.josie_search.specs.Offers.{offered}
-use Rattle.josie_search.specs.Rows.{bound_row, lead_row, leads, most_of}
-use Rattle.josie_search.specs.Tallies.{tally_at}
+use Rattle.josie_search.specs.Rows.{bound_row, lead_row, leads}
+use Rattle.part_columns.specs.Tallies.{most_of, tally_at}
 
 most_at_end : (tally : Tally) → most_of 0 tally ≡ tally.count
 most_at_end tally = omega arith

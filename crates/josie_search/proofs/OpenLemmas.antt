@@ -1,26 +1,22 @@
 -- The first column that leads is the first of the open ones, where it beats; and else none is open.
-use Rattle.std.proofs.Common.{◌≡◌, refl, ap, sym, ◌∙◌, ℕ, ◌+◌, ◌-◌, ◌<◌, List, [], ◌∷◌, Bool, true, false, not, ◌&&◌, ◌||◌, length, arith, take, get_or, min, Option, Some, None, ltb as nat_lt, leb as nat_le}
+use Rattle.std.proofs.Common.{◌≡◌, refl, ap, sym, ◌∙◌, ℕ, ◌<◌, List, [], ◌∷◌, Bool, true, false, not, ◌&&◌, ◌||◌, length, arith, take, get_or, Option, Some, None, ltb as nat_lt, leb as nat_le}
 use Rattle.std.proofs.lemmas.Bool.Decides.{nat_tests}
 use Rattle.lake_model.proofs.AnswerLemmas.{row_cmp_total}
 use Rattle.lake_model.specs.Answer.{Query, Row}
 use Rattle.lake_model.specs.Layout.{is_among}
 use Rattle.search_model.specs.Looks.{beats, hits, is_eligible, is_known, left_of, open_columns, Progress, row_with, Searched, Seen}
-use Rattle.search_model.specs.Segment.{rank}
 use Rattle.lake_model.proofs.SortingLemmas.{less_order}
 use Rattle.search_state.specs.State.{column_at, open_at, seen_at}
 use Rattle.search_state.proofs.CoverLemmas.{none_open}
 use Rattle.search_state.proofs.HeadLemmas.{first_by_rows}
-use Rattle.josie_search.specs.declared.tally.Tally.{Tally}
+use Rattle.part_columns.specs.declared.tally.Tally.{Tally}
 use Rattle.josie_search.specs.Costs.{threshold_of}
 use Rattle.josie_search.specs.Open.{overlap_of}
-use Rattle.josie_search.specs.Rows.{bound_row, is_before, IsFirst, leads, most_of, NoneFrom, NoneLeads}
+use Rattle.josie_search.specs.Rows.{bound_row, is_before, IsFirst, leads, NoneFrom, NoneLeads}
+use Rattle.part_columns.specs.Tallies.{most_of, tally_at}
 use Rattle.josie_search.specs.State.{IsAt}
-use Rattle.josie_search.specs.Tallies.{tally_at, tally_of}
 use Rattle.josie_search.proofs.FirstLemmas.{later, no_sooner_there}
-
-pub tally_count : (set found : List ℕ) → (tally_of set found).count ≡ length found
-tally_count set [] = refl
-tally_count set (t ∷ ts) = refl
+use Rattle.part_columns.proofs.TallyLemmas.{bound_same, tally_count}
 
 and_moved : (a b c d : Bool) → (a && b && c && d) ≡ ((a && b && c) && d)
 and_moved true true c d = refl
@@ -39,10 +35,6 @@ and_third : (a b c : Bool) → (a && b && c) ≡ true → c ≡ true
 and_third true true c e = e
 and_third true false c e = cc
 and_third false b c e = cc
-
-bound_same : (set found : List ℕ) (left : ℕ) → 0 < length found → most_of left (tally_of set found) ≡ length found + min left (length set - 1 - rank set (get_or found (length found - 1) 0))
-bound_same set [] left h = absurd (omega arith)
-bound_same set (t ∷ ts) left h = refl
 
 module _ (query : Query) (part : Searched) (progress : Progress) (tallies : List Tally) (known : List Bool) (is : IsAt part progress tallies known) where
   abbrev left : ℕ

@@ -1,12 +1,13 @@
 -- The parts in turn: what a part's search makes rests on the first k of what is known before it alone.
-use Rattle.std.proofs.Common.{◌≡◌, refl, ap, sym, ◌∙◌, ℕ, zero, suc, ◌+◌, ◌-◌, ◌<◌, ◌≤◌, List, [], ◌∷◌, ◌++◌, Bool, false, length, take, drop, get_or, arith, append_assoc, append-nil, Option, Some, None}
+use Rattle.std.proofs.Common.{◌≡◌, refl, ap, sym, ◌∙◌, ℕ, zero, suc, ◌+◌, ◌-◌, ◌<◌, ◌≤◌, List, [], ◌∷◌, ◌++◌, Bool, false, length, map, take, drop, get_or, arith, append_assoc, append-nil, Option, Some, None}
 use Rattle.std.specs.Prelude.{slice_get}
 use Rattle.std.proofs.Math.Seq.{drop-cons}
-use Rattle.std.proofs.lemmas.List.{drop_all}
+use Rattle.std.proofs.lemmas.List.{drop_all, get_or-map, length-map}
 use Rattle.std.specs.List.{AllByRecursion}
 use Rattle.std.specs.Ordering.{is_lt}
 use Rattle.lake_model.proofs.AnswerLemmas.{row_cmp_exact, row_cmp_total}
 use Rattle.lake_model.specs.Answer.{Query, Row, row_cmp}
+use Rattle.lake_model.specs.Layout.{Part}
 use Rattle.lake_model.specs.Sorting.{in_order, put_in_order}
 use Rattle.lake_model.proofs.SortingLemmas.{less_order, Ordered, ordered_in_order, stays}
 use Rattle.search_laws.proofs.SelectLemmas.{best_append}
@@ -14,8 +15,9 @@ use Rattle.search_laws.specs.Known.{known_after}
 use Rattle.search_laws.specs.Select.{best}
 use Rattle.search_model.specs.declared.Look.{Look}
 use Rattle.search_model.specs.declared.Summary.{Summary}
-use Rattle.search_model.specs.Looks.{choice, known_rows, looks_of, next_look, open_columns, Progress, progress_after, run, run_within, Searched, start, work_left, worst}
+use Rattle.search_model.specs.Looks.{choice, known_rows, looks_of, next_look, open_columns, Progress, progress_after, run, run_within, searched, Searched, start, work_left, worst}
 use Rattle.search_state.proofs.OfferLemmas.{worst_is}
+use Rattle.segment_core.specs.Versions.{part_at, part_with}
 
 -- the first k of the first k
 abbrev is_less : Row → Row → Bool
@@ -155,3 +157,11 @@ module _ (says : Summary → Bool) (query : Query) (some : 0 < query.k) (all : L
 
   pub through_rows : (i : ℕ) (log : List Look) (rows : List Row) → length all ≤ i → Through says query all i log rows → rows ≡ best row_cmp query.k (known_after says query [] all)
   through_rows i log rows h t = t.rows_are ∙ ap (best row_cmp query.k) (sym (ap (known_after says query t.before) (drop_all i all h) ∙ known_none t.before) ∙ t.known_is)
+
+-- ---- a part of the list of parts
+
+pub length-searched : (query : Query) (parts : List Part) → length (map (searched query) parts) ≡ length parts
+length-searched query parts = length-map parts (searched query)
+
+pub searched_at : (query : Query) (parts : List Part) (i : ℕ) → i < length parts → get_or (map (searched query) parts) i (searched query (part_with 0 [])) ≡ searched query (part_at parts i)
+searched_at query parts i h = get_or-map (searched query) parts i (part_with 0 []) (searched query (part_with 0 [])) h

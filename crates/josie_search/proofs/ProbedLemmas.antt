@@ -10,7 +10,7 @@ use Rattle.search_state.specs.State.{column_at}
 use Rattle.segment_core.proofs.SegmentLemmas.{length-sets}
 use Rattle.segment_core.specs.Versions.{marks_of, part_at, segment_at, tables_of, VersionOf}
 use Rattle.josie_search.specs.Offers.{shared_row}
-use Rattle.josie_search.proofs.RestLemmas.{hits_overlap}
+use Rattle.part_columns.proofs.AskedLemmas.{hits_overlap}
 
 abbrev row_in : VersionOf → ℕ → ℕ → Option Text → ℕ → List Row
 row_in version part x except n =

@@ -1,10 +1,9 @@
 -- Where all lists were read, the columns that lead are offered, and with the probed ones all rows of the part are known.
-use Rattle.std.proofs.Common.{◌≡◌, refl, ap, sym, ◌∙◌, subst, inl, inr, ℕ, zero, suc, ◌+◌, ◌<◌, ◌≤◌, List, [], ◌∷◌, ◌++◌, Bool, true, false, not, ◌&&◌, ◌||◌, length, arith, cond, take, drop, get_or, length-append, append-nil, append_assoc, eqb as nat_eq, ltb as nat_lt}
+use Rattle.std.proofs.Common.{◌≡◌, refl, ap, sym, ◌∙◌, subst, ℕ, zero, suc, ◌+◌, ◌<◌, ◌≤◌, List, [], ◌∷◌, ◌++◌, Bool, true, false, not, ◌&&◌, ◌||◌, length, arith, cond, take, drop, get_or, length-append, append-nil, append_assoc, eqb as nat_eq, ltb as nat_lt}
 use Rattle.std.specs.Prelude.{bytes_eq}
 use Rattle.std.specs.List.{AllByRecursion, count_by, IsDistinct}
 use Rattle.std.proofs.lemmas.Bool.Decides.{nat_tests}
-use Rattle.std.proofs.lemmas.Bool.{cases_lt}
-use Rattle.std.proofs.lemmas.List.{get_or_past, take-append-drop}
+use Rattle.std.proofs.lemmas.List.{take-append-drop}
 use Rattle.std.proofs.lemmas.List.Folds.{list_any-append}
 use Rattle.segment_core.proofs.SegmentLemmas.{length-sets}
 use Rattle.segment_core.specs.Versions.{tables_of}
@@ -13,48 +12,26 @@ use Rattle.lake_model.specs.Answer.{Query, Row, row_cmp}
 use Rattle.lake_model.specs.Layout.{is_among, Part}
 use Rattle.lake_model.specs.Sorting.{put_in_order}
 use Rattle.lake_model.specs.Tables.{overlap}
-use Rattle.search_model.proofs.OverlapLemmas.{overlap_is_hits}
 use Rattle.search_model.specs.Arrays.{no_titled}
 use Rattle.search_model.specs.Looks.{hits, is_eligible, row_with, searched, Searched}
 use Rattle.search_model.specs.Segment.{Titled}
-use Rattle.search_laws.proofs.PartLemmas.{IsPartOf, row_for, shares}
-use Rattle.search_laws.proofs.TableLemmas.{as_texts, is_part}
+use Rattle.search_laws.proofs.PartLemmas.{row_for, shares}
 use Rattle.search_laws.specs.Select.{best}
 use Rattle.search_state.specs.State.{column_at}
-use Rattle.josie_search.specs.declared.tally.Tally.{Tally}
-use Rattle.josie_search.specs.Columns.{IsListed}
+use Rattle.part_columns.specs.declared.tally.Tally.{Tally}
+use Rattle.part_columns.specs.Columns.{IsListed}
 use Rattle.josie_search.specs.Offers.{offered, offers, shared_row}
-use Rattle.josie_search.specs.Rows.{bound_row, lead_row, leads, most_of}
-use Rattle.josie_search.specs.Tallies.{AreTallies, tally_at}
-use Rattle.josie_search.proofs.OpenLemmas.{tally_count}
+use Rattle.josie_search.specs.Rows.{bound_row, lead_row, leads}
+use Rattle.part_columns.specs.Tallies.{most_of, AreTallies, tally_at}
+use Rattle.part_columns.proofs.AskedLemmas.{hits_overlap}
+use Rattle.part_columns.proofs.TallyLemmas.{counted_in, tally_count}
 use Rattle.josie_search.proofs.PartLemmas.{rows_by, rows_more, rows_stay, rows_where}
-use Rattle.josie_search.proofs.TouchedLemmas.{all_among, apart_before, listed_once, listed_seen, touched_listed}
-
--- a column has as many of the query's tokens as it shares keys with it
-pub hits_overlap : (query : Query) (part : Part) (x : ℕ) → IsDistinct bytes_eq query.keys → x < length (searched query part).segment.columns
-    → length (hits (get_or (searched query part).segment.sets x []) (searched query part).query) ≡ overlap query.keys (column_at (searched query part) x).column.keys
-hits_overlap query part x distinct h =
-    let p = searched query part in
-    let is : IsPartOf query p = is_part query part in
-    let keys = (column_at p x).column.keys in
-    (λ i. length (hits (is.sets x no_titled h i) (is.asked i)))
-    ∙ sym (overlap_is_hits p.segment.tokens query.keys keys (as_texts query.keys distinct) is.once (λ t e. is.held x no_titled t h e))
+use Rattle.part_columns.proofs.TouchedLemmas.{all_among, apart_before, listed_once, listed_seen, touched_listed}
 
 default : (i : ℕ) (d e : Titled) (cs : List Titled) → i < length cs → get_or cs i e ≡ get_or cs i d
 default i d e [] h = absurd (omega arith)
 default zero d e (c ∷ cs) h = refl
 default (suc i) d e (c ∷ cs) h = default i d e cs (omega arith)
-
-no_hits : (tokens : List ℕ) → length (hits [] tokens) ≡ 0
-no_hits [] = refl
-no_hits (t ∷ ts) = no_hits ts
-
--- a column that is counted has a set
-pub counted_in : (sets : List (List ℕ)) (tokens : List ℕ) (tallies : List Tally) → AreTallies sets tokens tallies → (x : ℕ) → 0 < (tally_at tallies x).count → x < length sets
-counted_in sets tokens tallies are x some = elim (cases_lt x (length sets)) [
-  | inl b ↦ b
-  | inr b ↦ absurd (let n = ap (λ (t : Tally). t.count) (are x) ∙ tally_count (get_or sets x []) (hits (get_or sets x []) tokens) ∙ ap (λ (set : List ℕ). length (hits set tokens)) (get_or_past sets x [] b) ∙ no_hits tokens in omega (arith, n, some))
-]
 
 or_true : (b : Bool) → (b || true) ≡ true
 or_true true = refl

@@ -1,21 +1,19 @@
 -- When the next list is read, whichever column is the best: a witness's bound shows that the best column has many tokens left.
-use Rattle.std.proofs.Common.{◌≡◌, refl, ap, sym, ◌∙◌, ℕ, zero, suc, ◌+◌, ◌-◌, ◌<◌, ◌≤◌, List, [], ◌∷◌, ◌++◌, Bool, true, false, length, arith, cond, Option, Some, None, inl, inr, ◌⊎◌, ◌||◌, set, eqb as nat_eq, leb as nat_le}
+use Rattle.std.proofs.Common.{◌≡◌, refl, ap, sym, ◌∙◌, ℕ, zero, suc, ◌+◌, ◌-◌, ◌<◌, ◌≤◌, List, [], ◌∷◌, ◌++◌, Bool, true, false, length, arith, cond, Option, Some, None, inl, inr, ◌⊎◌, ◌||◌, eqb as nat_eq, leb as nat_le}
 use Rattle.std.specs.Prelude.{slice_get, slice_index}
 use Rattle.std.specs.Option.{option_to_list}
-use Rattle.std.proofs.lemmas.Bool.{cases_eq}
 use Rattle.std.proofs.lemmas.Bool.Decides.{nat_tests}
 use Rattle.std.proofs.lemmas.Option.{slice_get_past}
-use Rattle.std.proofs.lemmas.List.{get_or-set_other, get_or-set_same}
 use Rattle.lake_model.specs.Answer.{Query, Row}
 use Rattle.lake_model.specs.Layout.{is_among}
 use Rattle.search_model.specs.declared.Summary.{Summary}
 use Rattle.search_model.specs.Looks.{known_rows, left_of, next_look, Progress, read_next, Searched, worst}
-use Rattle.josie_search.specs.declared.tally.Tally.{Tally}
+use Rattle.part_columns.specs.declared.tally.Tally.{Tally}
 use Rattle.josie_search.specs.Costs.{lengths_of, summary_of}
 use Rattle.josie_search.specs.Open.{overlap_of, taken}
-use Rattle.josie_search.specs.Rows.{bound_row, first_of, FoundAmong, FoundTo, leads, most_of, rest_of}
+use Rattle.josie_search.specs.Rows.{bound_row, first_of, FoundAmong, FoundTo, leads}
+use Rattle.part_columns.specs.Tallies.{most_of, rest_of, tally_at}
 use Rattle.josie_search.specs.State.{IsAt}
-use Rattle.josie_search.specs.Tallies.{no_tally, tally_at}
 use Rattle.josie_search.proofs.FirstLemmas.{first_of_all, found_more, no_sooner, no_sooner_there}
 use Rattle.josie_search.proofs.LoopLemmas.{lead_parts}
 use Rattle.josie_search.proofs.NextLemmas.{head_found, next_reads}
@@ -24,14 +22,6 @@ use Rattle.josie_search.proofs.OpenLemmas.{seen_count}
 -- fewer rows than k have no k-th
 pub none_last : (rows : List Row) (k : ℕ) → 0 < k → nat_le k (length rows) ≡ false → slice_get rows (k - 1) ≡ None
 none_last rows k some e = slice_get_past rows (k - 1) (let few : length rows < k = grind (arith, nat_tests) in omega arith)
-
--- one tally more, of no greater count than a number
-pub most_set : (tallies : List Tally) (x : ℕ) (tally : Tally) (most now : ℕ) → ((y : ℕ) → (tally_at tallies y).count ≤ most) → x < length tallies → tally.count ≤ now → most ≤ now
-    → (y : ℕ) → (tally_at (set tallies x tally) y).count ≤ now
-most_set tallies x tally most now h within here up y = elim (cases_eq y x) [
-  | inl e ↦ omega (arith, here, ap (λ (z : ℕ). (tally_at (set tallies x tally) z).count) e, ap (λ (t : Tally). t.count) (get_or-set_same tallies x tally no_tally within))
-  | inr ne ↦ omega (arith, h y, up, ap (λ (t : Tally). t.count) (get_or-set_other tallies x y tally no_tally ne))
-]
 
 module _ (says : Summary → Bool) (query : Query) (before : List Row) (part : Searched) (progress : Progress) (tallies : List Tally) (known : List Bool) (is : IsAt part progress tallies known) where
   abbrev last : Option Row

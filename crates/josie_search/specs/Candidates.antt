@@ -9,9 +9,9 @@ use Rattle.lake_model.specs.Answer.{Query, Row}
 use Rattle.lake_model.specs.Layout.{is_among}
 use Rattle.search_model.specs.Looks.{Searched}
 use Rattle.josie_search.specs.declared.candidates.Candidate.{Candidate}
-use Rattle.josie_search.specs.declared.tally.Tally.{Tally}
-use Rattle.josie_search.specs.Rows.{bound_row, leads, most_of, rest_of}
-use Rattle.josie_search.specs.Tallies.{tally_at}
+use Rattle.part_columns.specs.declared.tally.Tally.{Tally}
+use Rattle.josie_search.specs.Rows.{bound_row, leads}
+use Rattle.part_columns.specs.Tallies.{most_of, rest_of, tally_at}
 
 -- ---- ranks
 

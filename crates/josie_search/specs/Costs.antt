@@ -4,8 +4,8 @@ use Rattle.search_model.specs.declared.Summary.{Summary}
 use Rattle.search_model.specs.Choosers.{read_cost}
 use Rattle.search_model.specs.Looks.{estimate, spared}
 use Rattle.search_model.specs.Segment.{Segment}
-use Rattle.josie_search.specs.declared.tally.Tally.{Tally}
-use Rattle.josie_search.specs.Rows.{most_of, rest_of}
+use Rattle.part_columns.specs.declared.tally.Tally.{Tally}
+use Rattle.part_columns.specs.Tallies.{most_of, rest_of}
 
 -- how long the lists of these tokens are
 abbrev pub lengths_of : Segment → List ℕ → List ℕ

@@ -1,11 +1,8 @@
 pub mod Search
-pub mod Tallies
-pub mod Columns
 pub mod Rows
 pub mod Candidates
 pub mod State
 pub mod Costs
 pub mod Open
 pub mod Offers
-pub mod Room
 pub mod Ready

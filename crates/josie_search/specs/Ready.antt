@@ -6,13 +6,8 @@ use Rattle.lake_model.specs.Answer.{Query}
 use Rattle.lake_model.specs.Layout.{Part}
 use Rattle.topk_heap.specs.First.{first_with, FirstRows}
 use Rattle.josie_search.specs.Candidates.{CandidatesOf}
-use Rattle.josie_search.specs.Columns.{ColumnsOf}
-use Rattle.josie_search.specs.Room.{asked_in, looks_in}
-use Rattle.segment_core.specs.Versions.{segment_at}
-
--- no part has more columns than this
-abbrev pub IsMost : List Part → ℕ → Type 0
-IsMost parts columns = (i : ℕ) → i < length parts → length (segment_at parts i).sets ≤ columns
+use Rattle.part_columns.specs.Columns.{ColumnsOf}
+use Rattle.part_columns.specs.Room.{asked_in, IsMost, looks_in}
 
 pub record IsReady (parts : List Part) (query : Query) (spare : ℕ) (lists : List (List ℕ)) (columns : ColumnsOf) (candidates : CandidatesOf) (top : FirstRows) : Type 0 where
   pub asked : lists ≡ map (asked_in query.keys) parts

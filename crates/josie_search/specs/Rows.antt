@@ -1,21 +1,13 @@
 -- The columns that may be open, and the rows of their bounds, from what the code keeps.
-use Rattle.std.specs.Prelude.{◌≡◌, ℕ, ◌+◌, ◌-◌, ◌<◌, min, Bool, true, false, ◌&&◌, not, List, [], ◌∷◌, get_or, nat_lt, if◌then◌else◌, Option, Some, None}
+use Rattle.std.specs.Prelude.{◌≡◌, ℕ, ◌<◌, Bool, true, false, ◌&&◌, not, List, [], ◌∷◌, get_or, nat_lt, if◌then◌else◌, Option, Some, None}
 use Rattle.std.specs.Option.{MatchOption}
 use Rattle.std.specs.Ordering.{is_lt, nat_cmp, ordering_then}
 use Rattle.lake_model.specs.Answer.{Query, Row, row_cmp}
 use Rattle.lake_model.specs.Layout.{is_among}
 use Rattle.search_model.specs.Looks.{Searched, is_eligible, row_with}
 use Rattle.search_state.specs.State.{column_at}
-use Rattle.josie_search.specs.declared.tally.Tally.{Tally}
-use Rattle.josie_search.specs.Tallies.{tally_at}
-
--- how many tokens of the column come behind the last list that holds it
-abbrev pub rest_of : Tally → ℕ
-rest_of tally = tally.size - 1 - tally.position
-
--- the most that its overlap can be, with so many lists left
-abbrev pub most_of : ℕ → Tally → ℕ
-most_of left tally = tally.count + min left (rest_of tally)
+use Rattle.part_columns.specs.declared.tally.Tally.{Tally}
+use Rattle.part_columns.specs.Tallies.{most_of, tally_at}
 
 -- it was seen, is not known, and may be in the answer
 abbrev pub leads : Query → Searched → List Tally → List Bool → ℕ → Bool

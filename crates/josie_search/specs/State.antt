@@ -2,8 +2,8 @@
 use Rattle.std.specs.Prelude.{◌≡◌, ℕ, ◌<◌, Bool, false, List, get_or, length, take}
 use Rattle.lake_model.specs.Layout.{is_among}
 use Rattle.search_model.specs.Looks.{Progress, Searched}
-use Rattle.josie_search.specs.declared.tally.Tally.{Tally}
-use Rattle.josie_search.specs.Tallies.{AreTallies}
+use Rattle.part_columns.specs.declared.tally.Tally.{Tally}
+use Rattle.part_columns.specs.Tallies.{AreTallies}
 
 pub record IsAt (part : Searched) (progress : Progress) (tallies : List Tally) (known : List Bool) : Type 0 where
   pub unread : progress.read < length part.query

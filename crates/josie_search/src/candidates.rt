@@ -5,9 +5,8 @@ ghost use Rattle.std.specs.List.Sorted.{IsPermutation};
 ghost use Rattle.std.specs.Option.{MatchOption};
 ghost use Rattle.josie_search.specs.Candidates.{all_of, better, candidate_of, entry_cmp, entry_of, IsFirstIn, IsTop, most_now, StandsFirst};
 
-use crate::row::{most_of, rest_of};
-use crate::tally::Tally;
 use no_memory::NoMemory;
+use part_columns::{Tally, most_of, rest_of};
 use std::alloc::Global;
 use std::cmp::Reverse;
 use std::collections::BinaryHeap;

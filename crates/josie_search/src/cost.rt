@@ -5,8 +5,8 @@ ghost use Rattle.search_model.specs.Looks.{estimate, spared};
 ghost use Rattle.segment_core.specs.Versions.{segment_at};
 ghost use Rattle.josie_search.specs.Costs.{gain_of, lengths_of, spared_cost, summary_of};
 
-use crate::tally::Tally;
 use cost_model::Summary;
+use part_columns::Tally;
 use search_bounds::bound;
 use segment_core::Looks;
 

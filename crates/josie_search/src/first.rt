@@ -5,15 +5,15 @@ ghost use Rattle.search_model.specs.Looks.{Searched, searched};
 ghost use Rattle.search_model.specs.Ranks.{AreInverse, AreRanks};
 ghost use Rattle.segment_core.specs.Versions.{part_at, segment_at};
 ghost use Rattle.josie_search.specs.Candidates.{all_of, AreApart, AreHeld, FoundExact, goes_in, IsOfRank, IsTop, most_now, NoneExact, weight};
-ghost use Rattle.josie_search.specs.Rows.{FoundFrom, leads, most_of};
-ghost use Rattle.josie_search.specs.Tallies.{tally_at};
+ghost use Rattle.josie_search.specs.Rows.{FoundFrom, leads};
+ghost use Rattle.part_columns.specs.Tallies.{most_of, tally_at};
 
 use crate::candidates::{Candidate, Candidates, candidate_of, most_now};
-use crate::columns::Columns;
 use crate::hold::{goes_in, reach};
 use crate::query::Asked;
-use crate::row::{lead_of, most_of};
+use crate::row::lead_of;
 use column_set::Row;
+use part_columns::{Columns, most_of};
 use segment_core::{ColumnOrder, Looks};
 
 /// The first of the columns that were seen, are not known and may be in the answer, by the rows of their bounds, with this row; `None`

@@ -4,13 +4,12 @@ ghost use Rattle.std.specs.List.{All};
 ghost use Rattle.std.specs.List.Sorted.{IsPermutation};
 ghost use Rattle.lake_model.specs.Answer.{Query};
 ghost use Rattle.search_model.specs.Looks.{Searched};
-ghost use Rattle.josie_search.specs.declared.tally.Tally.{Tally};
+ghost use Rattle.part_columns.specs.declared.tally.Tally.{Tally};
 ghost use Rattle.josie_search.specs.Candidates.{all_of, AreHeld, AreHeldBut, candidate_of, goes_in};
-ghost use Rattle.josie_search.specs.Tallies.{tally_at};
+ghost use Rattle.part_columns.specs.Tallies.{tally_at};
 
 use crate::candidates::{Candidates, candidate_of};
-use crate::columns::Columns;
-use crate::row::most_of;
+use part_columns::{Columns, most_of};
 use segment_core::Posting;
 
 /// Whether a column has to be held for bounds from `low` on.

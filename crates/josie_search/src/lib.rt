@@ -3,21 +3,19 @@
 #![tactic(auto)]
 
 mod candidates;
-mod columns;
 mod cost;
 mod first;
 mod hold;
 mod next;
 mod offer;
 mod part;
-mod probe;
 mod query;
 mod row;
 mod search;
 mod sure;
-mod tally;
 
-pub use search::{Answer, Prepared, prepare};
+pub use part_columns::Answer;
+pub use search::{Prepared, prepare};
 
 #[cfg(test)]
 mod tests;

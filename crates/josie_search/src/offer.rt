@@ -3,15 +3,15 @@ ghost use Rattle.std.specs.Prelude.{◌≡◌, ◌<◌, ◌≤◌, ◌+◌, ◌^
 ghost use Rattle.std.specs.Option.{option_to_list};
 ghost use Rattle.search_model.specs.Looks.{searched};
 ghost use Rattle.segment_core.specs.Versions.{part_at, segment_at};
-ghost use Rattle.josie_search.specs.Columns.{IsListed};
+ghost use Rattle.part_columns.specs.Columns.{IsListed};
 ghost use Rattle.josie_search.specs.Offers.{offered, offers};
 ghost use Rattle.josie_search.specs.Rows.{lead_row};
-ghost use Rattle.josie_search.specs.Tallies.{tally_at};
+ghost use Rattle.part_columns.specs.Tallies.{tally_at};
 
-use crate::columns::Columns;
 use crate::query::Asked;
 use crate::row::lead_of;
 use column_set::Row;
+use part_columns::Columns;
 use segment_core::Looks;
 use topk_heap::TopK;
 

@@ -9,20 +9,19 @@ ghost use Rattle.search_model.specs.Looks.{hits, is_eligible, known_rows, run, s
 ghost use Rattle.search_model.specs.Ranks.{AreInverse, AreRanks};
 ghost use Rattle.search_state.specs.State.{column_at};
 ghost use Rattle.segment_core.specs.Versions.{part_at, segment_at};
-ghost use Rattle.josie_search.specs.Columns.{IsClean};
+ghost use Rattle.part_columns.specs.Columns.{IsClean};
 ghost use Rattle.josie_search.specs.Offers.{shared_row};
-ghost use Rattle.josie_search.specs.Room.{looks_bound};
-ghost use Rattle.josie_search.specs.Tallies.{no_tally, tally_at, tally_of};
+ghost use Rattle.part_columns.specs.Room.{looks_bound};
+ghost use Rattle.part_columns.specs.Tallies.{no_tally, tally_at, tally_of};
 
 use crate::candidates::Candidates;
-use crate::columns::Columns;
 use crate::hold::follow;
 use crate::next::next_look;
 use crate::offer::{offer, offer_rest};
-use crate::probe::probe;
 use crate::query::Asked;
 use crate::row::row_of;
 use cost_model::Chooser;
+use part_columns::{Columns, probe};
 use segment_core::{ColumnOrder, Look, Looks};
 use topk_heap::TopK;
 

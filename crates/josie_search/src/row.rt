@@ -5,14 +5,12 @@ ghost use Rattle.lake_model.specs.Answer.{is_excepted};
 ghost use Rattle.search_model.specs.Arrays.{titled_at};
 ghost use Rattle.search_model.specs.Looks.{is_eligible, row_with, searched};
 ghost use Rattle.segment_core.specs.Versions.{marks_of, part_at, segment_at};
-ghost use Rattle.josie_search.specs.Rows.{lead_row, most_of, rest_of};
-ghost use Rattle.josie_search.specs.Tallies.{tally_at};
+ghost use Rattle.josie_search.specs.Rows.{lead_row};
+ghost use Rattle.part_columns.specs.Tallies.{tally_at};
 
-use crate::columns::Columns;
 use crate::query::Asked;
-use crate::tally::Tally;
 use column_set::{Name, Row};
-use search_bounds::bound;
+use part_columns::{Columns, most_of, row_of_column};
 use segment_core::Looks;
 
 /// The row of a column, where its table is unmarked and not excepted.
@@ -30,15 +28,11 @@ pub(crate) fn row_of<'a>(
     if !looks.live(part, column) {
         return None;
     }
-    let (titles, place) = looks.table_of(part, column);
-    if is_excepted(except, titles.table()) {
+    let row = row_of_column(looks, part, column, overlap);
+    if is_excepted(except, row.table()) {
         return None;
     }
-    Some(Row {
-        overlap,
-        titles,
-        place,
-    })
+    Some(row)
 }
 
 // Whether a table of this name is the excepted one.
@@ -49,21 +43,6 @@ fn is_excepted(except: Option<&Name>, name: &Name) -> bool
         None => false,
         Some(excepted) => excepted.bytes() == name.bytes(),
     }
-}
-
-/// The most that a column of this tally can share with the query, with so many lists left.
-pub(crate) fn most_of(tally: Tally, left: u32) -> u32
-    requires { tally.count + left < 2 ^ 32 }
-    ensures { result ≡ most_of left tally }
-{
-    bound(tally.count, left, rest_of(tally))
-}
-
-/// How many tokens of a column of this tally come behind the last list that holds it.
-pub(crate) fn rest_of(tally: Tally) -> u32
-    ensures { result ≡ rest_of tally }
-{
-    tally.size.saturating_sub(1).saturating_sub(tally.position)
 }
 
 /// The row of a column's bound, where the column was seen, is not known, and may be in the answer.

@@ -1,19 +1,17 @@
 //! A search of a version.
-ghost use Rattle.std.specs.Prelude.{◌≡◌, ◌<◌, ◌≤◌, ◌+◌, [], length, map, option_copied, sum_by, IfOk};
-ghost use Rattle.std.specs.List.{All};
-ghost use Rattle.josie_search.specs.Ready.{IsMost};
-ghost use Rattle.josie_search.specs.Room.{asked_in, looks_in, probes_bound};
+ghost use Rattle.std.specs.Prelude.{◌≡◌, ◌≤◌, [], map, option_copied, sum_by, IfOk};
+ghost use Rattle.part_columns.specs.Room.{asked_in, looks_in};
 ghost use Rattle.josie_search.specs.Search.{answer_of, query_with, search_with};
 ghost use Rattle.search_model.specs.Looks.{log};
-ghost use Rattle.segment_core.specs.Versions.{live_of, part_at, segment_at};
+ghost use Rattle.segment_core.specs.Versions.{live_of};
 
 use crate::candidates::Candidates;
-use crate::columns::Columns;
 use crate::part::search_part;
 use crate::query::Asked;
-use column_set::{Name, QuerySet, Rows};
+use column_set::{Name, QuerySet};
 use cost_model::Chooser;
 use no_memory::NoMemory;
+use part_columns::{Answer, Columns, most_columns, most_probes};
 use segment_core::Looks;
 use std::alloc::Global;
 use std::marker::Model;
@@ -40,13 +38,6 @@ impl<'a, 'q> Model for Prepared<'a, 'q> {
     ghost view = { λ p. search_with p.looks.version p.query };
 
     ghost invariant = { λ p. (p.looks.log ≡ []) × IsReady p.looks.version.parts p.query p.looks.spare (map (λ tokens. tokens.items) p.tokens.items) p.columns p.candidates p.top };
-}
-
-/// The rows of an answer, and the looks with the log of what was read for it.
-#[derive(Drop)]
-pub struct Answer<'a> {
-    pub rows: Rows<'a>,
-    pub looks: Looks<'a>,
 }
 
 /// All that a search needs, taken before it runs: the query's tokens of each part; a tally, a mark and room for four candidates for each
@@ -107,31 +98,6 @@ fn ask_parts(
         asked.push(tokens)?;
     }
     Ok(asked)
-}
-
-// The most columns of a part that a search for these tokens can probe.
-fn most_probes(looks: &Looks<'_>, part: u32, tokens: &[u32]) -> u32
-    requires part { part < length looks.now.version.parts }
-    requires tokens { All (λ token. token < length (segment_at looks.now.version.parts part).tokens) tokens.now }
-    ensures { result ≡ probes_bound (part_at looks.now.version.parts part) tokens.now }
-{
-    let columns = looks.sets(part);
-    let mut most = 0;
-    for token in tokens {
-        most += looks.list_len(part, *token).min(columns - most);
-    }
-    most
-}
-
-// How many columns the part has that has most.
-fn most_columns(looks: &Looks<'_>) -> u32
-    ensures { IsMost looks.now.version.parts result }
-{
-    let mut most = 0;
-    for part in 0..looks.parts() {
-        most = most.max(looks.sets(part));
-    }
-    most
 }
 
 impl<'a, 'q> Prepared<'a, 'q> {

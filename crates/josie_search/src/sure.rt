@@ -5,13 +5,13 @@ ghost use Rattle.search_laws.specs.Select.{best};
 ghost use Rattle.search_model.specs.Looks.{known_rows, next_look, Progress, read_next, searched};
 ghost use Rattle.segment_core.specs.Versions.{part_at, segment_at};
 ghost use Rattle.josie_search.specs.State.{IsAt};
-ghost use Rattle.josie_search.specs.Tallies.{tally_at};
+ghost use Rattle.part_columns.specs.Tallies.{tally_at};
 
-use crate::columns::Columns;
 use crate::cost::length_of;
 use crate::query::Asked;
 use crate::row::lead_of;
 use cost_model::Chooser;
+use part_columns::Columns;
 use segment_core::Looks;
 use topk_heap::TopK;
 

@@ -1,8 +1,9 @@
 -- What holds of each element, filters, lists in which nothing stands twice, numbers that rise, and what a search finds.
-use Rattle.std.proofs.Common.{◌≡◌, refl, ap, sym, ◌∙◌, ℕ, ◌<◌, ◌≤◌, List, [], ◌∷◌, ◌++◌, Bool, true, false, ◌||◌, ◌&&◌, cond, map, length, drop, Some, None, arith}
+use Rattle.std.proofs.Common.{◌≡◌, refl, ap, sym, ◌∙◌, ℕ, ◌<◌, ◌≤◌, List, [], ◌∷◌, ◌++◌, Bool, true, false, ◌||◌, ◌&&◌, cond, map, length, drop, Some, None, inl, inr, arith, eqb as nat_eq}
 use Rattle.std.specs.Prelude.{find, bytes_eq}
 use Rattle.std.specs.List.{AllByRecursion, filter, list_any, list_all}
-use Rattle.std.proofs.lemmas.Bool.{or_parts}
+use Rattle.std.proofs.lemmas.Bool.{cases_lt, or_parts}
+use Rattle.std.proofs.lemmas.Bool.Decides.{nat_tests}
 use Rattle.std.proofs.lemmas.Slice.Eq.{bytes_eq-Decides}
 use Rattle.list_laws.specs.Distinct.{Lacks, AreDistinct, Rises}
 
@@ -176,7 +177,54 @@ pub distinct_apart : {X : Type 0} (xs ys : List X) → AreDistinct (xs ++ ys) �
 distinct_apart [] ys h = tt
 distinct_apart {X} (x ∷ xs) ys h = (all_right (λ (z : X). z ≡ x → ⊥) xs ys h.0, distinct_apart xs ys h.1)
 
+pub distinct_append : {X : Type 0} (xs ys : List X) → AreDistinct xs → AreDistinct ys → AllByRecursion (Lacks ys) xs → AreDistinct (xs ++ ys)
+distinct_append [] ys h k apart = k
+distinct_append {X} (x ∷ xs) ys h k apart = (all_append (λ (z : X). z ≡ x → ⊥) xs ys h.0 apart.0, distinct_append xs ys h.1 k apart.1)
+
 -- ---- numbers that rise
+
+pub rises_left : (ms ns : List ℕ) → Rises (ms ++ ns) → Rises ms
+rises_left [] ns h = tt
+rises_left (m ∷ ms) ns h = (all_left (λ later. m < later) ms ns h.0, rises_left ms ns h.1)
+
+above_none : (x : ℕ) (ns : List ℕ) → AllByRecursion (λ later. x < later) ns → list_any (nat_eq x) ns ≡ false
+above_none x [] h = refl
+above_none x (n ∷ ns) h = let lt = h.0 in let e : nat_eq x n ≡ false = grind (arith, nat_tests) in ap (λ b. b || list_any (nat_eq x) ns) e ∙ above_none x ns h.1
+
+-- lists that rise are the same where they have the same numbers
+pub rises_same : (ms ns : List ℕ) → Rises ms → Rises ns → ((x : ℕ) → list_any (nat_eq x) ms ≡ list_any (nat_eq x) ns) → ms ≡ ns
+rises_same [] [] h k same = refl
+rises_same [] (n ∷ ns) h k same = absurd (let e : nat_eq n n ≡ true = grind (arith, nat_tests) in let f : false ≡ true = same n ∙ ap (λ b. b || list_any (nat_eq n) ns) e in cc)
+rises_same (m ∷ ms) [] h k same = absurd (let e : nat_eq m m ≡ true = grind (arith, nat_tests) in let f : true ≡ false = sym (ap (λ b. b || list_any (nat_eq m) ms) e) ∙ same m in cc)
+rises_same (m ∷ ms) (n ∷ ns) h k same = (λ i. head i ∷ rises_same ms ns h.1 k.1 tails i)
+  where
+    itself : (x : ℕ) → nat_eq x x ≡ true
+    itself x = grind (arith, nat_tests)
+
+    -- the lesser head would not stand in the other list
+    missing : (x y : ℕ) (ys : List ℕ) → AllByRecursion (λ later. y < later) ys → x < y → list_any (nat_eq x) (y ∷ ys) ≡ false
+    missing x y ys up lt = above_none x (y ∷ ys) (lt, all_weaker (λ later. y < later) (λ later. x < later) ys (λ later l. omega arith) up)
+
+    head : m ≡ n
+    head = elim (cases_lt m n) [
+      | inl lt ↦ absurd (let f : true ≡ false = sym (ap (λ b. b || list_any (nat_eq m) ms) (itself m)) ∙ same m ∙ missing m n ns k.0 lt in cc)
+      | inr ge ↦ elim (cases_lt n m) [
+        | inl lt ↦ absurd (let f : true ≡ false = sym (ap (λ b. b || list_any (nat_eq n) ns) (itself n)) ∙ sym (same n) ∙ missing n m ms h.0 lt in cc)
+        | inr le ↦ omega arith
+      ]
+    ]
+
+    tails : (x : ℕ) → list_any (nat_eq x) ms ≡ list_any (nat_eq x) ns
+    tails x = by (nat_eq x m) refl
+      where
+        by : (b : Bool) → nat_eq x m ≡ b → list_any (nat_eq x) ms ≡ list_any (nat_eq x) ns
+        by true e =
+            let at : x ≡ m = grind (arith, nat_tests) in
+            let there : x ≡ n = at ∙ head in
+            ap (λ (y : ℕ). list_any (nat_eq y) ms) at ∙ above_none m ms h.0 ∙ sym (ap (λ (y : ℕ). list_any (nat_eq y) ns) there ∙ above_none n ns k.0)
+        by false e =
+            let other : nat_eq x n ≡ false = ap (nat_eq x) (sym head) ∙ e in
+            sym (ap (λ b. b || list_any (nat_eq x) ms) e) ∙ same x ∙ ap (λ b. b || list_any (nat_eq x) ns) other
 
 pub rises_push : (ns : List ℕ) (n : ℕ) → Rises ns → AllByRecursion (λ m. m < n) ns → Rises (ns ++ n ∷ [])
 rises_push [] n h k = (tt, tt)

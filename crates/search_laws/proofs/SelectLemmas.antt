@@ -1,7 +1,8 @@
 -- What changes nothing of the first k, and how the first k grow.
 use Rattle.std.proofs.Common.{◌≡◌, refl, ap, sym, ◌∙◌, subst, ℕ, zero, suc, ◌+◌, ◌-◌, ◌<◌, ◌≤◌, List, [], ◌∷◌, ◌++◌, map, Bool, true, false, not, arith, cond, take, append_assoc, Some, None}
 use Rattle.std.specs.List.{filter, AllByRecursion, count_by, slice_get}
-use Rattle.std.specs.List.Sorted.{IsPermutation}
+use Rattle.std.specs.BinaryHeap.{lt_by_cmp}
+use Rattle.std.specs.List.Sorted.{IsPermutation, IsSortedBy}
 use Rattle.std.specs.Cmp.{IsTotalOrder, IsStrictWeakOrder}
 use Rattle.std.specs.Ordering.{is_lt}
 use Rattle.std.specs.declared.cmp.Ordering.TheVariants.{Equal}
@@ -10,7 +11,9 @@ use Rattle.std.proofs.lemmas.List.{map-append}
 use Rattle.std.proofs.lemmas.List.Sums.{sum_by-cons, sum_by-append}
 use Rattle.std.proofs.lemmas.List.Sorted.{IsPermutation-refl, IsPermutation-sym, IsPermutation-trans, IsPermutation-cons, IsPermutation-map, IsPermutation-middle, IsPermutation-append_left, IsPermutation-append_right, IsPermutation-append_comm}
 use Rattle.lake_model.specs.Sorting.{in_order, put_in_order}
-use Rattle.lake_model.proofs.SortingLemmas.{in_order-IsPermutation}
+use Rattle.lake_model.proofs.AnswerLemmas.{row_cmp_exact, row_cmp_total}
+use Rattle.lake_model.proofs.SortingLemmas.{in_order-IsPermutation, sorted_is}
+use Rattle.lake_model.specs.Answer.{Row, row_cmp}
 use Rattle.lake_model.proofs.SortingLemmas.{less_order, ordered_in_order, Ordered, stays, only_equal}
 use Rattle.search_laws.specs.Select.{best, no_later, IsBehind}
 
@@ -179,3 +182,7 @@ module _ {X : Type 0} {R : X → X → Ordering} (total : IsTotalOrder R) (exact
         ∙ sym (best_IsPermutation k ((before ++ outs) ++ ins) ((outs ++ before) ++ ins) three)
         ∙ ap (best R k) (append_assoc outs before ins)
         ∙ all_behind k outs (before ++ ins) (out_behind k (before ++ ins) cs h)
+
+-- rows that are sorted are in the order of an answer
+pub sorted_rows : (items rows : List Row) → IsPermutation items rows → IsSortedBy (lt_by_cmp row_cmp) rows → rows ≡ in_order row_cmp items
+sorted_rows items rows p up = sorted_is row_cmp_total row_cmp_exact rows up ∙ in_order-IsPermutation row_cmp_total row_cmp_exact items rows p

@@ -1,5 +1,6 @@
 -- The columns that hold at least a stated fraction of a query, and the looks of a search for all of them.
-use Rattle.std.specs.Prelude.{ℕ, ◌+◌, ◌-◌, ◌*◌, ◌/◌, max, Bool, false, not, ◌&&◌, List, [], ◌++◌, length, map, flat_map, take, filter, get_or, nat_le, nat_lt, None}
+use Rattle.std.specs.Prelude.{ℕ, ◌+◌, ◌-◌, ◌*◌, max, Bool, false, not, ◌&&◌, List, [], ◌++◌, length, map, flat_map, take, filter, get_or, nat_le, nat_lt, None}
+use Rattle.std.specs.Int.{div_ceil}
 use Rattle.std.specs.List.{enumerate_from}
 use Rattle.search_model.specs.declared.Look.{Look}
 use Rattle.search_model.specs.declared.Look.TheVariants.{Read, Probe}
@@ -13,7 +14,7 @@ use Rattle.lake_model.specs.Layout.{Part}
 
 -- how many of n keys a column has to hold: the least whole number that is at least 1 and at least a of b parts of n
 abbrev pub need : ℕ → ℕ → ℕ → ℕ
-need a b n = max 1 ((a * n + (b - 1)) / b)
+need a b n = max 1 (div_ceil (a * n) b)
 
 -- a row for each column of the tables that holds so many of the keys, in the order of an answer
 abbrev pub contain : List Table → List Text → ℕ → ℕ → List Row

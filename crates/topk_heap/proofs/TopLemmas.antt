@@ -76,9 +76,6 @@ replaced row w olds rest news p q h l =
     ∙ sym (best_behind row_cmp_total row_cmp_exact (length olds) w (row ∷ rest) behind)
     ∙ best_IsPermutation row_cmp_total row_cmp_exact (length olds) (row ∷ olds) (w ∷ row ∷ rest) swapped
 
-pub sorted_rows : (items rows : List Row) → IsPermutation items rows → IsSortedBy (lt_by_cmp row_cmp) rows → rows ≡ in_order row_cmp items
-sorted_rows items rows p up = sorted_is row_cmp_total row_cmp_exact rows up ∙ in_order-IsPermutation row_cmp_total row_cmp_exact items rows p
-
 -- ---- the last of the first k
 
 module _ (d : Row) where

@@ -1,6 +1,6 @@
 use Rattle.std.proofs.Common.{◌∙◌}
 use Rattle.segment_core.specs.Versions.{part_at, tables_of}
-use Rattle.josie_search.proofs.SegmentLists.{list_length}
+use Rattle.part_columns.proofs.SegmentLists.{list_length}
 use Rattle.josie_search.proofs.cost.length_of.Goals as goal
 
 pub returns : goal.returns

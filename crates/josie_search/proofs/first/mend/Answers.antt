@@ -2,9 +2,9 @@ use Rattle.std.proofs.Common.{◌≡◌, ◌∙◌, [], ap, sym, subst, ◌∷�
 use Rattle.std.proofs.lemmas.Bool.Decides.{nat_tests}
 use Rattle.std.specs.List.Sorted.{IsPermutation}
 use Rattle.josie_search.specs.declared.candidates.Candidate.{Candidate}
-use Rattle.josie_search.specs.declared.tally.Tally.{Tally}
+use Rattle.part_columns.specs.declared.tally.Tally.{Tally}
 use Rattle.josie_search.specs.Candidates.{all_of, candidate_of}
-use Rattle.josie_search.specs.Tallies.{tally_at}
+use Rattle.part_columns.specs.Tallies.{tally_at}
 use Rattle.josie_search.proofs.HeldLemmas.{covers_pushed, held_from, held_mended, not_fallen, weight_mended, weight_popped}
 use Rattle.josie_search.proofs.first.mend.Goals as goal
 

@@ -1,7 +1,7 @@
 use Rattle.std.proofs.Common.{◌∙◌, ap, sym, ◌<◌, ◌+◌, ◌∷◌, List, ℕ, drop, get_or, length, arith}
 use Rattle.josie_search.specs.Candidates.{all_of}
 use Rattle.josie_search.proofs.HeldLemmas.{first_left, held_entered, held_unseen}
-use Rattle.josie_search.proofs.TouchedLemmas.{item_seen, listed_within, unlisted_none}
+use Rattle.part_columns.proofs.TouchedLemmas.{item_seen, listed_within, unlisted_none}
 use Rattle.josie_search.proofs.hold.fill.Goals as goal
 
 pub loop-column-init : goal.loop-column-init

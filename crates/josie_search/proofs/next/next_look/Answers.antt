@@ -7,7 +7,7 @@ use Rattle.josie_search.specs.Costs.{lengths_of, threshold_of}
 use Rattle.josie_search.specs.Open.{chosen, overlap_of}
 use Rattle.josie_search.proofs.NextLemmas.{chosen_probe, head_now, last_is, next_chosen, taken_leads}
 use Rattle.josie_search.proofs.OpenLemmas.{seen_count}
-use Rattle.josie_search.proofs.SegmentLists.{token_within}
+use Rattle.part_columns.proofs.SegmentLists.{token_within}
 use Rattle.josie_search.proofs.next.next_look.Goals as goal
 
 pub choose-requires-clause-tokens : goal.choose-requires-clause-tokens

@@ -1,5 +1,5 @@
 use Rattle.std.proofs.Common.{ap, ℕ, ◌<◌, List, get_or, length, arith}
-use Rattle.josie_search.proofs.TouchedLemmas.{item_seen, listed_within}
+use Rattle.part_columns.proofs.TouchedLemmas.{item_seen, listed_within}
 use Rattle.josie_search.proofs.offer.offer_rest.Goals as goal
 
 pub offer_column-requires-clause-column : goal.offer_column-requires-clause-column

@@ -12,17 +12,17 @@ use Rattle.lake_model.specs.Sorting.{put_in_order}
 use Rattle.std.proofs.lemmas.List.{take_all}
 use Rattle.josie_search.specs.Candidates.{all_of, AreHeld}
 use Rattle.josie_search.specs.Offers.{offers, shared_row}
-use Rattle.josie_search.specs.Room.{unprobed}
+use Rattle.part_columns.specs.Room.{unprobed}
 use Rattle.josie_search.specs.Rows.{lead_row}
-use Rattle.josie_search.specs.declared.tally.Tally.{Tally}
-use Rattle.josie_search.specs.Tallies.{AreTallies, of_column, tally_at}
-use Rattle.josie_search.proofs.RestLemmas.{counted_in, all_offered, counted_within, probed_known}
-use Rattle.josie_search.proofs.GoingLemmas.{Going, begins, ended_log, ended_rows, nothing_next, probes_on, read_rows, reads_on, tallies_small}
+use Rattle.part_columns.specs.declared.tally.Tally.{Tally}
+use Rattle.part_columns.specs.Tallies.{AreTallies, of_column, tally_at}
+use Rattle.part_columns.proofs.TallyLemmas.{counted_in, tallies_small, columns_within, picked_few, tallies_more}
+use Rattle.josie_search.proofs.RestLemmas.{all_offered, counted_within, probed_known}
+use Rattle.josie_search.proofs.GoingLemmas.{Going, begins, ended_log, ended_rows, nothing_next, probes_on, read_rows, reads_on}
 use Rattle.josie_search.proofs.HeldLemmas.{held_known, held_read, held_unseen, uncounted}
-use Rattle.josie_search.proofs.LoopLemmas.{columns_within, lead_parts, next_now, picked_few, probed_less}
-use Rattle.josie_search.proofs.RoomLemmas.{few_asked}
-use Rattle.josie_search.proofs.SegmentLists.{list_read, token_within}
-use Rattle.josie_search.proofs.TallyLemmas.{tallies_more}
+use Rattle.josie_search.proofs.LoopLemmas.{lead_parts, next_now, probed_less}
+use Rattle.part_columns.proofs.RoomLemmas.{few_asked}
+use Rattle.part_columns.proofs.SegmentLists.{list_read, token_within}
 use Rattle.josie_search.proofs.part.search_part.Goals as goal
 
 pub loop-read-init : goal.loop-read-init

@@ -2,8 +2,8 @@ use Rattle.std.proofs.Common.{◌≡◌, ◌≤◌, ◌+◌, ◌-◌, ℕ, lengt
 use Rattle.search_model.specs.Looks.{searched}
 use Rattle.segment_core.specs.Versions.{part_at, segment_at}
 use Rattle.josie_search.specs.Candidates.{all_of, AreHeld}
-use Rattle.josie_search.specs.Room.{looks_bound, unprobed}
-use Rattle.josie_search.specs.Tallies.{tally_at}
+use Rattle.part_columns.specs.Room.{looks_bound, unprobed}
+use Rattle.part_columns.specs.Tallies.{tally_at}
 use Rattle.josie_search.proofs.GoingLemmas.{Going}
 use Rattle.josie_search.proofs.part.search_part.Given as goal
 

@@ -1,7 +1,7 @@
 use Rattle.std.proofs.Common.{◌∙◌, ap}
 use Rattle.segment_core.specs.Versions.{part_at, VersionOf}
-use Rattle.josie_search.specs.Room.{asked_in}
-use Rattle.josie_search.proofs.RunLemmas.{tokens_within}
+use Rattle.part_columns.specs.Room.{asked_in}
+use Rattle.part_columns.proofs.AskedLemmas.{tokens_within}
 use Rattle.josie_search.proofs.search.ask_parts.Goals as goal
 
 pub most_probes-probes-requires-clause-tokens : goal.most_probes-probes-requires-clause-tokens

@@ -1,5 +1,5 @@
 use Rattle.std.proofs.Common.{◌≡◌, ◌≤◌, map, take, sum_by}
-use Rattle.josie_search.specs.Room.{asked_in, looks_in}
+use Rattle.part_columns.specs.Room.{asked_in, looks_in}
 use Rattle.josie_search.proofs.search.ask_parts.Given as goal
 
 abbrev pub invariant-loop-part : goal.invariant-loop-part

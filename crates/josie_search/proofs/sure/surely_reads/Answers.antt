@@ -8,7 +8,7 @@ use Rattle.segment_core.specs.Versions.{part_at, segment_at, tables_of}
 use Rattle.josie_search.specs.Rows.{bound_row, leads}
 use Rattle.josie_search.proofs.FirstLemmas.{led_by}
 use Rattle.josie_search.proofs.NextLemmas.{last_is}
-use Rattle.josie_search.proofs.SegmentLists.{token_within}
+use Rattle.part_columns.proofs.SegmentLists.{token_within}
 use Rattle.josie_search.proofs.SureLemmas.{none_last, surely_read}
 use Rattle.josie_search.proofs.sure.surely_reads.Goals as goal
 

@@ -8,10 +8,10 @@ use Rattle.search_model.specs.Looks.{known_rows, log, run, searched, start}
 use Rattle.segment_core.specs.Versions.{part_at, part_with, VersionOf}
 use Rattle.topk_heap.specs.First.{FirstRows}
 use Rattle.josie_search.specs.Ready.{IsReady}
-use Rattle.josie_search.specs.Room.{asked_in, looks_bound}
+use Rattle.part_columns.specs.Room.{asked_in, looks_bound}
 use Rattle.josie_search.specs.Search.{SearchOf}
-use Rattle.josie_search.proofs.PartsLemmas.{rows_kept, through_log, through_more, through_none, through_rows}
-use Rattle.josie_search.proofs.RunLemmas.{asked_there, few_tokens, length-searched, room_here, searched_at}
+use Rattle.josie_search.proofs.PartsLemmas.{rows_kept, through_log, through_more, through_none, through_rows, length-searched, searched_at}
+use Rattle.part_columns.proofs.AskedLemmas.{asked_there, few_tokens, room_here}
 use Rattle.josie_search.proofs.search.Prepared.run.Goals as goal
 
 pub loop-part-init : goal.loop-part-init

@@ -1,7 +1,6 @@
 use Rattle.std.proofs.Common.{◌≡◌, ◌≤◌, length, map, drop, sum_by}
 use Rattle.search_model.specs.Looks.{searched}
-use Rattle.josie_search.specs.Ready.{IsMost}
-use Rattle.josie_search.specs.Room.{looks_in}
+use Rattle.part_columns.specs.Room.{IsMost, looks_in}
 use Rattle.josie_search.proofs.PartsLemmas.{Through}
 use Rattle.josie_search.proofs.search.Prepared.run.Given as goal
 

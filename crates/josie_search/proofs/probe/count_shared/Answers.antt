@@ -1,6 +1,0 @@
-use Rattle.std.proofs.Common.{◌∙◌}
-use Rattle.josie_search.proofs.ProbeLemmas.{shared_either}
-use Rattle.josie_search.proofs.probe.count_shared.Goals as goal
-
-pub returns-then-others-tokens : goal.returns-then-others-tokens
-returns-then-others-tokens c = c.count_among.ensures ∙ shared_either c.args.tokens.now c.args.others.now c.requires.tokens c.requires.others

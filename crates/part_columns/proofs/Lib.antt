@@ -1,0 +1,7 @@
+pub mod TallyLemmas
+pub mod TouchedLemmas
+pub mod SetLemmas
+pub mod ProbeLemmas
+pub mod SegmentLists
+pub mod RoomLemmas
+pub mod AskedLemmas

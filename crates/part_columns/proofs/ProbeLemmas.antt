@@ -1,0 +1,224 @@
+-- What a probe counts behind the last hit, and what the lists counted up to it, are together the overlap.
+use Rattle.std.proofs.Common.{◌≡◌, refl, ap, sym, ◌∙◌, subst, inl, inr, ℕ, zero, suc, ◌+◌, ◌-◌, ◌<◌, ◌≤◌, List, [], ◌∷◌, ◌++◌, Bool, true, false, ◌||◌, length, arith, take, drop, get_or, length-append, eqb as nat_eq, ltb as nat_lt}
+use Rattle.std.specs.Prelude.{MatchResult, Result, Ok, Err, is_ok}
+use Rattle.std.specs.List.{AllByRecursion, count_by}
+use Rattle.std.specs.List.Sorted.{IsBinarySearchResult, IsStrictlyIncreasing}
+use Rattle.std.specs.Ordering.{nat_cmp}
+use Rattle.std.proofs.lemmas.Bool.{cases_lt}
+use Rattle.std.proofs.lemmas.Bool.Decides.{nat_tests}
+use Rattle.std.proofs.lemmas.List.{length-drop, take-append-drop, take_all}
+use Rattle.std.proofs.lemmas.List.Elements.{All-from_recursion}
+use Rattle.std.proofs.lemmas.List.Sorted.{searched}
+use Rattle.std.proofs.lemmas.List.Sums.{count_by-le-length, length-filter}
+use Rattle.lake_model.specs.Layout.{is_among}
+use Rattle.search_model.proofs.BoundLemmas.{prefix_filter}
+use Rattle.search_model.specs.Looks.{hits}
+use Rattle.search_model.specs.Segment.{rank}
+use Rattle.segment_core.proofs.PositionLemmas.{rise_far}
+use Rattle.part_columns.specs.declared.tally.Tally.{Tally}
+use Rattle.part_columns.specs.Tallies.{most_of, tally_of}
+use Rattle.search_state.proofs.FallLemmas.{rank_within}
+use Rattle.search_model.proofs.BoundLemmas.{among_counts, count-cons, one}
+use Rattle.search_model.proofs.FilterLemmas.{Rising, after_all, all_hits, hits-append, IsHit, rising_right}
+
+-- ---- lists in which no number stands twice
+
+abbrev Distinct : List ℕ → Type 0
+Distinct [] = Unit {0}
+Distinct (x ∷ xs) = (is_among xs x ≡ false) × Distinct xs
+
+not_above : (x : ℕ) (xs : List ℕ) → AllByRecursion (λ y. x < y) xs → is_among xs x ≡ false
+not_above x [] h = refl
+not_above x (y ∷ ys) h = let lt = h.0 in let e : nat_eq x y ≡ false = grind (arith, nat_tests) in ap (λ b. b || is_among ys x) e ∙ not_above x ys h.1
+
+distinct_rising : (xs : List ℕ) → Rising xs → Distinct xs
+distinct_rising [] h = tt
+distinct_rising (x ∷ xs) h = (not_above x xs h.0, distinct_rising xs h.1)
+
+count_apart : (d : ℕ) (ds set : List ℕ) → is_among ds d ≡ false → count_by (is_among (d ∷ ds)) set ≡ count_by (nat_eq d) set + count_by (is_among ds) set
+count_apart d ds [] h = refl
+count_apart d ds (s ∷ set) h =
+    let here : one (nat_eq s d || is_among ds s) ≡ one (nat_eq d s) + one (is_among ds s) = by (nat_eq d s) refl in
+    omega (arith, count-cons (is_among (d ∷ ds)) s set, count-cons (nat_eq d) s set, count-cons (is_among ds) s set, count_apart d ds set h, here)
+  where
+    by : (b : Bool) → nat_eq d s ≡ b → one (nat_eq s d || is_among ds s) ≡ one (nat_eq d s) + one (is_among ds s)
+    by true e =
+        let at : d ≡ s = grind (arith, nat_tests) in
+        let back : nat_eq s d ≡ true = grind (arith, nat_tests) in
+        let not_in : is_among ds s ≡ false = ap (is_among ds) (sym at) ∙ h in
+        ap (λ b. one (b || is_among ds s)) back ∙ sym (ap (λ b. one b + one (is_among ds s)) e ∙ ap (λ b. 1 + one b) not_in)
+    by false e =
+        let back : nat_eq s d ≡ false = grind (arith, nat_tests) in
+        ap (λ b. one (b || is_among ds s)) back ∙ sym (ap (λ b. one b + one (is_among ds s)) e ∙ (let z : 0 + one (is_among ds s) ≡ one (is_among ds s) = omega arith in z))
+
+no_more : (ds set : List ℕ) → Distinct ds → count_by (is_among set) ds ≤ count_by (is_among ds) set
+no_more [] set h = omega arith
+no_more (d ∷ ds) set h = by (no_more ds set h.1) (is_among set d) refl
+  where
+    by : count_by (is_among set) ds ≤ count_by (is_among ds) set → (b : Bool) → is_among set d ≡ b → count_by (is_among set) (d ∷ ds) ≤ count_by (is_among (d ∷ ds)) set
+    by less true e = omega (arith, count-cons (is_among set) d ds, ap one e, count_apart d ds set h.0, among_counts d set e)
+    by less false e = omega (arith, count-cons (is_among set) d ds, ap one e, count_apart d ds set h.0)
+
+-- as many of the one stand in the other as of the other in the one
+both_ways : (xs ys : List ℕ) → Rising xs → Rising ys → count_by (is_among xs) ys ≡ count_by (is_among ys) xs
+both_ways xs ys up over = omega (arith, no_more ys xs (distinct_rising ys over), no_more xs ys (distinct_rising xs up))
+
+-- ---- the tokens of a set behind one of its own
+
+rank_front : (l : ℕ) (set : List ℕ) → AllByRecursion (λ y. l < y) set → rank set l ≡ 0
+rank_front l [] h = refl
+rank_front l (s ∷ set) h = let lt = h.0 in let e : nat_lt s l ≡ false = grind (arith, nat_tests) in omega (arith, count-cons (λ o. nat_lt o l) s set, ap one e, rank_front l set h.1)
+
+-- above l the tokens of the set are those behind l
+among_tail : (set : List ℕ) (l t : ℕ) → Rising set → is_among set l ≡ true → l < t → is_among set t ≡ is_among (drop (rank set l + 1) set) t
+among_tail [] l t up e h = absurd (let f : false ≡ true = e in cc)
+among_tail (s ∷ set) l t up e h = by (λ there. among_tail set l t up.1 there h) (nat_eq l s) refl
+  where
+    by : (is_among set l ≡ true → is_among set t ≡ is_among (drop (rank set l + 1) set) t) → (b : Bool) → nat_eq l s ≡ b → is_among (s ∷ set) t ≡ is_among (drop (rank (s ∷ set) l + 1) (s ∷ set)) t
+    by later true f =
+        let at : s ≡ l = grind (arith, nat_tests) in
+        let apart : nat_eq t s ≡ false = grind (arith, nat_tests) in
+        let itself : nat_lt s l ≡ false = grind (arith, nat_tests) in
+        let none = rank_front l set (subst (λ (m : ℕ). AllByRecursion (λ y. m < y) set) at up.0) in
+        let z : rank (s ∷ set) l + 1 ≡ 1 = omega (arith, count-cons (λ o. nat_lt o l) s set, ap one itself, none) in
+        ap (λ b. b || is_among set t) apart ∙ sym (ap (λ (n : ℕ). is_among (drop n (s ∷ set)) t) z)
+    by later false f =
+        let there : is_among set l ≡ true = ap (λ b. b || is_among set l) (sym f) ∙ e in
+        let low : s < l = above set up.0 there in
+        let below : nat_lt s l ≡ true = grind (arith, nat_tests) in
+        let apart : nat_eq t s ≡ false = grind (arith, nat_tests) in
+        let z : rank (s ∷ set) l + 1 ≡ suc (rank set l + 1) = omega (arith, count-cons (λ o. nat_lt o l) s set, ap one below) in
+        ap (λ b. b || is_among set t) apart ∙ later there ∙ sym (ap (λ (n : ℕ). is_among (drop n (s ∷ set)) t) z)
+      where
+        above : (xs : List ℕ) → AllByRecursion (λ y. s < y) xs → is_among xs l ≡ true → s < l
+        above [] a g = absurd (let k : false ≡ true = g in cc)
+        above (x ∷ xs) a g = elim (nat_eq l x) as (λ b. nat_eq l x ≡ b → (b || is_among xs l) ≡ true → s < l) [
+          | true ↦ λ k j. let lt = a.0 in grind (arith, nat_tests)
+          | false ↦ λ k j. above xs a.1 j
+        ] refl g
+
+same_counts : (p q : ℕ → Bool) (ts : List ℕ) (l : ℕ) → AllByRecursion (λ t. l < t) ts → ((t : ℕ) → l < t → p t ≡ q t) → count_by p ts ≡ count_by q ts
+same_counts p q [] l h w = refl
+same_counts p q (t ∷ ts) l h w = omega (arith, count-cons p t ts, count-cons q t ts, ap one (w t h.0), same_counts p q ts l h.1 w)
+
+pub rising_drop : (n : ℕ) (xs : List ℕ) → Rising xs → Rising (drop n xs)
+rising_drop n xs up = rising_right (take n xs) (drop n xs) (subst Rising (sym (take-append-drop n xs)) up)
+
+-- Behind the last hit l a probe finds the rest of what the set and the query share.
+pub probed_overlap : (set qs : List ℕ) (i : ℕ) → Rising set → Rising qs → 0 < length (hits set (take i qs))
+    → length (hits set qs) ≡ length (hits set (take i qs)) + count_by (is_among (drop i qs)) (drop (rank set (get_or (hits set (take i qs)) (length (hits set (take i qs)) - 1) 0) + 1) set)
+probed_overlap set qs i over up some =
+    let found = hits set (take i qs) in
+    let l = get_or found (length found - 1) 0 in
+    let left = drop i qs in
+    let tail = drop (rank set l + 1) set in
+    let hit : IsHit (is_among set) (take i qs) l = All-from_recursion (IsHit (is_among set) (take i qs)) found (all_hits (is_among set) (take i qs)) (length found - 1) 0 (omega arith) in
+    let parts : take i qs ++ drop i qs ≡ qs = take-append-drop i qs in
+    let above : AllByRecursion (λ t. l < t) left = after_all (take i qs) left l (subst Rising (sym parts) up) hit.1 in
+    let whole : length (hits set qs) ≡ length found + length (hits set left) = ap (λ xs. length (hits set xs)) (sym parts) ∙ ap length (hits-append set (take i qs) left) ∙ length-append found (hits set left) in
+    let same : count_by (is_among set) left ≡ count_by (is_among tail) left = same_counts (is_among set) (is_among tail) left l above (λ t h. among_tail set l t over hit.0 h) in
+    omega (arith, whole, length-filter (is_among set) left, same, both_ways tail left (rising_drop (rank set l + 1) set over) (rising_drop i qs up))
+
+-- ---- what a search by halves finds
+
+pub rises_strictly : (xs : List ℕ) → Rising xs → IsStrictlyIncreasing xs
+rises_strictly [] h k l = absurd (omega arith)
+rises_strictly (x ∷ []) h k l = absurd (omega arith)
+rises_strictly (x ∷ y ∷ ys) h zero l = h.0.0
+rises_strictly (x ∷ y ∷ ys) h (suc k) l =
+    let e : suc k + 1 ≡ suc (k + 1) = omega arith in
+    let later = rises_strictly (y ∷ ys) h.1 k (omega arith) in
+    omega (arith, later, ap (λ (n : ℕ). get_or (x ∷ y ∷ ys) n 0) e)
+
+stands : (xs : List ℕ) (x i : ℕ) → i < length xs → get_or xs i 0 ≡ x → is_among xs x ≡ true
+stands [] x i h e = absurd (omega arith)
+stands (y ∷ ys) x zero h e = let at : nat_eq x y ≡ true = grind (arith, nat_tests) in ap (λ b. b || is_among ys x) at
+stands (y ∷ ys) x (suc i) h e = ap (λ b. nat_eq x y || b) (stands ys x i (omega arith) e) ∙ or_true (nat_eq x y)
+  where
+    or_true : (b : Bool) → (b || true) ≡ true
+    or_true true = refl
+    or_true false = refl
+
+lacks : (xs : List ℕ) (x : ℕ) → ((k : ℕ) → k < length xs → get_or xs k 0 ≡ x → ⊥) → is_among xs x ≡ false
+lacks [] x h = refl
+lacks (y ∷ ys) x h = let apart : nat_eq x y ≡ false = differ (λ e. h 0 (omega arith) (sym e)) in ap (λ b. b || is_among ys x) apart ∙ lacks ys x (λ k l e. h (suc k) (omega arith) e)
+  where
+    differ : (x ≡ y → ⊥) → nat_eq x y ≡ false
+    differ k = grind (arith, nat_tests)
+
+pub found_among : (xs : List ℕ) (x : ℕ) (r : Result ℕ ℕ) → IsBinarySearchResult (λ y. nat_cmp y x) xs r → IsStrictlyIncreasing xs → is_ok r ≡ is_among xs x
+found_among xs x r is up = by r (searched xs x r is (λ i j h l. rise_far xs i j up h l))
+  where
+    by : (r : Result ℕ ℕ) → MatchResult r (λ i. (i < length xs) × (get_or xs i 0 ≡ x)) (λ i. (i ≤ length xs) × ((k : ℕ) → k < i → get_or xs k 0 < x) × ((k : ℕ) → i ≤ k → k < length xs → x < get_or xs k 0)) → is_ok r ≡ is_among xs x
+    by (Ok i) h = sym (stands xs x i h.0 h.1)
+    by (Err i) h = sym (lacks xs x (λ k l e. apart k l e))
+      where
+        apart : (k : ℕ) → k < length xs → get_or xs k 0 ≡ x → ⊥
+        apart k l e = elim (cases_lt k i) [ inl b ↦ absurd (let lt = h.1 k b in omega arith) | inr b ↦ absurd (let lt = h.2 k b l in omega arith) ]
+
+-- ---- what a probe finds of a column with this tally
+
+last_of : (set found : List ℕ) (tally : Tally) → 0 < tally.count → tally ≡ tally_of set found → (tally.count ≡ length found) × (tally.position ≡ rank set (get_or found (length found - 1) 0)) × (0 < length found)
+last_of set [] tally some e = let n = ap (λ (t : Tally). t.count) e in absurd (omega (arith, n, some))
+last_of set (t ∷ ts) tally some e = (ap (λ (t : Tally). t.count) e, ap (λ (t : Tally). t.position) e, omega arith)
+
+pub position_within : (set qs : List ℕ) (i : ℕ) (tally : Tally) → 0 < tally.count → tally ≡ tally_of set (hits set (take i qs)) → tally.position < length set
+position_within set qs i tally some e =
+    let found = hits set (take i qs) in
+    let is = last_of set found tally some e in
+    let hit : IsHit (is_among set) (take i qs) (get_or found (length found - 1) 0) = All-from_recursion (IsHit (is_among set) (take i qs)) found (all_hits (is_among set) (take i qs)) (length found - 1) 0 (let n = is.2 in omega arith) in
+    omega (arith, is.1, rank_within set (get_or found (length found - 1) 0) hit.0)
+
+pub probe_counts : (set qs : List ℕ) (i count : ℕ) (left tail : List ℕ) (tally : Tally) → Rising set → Rising qs → 0 < tally.count → tally ≡ tally_of set (hits set (take i qs))
+    → left ≡ drop i qs → tail ≡ drop (tally.position + 1) set → count ≡ count_by (is_among left) tail → tally.count + count ≡ length (hits set qs)
+probe_counts set qs i count left tail tally over up some e l t n =
+    let found = hits set (take i qs) in
+    let is = last_of set found tally some e in
+    let last = get_or found (length found - 1) 0 in
+    let counted : count ≡ count_by (is_among (drop i qs)) (drop (rank set last + 1) set) = n ∙ (λ j. count_by (is_among (l j)) (t j)) ∙ ap (λ (m : ℕ). count_by (is_among (drop i qs)) (drop (m + 1) set)) is.1 in
+    omega (arith, is.0, counted, probed_overlap set qs i over up is.2)
+
+size_of : (set found : List ℕ) (tally : Tally) → 0 < tally.count → tally ≡ tally_of set found → tally.size ≡ length set
+size_of set [] tally some e = let n = ap (λ (t : Tally). t.count) e in absurd (omega (arith, n, some))
+size_of set (t ∷ ts) tally some e = ap (λ (t : Tally). t.size) e
+
+-- a column of which the tally counts as many tokens as its bound has just these
+pub hits_settled : (set qs : List ℕ) (i : ℕ) (tally : Tally) → Rising set → Rising qs → 0 < tally.count → tally ≡ tally_of set (hits set (take i qs)) → most_of (length qs - i) tally ≤ tally.count → tally.count ≡ length (hits set qs)
+hits_settled set qs i tally over up some e low =
+    let found = hits set (take i qs) in
+    let is = last_of set found tally some e in
+    let last = get_or found (length found - 1) 0 in
+    let tail = drop (rank set last + 1) set in
+    let left = drop i qs in
+    let behind = probed_overlap set qs i over up is.2 in
+    let by_tail = count_by-le-length (is_among left) tail in
+    let by_left = count_by-le-length (is_among tail) left in
+    let same = both_ways tail left (rising_drop (rank set last + 1) set over) (rising_drop i qs up) in
+    omega (arith, is.0, is.1, size_of set found tally some e, behind, by_tail, by_left, same, length-drop (rank set last + 1) set, length-drop i qs, low)
+
+pub hits_few : (set qs : List ℕ) → length (hits set qs) ≤ length qs
+hits_few set qs = prefix_filter set qs
+
+pub rest_is : (i : ℕ) (qs : List ℕ) → take (length qs - i) (drop i qs) ≡ drop i qs
+rest_is i qs = take_all (length qs - i) (drop i qs) (omega (arith, length-drop i qs))
+
+-- ---- walked from either side
+
+above : (x y : ℕ) (ys : List ℕ) → x < y → AllByRecursion (λ z. y < z) ys → AllByRecursion (λ z. x < z) ys
+above x y [] l h = tt
+above x y (z ∷ zs) l h = (omega (arith, l, h.0), above x y zs l h.1)
+
+strict_behind : (x : ℕ) (xs : List ℕ) → IsStrictlyIncreasing (x ∷ xs) → IsStrictlyIncreasing xs
+strict_behind x xs up k h = let e : suc k + 1 ≡ suc (k + 1) = omega arith in subst (λ (n : ℕ). get_or xs k 0 < get_or (x ∷ xs) n 0) e (up (suc k) (omega arith))
+
+rises : (xs : List ℕ) → IsStrictlyIncreasing xs → Rising xs
+rises [] up = tt
+rises (x ∷ []) up = (tt, tt)
+rises (x ∷ y ∷ ys) up =
+    let rest = rises (y ∷ ys) (strict_behind x (y ∷ ys) up) in
+    let first : x < y = up 0 (omega arith) in
+    ((first, above x y ys first rest.0), rest)
+
+-- as many of these are among the others as of the others among these
+pub shared_either : (xs ys : List ℕ) → IsStrictlyIncreasing xs → IsStrictlyIncreasing ys → count_by (is_among xs) ys ≡ count_by (is_among ys) xs
+shared_either xs ys up over = both_ways xs ys (rises xs up) (rises ys over)
