@@ -1,1 +1,3 @@
 pub mod Contained
+pub mod Met
+pub mod Ready

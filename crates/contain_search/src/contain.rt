@@ -1,12 +1,16 @@
 //! A search of a version for the columns that hold a fraction of a query.
-ghost use Rattle.std.specs.Prelude.{◌≡◌, ◌≤◌, [], IfOk};
+ghost use Rattle.std.specs.Prelude.{◌≡◌, ◌≤◌, [], map, sum_by, IfOk};
+ghost use Rattle.contain_search.specs.Contained.{contain_with};
+ghost use Rattle.contain_search.specs.Met.{looks_for, rows_for};
+ghost use Rattle.part_columns.specs.Room.{asked_in};
 ghost use Rattle.search_model.specs.Contain.{contain, contain_log};
 ghost use Rattle.segment_core.specs.Versions.{live_of};
-ghost use Rattle.contain_search.specs.Contained.{contain_with};
 
-use column_set::QuerySet;
+use crate::fraction::Fraction;
+use crate::part::contain_part;
+use column_set::{QuerySet, Row, Rows};
 use no_memory::NoMemory;
-use part_columns::Answer;
+use part_columns::{Answer, Columns, most_columns, most_probes};
 use segment_core::Looks;
 use std::alloc::Global;
 use std::marker::Model;
@@ -16,27 +20,33 @@ use std::marker::Model;
 #[derive(Drop)]
 pub struct PreparedContain<'a, 'q> {
     looks: Looks<'a>,
-    keys: &'q QuerySet,
-    a: u32,
-    b: u32,
+    fraction: Fraction<'q>,
+    tokens: Vec<Vec<u32>>,
+    columns: Columns,
+    found: Vec<u32>,
+    rows: Vec<Row<'a>>,
 }
 
 impl<'a, 'q> Model for PreparedContain<'a, 'q> {
+    ghost use Rattle.std.specs.Prelude.{◌≡◌, [], map, vec_capacity};
     ghost use Rattle.contain_search.specs.Contained.{ContainOf, contain_with};
+    ghost use Rattle.contain_search.specs.Ready.{IsReady};
 
     ghost Value = { ContainOf };
 
-    ghost view = { λ p. contain_with p.looks.version p.keys.now p.a p.b };
+    ghost view = { λ p. contain_with p.looks.version p.fraction.keys p.fraction.a p.fraction.b };
+
+    ghost invariant = { λ p. (p.looks.log ≡ []) × IsReady p.looks.version.parts p.fraction p.looks.spare (map (λ tokens. tokens.items) p.tokens.items) p.columns (vec_capacity p.found) p.rows.items (vec_capacity p.rows) };
 }
 
-/// All that the search needs, taken before it runs: the query's tokens of each part; a tally for each column of the part that has most; and
-/// room for the rows, and in the log for the looks, that the search can have. It is for the columns that hold at least a of b parts of the
-/// query's keys, and one key at least.
+/// All that the search needs, taken before it runs: the query's tokens of each part; a tally and room for each column of the part that has
+/// most; and room for the rows, and in the log for the looks, that the search can have. It is for the columns that hold at least a of b
+/// parts of the query's keys, and one key at least.
 ///
 /// It is refused only for want of memory; what it gives takes none.
 pub fn prepare_contain<'a, 'q>(
     alloc: Global,
-    looks: Looks<'a>,
+    mut looks: Looks<'a>,
     query: &'q QuerySet,
     a: u32,
     b: u32,
@@ -47,7 +57,52 @@ pub fn prepare_contain<'a, 'q>(
     requires high { b ≤ 10000 }
     ensures { IfOk result (λ prepared. prepared ≡ contain_with looks.entry.version query.now a b) }
 {
-    unreachable!()
+    let fraction = Fraction { keys: query, a, b };
+    let (tokens, most_rows) = ask_parts(alloc, &mut looks, query, fraction.least())?;
+    let most = most_columns(&looks);
+    let columns = Columns::new(alloc, most)?;
+    let found = Vec::with_capacity(alloc, most as usize)?;
+    let rows = Vec::with_capacity(alloc, most_rows)?;
+    // A search takes at most as many lists as the query has keys.
+    prove!(query.len() <= 4_194_304);
+    Ok(PreparedContain {
+        looks,
+        fraction,
+        tokens,
+        columns,
+        found,
+        rows,
+    })
+}
+
+// The query's tokens of each part, and how many rows there can be, where so many keys are needed. The log gets room for as many looks as
+// a search for them can take.
+fn ask_parts(
+    alloc: Global,
+    looks: &mut Looks<'_>,
+    query: &QuerySet,
+    least: u32,
+) -> Result<(Vec<Vec<u32>>, usize), NoMemory>
+    requires { 1 ≤ least }
+    ensures tokens { IfOk result (λ asked. map (λ tokens. tokens.items) asked.0.items ≡ map (asked_in query.now) looks.old.version.parts) }
+    ensures version { looks.new.version ≡ looks.old.version }
+    ensures log { looks.new.log ≡ looks.old.log }
+    ensures looks { IfOk result (λ asked. sum_by (looks_for query.now least) looks.old.version.parts ≤ looks.new.spare) }
+    ensures rows { IfOk result (λ asked. sum_by (rows_for query.now least) looks.old.version.parts ≤ asked.1) }
+{
+    let mut asked = Vec::new(alloc);
+    let mut rows = 0;
+    for part in 0..looks.parts() {
+        let tokens = looks.query_tokens(alloc, part, query)?;
+        let read = (tokens.len() + 1).saturating_sub(least as usize);
+        let probes = most_probes(looks, part, &tokens[..read]) as usize;
+        looks.reserve_log(read + probes)?;
+        // There are no more rows than looks.
+        prove!(probes <= looks.log_spare());
+        rows += probes;
+        asked.push(tokens)?;
+    }
+    Ok((asked, rows))
 }
 
 impl<'a, 'q> PreparedContain<'a, 'q> {
@@ -61,6 +116,32 @@ impl<'a, 'q> PreparedContain<'a, 'q> {
         ensures log { result.looks.log ≡ contain_log self.entry.keys self.entry.a self.entry.b self.entry.version.parts }
         ensures version { result.looks.version ≡ self.entry.version }
     {
-        unreachable!()
+        let PreparedContain {
+            mut looks,
+            fraction,
+            tokens,
+            mut columns,
+            mut found,
+            mut rows,
+        } = self;
+        let least = fraction.least();
+        for part in 0..looks.parts() {
+            columns.clear();
+            let asked = &tokens[part as usize];
+            contain_part(
+                &mut looks,
+                part,
+                asked,
+                least,
+                &mut columns,
+                &mut found,
+                &mut rows,
+            );
+        }
+        rows.sort_unstable();
+        Answer {
+            rows: Rows::new(rows),
+            looks,
+        }
     }
 }

@@ -2,7 +2,10 @@
 //! posting lists that a column in none of them holds too few, and probes the columns of which these lists do not tell all.
 #![tactic(auto)]
 
+mod column;
 mod contain;
+mod fraction;
+mod part;
 
 pub use contain::{PreparedContain, prepare_contain};
 pub use part_columns::Answer;

@@ -1,9 +1,11 @@
 -- What is found behind the looks of the parts are all columns that hold enough: a column in none of the lists read holds fewer keys than are
 -- needed, and none holds more than its bound.
-use Rattle.std.proofs.Common.{◌≡◌, refl, ap, sym, ◌∙◌, subst, ℕ, zero, suc, ◌+◌, ◌<◌, ◌≤◌, List, [], ◌∷◌, ◌++◌, map, Bool, true, false, not, ◌&&◌, length, arith, cond, get_or, ltb as nat_lt, leb as nat_le}
+use Rattle.std.proofs.Common.{◌≡◌, refl, ap, sym, ◌∙◌, subst, inl, inr, ℕ, zero, suc, ◌+◌, ◌<◌, ◌≤◌, List, [], ◌∷◌, ◌++◌, map, Bool, true, false, not, ◌&&◌, length, arith, cond, get_or, ltb as nat_lt, leb as nat_le}
 use Rattle.std.specs.Prelude.{bytes_eq}
 use Rattle.std.specs.List.{AllByRecursion, enumerate_from, filter, flat_map, IsDistinct}
+use Rattle.std.proofs.lemmas.Bool.{cases_lt}
 use Rattle.std.proofs.lemmas.Bool.Decides.{nat_tests}
+use Rattle.std.proofs.lemmas.List.{get_or_default}
 use Rattle.std.proofs.lemmas.List.Elements.{filter-append}
 use Rattle.lake_model.specs.Answer.{Query, Row, row_cmp}
 use Rattle.lake_model.specs.Layout.{Part}
@@ -12,11 +14,12 @@ use Rattle.lake_model.specs.Tables.{has_key, overlap}
 use Rattle.lake_model.specs.Texts.{Text}
 use Rattle.search_model.proofs.OverlapLemmas.{overlap_is_hits}
 use Rattle.search_model.proofs.OverlapLemmas as texts
+use Rattle.search_model.specs.Arrays.{no_titled, titled_at}
 use Rattle.search_model.specs.Contain.{is_unmarked, lists_needed, may_hold, need, of_all_tables, seen_behind}
 use Rattle.search_model.specs.Looks.{hits, row_with, searched, Searched, Seen}
 use Rattle.search_model.specs.Segment.{Titled, tokens_in}
 use Rattle.search_laws.specs.Found.{found_row, found_rows, tokens_shared}
-use Rattle.search_laws.specs.Laws.{FoundIsContained}
+use Rattle.search_laws.specs.Laws.{BoundsHold, FoundIsContained}
 use Rattle.search_laws.proofs.AnswerOfLog.{rows_are, rows_of_parts}
 use Rattle.search_laws.proofs.PartLemmas.{bounded, IsPartOf, row_for, rows_of_part, shares, unseen}
 use Rattle.search_laws.proofs.TableLemmas.{as_texts, is_part}
@@ -119,3 +122,16 @@ pub found_contained : FoundIsContained
 found_contained keys a b parts distinct =
     let least = need a b (length keys) in
     ap (in_order row_cmp) (parts_found keys distinct least (some_needed a b (length keys)) parts ∙ ap (filter (λ (row : Row). nat_le least row.overlap)) (rows_are (of_all_tables keys) parts))
+
+-- what the lists that are read say of a column
+pub bounds_hold : BoundsHold
+bounds_hold keys least whole distinct some x within =
+    let part = searched (of_all_tables keys) whole in
+    let c = titled_at part.segment.columns x in
+    let at : (d : Titled) → c ≡ get_or part.segment.columns x d = λ d. get_or_default part.segment.columns x no_titled d within in (
+      λ none. elim (cases_lt (overlap keys c.column.keys) least) [
+        | inl less ↦ less
+        | inr holds ↦ absurd (let seen = some_seen keys distinct least some whole x c within at holds in omega (arith, seen, none))
+      ],
+      bound_high keys distinct least some whole x c within at,
+    )

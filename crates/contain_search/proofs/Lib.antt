@@ -1,0 +1,5 @@
+pub mod HoldLemmas
+pub mod SettleLemmas
+pub mod ReadLemmas
+pub mod PartLemmas
+pub mod RunLemmas
