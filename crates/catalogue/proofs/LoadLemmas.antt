@@ -1,7 +1,7 @@
 -- A load that nothing refuses: what a catalogue keeps is kept.
-use Rattle.std.proofs.Common.{◌≡◌, refl, ap, sym, ◌∙◌, subst, ℕ, ◌+◌, ◌<◌, ◌≤◌, ◌^◌, List, [], ◌∷◌, ◌++◌, Bool, true, false, not, ◌||◌, cond, map, length, Option, Some, None, arith, length-append}
-use Rattle.std.specs.Prelude.{bytes_eq, sum_by, count_by, find, option_map}
-use Rattle.std.specs.List.{AllByRecursion, list_any}
+use Rattle.std.proofs.Common.{◌≡◌, refl, ap, sym, ◌∙◌, subst, ℕ, ◌+◌, ◌<◌, ◌≤◌, ◌^◌, List, [], ◌∷◌, ◌++◌, Bool, true, false, not, cond, map, length, Option, Some, None, arith, length-append}
+use Rattle.std.specs.Prelude.{bytes_eq, count_by, find, option_map}
+use Rattle.std.specs.List.{AllByRecursion}
 use Rattle.std.proofs.lemmas.List.{map-append}
 use Rattle.std.proofs.lemmas.List.Concat.{flat_map-append}
 use Rattle.std.proofs.lemmas.List.Sums.{sum_by_push}
@@ -9,20 +9,20 @@ use Rattle.lake_model.specs.declared.Counts.{Counts}
 use Rattle.lake_model.specs.declared.Who.{Who}
 use Rattle.lake_model.specs.Texts.{Text}
 use Rattle.lake_model.specs.Tables.{Table, members, key_bytes}
-use Rattle.lake_model.specs.Journal.{Entry, Loaded, is_live, live, counts, loads_of, is_update, has_name, entry_with}
-use Rattle.lake_model.specs.Layout.{Place, Part, layout, positions_of, unmarked_of}
+use Rattle.lake_model.specs.Journal.{Entry, Loaded, is_live, live, counts, loads_of, is_update, entry_with}
+use Rattle.lake_model.specs.Layout.{Part, layout, positions_of}
 use Rattle.lake_model.specs.Limits.{Bounded, is_passed, load_bounds}
 use Rattle.lake_model.proofs.LayoutLemmas.{live_more, layout_more, searchable-load}
 use Rattle.layout_laws.proofs.LiveLemmas.{lacks_names}
 use Rattle.segment_core.specs.Distinct.{AreDistinct, Lacks, unmarked_names}
-use Rattle.segment_core.specs.Versions.{VersionOf, live_of, version_with, part_with, place_with, places_with}
+use Rattle.segment_core.specs.Versions.{VersionOf, live_of, version_with}
 use Rattle.catalogue.specs.declared.refusal.LoadRefused.TheVariants.{Full}
 use Rattle.catalogue.specs.Kept.{IsKept, IsWithin}
-use Rattle.catalogue.specs.Parts.{load_of, is_of, Rises}
+use Rattle.catalogue.specs.Parts.{load_of, Rises}
 use Rattle.catalogue.specs.Refusals.{load_refusal}
-use Rattle.list_laws.proofs.ListLemmas.{all_append, all_weaker, filter-append, find_none}
-use Rattle.catalogue.proofs.ListLemmas.{le_from, distinct_push, rises_push, open_by, map_none, find_push, none_from}
-use Rattle.catalogue.proofs.PlaceLemmas.{places_of, unmarked, HasPlaces, names_append, name_same, name_is, names_in}
+use Rattle.list_laws.proofs.ListLemmas.{all_append, find_none}
+use Rattle.catalogue.proofs.ListLemmas.{le_from, distinct_push, open_by, map_none, none_from}
+use Rattle.catalogue.proofs.PlaceLemmas.{HasPlaces, name_same}
 use Rattle.catalogue.proofs.KeptLemmas.{counts_with, is_legal_behind-push, merging-push, named_kept, names_kept, names_differ}
 use Rattle.catalogue.proofs.PutLemmas.{Fits, few_by, fits_by, load_push, loaded_part, names_push, positions_push, put_bytes, put_differ, put_members, put_past, put_positions, put_rise}
 

@@ -1,5 +1,5 @@
 -- What a load and a replace have alike: one more part, of one table, and the counts with that table.
-use Rattle.std.proofs.Common.{◌≡◌, refl, ap, sym, ◌∙◌, subst, ℕ, ◌+◌, ◌<◌, ◌≤◌, ◌^◌, List, [], ◌∷◌, ◌++◌, Bool, true, false, not, cond, map, length, Option, Some, None, arith}
+use Rattle.std.proofs.Common.{◌≡◌, refl, ap, sym, ◌∙◌, ℕ, ◌+◌, ◌<◌, ◌≤◌, ◌^◌, List, [], ◌∷◌, ◌++◌, Bool, true, false, not, cond, map, length, Option, Some, None, arith}
 use Rattle.std.specs.Prelude.{sum_by, find, option_map}
 use Rattle.std.specs.List.{AllByRecursion}
 use Rattle.std.proofs.lemmas.List.{map-append}
@@ -10,7 +10,7 @@ use Rattle.lake_model.specs.Texts.{Text}
 use Rattle.lake_model.specs.Tables.{Table, members, key_bytes}
 use Rattle.lake_model.specs.Journal.{Entry, counts, loads_of, has_name}
 use Rattle.lake_model.specs.Layout.{Place, Part, layout, positions_of, unmarked_of}
-use Rattle.lake_model.specs.Limits.{Bounded, is_passed, replace_bounds}
+use Rattle.lake_model.specs.Limits.{is_passed, replace_bounds}
 use Rattle.segment_core.specs.Distinct.{AreDistinct, unmarked_names}
 use Rattle.segment_core.specs.Versions.{VersionOf, part_with, place_with, places_with}
 use Rattle.catalogue.specs.Kept.{IsKept}

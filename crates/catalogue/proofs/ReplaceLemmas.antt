@@ -1,6 +1,6 @@
 -- A replace that nothing refuses: what a catalogue keeps is kept.
 use Rattle.std.proofs.Common.{◌≡◌, refl, ap, sym, ◌∙◌, subst, ℕ, ◌+◌, ◌<◌, ◌≤◌, ◌^◌, List, [], ◌∷◌, ◌++◌, Bool, true, false, not, cond, map, length, slice_set, Option, Some, None, arith, length-append}
-use Rattle.std.specs.Prelude.{bytes_eq, sum_by, count_by, find, option_map}
+use Rattle.std.specs.Prelude.{bytes_eq, count_by, find, option_map}
 use Rattle.std.specs.List.{AllByRecursion}
 use Rattle.std.proofs.lemmas.List.{length-map, map-append}
 use Rattle.std.proofs.lemmas.List.Concat.{flat_map-append}

@@ -5,12 +5,20 @@ ghost use Rattle.std.specs.Prelude.{◌<◌, ◌^◌};
 use crate::tests::{
     counts, drops, drops_then_swaps, entries, loads, merged, replaces, replaces_then_swaps, swaps,
 };
-use crate::{Catalogue, Counts, DropRefused, Limits, LoadRefused, ReplaceRefused, Which};
+use crate::{Catalogue, Counts, DropRefused, LoadRefused, ReplaceRefused, Which};
 use segment_core::Pin;
 use std::alloc::Global;
 use std::test::Fail;
 
 const NAMES: [&str; 8] = ["a", "b", "c", "d", "e", "f", "g", "h"];
+
+// Limits that a hundred calls do not reach.
+const LARGE: Counts = Counts {
+    live: 1_000,
+    updates: 1_000,
+    members: 1_000,
+    key_bytes: 1_000,
+};
 
 // A load or a replace: its position in the journal, the number of its part, which of the names its table has, and whether that was
 // dropped or replaced since.
@@ -301,42 +309,33 @@ fn a_hundred_calls(alloc: Global, limits: Counts, seed: u64) -> Result<(), Fail>
 
 #[test]
 fn no_limit_is_reached(rt: HostRuntime) -> Result<(), Fail> {
-    a_hundred_calls(rt.alloc(), Limits::standard(), 1)
+    a_hundred_calls(rt.alloc(), LARGE, 1)
 }
 
 #[test]
-fn few_tables_may_be_live(rt: HostRuntime) -> Result<(), Fail> {
-    let limits = Counts {
-        live: 3,
-        ..Limits::standard()
-    };
-    a_hundred_calls(rt.alloc(), limits, 2)
-}
-
-#[test]
-fn few_updates_may_be_made(rt: HostRuntime) -> Result<(), Fail> {
-    let limits = Counts {
-        updates: 30,
-        ..Limits::standard()
-    };
-    a_hundred_calls(rt.alloc(), limits, 3)
-}
-
-#[test]
-fn few_members_may_be_put(rt: HostRuntime) -> Result<(), Fail> {
-    let limits = Counts {
-        members: 20,
-        ..Limits::standard()
-    };
-    a_hundred_calls(rt.alloc(), limits, 4)
-}
-
-#[test]
-fn few_key_bytes_may_be_put(rt: HostRuntime) -> Result<(), Fail> {
-    let limits = Counts {
+fn each_limit_is_kept(rt: HostRuntime) -> Result<(), Fail> {
+    let alloc = rt.alloc();
+    a_hundred_calls(alloc, Counts { live: 3, ..LARGE }, 2)?;
+    a_hundred_calls(
+        alloc,
+        Counts {
+            updates: 30,
+            ..LARGE
+        },
+        3,
+    )?;
+    a_hundred_calls(
+        alloc,
+        Counts {
+            members: 20,
+            ..LARGE
+        },
+        4,
+    )?;
+    let few_bytes = Counts {
         live: 6,
         key_bytes: 50,
-        ..Limits::standard()
+        ..LARGE
     };
-    a_hundred_calls(rt.alloc(), limits, 5)
+    a_hundred_calls(alloc, few_bytes, 5)
 }

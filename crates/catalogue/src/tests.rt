@@ -280,17 +280,29 @@ fn holds(alloc: Global, pin: &Pin, at: u64, tables: usize) -> Result<(), Fail> {
     Ok(())
 }
 
-// Expects that a layout has this position, and for each load a part of its own, marked or not.
-fn shows(layout: &Layout, at: u64, loads: &[(u64, bool)]) -> Result<(), Fail> {
-    if layout.at() != at || layout.parts().len() != loads.len() {
+// Expects of a layout its position, and of each part its number and its one load or replace, marked or not.
+fn shows(layout: &Layout, at: u64, parts: &[(u64, u64, bool)]) -> Result<(), Fail> {
+    if layout.at() != at || layout.parts().len() != parts.len() {
         return Err(Fail::from("another layout"));
     }
-    for ((number, places), (load, marked)) in layout.parts().iter().zip(loads.iter()) {
-        if number != load || places.list() != [(*load, *marked)].as_slice() {
+    for ((number, places), (part, load, marked)) in layout.parts().iter().zip(parts.iter()) {
+        if number != part || places.list() != [(*load, *marked)].as_slice() {
             return Err(Fail::from("another part"));
         }
     }
     Ok(())
+}
+
+// Expects the same of the newest layout, and so many live tables.
+fn shows_now(
+    lake: &Catalogue,
+    alloc: Global,
+    tables: usize,
+    parts: &[(u64, u64, bool)],
+) -> Result<(), Fail> {
+    let pin = lake.pin()?;
+    holds(alloc, &pin, lake.at(), tables)?;
+    shows(&pin.layout(alloc)?, lake.at(), parts)
 }
 
 // Expects so many live tables, so many loads, drops and replaces, and so many loads and replaces by a table of one key.
@@ -301,6 +313,14 @@ pub fn counts(lake: &Catalogue, live: usize, updates: usize, loads: u64) -> Resu
     }
     if counts.members != loads || counts.key_bytes / 3 != loads || counts.key_bytes % 3 != 0 {
         return Err(Fail::from("other members"));
+    }
+    Ok(())
+}
+
+// Expects that a table of the name is live, or that none is.
+fn is_live(lake: &Catalogue, text: &str, live: bool) -> Result<(), Fail> {
+    if lake.live(&name(text)?) != live {
+        return Err(Fail::from("other live tables"));
     }
     Ok(())
 }
@@ -399,58 +419,43 @@ fn a_replace_leaves_the_new_table_alone(rt: HostRuntime) -> Result<(), Fail> {
     let alloc = rt.alloc();
     let mut lake = Catalogue::new(alloc, Limits::standard())?;
     loads(&mut lake, alloc, "t", Ok(1))?;
-    let loaded = lake.pin()?;
     replaces(&mut lake, alloc, "t", Ok(2))?;
+    shows_now(&lake, alloc, 1, &[(1, 1, true), (2, 2, false)])?;
+    is_live(&lake, "t", true)?;
+    is_live(&lake, "z", false)?;
     replaces(
         &mut lake,
         alloc,
         "z",
         Err(ReplaceRefused::Unknown { at: 2 }),
     )?;
-    let newest = lake.pin()?;
-    holds(alloc, &loaded, 1, 1)?;
-    holds(alloc, &newest, 2, 1)?;
-    shows(&newest.layout(alloc)?, 2, &[(1, true), (2, false)])?;
+    entries(&lake, 2)?;
     counts(&lake, 1, 2, 2)
 }
 
 #[test]
-fn a_live_name_is_repeated_and_another_unknown(rt: HostRuntime) -> Result<(), Fail> {
+fn a_pin_keeps_what_comes_later(rt: HostRuntime) -> Result<(), Fail> {
     let alloc = rt.alloc();
     let mut lake = Catalogue::new(alloc, Limits::standard())?;
     loads(&mut lake, alloc, "a", Ok(1))?;
-    loads(&mut lake, alloc, "a", Err(LoadRefused::Repeated { at: 1 }))?;
-    drops(&mut lake, "b", Err(DropRefused::Unknown { at: 1 }))
+    let pin = lake.pin()?;
+    replaces(&mut lake, alloc, "a", Ok(2))?;
+    drops(&mut lake, "a", Ok(3))?;
+    loads(&mut lake, alloc, "a", Ok(4))?;
+    holds(alloc, &pin, 1, 1)?;
+    counts(&lake, 1, 4, 3)
 }
 
 #[test]
-fn a_pin_keeps_what_is_dropped_and_loaded_later(rt: HostRuntime) -> Result<(), Fail> {
+fn a_layout_keeps_what_comes_later(rt: HostRuntime) -> Result<(), Fail> {
     let alloc = rt.alloc();
     let mut lake = Catalogue::new(alloc, Limits::standard())?;
     loads(&mut lake, alloc, "a", Ok(1))?;
-    let loaded = lake.pin()?;
-    drops(&mut lake, "a", Ok(2))?;
-    let dropped = lake.pin()?;
-    loads(&mut lake, alloc, "a", Ok(3))?;
-    holds(alloc, &loaded, 1, 1)?;
-    holds(alloc, &dropped, 2, 0)?;
-    holds(alloc, &lake.pin()?, 3, 1)?;
-    assert!(rt; lake.live(&name("a")?));
-    counts(&lake, 1, 3, 2)
-}
-
-#[test]
-fn a_layout_keeps_what_is_dropped_and_loaded_later(rt: HostRuntime) -> Result<(), Fail> {
-    let alloc = rt.alloc();
-    let mut lake = Catalogue::new(alloc, Limits::standard())?;
-    loads(&mut lake, alloc, "a", Ok(1))?;
-    let loaded = lake.pin()?.layout(alloc)?;
-    drops(&mut lake, "a", Ok(2))?;
-    let dropped = lake.pin()?.layout(alloc)?;
-    loads(&mut lake, alloc, "a", Ok(3))?;
-    shows(&loaded, 1, &[(1, false)])?;
-    shows(&dropped, 2, &[(1, true)])?;
-    shows(&lake.pin()?.layout(alloc)?, 3, &[(1, true), (3, false)])
+    let layout = lake.pin()?.layout(alloc)?;
+    replaces(&mut lake, alloc, "a", Ok(2))?;
+    drops(&mut lake, "a", Ok(3))?;
+    shows(&layout, 1, &[(1, 1, false)])?;
+    shows_now(&lake, alloc, 0, &[(1, 1, true), (2, 2, true)])
 }
 
 #[test]
@@ -481,23 +486,14 @@ fn a_swap_keeps_the_mark_of_a_replace_since_its_plan(rt: HostRuntime) -> Result<
     drops(&mut lake, "a", Ok(3))?;
     let planned = merged(&lake, alloc, 0)?;
     replaces_then_swaps(&mut lake, alloc, "b", planned, 5)?;
-    let layout = lake.pin()?.layout(alloc)?;
-    let [(merged, kept), (replaced, new)] = layout.parts() else {
-        return Err(Fail::from("other parts"));
-    };
-    assert!(rt; *merged == 5 && kept.list() == [(2, true)].as_slice());
-    assert!(rt; *replaced == 4 && new.list() == [(4, false)].as_slice());
-    Ok(())
+    shows_now(&lake, alloc, 1, &[(5, 2, true), (4, 4, false)])
 }
 
 #[test]
 fn a_shared_drop_is_the_drop(rt: HostRuntime) -> Result<(), Fail> {
     let entry = Entry::dropped(SECOND, name("a")?).share()?;
     match &entry.what {
-        What::Loaded(_) | What::Replaced(_) | What::Swapped { .. } => Err(Fail::from("no drop")),
-        What::Dropped(name) => {
-            assert!(rt; name.text() == "a");
-            Ok(())
-        }
+        What::Dropped(name) if name.text() == "a" => Ok(()),
+        _ => Err(Fail::from("no drop")),
     }
 }

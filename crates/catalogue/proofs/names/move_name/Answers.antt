@@ -1,4 +1,4 @@
-use Rattle.std.proofs.Common.{◌≡◌, ◌∙◌, ap, cond, subst, sym, true, false, Some, None, List, Option, ℕ, is_some}
+use Rattle.std.proofs.Common.{◌≡◌, ◌∙◌, ap, cond, sym, true, false, Some, None, List, Option, ℕ, is_some}
 use Rattle.std.specs.Prelude.{bytes_eq}
 use Rattle.std.specs.BTreeMap.{get_by_text}
 use Rattle.std.proofs.lemmas.Map.Text.{btree_map_updates_text}

@@ -1,9 +1,9 @@
-use Rattle.std.proofs.Common.{◌≡◌, ◌∙◌, sym, ap, subst, arith, List, length, map, slice_set, ◌+◌, ◌++◌, ◌∷◌, [], Some, None, Option, ℕ, cond, is_some, true}
+use Rattle.std.proofs.Common.{◌≡◌, ◌∙◌, sym, ap, subst, arith, List, length, map, slice_set, ◌+◌, ◌++◌, ◌∷◌, [], Some, None, Option, ℕ, cond, is_some}
 use Rattle.std.specs.Prelude.{bytes_eq}
 use Rattle.std.specs.BTreeMap.{get_by_text}
 use Rattle.lake_model.specs.Texts.{Text}
 use Rattle.lake_model.specs.Tables.{Table, members, key_bytes}
-use Rattle.lake_model.specs.Journal.{entry_with, is_live, Replaced}
+use Rattle.lake_model.specs.Journal.{entry_with, Replaced}
 use Rattle.lake_model.specs.Layout.{Part, layout, mark, positions_of}
 use Rattle.segment_core.specs.Distinct.{AreDistinct, unmarked_names}
 use Rattle.segment_core.specs.Versions.{version_with, part_at, marked_at}
