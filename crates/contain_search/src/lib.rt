@@ -9,3 +9,6 @@ mod part;
 
 pub use contain::{PreparedContain, prepare_contain};
 pub use part_columns::Answer;
+
+#[cfg(test)]
+mod tests;
