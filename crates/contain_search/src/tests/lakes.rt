@@ -1,7 +1,7 @@
 //! Small lakes, in which each table is a part of its own, with the number of its load.
 
 use catalogue::{Catalogue, Limits, Who};
-use column_set::{Name, SharedTable, TableSets};
+use column_set::{Keys, Name, SharedTable, TableSets};
 use csv_table::read_table;
 use segment_build::build;
 use segment_core::Segment;
@@ -20,8 +20,8 @@ pub(crate) fn name(text: &str) -> Result<Name, Fail> {
 
 // The table of this name and these CSV bytes.
 fn table(alloc: Global, title: &str, text: &str) -> Result<SharedTable, Fail> {
-    let raw = read_table(alloc, text.as_bytes())?;
-    let table = TableSets::build(alloc, name(title)?, &raw)?;
+    let raw = read_table(alloc, text.as_bytes(), 1_024)?;
+    let table = TableSets::build(alloc, Keys::Canonical, name(title)?, &raw)?;
     Ok(SharedTable::new(alloc, table)?)
 }
 

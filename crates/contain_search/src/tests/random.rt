@@ -6,7 +6,7 @@ use super::lakes::{drop_table, empty, load};
 use super::model::{Counted, Plain, need};
 use crate::prepare_contain;
 use catalogue::Catalogue;
-use column_set::{QuerySet, Row};
+use column_set::{Keys, QuerySet, Row};
 use cost_model::Profile;
 use josie_search::prepare;
 use segment_core::Pin;
@@ -108,7 +108,7 @@ fn query(alloc: Global, asked: &[usize]) -> Result<QuerySet, Fail> {
         body.push_str(VALUES[*value % 13])?;
         body.push_str("\n")?;
     }
-    Ok(QuerySet::read(alloc, body.as_str().as_bytes())?)
+    Ok(QuerySet::read(alloc, Keys::Canonical, body.as_str().as_bytes())?)
 }
 
 // Whether a row is the one of the plain model.

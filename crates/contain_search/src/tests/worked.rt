@@ -3,7 +3,7 @@
 use super::lakes::{drop_table, empty, load};
 use crate::prepare_contain;
 use catalogue::Catalogue;
-use column_set::{QuerySet, Rows};
+use column_set::{Keys, QuerySet, Rows};
 use segment_core::Look;
 use std::alloc::Global;
 use std::process::Abort;
@@ -19,7 +19,7 @@ fn three(alloc: Global) -> Result<Catalogue, Fail> {
 }
 
 fn a_b_c_d(alloc: Global) -> Result<QuerySet, Fail> {
-    Ok(QuerySet::read(alloc, b"a\nb\nc\nd\n")?)
+    Ok(QuerySet::read(alloc, Keys::Canonical, b"a\nb\nc\nd\n")?)
 }
 
 fn read(part: u64, token: u32) -> Look {
@@ -119,7 +119,7 @@ fn nothing_to_find(rt: HostRuntime) -> Result<(), Fail> {
     let alloc = rt.alloc();
     let lake = three(alloc)?;
     let pin = lake.pin()?;
-    let none = QuerySet::read(alloc, b"\n")?;
+    let none = QuerySet::read(alloc, Keys::Canonical, b"\n")?;
     let answer = prepare_contain(alloc, pin.looks(alloc), &none, 1, 2)?.run();
     expect_rows(&rt, &answer.rows, &[]);
     assert_eq!(rt; answer.looks.log().len(), 0);
