@@ -1,4 +1,4 @@
-use Rattle.std.proofs.Common.{◌≡◌, sym, subst, ◌∙◌, false, refl}
+use Rattle.std.proofs.Common.{ap, sym, subst, ◌∙◌, false, refl}
 use Rattle.record_model.specs.Replies.{query_reply}
 use Rattle.record_model.specs.Answered.{query_read, contain_answer}
 use Rattle.lake_core.proofs.LoadLemmas.{Answers, query_refused, query_found}
@@ -17,7 +17,7 @@ pub returns-in-Ok-find_holding : goal.returns-in-Ok-find_holding
 returns-in-Ok-find_holding c journal is =
     let query = c.in-Ok.query in (
       false,
-      subst (λ bytes. _ ≡ contain_answer c.args.a c.args.b (query_read bytes) journal) c.bytes.ensures.value
-          (c.in-Ok-find_holding.ensures ∙ contained_now c.args.pin.now journal query c.args.a c.args.b is
-          ∙ query_found (λ read. contain_answer c.args.a c.args.b read journal) c.bytes.result.now query c.in-Ok.ensures.sound c.in-Ok.ensures.keys),
+      c.in-Ok-find_holding.ensures ∙ contained_now c.args.pin.now journal query c.args.a c.args.b is
+          ∙ query_found (λ read. contain_answer c.args.a c.args.b read journal) c.bytes.result.now query c.in-Ok.ensures.sound c.in-Ok.ensures.keys
+          ∙ ap (λ bytes. contain_answer c.args.a c.args.b (query_read bytes) journal) c.bytes.ensures.value,
     )

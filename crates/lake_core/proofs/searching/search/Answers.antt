@@ -1,4 +1,4 @@
-use Rattle.std.proofs.Common.{◌≡◌, None, sym, subst, ◌∙◌, false, refl}
+use Rattle.std.proofs.Common.{None, ap, sym, subst, ◌∙◌, false, refl}
 use Rattle.josie_search.specs.Search.{query_with}
 use Rattle.record_model.specs.Replies.{query_reply}
 use Rattle.record_model.specs.Answered.{query_read, search_answer}
@@ -19,6 +19,7 @@ returns-in-Ok-find c journal is =
     let k = c.args.k in
     let query = c.in-Ok.query in (
       false,
-      subst (λ bytes. _ ≡ search_answer k (query_read bytes) journal) c.bytes.ensures.value
-          (c.in-Ok-find.ensures ∙ found_now c.args.pin.now journal (query_with k query None) is ∙ query_found (λ read. search_answer k read journal) c.bytes.result.now query c.in-Ok.ensures.sound c.in-Ok.ensures.keys),
+      c.in-Ok-find.ensures ∙ found_now c.args.pin.now journal (query_with k query None) is
+          ∙ query_found (λ read. search_answer k read journal) c.bytes.result.now query c.in-Ok.ensures.sound c.in-Ok.ensures.keys
+          ∙ ap (λ bytes. search_answer k (query_read bytes) journal) c.bytes.ensures.value,
     )
