@@ -177,7 +177,7 @@ module _ (limits : ScriptLimits) (lanes : ℕ) where
     command_back (Replace name body) l u n commands bytes asked later is fits room few = with_block (Replace name body) (ReplaceBlock name) body l u n commands bytes asked later is fits room is.1 few refl refl
     command_back Tables l u n commands bytes asked later is fits room few = alone Tables l u n commands bytes asked later is fits room refl
     command_back (Search k body) l u n commands bytes asked later is fits room few = with_block (Search k body) (SearchBlock k) body l u n commands bytes asked later is fits room is.1 few refl refl
-    command_back (Contain a b body) l u n commands bytes asked later is fits room few = with_block (Contain a b body) (ContainBlock a b) body l u n commands bytes asked later is fits room is.2.1 few refl refl
+    command_back (Contain a b body) l u n commands bytes asked later is fits room few = with_block (Contain a b body) (ContainBlock a b) body l u n commands bytes asked later is fits room is.3 few refl refl
     command_back (Like k name place) l u n commands bytes asked later is fits room few = alone (Like k name place) l u n commands bytes asked later is fits room refl
     command_back (Merge all) l u n commands bytes asked later is fits room few = alone (Merge all) l u n commands bytes asked later is fits room refl
 

@@ -149,7 +149,7 @@ task_ends limits path (Search k body) is = word_ends (codes "search") (decimal k
 task_ends limits path (Like k name place) is =
     word_ends (codes "like") (with_word (decimal k) (with_word name (decimal place))) (word_ends (decimal k) (with_word name (decimal place)) (word_ends name (decimal place) (number_ends place (omega (arith, is.2.1)))))
 task_ends limits path (Contain a b body) is =
-    word_ends (codes "contain") (with_word (decimal a) (decimal b)) (word_ends (decimal a) (decimal b) (number_ends b (omega (arith, is.2.0))))
+    word_ends (codes "contain") (with_word (decimal a) (decimal b)) (word_ends (decimal a) (decimal b) (number_ends b (omega (arith, is.2))))
 task_ends limits path (Merge false) is = (omega arith, refl)
 task_ends limits path (Merge true) is = (omega arith, refl)
 
@@ -168,7 +168,7 @@ task_no_feed limits path (Like k name place) is =
     (word_no_feed (decimal k) (with_word name (decimal place)) (number_no_feed k (omega (arith, is.0.1))) (word_no_feed name (decimal place) (name_no_feed name is.1) (number_no_feed place (omega (arith, is.2.1)))))
 task_no_feed limits path (Contain a b body) is =
     word_no_feed (codes "contain") (with_word (decimal a) (decimal b)) (refl, (refl, (refl, (refl, (refl, (refl, (refl, tt)))))))
-    (word_no_feed (decimal a) (decimal b) (number_no_feed a (omega (arith, is.1, is.2.0))) (number_no_feed b (omega (arith, is.2.0))))
+    (word_no_feed (decimal a) (decimal b) (number_no_feed a (omega (arith, is.1, is.2))) (number_no_feed b (omega (arith, is.2))))
 task_no_feed limits path (Merge false) is = (refl, (refl, (refl, (refl, (refl, tt)))))
 task_no_feed limits path (Merge true) is = word_no_feed (codes "merge") (codes "all") (refl, (refl, (refl, (refl, (refl, tt))))) (refl, (refl, (refl, tt)))
 

@@ -217,7 +217,7 @@ says_task limits lane path (Replace name body) is = says_replace lane name is.0
 says_task limits lane path Tables is = says_tables lane
 says_task limits lane path (Search k body) is = says_search lane k is.0.0 is.0.1
 says_task limits lane path (Like k name place) is = says_like lane k place name is.0.0 is.0.1 is.1 is.2.0 is.2.1
-says_task limits lane path (Contain a b body) is = says_contain lane a b is.0 is.1 is.2.0
+says_task limits lane path (Contain a b body) is = says_contain lane a b is.0 is.1 is.2
 says_task limits lane path (Merge false) is = says_merge lane
 says_task limits lane path (Merge true) is = says_merge_all lane
 
