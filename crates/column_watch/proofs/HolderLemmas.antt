@@ -1,5 +1,6 @@
 -- The queries that hold a key.
-use Rattle.std.proofs.Common.{◌≡◌, refl, ap, sym, ◌∙◌, ℕ, zero, suc, ◌+◌, ◌<◌, ◌≤◌, List, [], ◌∷◌, ◌++◌, Bool, true, false, ◌||◌, length, get_or, arith, cond, take, map, append_assoc, append-nil, Option, Some, None, Vec, Global, nat_eq}
+use Rattle.std.proofs.Common.{◌≡◌, refl, ap, sym, ◌∙◌, ℕ, zero, suc, ◌+◌, ◌<◌, ◌≤◌, List, [], ◌∷◌, ◌++◌, Bool, true, false, ◌||◌, length, get_or, arith, cond, take, map, append_assoc, append-nil, Option, Some, nat_eq}
+use Rattle.std.specs.Global.{Vec}
 use Rattle.std.specs.Prelude.{bytes_eq, count_by}
 use Rattle.std.specs.Option.{option_map_or}
 use Rattle.std.specs.List.{AllByRecursion, IsDistinct}
@@ -15,11 +16,11 @@ use Rattle.column_watch.specs.Held.{StateOf, holders_from}
 abbrev pub mark : Bool → ℕ → List ℕ
 mark b w = cond b (w ∷ []) []
 
-abbrev items_of : Option (Vec ℕ) → List ℕ
+abbrev pub items_of : Option (Vec ℕ) → List ℕ
 items_of o = option_map_or (λ v. v.items) o []
 
 -- one query more, at one key
-pub one_more : (b : Bool) (old new : Option (Vec ℕ Global)) (v : Vec ℕ Global) (w : ℕ) → new ≡ cond b (Some v) old → (b ≡ true → v.items ≡ items_of old ++ w ∷ []) → items_of new ≡ items_of old ++ mark b w
+pub one_more : (b : Bool) (old new : Option (Vec ℕ)) (v : Vec ℕ) (w : ℕ) → new ≡ cond b (Some v) old → (b ≡ true → v.items ≡ items_of old ++ w ∷ []) → items_of new ≡ items_of old ++ mark b w
 one_more true old new v w e h = ap items_of e ∙ h refl
 one_more false old new v w e h = ap items_of e ∙ sym (append-nil (items_of old))
 
@@ -50,7 +51,7 @@ marks_more keys i q w start before after h d e f =
     f ∙ ap (λ us. us ++ mark (bytes_eq (get_or keys i []) q) w) e ∙ append_assoc start (mark (has_key (take i keys) q) w) (mark (bytes_eq (get_or keys i []) q) w) ∙ ap (λ us. start ++ us) (marked keys i q w h d)
     ∙ (let e : suc i ≡ i + 1 = omega arith in ap (λ (n : ℕ). start ++ mark (has_key (take n keys) q) w) e)
 
-abbrev keys_of : List StateOf → List (List Text)
+abbrev pub keys_of : List StateOf → List (List Text)
 keys_of states = map (λ state. state.keys) states
 
 -- one query more
@@ -64,6 +65,12 @@ holders_suc n (state ∷ states) (suc i) q d h =
 
 pub holders_more : (n : ℕ) (states : List StateOf) (i : ℕ) (q : Text) (d : StateOf) → i < length states → holders_from n (keys_of (take (i + 1) states)) q ≡ holders_from n (keys_of (take i states)) q ++ mark (has_key (get_or states i d).keys q) (n + i)
 holders_more n states i q d h = let e : i + 1 ≡ suc i = omega arith in ap (λ (m : ℕ). holders_from n (keys_of (take m states)) q) e ∙ holders_suc n states i q d h
+
+pub index_more : (states : List StateOf) (i : ℕ) (q : Text) (state : StateOf) (keys : List Text) (olds news : List ℕ) → i < length states → state ≡ get_or states i state → keys ≡ state.keys → olds ≡ holders_from 0 (keys_of (take i states)) q → news ≡ olds ++ mark (has_key keys q) i
+    → news ≡ holders_from 0 (keys_of (take (i + 1) states)) q
+index_more states i q state keys olds news h is same before e =
+    let n : i ≡ 0 + i = omega arith in
+    e ∙ (λ j. before j ++ mark (has_key ((same ∙ ap (λ (s : StateOf). s.keys) is) j) q) (n j)) ∙ sym (holders_more 0 states i q state h)
 
 -- ---- how often a query is among the holders
 
@@ -90,7 +97,7 @@ holders_below n (keys ∷ queries) q w h =
   where
     by : (b : Bool) → count_by (nat_eq w) (holders_from (n + 1) queries q) ≡ 0 → count_by (nat_eq w) (mark b n) + count_by (nat_eq w) (holders_from (n + 1) queries q) ≡ 0
     by true rest = omega (arith, count-one (nat_eq w) n, ap once (other_number w n h), rest)
-    by false rest = rest
+    by false rest = omega (arith, rest)
 
 holders_at : (n : ℕ) (queries : List (List Text)) (q : Text) (j : ℕ) → count_by (nat_eq (n + j)) (holders_from n queries q) ≡ once (has_key (get_or queries j []) q)
 holders_at n [] q j = refl
@@ -101,7 +108,7 @@ holders_at n (keys ∷ queries) q zero =
   where
     by : (b : Bool) → count_by (nat_eq n) (holders_from (n + 1) queries q) ≡ 0 → count_by (nat_eq n) (mark b n) + count_by (nat_eq n) (holders_from (n + 1) queries q) ≡ once b
     by true rest = omega (arith, count-one (nat_eq n) n, ap once (same_number n), rest)
-    by false rest = rest
+    by false rest = omega (arith, rest)
 holders_at n (keys ∷ queries) q (suc j) =
     let e : n + suc j ≡ n + 1 + j = omega arith in
     count-append (nat_eq (n + suc j)) (mark (has_key keys q) n) (holders_from (n + 1) queries q)
@@ -109,7 +116,7 @@ holders_at n (keys ∷ queries) q (suc j) =
   where
     by : (b : Bool) → count_by (nat_eq (n + suc j)) (holders_from (n + 1) queries q) ≡ once (has_key (get_or queries j []) q) → count_by (nat_eq (n + suc j)) (mark b n) + count_by (nat_eq (n + suc j)) (holders_from (n + 1) queries q) ≡ once (has_key (get_or queries j []) q)
     by true rest = omega (arith, count-one (nat_eq (n + suc j)) n, ap once (ne_eqb (n + suc j) n (λ (f : n + suc j ≡ n). omega (arith, f))), rest)
-    by false rest = rest
+    by false rest = omega (arith, rest)
 
 pub holders_count : (queries : List (List Text)) (q : Text) (w : ℕ) → count_by (nat_eq w) (holders_from 0 queries q) ≡ once (has_key (get_or queries w []) q)
 holders_count queries q w = let e : w ≡ 0 + w = omega arith in ap (λ (v : ℕ). count_by (nat_eq v) (holders_from 0 queries q)) e ∙ holders_at 0 queries q w

@@ -1,3 +1,4 @@
 pub mod OrderLemmas
 pub mod HolderLemmas
 pub mod CountLemmas
+pub mod StateLemmas

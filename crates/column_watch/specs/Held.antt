@@ -1,5 +1,5 @@
 -- What is held of the watched queries beside the journal.
-use Rattle.std.specs.Prelude.{◌≡◌, ◌+◌, ◌<◌, ◌≤◌, ⊤, ℕ, Bool, false, not, List, [], ◌∷◌, ◌++◌, bytes_eq, filter, get_or, if◌then◌else◌, length, map, take, Option, Some, None, String}
+use Rattle.std.specs.Prelude.{◌≡◌, ◌+◌, ◌<◌, ◌≤◌, ⊤, ℕ, Bool, not, List, [], ◌∷◌, ◌++◌, bytes_eq, filter, get_or, if◌then◌else◌, length, map, take, Option, Some, None, String}
 use Rattle.std.specs.Option.{option_map_or}
 use Rattle.std.specs.List.{All, IsDistinct}
 use Rattle.std.specs.Global.{Global, Vec}

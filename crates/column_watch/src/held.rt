@@ -1,7 +1,7 @@
 //! A row that is held from entry to entry.
 ghost use Rattle.std.specs.Prelude.{◌≡◌, ◌≤◌, ◌<◌, ◌+◌, ◌∷◌, ◌++◌, bytes_eq, filter, length, not, option_map, take, vec_capacity, vec_len, IfOk};
 ghost use Rattle.std.specs.List.{insert};
-ghost use Rattle.std.specs.Ordering.{is_lt};
+ghost use Rattle.std.specs.Ordering.{is_eq, is_lt};
 ghost use Rattle.lake_model.specs.Answer.{row_cmp};
 ghost use Rattle.lake_model.specs.Sorting.{in_order, put_in_order};
 ghost use Rattle.column_watch.specs.Held.{rows_left};
@@ -55,11 +55,18 @@ impl Held {
         }
     }
 
-    // Whether it is a row of the table of this name.
-    fn is_of(&self, name: &Name) -> bool
-        ensures { result ≡ bytes_eq self.now.table name.now }
+    // Whether it is a row of another table than that of this name.
+    fn is_of_other(&self, name: &Name) -> bool
+        ensures { result ≡ not (bytes_eq self.now.table name.now) }
     {
-        self.titles.table().bytes() == name.bytes()
+        self.titles.table().bytes() != name.bytes()
+    }
+
+    // Whether it is the same row.
+    fn is_same(&self, other: &Held) -> bool
+        ensures { result ≡ is_eq (row_cmp self.now other.now) }
+    {
+        self.row().order(&other.row()).is_eq()
     }
 
     // Whether it comes before another row in an answer.
@@ -112,7 +119,7 @@ fn all_equal(before: &[Held], after: &[Held]) -> bool
     ensures { Tells (not result) before.now after.now }
 {
     for i in 0..before.len() {
-        if !before[i].row().order(&after[i].row()).is_eq() {
+        if !before[i].is_same(&after[i]) {
             return false;
         }
     }
@@ -138,7 +145,7 @@ fn take_out(rows: &mut Vec<Held>, name: &Name)
     ensures len { vec_len rows.new ≤ vec_len rows.old }
     ensures capacity { vec_capacity rows.old ≤ vec_capacity rows.new }
 {
-    rows.retain(|held| !held.is_of(name));
+    rows.retain(|held| held.is_of_other(name));
 }
 
 // Where a row goes among rows that are in order.
@@ -171,6 +178,7 @@ pub(crate) fn put_all(rows: &mut Vec<Held>, coming: &mut Vec<Held>)
     requires room { vec_len rows.old + vec_len coming.old ≤ vec_capacity rows.old }
     ensures rows { rows.new.items ≡ in_order row_cmp (rows.old.items ++ coming.old.items) }
     ensures none { vec_len coming.new ≡ 0 }
+    ensures room { vec_len rows.new ≤ vec_capacity rows.new }
     ensures capacity { vec_capacity rows.old ≤ vec_capacity rows.new }
 {
     while let Some(row) = coming.pop() {

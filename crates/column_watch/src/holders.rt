@@ -1,5 +1,6 @@
 //! The keys of all queries, each with the queries that hold it. They lie in order, so that no choice of keys makes a look-up slow.
-ghost use Rattle.std.specs.Prelude.{◌≡◌, ◌≤◌, ◌∷◌, ◌++◌, [], ℕ, List, bytes_eq, if◌then◌else◌, length, map, IfOk, OnOk};
+ghost use Rattle.std.specs.Prelude.{◌≡◌, ◌≤◌, ◌∷◌, ◌++◌, [], ℕ, List, bytes_eq, if◌then◌else◌, length, map, IfOk, IsSome, OnOk};
+ghost use Rattle.std.specs.BTreeMap.{get_by_text};
 ghost use Rattle.column_watch.specs.Held.{held_by, holders_from};
 ghost use Rattle.lake_model.specs.Tables.{has_key};
 
@@ -48,11 +49,22 @@ fn add_query(alloc: Global, holders: &mut Holders, query: &QuerySet, w: u32) -> 
 fn add_holder(alloc: Global, holders: &mut Holders, key: &str, w: u32) -> Result<(), NoMemory>
     ensures { OnOk result ((q : List ℕ) → held_by holders.new q ≡ held_by holders.old q ++ (if bytes_eq key.now q then w ∷ [] else [])) }
 {
-    if let Some(queries) = holders.get_mut(key) {
-        queries.push(w)?;
-        return Ok(());
+    if holders.contains_key(key) {
+        return join_holders(holders, key, w);
     }
     let queries = vec![in alloc; w]?;
     holders.insert(String::from_str(alloc, key)?, queries)?;
+    Ok(())
+}
+
+// Adds a query behind those that hold a key, of which there are some.
+fn join_holders(holders: &mut Holders, key: &str, w: u32) -> Result<(), NoMemory>
+    requires { IsSome (get_by_text holders.old key.now) }
+    ensures { OnOk result ((q : List ℕ) → held_by holders.new q ≡ held_by holders.old q ++ (if bytes_eq key.now q then w ∷ [] else [])) }
+{
+    let Some(queries) = holders.get_mut(key) else {
+        unreachable!()
+    };
+    queries.push(w)?;
     Ok(())
 }

@@ -82,9 +82,12 @@ impl Watches {
     {
         let taken = entry.share()?;
         self.journal.reserve(1)?;
-        if self.journal.is_empty() {
-            self.holders = index_queries(self.alloc, &self.queries)?;
-        }
+        index_first(
+            self.alloc,
+            &mut self.holders,
+            &self.queries,
+            self.journal.len(),
+        )?;
         let table = put_table(&entry.what);
         let counts = counted(self.alloc, &self.holders, &self.queries, table)?;
         prepare_all(self.alloc, &mut self.queries, table, &counts)?;
@@ -129,6 +132,24 @@ impl Watches {
         let first = self.queries[w as usize - 1].first();
         Ok(Rows::new(lend_all(self.alloc, first)?))
     }
+}
+
+// Makes the map of the keys before the first entry.
+fn index_first(
+    alloc: Global,
+    holders: &mut Holders,
+    queries: &[Watched],
+    taken: usize,
+) -> Result<(), NoMemory>
+    requires few { length queries.now ≤ 16 }
+    requires indexed { 0 < taken → (key : List ℕ) → held_by holders.old key ≡ holders_from 0 (map (λ state. state.keys) queries.now) key }
+    ensures ok { OnOk result ((key : List ℕ) → held_by holders.new key ≡ holders_from 0 (map (λ state. state.keys) queries.now) key) }
+    ensures err { OnErr result (0 < taken → (key : List ℕ) → held_by holders.new key ≡ holders_from 0 (map (λ state. state.keys) queries.now) key) }
+{
+    if taken == 0 {
+        *holders = index_queries(alloc, queries)?;
+    }
+    Ok(())
 }
 
 // The table that an entry puts.
