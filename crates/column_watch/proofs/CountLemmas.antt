@@ -1,0 +1,125 @@
+-- What is counted for each query and each column, and the rows that follow.
+use Rattle.std.proofs.Common.{◌≡◌, refl, ap, sym, ◌∙◌, subst, ℕ, zero, suc, ◌+◌, ◌-◌, ◌<◌, ◌≤◌, List, [], ◌∷◌, ◌++◌, Bool, true, false, length, get_or, arith, take, drop, map, replicate, nat_eq, Option, Some, None}
+use Rattle.std.specs.Prelude.{bytes_eq, count_by}
+use Rattle.std.specs.List.{All, IsDistinct}
+use Rattle.std.specs.Global.{Vec}
+use Rattle.std.proofs.Math.Seq.{take-append_seam, take-suc}
+use Rattle.std.proofs.lemmas.Grind.{same_number_lists}
+use Rattle.std.proofs.lemmas.List.{get_or-map, length-map, map-append}
+use Rattle.std.proofs.lemmas.List.Elements.{All-map}
+use Rattle.std.proofs.lemmas.List.Sums.{sum_by-append, sum_by-cons}
+use Rattle.column_set.proofs.OverlapLemmas.{overlap_both_ways}
+use Rattle.lake_model.specs.Texts.{Text}
+use Rattle.lake_model.specs.Tables.{Column, Table, Titles, has_key, keys_at, overlap, sets_of, titles_of}
+use Rattle.lake_model.specs.Answer.{Row, row_at, rows_from}
+use Rattle.lake_model.proofs.AnswerLemmas.{rows_from_skipped, rows_from_taken}
+use Rattle.column_watch.specs.Held.{HasColumns, IsColumn, IsCounted, holders_from}
+use Rattle.column_watch.proofs.HolderLemmas.{holders_count, once}
+
+pub count_more : {X : Type 0} (p : X → Bool) (xs : List X) (i : ℕ) (d : X) → i < length xs → count_by p (take (i + 1) xs) ≡ count_by p (take i xs) + once (p (get_or xs i d))
+count_more p xs i d h =
+    let e : i + 1 ≡ suc i = omega arith in
+    let one : count_by p (get_or xs i d ∷ []) ≡ once (p (get_or xs i d)) = omega (arith, sum_by-cons (λ y. once (p y)) (get_or xs i d) []) in
+    ap (λ (n : ℕ). count_by p (take n xs)) e ∙ ap (count_by p) (take-suc xs i d h) ∙ sum_by-append (λ y. once (p y)) (take i xs) (get_or xs i d ∷ []) ∙ ap (λ (n : ℕ). count_by p (take i xs) + n) one
+
+once_small : (b : Bool) → once b ≤ 1
+once_small true = omega arith
+once_small false = omega arith
+
+pub count_few : {X : Type 0} (p : X → Bool) (xs : List X) (i : ℕ) → count_by p (take i xs) ≤ i
+count_few p [] zero = omega arith
+count_few p [] (suc i) = omega arith
+count_few p (x ∷ xs) zero = omega arith
+count_few p (x ∷ xs) (suc i) = omega (arith, sum_by-cons (λ y. once (p y)) x (take i xs), once_small (p x), count_few p xs i)
+
+pub count_within : {X : Type 0} (p : X → Bool) (xs : List X) (i : ℕ) → count_by p (take i xs) ≤ length xs
+count_within p [] zero = omega arith
+count_within p [] (suc i) = omega arith
+count_within p (x ∷ xs) zero = omega arith
+count_within p (x ∷ xs) (suc i) = omega (arith, sum_by-cons (λ y. once (p y)) x (take i xs), once_small (p x), count_within p xs i)
+
+abbrev pub zeros : ℕ → List ℕ
+zeros n = replicate n 0
+
+pub zero_at : (n w : ℕ) → get_or (zeros n) w 0 ≡ 0
+zero_at zero w = refl
+zero_at (suc n) zero = refl
+zero_at (suc n) (suc w) = zero_at n w
+
+-- what is counted over the keys of a column is the overlap of each query
+pub counted_all : (queries : List (List Text)) (keys : List Text) (counts : List ℕ) → length counts ≡ length queries → All (IsDistinct bytes_eq) queries → IsDistinct bytes_eq keys
+    → ((w : ℕ) → get_or counts w 0 ≡ count_by (has_key (get_or queries w [])) keys) → counts ≡ map (λ (query : List Text). overlap query keys) queries
+counted_all queries keys counts same different distinct counted =
+    same_number_lists counts (map (λ (query : List Text). overlap query keys) queries) (same ∙ sym (length-map queries (λ (query : List Text). overlap query keys)))
+    (λ k h. let within : k < length queries = omega arith in
+    counted k ∙ overlap_both_ways keys (get_or queries k []) distinct (different k [] within) ∙ sym (get_or-map (λ (query : List Text). overlap query keys) queries k [] 0 within))
+
+-- the keys of the column at index i
+pub column_keys : (table : Table) (i : ℕ) (d : Column) → i < length table.columns → keys_at table (i + 1) ≡ (get_or table.columns i d).keys
+column_keys table i d h =
+    let place : i + 1 - 1 ≡ i = omega arith in
+    ap (λ (n : ℕ). get_or (sets_of table) n []) place ∙ get_or-map (λ c. c.keys) table.columns i d [] h
+
+-- one column more
+pub overlaps_more : (queries : List (List Text)) (table : Table) (i : ℕ) (counts : List (List ℕ)) (numbers : List ℕ) → i < length table.columns
+    → counts ≡ map (λ (column : Column). map (λ (keys : List Text). overlap keys column.keys) queries) (take i table.columns) → numbers ≡ map (λ (keys : List Text). overlap keys (keys_at table (i + 1))) queries
+    → counts ++ numbers ∷ [] ≡ map (λ (column : Column). map (λ (keys : List Text). overlap keys column.keys) queries) (take (i + 1) table.columns)
+overlaps_more queries table i counts numbers h e f =
+    let d : Column = record { name = []; keys = [] } in
+    let n : i + 1 ≡ suc i = omega arith in
+    let of : Column → List ℕ = λ (column : Column). map (λ (keys : List Text). overlap keys column.keys) queries in
+    let one : numbers ≡ of (get_or table.columns i d) = f ∙ ap (λ (us : List Text). map (λ (keys : List Text). overlap keys us) queries) (column_keys table i d h) in
+    (λ j. e j ++ one j ∷ []) ∙ sym (map-append of (take i table.columns) (get_or table.columns i d ∷ [])) ∙ ap (map of) (sym (take-suc table.columns i d h)) ∙ ap (λ (m : ℕ). map of (take m table.columns)) (sym n)
+
+-- ---- the numbers of one query
+
+width : (queries : List (List Text)) (columns : List Column) (w : ℕ) → w < length queries → All (λ (numbers : List ℕ). w < length numbers) (map (λ (column : Column). map (λ (keys : List Text). overlap keys column.keys) queries) columns)
+width queries columns w h = All-map (λ (numbers : List ℕ). w < length numbers) (λ (column : Column). map (λ (keys : List Text). overlap keys column.keys) queries) columns (λ k d b. omega (arith, length-map queries (λ (keys : List Text). overlap keys (get_or columns k d).keys)))
+
+pub has_columns : (table : Option Table) (queries : List (List Text)) (counts : List (List ℕ)) (w : ℕ) → IsCounted table queries counts → w < length queries → HasColumns table counts w
+has_columns None queries counts w e h = tt
+has_columns (Some table) queries counts w e h =
+    (ap length e ∙ length-map table.columns (λ (column : Column). map (λ (keys : List Text). overlap keys column.keys) queries), subst (All (λ (numbers : List ℕ). w < length numbers)) (sym e) (width queries table.columns w h))
+
+column_of : (queries : List (List Text)) (columns : List Column) (w : ℕ) → w < length queries
+    → map (λ (numbers : List ℕ). get_or numbers w 0) (map (λ (column : Column). map (λ (keys : List Text). overlap keys column.keys) queries) columns) ≡ map (λ (column : Column). overlap (get_or queries w []) column.keys) columns
+column_of queries [] w h = refl
+column_of queries (column ∷ columns) w h = λ i. get_or-map (λ (keys : List Text). overlap keys column.keys) queries w [] 0 h i ∷ column_of queries columns w h i
+
+pub is_column : (table : Option Table) (queries : List (List Text)) (counts : List (List ℕ)) (w : ℕ) → IsCounted table queries counts → w < length queries → IsColumn table counts w (get_or queries w [])
+is_column None queries counts w e h = tt
+is_column (Some table) queries counts w e h = ap (map (λ (numbers : List ℕ). get_or numbers w 0)) e ∙ column_of queries table.columns w h
+
+-- what is counted for the query at a column
+pub number_at : (counts : List (List ℕ)) (table : Table) (w : ℕ) (keys : List Text) (i : ℕ) (d : List ℕ) → i < length table.columns → i < length counts → map (λ (numbers : List ℕ). get_or numbers w 0) counts ≡ map (λ (column : Column). overlap keys column.keys) table.columns
+    → get_or (get_or counts i d) w 0 ≡ overlap keys (keys_at table (i + 1))
+number_at counts table w keys i d h k e =
+    let c : Column = record { name = []; keys = [] } in
+    sym (get_or-map (λ (numbers : List ℕ). get_or numbers w 0) counts i d 0 k) ∙ ap (λ (us : List ℕ). get_or us i 0) e ∙ get_or-map (λ (column : Column). overlap keys column.keys) table.columns i c 0 h ∙ ap (overlap keys) (sym (column_keys table i c h))
+
+-- one key more
+pub counted_more : (queries : List (List Text)) (keys : List Text) (i : ℕ) (key : Text) (olds news holders : List ℕ) → i < length keys → key ≡ get_or keys i [] → holders ≡ holders_from 0 queries key
+    → ((w : ℕ) → get_or olds w 0 ≡ count_by (has_key (get_or queries w [])) (take i keys)) → ((w : ℕ) → get_or news w 0 ≡ get_or olds w 0 + count_by (nat_eq w) holders) → (w : ℕ) → get_or news w 0 ≡ count_by (has_key (get_or queries w [])) (take (i + 1) keys)
+counted_more queries keys i key olds news holders h e f before raised w =
+    let once_more : count_by (nat_eq w) holders ≡ once (has_key (get_or queries w []) (get_or keys i [])) = ap (count_by (nat_eq w)) f ∙ holders_count queries key w ∙ ap (λ k. once (has_key (get_or queries w []) k)) e in
+    omega (arith, raised w, before w, once_more, count_more (has_key (get_or queries w [])) keys i [] h)
+
+-- what is written over the whole of a list
+pub written : {X : Type 0} (n : ℕ) (news rest : List X) → n ≡ length news → take n (news ++ rest) ≡ news
+written n news rest e = ap (λ (m : ℕ). take m (news ++ rest)) e ∙ take-append_seam news rest
+
+-- ---- the rows of one query
+
+pub row_taken : (query : List Text) (table : Table) (i : ℕ) (rows total after : List Row) (held : Row) (titles : Titles) (n : ℕ) → i < length table.columns → rows ++ rows_from query table.name (i + 1) (drop i table.columns) ≡ total
+    → n ≡ overlap query (keys_at table (i + 1)) → titles ≡ titles_of table → 0 < n → held ≡ row_at n titles (i + 1) → after ≡ rows ++ held ∷ [] → after ++ rows_from query table.name (i + 1 + 1) (drop (i + 1) table.columns) ≡ total
+row_taken query table i rows total after held titles n within so_far is same some e f =
+    ap (λ us. us ++ rows_from query table.name (i + 1 + 1) (drop (i + 1) table.columns)) (f ∙ ap (λ (row : Row). rows ++ row ∷ []) e) ∙ rows_from_taken query table i rows total within so_far n is titles same some
+
+pub row_passed : (query : List Text) (table : Table) (i : ℕ) (rows total after : List Row) (n : ℕ) → i < length table.columns → rows ++ rows_from query table.name (i + 1) (drop i table.columns) ≡ total
+    → n ≡ overlap query (keys_at table (i + 1)) → n ≤ 0 → after ≡ rows → after ++ rows_from query table.name (i + 1 + 1) (drop (i + 1) table.columns) ≡ total
+row_passed query table i rows total after n within so_far is none e =
+    ap (λ us. us ++ rows_from query table.name (i + 1 + 1) (drop (i + 1) table.columns)) e ∙ rows_from_skipped query table i rows total within so_far n is none
+
+-- the number that the vector at an index has for a query
+pub numbers_at : (vectors : List (Vec ℕ)) (i : ℕ) (v : Vec ℕ) → i < length vectors → v ≡ get_or vectors i v → get_or (map (λ (v : Vec ℕ). v.items) vectors) i [] ≡ v.items
+numbers_at vectors i v h e = get_or-map (λ (v : Vec ℕ). v.items) vectors i v [] h ∙ ap (λ (v : Vec ℕ). v.items) (sym e)

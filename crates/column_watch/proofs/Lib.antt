@@ -1,0 +1,4 @@
+pub mod OrderLemmas
+pub mod HolderLemmas
+pub mod CountLemmas
+pub mod StateLemmas

@@ -1,0 +1,8 @@
+use Rattle.std.proofs.Common.{◌≡◌, ◌+◌, ℕ, count_by, get_or, length, nat_eq, take}
+use Rattle.column_watch.proofs.overlaps.raise.Given as goal
+
+abbrev pub invariant-loop-w : goal.invariant-loop-w
+invariant-loop-w l = record {
+  len : length l.counts ≡ length l.initial.counts;
+  raised : (w : ℕ) → get_or l.counts w 0 ≡ get_or l.initial.counts w 0 + count_by (nat_eq w) (take l.w-index l.holders);
+}

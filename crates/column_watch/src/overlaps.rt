@@ -1,0 +1,93 @@
+//! How many keys each query shares with each column of a table, and the rows that follow. Each key of the table is looked at once.
+ghost use Rattle.std.specs.Prelude.{◌≡◌, ◌<◌, ◌≤◌, ◌+◌, ◌^◌, ℕ, List, bytes_eq, count_by, get_or, length, map, nat_eq, IfOk};
+ghost use Rattle.std.specs.List.{All, IsDistinct};
+ghost use Rattle.lake_model.specs.Answer.{rows_of_table};
+ghost use Rattle.lake_model.specs.Tables.{keys_at, overlap as overlap_of};
+ghost use Rattle.lake_model.specs.Texts.{Text};
+ghost use Rattle.column_watch.specs.Held.{held_by, holders_from, overlaps_of};
+
+use crate::held::Held;
+use crate::holders::{Holders, holders_of};
+use crate::watched::Watched;
+use column_set::{Row, TableSets};
+use no_memory::NoMemory;
+use std::alloc::Global;
+
+/// How many keys each of the queries shares with each column of the table: a list for each column, with a number for each query.
+pub(crate) fn overlaps(
+    alloc: Global,
+    holders: &Holders,
+    queries: &[Watched],
+    table: &TableSets,
+) -> Result<Vec<Vec<u32>>, NoMemory>
+    requires few { length queries.now ≤ 16 }
+    requires indexed { (key : List ℕ) → held_by holders.now key ≡ holders_from 0 (map (λ state. state.keys) queries.now) key }
+    requires different { All (λ state. IsDistinct bytes_eq state.keys) queries.now }
+    ensures { IfOk result (λ overlaps. map (λ counts. counts.items) overlaps.items ≡ overlaps_of (map (λ state. state.keys) queries.now) table.now) }
+{
+    let mut overlaps = Vec::with_capacity(alloc, table.columns() as usize)?;
+    for i in 0..table.columns() {
+        overlaps.push(count_column(alloc, holders, queries, table, i + 1)?)?;
+    }
+    Ok(overlaps)
+}
+
+// How many keys each of the queries shares with the column at a place.
+fn count_column(
+    alloc: Global,
+    holders: &Holders,
+    queries: &[Watched],
+    table: &TableSets,
+    place: u32,
+) -> Result<Vec<u32>, NoMemory>
+    requires few { length queries.now ≤ 16 }
+    requires indexed { (key : List ℕ) → held_by holders.now key ≡ holders_from 0 (map (λ state. state.keys) queries.now) key }
+    requires different { All (λ state. IsDistinct bytes_eq state.keys) queries.now }
+    requires low { 0 < place }
+    requires high { place ≤ length table.now.columns }
+    ensures { IfOk result (λ counts. counts.items ≡ map (λ keys. overlap_of keys (keys_at table.now place)) (map (λ state. state.keys) queries.now)) }
+{
+    let mut counts = vec![in alloc; 0u32; queries.len()]?;
+    for i in 0..table.size(place) {
+        raise(&mut counts, holders_of(holders, table.key(place, i)));
+    }
+    Ok(counts)
+}
+
+// Raises the counts of these queries by one.
+fn raise(counts: &mut [u32], holders: &[u32])
+    requires within { All (λ w. w < length counts.old) holders.now }
+    requires small { (w : ℕ) → get_or counts.old w 0 + length holders.now < 2 ^ 32 }
+    ensures len { length counts.new ≡ length counts.old }
+    ensures raised { (w : ℕ) → get_or counts.new w 0 ≡ get_or counts.old w 0 + count_by (nat_eq w) holders.now }
+{
+    for w in holders {
+        counts[*w as usize] += 1;
+    }
+}
+
+/// The rows of a table for one of the queries, by their places.
+pub(crate) fn table_rows(
+    alloc: Global,
+    table: &TableSets,
+    overlaps: &[Vec<u32>],
+    w: usize,
+) -> Result<Vec<Held>, NoMemory>
+    requires as_many { length overlaps.now ≡ length table.now.columns }
+    requires within { All (λ numbers. w < length numbers) (map (λ counts. counts.items) overlaps.now) }
+    ensures { IfOk result (λ rows. (query : List Text) → map (λ numbers. get_or numbers w 0) (map (λ counts. counts.items) overlaps.now) ≡ map (λ column. overlap_of query column.keys) table.now.columns → rows.items ≡ rows_of_table query table.now) }
+{
+    let _narrow = table.columns();
+    let mut rows = Vec::new(alloc);
+    for (i, counts) in overlaps.iter().enumerate() {
+        let overlap = counts[w];
+        if overlap > 0 {
+            rows.push(Held::of(&Row {
+                overlap,
+                titles: table.titles(),
+                place: i as u32 + 1,
+            })?)?;
+        }
+    }
+    Ok(rows)
+}

@@ -1,0 +1,4 @@
+//! The rows of watched queries, and whether an entry changed them: worked runs, and random entries beside a plain model.
+mod entries;
+mod random;
+mod worked;

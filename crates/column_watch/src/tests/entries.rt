@@ -1,0 +1,74 @@
+//! Small tables, the entries of a journal, and queries to watch.
+ghost use Rattle.std.specs.Prelude.{◌≡◌, ◌≤◌, length, IfOk, OnOk};
+
+use crate::Watches;
+use catalogue::{Entry, Who};
+use column_set::{Keys, Name, QuerySet, SharedTable, TableSets};
+use csv_table::read_table;
+use segment_core::Numbers;
+use std::alloc::Global;
+use std::test::Fail;
+
+const WHO: Who = Who {
+    caller: 1,
+    command: 1,
+};
+
+fn name(text: &str) -> Result<Name, Fail> {
+    Ok(Name::read(text.as_bytes()).ok_or("no name")?)
+}
+
+// The table of this name and these CSV bytes.
+fn table(alloc: Global, title: &str, text: &str) -> Result<SharedTable, Fail> {
+    let raw = read_table(alloc, text.as_bytes(), 1_024)?;
+    let table = TableSets::build(alloc, Keys::Canonical, name(title)?, &raw)?;
+    Ok(SharedTable::new(alloc, table)?)
+}
+
+/// The load of a table of this name and these CSV bytes.
+pub(crate) fn load(alloc: Global, title: &str, text: &str) -> Result<Entry, Fail> {
+    Ok(Entry::loaded(WHO, table(alloc, title, text)?))
+}
+
+/// The replace of a table of this name by these CSV bytes.
+pub(crate) fn replace(alloc: Global, title: &str, text: &str) -> Result<Entry, Fail> {
+    Ok(Entry::replaced(WHO, table(alloc, title, text)?))
+}
+
+/// The drop of a table of this name.
+pub(crate) fn drop_table(title: &str) -> Result<Entry, Fail> {
+    Ok(Entry::dropped(WHO, name(title)?))
+}
+
+/// The merge of the first two parts, of which both tables are kept.
+pub(crate) fn merge(alloc: Global) -> Result<Entry, Fail> {
+    let from = Numbers::new(vec![in alloc; 1, 2]?);
+    let kept = Numbers::new(vec![in alloc; 1, 2]?);
+    Ok(Entry::swapped(WHO, from, kept))
+}
+
+pub(crate) fn query(alloc: Global, body: &str) -> Result<QuerySet, Fail> {
+    Ok(QuerySet::read(alloc, Keys::Canonical, body.as_bytes())?)
+}
+
+/// Watches three queries, of k rows each.
+pub(crate) fn watch(alloc: Global, bodies: [&str; 3], k: u32) -> Result<Watches, Fail>
+    requires low { 1 ≤ k }
+    requires high { k ≤ 10000 }
+    ensures { IfOk result (λ watches. length watches.queries ≡ 3) }
+{
+    let mut watches = Watches::new(alloc);
+    watches.add(query(alloc, bodies[0])?, k)?;
+    watches.add(query(alloc, bodies[1])?, k)?;
+    watches.add(query(alloc, bodies[2])?, k)?;
+    Ok(watches)
+}
+
+/// Takes an entry.
+pub(crate) fn take(watches: &mut Watches, entry: Result<Entry, Fail>) -> Result<(), Fail>
+    ensures { OnOk result (length watches.new.queries ≡ length watches.old.queries) }
+{
+    let entry = entry?;
+    watches.take(&entry)?;
+    Ok(())
+}

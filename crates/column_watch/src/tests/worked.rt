@@ -1,0 +1,104 @@
+//! Worked runs: the rows that follow from the definition of an answer by hand. All columns are named c.
+ghost use Rattle.std.specs.Prelude.{◌≤◌, length};
+
+use super::entries::{drop_table, load, merge, replace, take, watch};
+use crate::Watches;
+use std::process::Abort;
+use std::test::Fail;
+
+// Whether the last entry changed the answer to a query, and the overlap, the table and the place of each row.
+fn expect(
+    rt: &impl Abort,
+    watches: &Watches,
+    w: u32,
+    changed: bool,
+    want: &[(u32, &str, u32)],
+) -> Result<(), Fail>
+    requires low { 1 ≤ w }
+    requires high { w ≤ length watches.now.queries }
+{
+    assert_eq!(rt; watches.changed(w), changed);
+    let Ok(rows) = watches.rows(w) else {
+        return Err(Fail::from("out of memory"));
+    };
+    assert_eq!(rt; rows.list().len(), want.len());
+    for (row, (overlap, table, place)) in rows.list().iter().zip(want) {
+        assert_eq!(rt; row.overlap, *overlap);
+        assert_eq!(rt; row.table().text(), *table);
+        assert_eq!(rt; row.place, *place);
+    }
+    Ok(())
+}
+
+// The row of s falls behind the first one, and comes back when t goes. A table that shares no key changes nothing.
+#[test]
+fn first_row(rt: HostRuntime) -> Result<(), Fail> {
+    let alloc = rt.alloc();
+    let mut watches = watch(alloc, ["a\nb\n", "z\n", "y\n"], 1)?;
+    expect(&rt, &watches, 1, false, &[])?;
+    take(&mut watches, load(alloc, "s", "c\na\n"))?;
+    expect(&rt, &watches, 1, true, &[(1, "s", 1)])?;
+    take(&mut watches, load(alloc, "t", "c\na\nb\n"))?;
+    expect(&rt, &watches, 1, true, &[(2, "t", 1)])?;
+    assert_eq!(rt; watches.kept(1), 2);
+    take(&mut watches, drop_table("t"))?;
+    expect(&rt, &watches, 1, true, &[(1, "s", 1)])?;
+    take(&mut watches, load(alloc, "u", "c\nz\n"))?;
+    expect(&rt, &watches, 1, false, &[(1, "s", 1)])?;
+    assert_eq!(rt; watches.at(), 4);
+    Ok(())
+}
+
+// With two rows, and a query of the key z: the first is changed by the first three entries, the second by the last.
+#[test]
+fn two_rows(rt: HostRuntime) -> Result<(), Fail> {
+    let alloc = rt.alloc();
+    let mut watches = watch(alloc, ["a\nb\n", "z\n", "a\nz\n"], 2)?;
+    take(&mut watches, load(alloc, "s", "c\na\n"))?;
+    expect(&rt, &watches, 1, true, &[(1, "s", 1)])?;
+    expect(&rt, &watches, 2, false, &[])?;
+    expect(&rt, &watches, 3, true, &[(1, "s", 1)])?;
+    take(&mut watches, load(alloc, "t", "c\na\nb\n"))?;
+    expect(&rt, &watches, 1, true, &[(2, "t", 1), (1, "s", 1)])?;
+    expect(&rt, &watches, 2, false, &[])?;
+    expect(&rt, &watches, 3, true, &[(1, "s", 1), (1, "t", 1)])?;
+    take(&mut watches, drop_table("t"))?;
+    expect(&rt, &watches, 1, true, &[(1, "s", 1)])?;
+    take(&mut watches, load(alloc, "u", "c\nz\n"))?;
+    expect(&rt, &watches, 1, false, &[(1, "s", 1)])?;
+    expect(&rt, &watches, 2, true, &[(1, "u", 1)])?;
+    expect(&rt, &watches, 3, true, &[(1, "s", 1), (1, "u", 1)])?;
+    Ok(())
+}
+
+// A replace takes out the rows of the old table, and one by the same keys changes nothing; nor does a merge.
+#[test]
+fn replaces_and_a_merge(rt: HostRuntime) -> Result<(), Fail> {
+    let alloc = rt.alloc();
+    let mut watches = watch(alloc, ["a\nb\n", "z\n", "y\n"], 10)?;
+    take(&mut watches, load(alloc, "s", "c,c\na,z\nb,a\n"))?;
+    expect(&rt, &watches, 1, true, &[(2, "s", 1), (1, "s", 2)])?;
+    expect(&rt, &watches, 2, true, &[(1, "s", 2)])?;
+    take(&mut watches, load(alloc, "t", "c\nb\n"))?;
+    expect(
+        &rt,
+        &watches,
+        1,
+        true,
+        &[(2, "s", 1), (1, "s", 2), (1, "t", 1)],
+    )?;
+    take(&mut watches, merge(alloc))?;
+    expect(
+        &rt,
+        &watches,
+        1,
+        false,
+        &[(2, "s", 1), (1, "s", 2), (1, "t", 1)],
+    )?;
+    take(&mut watches, replace(alloc, "s", "c\nb\n"))?;
+    expect(&rt, &watches, 1, true, &[(1, "s", 1), (1, "t", 1)])?;
+    expect(&rt, &watches, 2, true, &[])?;
+    take(&mut watches, replace(alloc, "s", "c\na\n"))?;
+    expect(&rt, &watches, 1, false, &[(1, "s", 1), (1, "t", 1)])?;
+    Ok(())
+}
