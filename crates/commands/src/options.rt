@@ -2,6 +2,7 @@
 ghost use Rattle.std.specs.Prelude.{◌≡◌};
 ghost use Rattle.script_model.specs.Options.{plain};
 
+use lake_model::Keys;
 use std::marker::Model;
 
 /// A piece of an order: the lanes whose turn it is in a batch, one after another, where 0 is the merger. A contract sees the list.
@@ -65,13 +66,14 @@ impl Order {
 }
 
 /// What the words of a command line say of a run: how many lanes there are, in which order their steps are taken where one is stated,
-/// whether a merger runs beside them, and whether replies are written with a trace.
+/// whether a merger runs beside them, whether replies are written with a trace, and by which match values are the same.
 #[derive(Drop)]
 pub struct Options {
     pub lanes: u32,
     pub order: Option<Order>,
     pub merge: bool,
     pub trace: bool,
+    pub keys: Keys,
 }
 
 impl Model for Options {
@@ -79,11 +81,12 @@ impl Model for Options {
 
     ghost Value = { OptionsOf };
 
-    ghost view = { λ o. options_with o.lanes o.order o.merge o.trace };
+    ghost view = { λ o. options_with o.lanes o.order o.merge o.trace o.keys };
 }
 
 impl Options {
-    /// One lane, no stated order, no merger and no trace. It takes no memory.
+    /// One lane, no stated order, no merger and no trace, and values that are the same by canonical caseless matching. It takes no
+    /// memory.
     pub fn plain() -> Options
         ensures { result ≡ plain }
     {
@@ -92,6 +95,7 @@ impl Options {
             order: None,
             merge: false,
             trace: false,
+            keys: Keys::Canonical,
         }
     }
 }

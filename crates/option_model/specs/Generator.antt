@@ -2,6 +2,7 @@
 use Rattle.std.specs.Prelude.{ℕ, zero, suc, ◌+◌, ◌-◌, ◌*◌, ◌^◌, ◌/◌, ◌%◌, ◌==◌, if◌then◌else◌, List, [], ◌∷◌, ◌++◌, length, map, flat_map, sum_by, codes, decimal, Some, false}
 use Rattle.std.specs.List.{range_with_len, enumerate_from}
 use Rattle.lake_model.specs.Texts.{Text}
+use Rattle.lake_model.specs.declared.Keys.TheVariants.{Canonical}
 use Rattle.script_model.specs.Commands.{Task, Load, Like, Merge, Batch, command_with}
 use Rattle.record_model.specs.Replies.{Reply, Loaded, Found, Merged}
 use Rattle.script_model.specs.Options.{Options, options_with}
@@ -66,7 +67,7 @@ made_batch seed tables rows = map (λ task. command_with task.0 1 task.1) (enume
 
 -- they run in an order of two empty pieces
 abbrev pub made_options : Options
-made_options = options_with 1 (Some ([] ∷ [] ∷ [])) false false
+made_options = options_with 1 (Some ([] ∷ [] ∷ [])) false false Canonical
 
 -- ---- the summary
 

@@ -1,14 +1,18 @@
 -- The plain words of a command line, behind the program's name, and the mode that they say.
-use Rattle.std.specs.Prelude.{ℕ, ◌==◌, Bool, true, false, ◌&&◌, not, if◌then◌else◌, List, [], ◌∷◌, map, bytes_eq, codes, Option, Some, None, option_map, is_some}
-use Rattle.std.specs.List.{slice_split}
+use Rattle.std.specs.Prelude.{ℕ, ◌==◌, Bool, true, false, ◌&&◌, not, if◌then◌else◌, List, [], ◌∷◌, length, map, bytes_eq, codes, nat_le, Option, Some, None, option_map, is_some}
+use Rattle.std.specs.List.{list_all, slice_split}
 use Rattle.lake_model.specs.Texts.{Text}
+use Rattle.lake_model.specs.declared.Keys.{Keys}
+use Rattle.lake_model.specs.declared.Keys.TheVariants.{Canonical, Compatibility}
 use Rattle.script_model.specs.Words.{number, number_or_zero}
 use Rattle.script_model.specs.Options.{Options, options_with}
 
--- a script is run with these options, or a lake is made of a seed, so many tables, and so many rows in each
+-- a script is run with these options; or a lake is made of a seed, so many tables, and so many rows in each; or the first k rows of the queries in
+-- these files are watched while a script changes a lake
 pub data Mode : Type 0 where
   Run : (options : Options) → Mode
   Make : (seed tables rows : ℕ) → Mode
+  Watch : (k : ℕ) (paths : List Text) → Mode
 
 -- all of them, where each is there
 abbrev pub all_there : {X : Type 0} → List (Option X) → Option (List X)
@@ -37,13 +41,14 @@ pub record Given : Type 0 where
   pub order : Option Text
   pub merge : Bool
   pub trace : Bool
+  pub profile : Option Text
 
 abbrev pub nothing_given : Given
-nothing_given = record { lanes = None; order = None; merge = false; trace = false }
+nothing_given = record { lanes = None; order = None; merge = false; trace = false; profile = None }
 
 -- the arguments, each at most once
 pub data Argument : Type 0 where
-  LanesValue OrderValue MergeFlag TraceFlag NoArgument : Argument
+  LanesValue OrderValue MergeFlag TraceFlag ProfileValue NoArgument : Argument
 
 abbrev pub argument_of : Given → Text → Argument
 argument_of given word =
@@ -51,11 +56,12 @@ argument_of given word =
     else if bytes_eq word (codes "--order") && not (is_some given.order) then OrderValue
     else if bytes_eq word (codes "--merge") && not given.merge then MergeFlag
     else if bytes_eq word (codes "--trace") && not given.trace then TraceFlag
+    else if bytes_eq word (codes "--profile") && not (is_some given.profile) then ProfileValue
     else NoArgument
 
 -- whether an argument's value has to come next; a word that is no argument refuses all
 pub data Awaited : Type 0 where
-  NoValue LanesNext OrderNext Refused : Awaited
+  NoValue LanesNext OrderNext ProfileNext Refused : Awaited
 
 pub record Taken : Type 0 where
   pub given : Given
@@ -69,12 +75,14 @@ take_argument given LanesValue = taken given LanesNext
 take_argument given OrderValue = taken given OrderNext
 take_argument given MergeFlag = taken (record given { merge = true }) NoValue
 take_argument given TraceFlag = taken (record given { trace = true }) NoValue
+take_argument given ProfileValue = taken given ProfileNext
 take_argument given NoArgument = taken given Refused
 
 abbrev pub take_word : Given → Awaited → Text → Taken
 take_word given NoValue word = take_argument given (argument_of given word)
 take_word given LanesNext word = taken (record given { lanes = Some word }) NoValue
 take_word given OrderNext word = taken (record given { order = Some word }) NoValue
+take_word given ProfileNext word = taken (record given { profile = Some word }) NoValue
 take_word given Refused word = taken given Refused
 
 abbrev pub take_words : Given → Awaited → List Text → Taken
@@ -92,14 +100,25 @@ order_said lanes merge None = Some None
 order_said lanes merge (Some []) = None
 order_said lanes merge (Some (byte ∷ bytes)) = option_map Some (order_of lanes merge (byte ∷ bytes))
 
-abbrev pub options_of : Given → Option ℕ → Option Options
-options_of given None = None
-options_of given (Some lanes) = option_map (λ order. options_with lanes order given.merge given.trace) (order_said lanes given.merge given.order)
+-- profile 2 compares values by their compatibility forms
+abbrev pub keys_of_profile : ℕ → Keys
+keys_of_profile profile = if profile == 2 then Compatibility else Canonical
+
+-- profile 1 or 2, and 1 where no word says which
+abbrev pub profile_said : Option Text → Option ℕ
+profile_said None = Some 1
+profile_said (Some text) = number 2 text
+
+abbrev pub options_of : Given → Option ℕ → Option ℕ → Option Options
+options_of given None profile = None
+options_of given (Some lanes) None = None
+options_of given (Some lanes) (Some profile) = option_map (λ order. options_with lanes order given.merge given.trace (keys_of_profile profile)) (order_said lanes given.merge given.order)
 
 abbrev pub run_options : Given → Awaited → Option Options
-run_options given NoValue = options_of given (lanes_said given.lanes)
+run_options given NoValue = options_of given (lanes_said given.lanes) (profile_said given.profile)
 run_options given LanesNext = None
 run_options given OrderNext = None
+run_options given ProfileNext = None
 run_options given Refused = None
 
 -- ---- the words behind `make`: a seed, a number of tables, and a number of rows
@@ -112,6 +131,22 @@ abbrev pub make_mode : List Text → Option Mode
 make_mode (seed ∷ tables ∷ rows ∷ []) = make_with (number_or_zero 4294967295 seed) (number 1000 tables) (number 5000 rows)
 make_mode words = None
 
+-- ---- the words behind `watch`: how many rows are watched of each query, and the paths of the files that hold the queries
+
+-- a path is not empty, and does not begin with `-`
+abbrev pub is_path : Text → Bool
+is_path [] = false
+is_path (byte ∷ bytes) = not (byte == 0x2D)
+
+abbrev pub watch_with : List Text → Option ℕ → Option Mode
+watch_with paths None = None
+watch_with paths (Some k) = if list_all is_path paths && nat_le (length paths) 16 then Some (Watch k paths) else None
+
+-- 1 to 10,000 rows, and 1 to 16 paths
+abbrev pub watch_mode : List Text → Option Mode
+watch_mode (k ∷ path ∷ paths) = watch_with (path ∷ paths) (number 10000 k)
+watch_mode words = None
+
 -- ---- the mode
 
 abbrev pub run_mode : Taken → Option Mode
@@ -123,4 +158,5 @@ plain_mode [] = None
 plain_mode (word ∷ words) =
     if bytes_eq word (codes "run") then run_mode (take_words nothing_given NoValue words)
     else if bytes_eq word (codes "make") then make_mode words
+    else if bytes_eq word (codes "watch") then watch_mode words
     else None

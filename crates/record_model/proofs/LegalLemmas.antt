@@ -4,7 +4,7 @@ use Rattle.std.specs.Prelude.{◌==◌, ◌&&◌, not, Option, Some, None, find,
 use Rattle.std.specs.List.{AllByRecursion, fold, range_with_len}
 use Rattle.std.proofs.lemmas.List.{append-nil, take-append-drop}
 use Rattle.lake_model.specs.declared.Who.{Who}
-use Rattle.lake_model.specs.declared.Counts.{Counts}
+use Rattle.record_model.specs.Rules.{Rules}
 use Rattle.lake_model.specs.declared.Policy.{Policy}
 use Rattle.lake_model.specs.Journal as journal
 use Rattle.lake_model.specs.Texts.{Text}
@@ -43,9 +43,9 @@ pub either_none : (b : Bool) → cond {A = List What} b [] [] ≡ []
 either_none true = refl
 either_none false = refl
 
-load_follows : (limits : Counts) (who : Who) (read : TableRead) (now : List Entry) → is_legal_behind now (map (entry_with who) (cond (is_accepted (standing (load_answer limits read now))) (loads read) [])) ≡ true
-load_follows limits who (NoTable fault) now = ap (λ whats. is_legal_behind now (map (entry_with who) whats)) (either_none (is_accepted (standing (load_answer limits (NoTable fault) now))))
-load_follows limits who (IsTable table) now = by (is_live now table.name) (find is_passed (load_bounds limits table (counts now))) refl
+load_follows : (rules : Rules) (who : Who) (read : TableRead) (now : List Entry) → is_legal_behind now (map (entry_with who) (cond (is_accepted (standing (load_answer rules read now))) (loads read) [])) ≡ true
+load_follows rules who (NoTable fault) now = ap (λ whats. is_legal_behind now (map (entry_with who) whats)) (either_none (is_accepted (standing (load_answer rules (NoTable fault) now))))
+load_follows rules who (IsTable table) now = by (is_live now table.name) (find is_passed (load_bounds rules.limits table (counts now))) refl
   where
     by : (b : Bool) (o : Option Bounded) → is_live now table.name ≡ b
         → is_legal_behind now (map (entry_with who) (cond (is_accepted (standing (cond b (Repeated table.name (length now)) (unless_lake_full (length now) (Loaded table.name (length table.columns) (members table) (length now + 1)) o)))) (journal.Loaded table ∷ []) [])) ≡ true
@@ -53,8 +53,8 @@ load_follows limits who (IsTable table) now = by (is_live now table.name) (find 
     by false None e = ap (λ b. not b && true) e
     by false (Some bound) e = refl
 
-drop_follows : (limits : Counts) (who : Who) (name : Text) (now : List Entry) → is_legal_behind now (map (entry_with who) (adds (DropTable name) now (answer_to limits (DropTable name) now now))) ≡ true
-drop_follows limits who name now = by (is_live now name) (find is_passed (drop_bounds limits (counts now))) refl
+drop_follows : (rules : Rules) (who : Who) (name : Text) (now : List Entry) → is_legal_behind now (map (entry_with who) (adds rules (DropTable name) now (answer_to rules (DropTable name) now now))) ≡ true
+drop_follows rules who name now = by (is_live now name) (find is_passed (drop_bounds rules.limits (counts now))) refl
   where
     by : (b : Bool) (o : Option Bounded) → is_live now name ≡ b
         → is_legal_behind now (map (entry_with who) (cond (is_accepted (standing (cond b (unless_lake_full (length now) (Dropped name (length now + 1)) o) (Unknown name (length now))))) (journal.Dropped name ∷ []) [])) ≡ true
@@ -62,9 +62,9 @@ drop_follows limits who name now = by (is_live now name) (find is_passed (drop_b
     by true (Some bound) e = refl
     by false o e = refl
 
-replace_follows : (limits : Counts) (who : Who) (read : TableRead) (now : List Entry) → is_legal_behind now (map (entry_with who) (cond (is_accepted (standing (replace_answer limits read now))) (replaces read) [])) ≡ true
-replace_follows limits who (NoTable fault) now = ap (λ whats. is_legal_behind now (map (entry_with who) whats)) (either_none (is_accepted (standing (replace_answer limits (NoTable fault) now))))
-replace_follows limits who (IsTable table) now = by (is_live now table.name) (find is_passed (replace_bounds limits table (counts now))) refl
+replace_follows : (rules : Rules) (who : Who) (read : TableRead) (now : List Entry) → is_legal_behind now (map (entry_with who) (cond (is_accepted (standing (replace_answer rules read now))) (replaces read) [])) ≡ true
+replace_follows rules who (NoTable fault) now = ap (λ whats. is_legal_behind now (map (entry_with who) whats)) (either_none (is_accepted (standing (replace_answer rules (NoTable fault) now))))
+replace_follows rules who (IsTable table) now = by (is_live now table.name) (find is_passed (replace_bounds rules.limits table (counts now))) refl
   where
     by : (b : Bool) (o : Option Bounded) → is_live now table.name ≡ b
         → is_legal_behind now (map (entry_with who) (cond (is_accepted (standing (cond b (unless_lake_full (length now) (Replaced table.name (length table.columns) (members table) (length now + 1)) o) (Unknown table.name (length now))))) (journal.Replaced table ∷ []) [])) ≡ true
@@ -88,27 +88,27 @@ merge_follows stay who policy pinned behind legal = by (planned_parts policy (la
     by (part ∷ parts) planned = gone part parts (find (λ planned. not (has_part (layout (pinned ++ behind)) planned)) (part ∷ parts)) planned refl
 
 -- what a command adds may follow, wherever before it is pinned
-task_follows : PlansStay → (limits : Counts) (who : Who) (task : Task) (pinned behind : List Entry) → is_legal (pinned ++ behind) ≡ true
-    → is_legal_behind (pinned ++ behind) (map (entry_with who) (adds task pinned (answer_to limits task pinned (pinned ++ behind)))) ≡ true
-task_follows stay limits who (Load name body) pinned behind legal = load_follows limits who (table_read name body) (pinned ++ behind)
-task_follows stay limits who (LoadFile name file) pinned behind legal = load_follows limits who (file_read name file) (pinned ++ behind)
-task_follows stay limits who (DropTable name) pinned behind legal = drop_follows limits who name (pinned ++ behind)
-task_follows stay limits who (Replace name body) pinned behind legal = replace_follows limits who (table_read name body) (pinned ++ behind)
-task_follows stay limits who Tables pinned behind legal = refl
-task_follows stay limits who (Search k body) pinned behind legal =
-    ap (λ whats. is_legal_behind (pinned ++ behind) (map (entry_with who) whats)) (either_none (is_accepted (standing (answer_to limits (Search k body) pinned (pinned ++ behind)))))
-task_follows stay limits who (Like k name place) pinned behind legal =
-    ap (λ whats. is_legal_behind (pinned ++ behind) (map (entry_with who) whats)) (either_none (is_accepted (standing (answer_to limits (Like k name place) pinned (pinned ++ behind)))))
-task_follows stay limits who (Contain a b body) pinned behind legal =
-    ap (λ whats. is_legal_behind (pinned ++ behind) (map (entry_with who) whats)) (either_none (is_accepted (standing (answer_to limits (Contain a b body) pinned (pinned ++ behind)))))
-task_follows stay limits who (Merge all) pinned behind legal = merge_follows stay who (policy_of all) pinned behind legal
+task_follows : PlansStay → (rules : Rules) (who : Who) (task : Task) (pinned behind : List Entry) → is_legal (pinned ++ behind) ≡ true
+    → is_legal_behind (pinned ++ behind) (map (entry_with who) (adds rules task pinned (answer_to rules task pinned (pinned ++ behind)))) ≡ true
+task_follows stay rules who (Load name body) pinned behind legal = load_follows rules who (table_read rules.keys name body) (pinned ++ behind)
+task_follows stay rules who (LoadFile name file) pinned behind legal = load_follows rules who (file_read rules.keys name file) (pinned ++ behind)
+task_follows stay rules who (DropTable name) pinned behind legal = drop_follows rules who name (pinned ++ behind)
+task_follows stay rules who (Replace name body) pinned behind legal = replace_follows rules who (table_read rules.keys name body) (pinned ++ behind)
+task_follows stay rules who Tables pinned behind legal = refl
+task_follows stay rules who (Search k body) pinned behind legal =
+    ap (λ whats. is_legal_behind (pinned ++ behind) (map (entry_with who) whats)) (either_none (is_accepted (standing (answer_to rules (Search k body) pinned (pinned ++ behind)))))
+task_follows stay rules who (Like k name place) pinned behind legal =
+    ap (λ whats. is_legal_behind (pinned ++ behind) (map (entry_with who) whats)) (either_none (is_accepted (standing (answer_to rules (Like k name place) pinned (pinned ++ behind)))))
+task_follows stay rules who (Contain a b body) pinned behind legal =
+    ap (λ whats. is_legal_behind (pinned ++ behind) (map (entry_with who) whats)) (either_none (is_accepted (standing (answer_to rules (Contain a b body) pinned (pinned ++ behind)))))
+task_follows stay rules who (Merge all) pinned behind legal = merge_follows stay who (policy_of all) pinned behind legal
 
-reply_follows : PlansStay → (limits : Counts) (command : Command) (denied : Bool) (pinned behind now : List Entry) → pinned ++ behind ≡ now → is_legal now ≡ true
-    → is_legal_behind now (entries_of pinned command (reply_or_denied denied (answer_to limits command.task pinned now))) ≡ true
-reply_follows stay limits command true pinned behind now whole legal = refl
-reply_follows stay limits command false pinned behind now whole legal =
-    subst (λ (j : List Entry). is_legal_behind j (entries_of pinned command (answer_to limits command.task pinned j)) ≡ true) whole
-    (task_follows stay limits (who_of command) command.task pinned behind (ap is_legal whole ∙ legal))
+reply_follows : PlansStay → (rules : Rules) (command : Command) (denied : Bool) (pinned behind now : List Entry) → pinned ++ behind ≡ now → is_legal now ≡ true
+    → is_legal_behind now (entries_of rules pinned command (reply_or_denied denied (answer_to rules command.task pinned now))) ≡ true
+reply_follows stay rules command true pinned behind now whole legal = refl
+reply_follows stay rules command false pinned behind now whole legal =
+    subst (λ (j : List Entry). is_legal_behind j (entries_of rules pinned command (answer_to rules command.task pinned j)) ≡ true) whole
+    (task_follows stay rules (who_of command) command.task pinned behind (ap is_legal whole ∙ legal))
 
 -- ---- a legal play
 
@@ -147,42 +147,42 @@ lawful_on n before entries lawful legal callers = record {
   callers = all_append (λ (e : Entry). e.who.caller ≤ n) before entries lawful.callers callers;
 }
 
-answered_lawful : PlansStay → (limits : Counts) (denied : Bool) (n : ℕ) (journal : List Entry) (lanes : List Lane) (l : ℕ) (done : List Done) (command : Command) (todo : List Command) (pinned behind : List Entry)
-    → pinned ++ behind ≡ journal → PlaysLawfully n (play_with journal lanes) → AreWithin n (command ∷ todo) → PlaysLawfully n (answered limits denied journal lanes l done command todo pinned)
-answered_lawful stay limits denied n journal lanes l done command todo pinned behind whole state within =
-    let reply = reply_or_denied denied (answer_to limits command.task pinned journal) in
+answered_lawful : PlansStay → (rules : Rules) (denied : Bool) (n : ℕ) (journal : List Entry) (lanes : List Lane) (l : ℕ) (done : List Done) (command : Command) (todo : List Command) (pinned behind : List Entry)
+    → pinned ++ behind ≡ journal → PlaysLawfully n (play_with journal lanes) → AreWithin n (command ∷ todo) → PlaysLawfully n (answered rules denied journal lanes l done command todo pinned)
+answered_lawful stay rules denied n journal lanes l done command todo pinned behind whole state within =
+    let reply = reply_or_denied denied (answer_to rules command.task pinned journal) in
     record {
-      lawful = lawful_on n journal (entries_of pinned command reply) state.lawful (reply_follows stay limits command denied pinned behind journal whole state.lawful.legal) (are_callers n command (adds command.task pinned reply) within.0);
+      lawful = lawful_on n journal (entries_of rules pinned command reply) state.lawful (reply_follows stay rules command denied pinned behind journal whole state.lawful.legal) (are_callers n command (adds rules command.task pinned reply) within.0);
       within = all_set (λ (lane : Lane). AreWithin n lane.todo) lanes l (lane_with todo None (done ++ done_with command reply ∷ [])) state.within within.1;
     }
 
-step_of_lawful : PlansStay → (limits : Counts) (denied : Bool) (n : ℕ) (journal : List Entry) (lanes : List Lane) (l : ℕ) (done : List Done) (command : Command) (todo : List Command) (b : Bool) (pin : Option ℕ)
-    → PlaysLawfully n (play_with journal lanes) → AreWithin n (command ∷ todo) → PlaysLawfully n (step_of limits denied journal lanes l done command todo b pin)
-step_of_lawful stay limits denied n journal lanes l done command todo true None state within =
+step_of_lawful : PlansStay → (rules : Rules) (denied : Bool) (n : ℕ) (journal : List Entry) (lanes : List Lane) (l : ℕ) (done : List Done) (command : Command) (todo : List Command) (b : Bool) (pin : Option ℕ)
+    → PlaysLawfully n (play_with journal lanes) → AreWithin n (command ∷ todo) → PlaysLawfully n (step_of rules denied journal lanes l done command todo b pin)
+step_of_lawful stay rules denied n journal lanes l done command todo true None state within =
     record { lawful = state.lawful; within = all_set (λ (lane : Lane). AreWithin n lane.todo) lanes l (lane_with (command ∷ todo) (Some (length journal)) done) state.within within }
-step_of_lawful stay limits denied n journal lanes l done command todo true (Some at) state within =
-    answered_lawful stay limits denied n journal lanes l done command todo (take at journal) (drop at journal) (take-append-drop at journal) state within
-step_of_lawful stay limits denied n journal lanes l done command todo false pin state within = answered_lawful stay limits denied n journal lanes l done command todo journal [] (append-nil journal) state within
+step_of_lawful stay rules denied n journal lanes l done command todo true (Some at) state within =
+    answered_lawful stay rules denied n journal lanes l done command todo (take at journal) (drop at journal) (take-append-drop at journal) state within
+step_of_lawful stay rules denied n journal lanes l done command todo false pin state within = answered_lawful stay rules denied n journal lanes l done command todo journal [] (append-nil journal) state within
 
-lane_step_lawful : PlansStay → (limits : Counts) (denied : Bool) (n : ℕ) (journal : List Entry) (lanes : List Lane) (l : ℕ) (todo : List Command) (lane : Lane)
-    → PlaysLawfully n (play_with journal lanes) → AreWithin n todo → PlaysLawfully n (lane_step limits denied journal lanes l todo lane)
-lane_step_lawful stay limits denied n journal lanes l [] lane state within = state
-lane_step_lawful stay limits denied n journal lanes l (command ∷ todo) lane state within = step_of_lawful stay limits denied n journal lanes l lane.done command todo (has_pin command.task) lane.pin state within
+lane_step_lawful : PlansStay → (rules : Rules) (denied : Bool) (n : ℕ) (journal : List Entry) (lanes : List Lane) (l : ℕ) (todo : List Command) (lane : Lane)
+    → PlaysLawfully n (play_with journal lanes) → AreWithin n todo → PlaysLawfully n (lane_step rules denied journal lanes l todo lane)
+lane_step_lawful stay rules denied n journal lanes l [] lane state within = state
+lane_step_lawful stay rules denied n journal lanes l (command ∷ todo) lane state within = step_of_lawful stay rules denied n journal lanes l lane.done command todo (has_pin command.task) lane.pin state within
 
-step_at_lawful : PlansStay → (limits : Counts) (denied : Bool) (n : ℕ) (journal : List Entry) (lanes : List Lane) (l : ℕ) (o : Option Lane) → PlaysLawfully n (play_with journal lanes) → slice_get lanes l ≡ o
-    → PlaysLawfully n (step_at limits denied journal lanes l o)
-step_at_lawful stay limits denied n journal lanes l None state e = state
-step_at_lawful stay limits denied n journal lanes l (Some lane) state e =
-    lane_step_lawful stay limits denied n journal lanes l lane.todo lane state (all_get (λ (lane : Lane). AreWithin n lane.todo) lanes l lane state.within e)
+step_at_lawful : PlansStay → (rules : Rules) (denied : Bool) (n : ℕ) (journal : List Entry) (lanes : List Lane) (l : ℕ) (o : Option Lane) → PlaysLawfully n (play_with journal lanes) → slice_get lanes l ≡ o
+    → PlaysLawfully n (step_at rules denied journal lanes l o)
+step_at_lawful stay rules denied n journal lanes l None state e = state
+step_at_lawful stay rules denied n journal lanes l (Some lane) state e =
+    lane_step_lawful stay rules denied n journal lanes l lane.todo lane state (all_get (λ (lane : Lane). AreWithin n lane.todo) lanes l lane state.within e)
 
-steps_lawful : PlansStay → (limits : Counts) (n : ℕ) (state : Play) (turns : List (ℕ × Bool)) → PlaysLawfully n state → PlaysLawfully n (fold (step limits) state turns)
-steps_lawful stay limits n state [] lawful = lawful
-steps_lawful stay limits n state (turn ∷ turns) lawful =
-    steps_lawful stay limits n (step limits state turn) turns (step_at_lawful stay limits turn.1 n state.journal state.lanes turn.0 (slice_get state.lanes turn.0) lawful refl)
+steps_lawful : PlansStay → (rules : Rules) (n : ℕ) (state : Play) (turns : List (ℕ × Bool)) → PlaysLawfully n state → PlaysLawfully n (fold (step rules) state turns)
+steps_lawful stay rules n state [] lawful = lawful
+steps_lawful stay rules n state (turn ∷ turns) lawful =
+    steps_lawful stay rules n (step rules state turn) turns (step_at_lawful stay rules turn.1 n state.journal state.lanes turn.0 (slice_get state.lanes turn.0) lawful refl)
 
-play_lawful : PlansStay → (limits : Counts) (n : ℕ) (order : List ℕ) (denials : List Bool) (state : Play) → PlaysLawfully n state → PlaysLawfully n (play limits order denials state)
+play_lawful : PlansStay → (rules : Rules) (n : ℕ) (order : List ℕ) (denials : List Bool) (state : Play) → PlaysLawfully n state → PlaysLawfully n (play rules order denials state)
 unfolding play
-play_lawful stay limits n order denials state lawful = steps_lawful stay limits n state (with_denials order denials) lawful
+play_lawful stay rules n order denials state lawful = steps_lawful stay rules n state (with_denials order denials) lawful
 
 -- ---- a batch, and a record
 
@@ -199,40 +199,40 @@ within_lanes : (n : ℕ) (batch : Batch) (from count : ℕ) → AreWithin n batc
 within_lanes n batch from zero within = tt
 within_lanes n batch from (suc count) within = (all_filter (λ command. command.lane ≤ n) (λ command. command.lane == from) batch within, within_lanes n batch (from + 1) count within)
 
-batch_lawful : PlansStay → (limits : Counts) (n : ℕ) (batch : Batch) (merges : List Command) (piece : List ℕ) (denials : List Bool) (journal : List Entry) → AreWithin n batch → AreWithin n merges → IsLawful n journal
-    → IsLawful n (play_batch limits n batch merges piece denials journal).journal
-batch_lawful stay limits n batch merges piece denials journal within also lawful =
-    (play_lawful stay limits n (whole_order piece n (2 * (length batch + length merges))) denials (play_with journal (lanes_of n batch merges)) (record { lawful = lawful; within = (also, within_lanes n batch 1 n within) })).lawful
+batch_lawful : PlansStay → (rules : Rules) (n : ℕ) (batch : Batch) (merges : List Command) (piece : List ℕ) (denials : List Bool) (journal : List Entry) → AreWithin n batch → AreWithin n merges → IsLawful n journal
+    → IsLawful n (play_batch rules n batch merges piece denials journal).journal
+batch_lawful stay rules n batch merges piece denials journal within also lawful =
+    (play_lawful stay rules n (whole_order piece n (2 * (length batch + length merges))) denials (play_with journal (lanes_of n batch merges)) (record { lawful = lawful; within = (also, within_lanes n batch 1 n within) })).lawful
 
-played_lawful : PlansStay → (limits : Counts) (n : ℕ) (merge : Bool) (next : ℕ) (batches : List Batch) (pieces : List (List ℕ)) (denials : List (List Bool)) (before : RunRecord) → AllByRecursion (IsOfLanes n) batches
-    → IsLawful n before.journal → IsLawful n (played_from limits n merge next batches pieces denials before).journal
+played_lawful : PlansStay → (rules : Rules) (n : ℕ) (merge : Bool) (next : ℕ) (batches : List Batch) (pieces : List (List ℕ)) (denials : List (List Bool)) (before : RunRecord) → AllByRecursion (IsOfLanes n) batches
+    → IsLawful n before.journal → IsLawful n (played_from rules n merge next batches pieces denials before).journal
 unfolding played_from
-played_lawful stay limits n merge next [] pieces denials before lanes lawful = lawful
-played_lawful stay limits n merge next (batch ∷ batches) pieces denials before lanes lawful =
+played_lawful stay rules n merge next [] pieces denials before lanes lawful = lawful
+played_lawful stay rules n merge next (batch ∷ batches) pieces denials before lanes lawful =
     let merges = merger_commands merge next batch in
-    played_lawful stay limits n merge (next + updates batch) batches (drop 1 pieces) (drop 1 denials) (batch_after limits n batch merges (head_or_empty pieces) (head_or_empty denials) before) lanes.1
-    (batch_lawful stay limits n batch merges (head_or_empty pieces) (head_or_empty denials) before.journal (within_batch n batch lanes.0) (within_merges n merges (merges_are merge next batch)) lawful)
+    played_lawful stay rules n merge (next + updates batch) batches (drop 1 pieces) (drop 1 denials) (batch_after rules n batch merges (head_or_empty pieces) (head_or_empty denials) before) lanes.1
+    (batch_lawful stay rules n batch merges (head_or_empty pieces) (head_or_empty denials) before.journal (within_batch n batch lanes.0) (within_merges n merges (merges_are merge next batch)) lawful)
 
-right_from : PlansStay → (limits : Counts) (options : Options) (batches : List Batch) (denials : List (List Bool)) → AllByRecursion (IsOfLanes options.lanes) batches
-    → IsRecordRight limits options.lanes options.merge batches (played limits options batches denials)
-right_from stay limits options batches denials lanes =
-    let made = played limits options batches denials in
-    let ran = played_right limits options.lanes options.merge 1 batches (pieces_of options.order) denials (empty options) lanes in
-    let lawful = played_lawful stay limits options.lanes options.merge 1 batches (pieces_of options.order) denials (empty options) lanes (record { legal = refl; callers = tt }) in
+right_from : PlansStay → (rules : Rules) (options : Options) (batches : List Batch) (denials : List (List Bool)) → AllByRecursion (IsOfLanes options.lanes) batches
+    → IsRecordRight rules options.lanes options.merge batches (played rules options batches denials)
+right_from stay rules options batches denials lanes =
+    let made = played rules options batches denials in
+    let ran = played_right rules options.lanes options.merge 1 batches (pieces_of options.order) denials (empty options) lanes in
+    let lawful = played_lawful stay rules options.lanes options.merge 1 batches (pieces_of options.order) denials (empty options) lanes (record { legal = refl; callers = tt }) in
     record {
       legal = lawful.legal;
       callers = lawful.callers;
-      each = subst (λ syncs. AreBatchesRight limits options.lanes options.merge 1 made.journal 0 batches syncs made.answers) (sym ran.syncs_are)
-          (subst (λ answers. AreBatchesRight limits options.lanes options.merge 1 made.journal 0 batches ran.syncs answers) (sym ran.answers_are) ran.right);
+      each = subst (λ syncs. AreBatchesRight rules options.lanes options.merge 1 made.journal 0 batches syncs made.answers) (sym ran.syncs_are)
+          (subst (λ answers. AreBatchesRight rules options.lanes options.merge 1 made.journal 0 batches ran.syncs answers) (sym ran.answers_are) ran.right);
     }
 
 -- the same but for whether its source was read to the end
-ended_right : (limits : Counts) (lanes : ℕ) (merge : Bool) (batches : List Batch) (made : RunRecord) (ended : Bool) → IsRecordRight limits lanes merge batches made → IsRecordRight limits lanes merge batches (with_end ended made)
-ended_right limits lanes merge batches made ended right = record { legal = right.legal; callers = right.callers; each = right.each }
+ended_right : (rules : Rules) (lanes : ℕ) (merge : Bool) (batches : List Batch) (made : RunRecord) (ended : Bool) → IsRecordRight rules lanes merge batches made → IsRecordRight rules lanes merge batches (with_end ended made)
+ended_right rules lanes merge batches made ended right = record { legal = right.legal; callers = right.callers; each = right.each }
 
 -- A record that was played is right: in whatever order, wherever memory was wanting, with merges and a merger.
-pub record_right : PlansStay → (limits : Counts) (options : Options) (batches : List Batch) (made : RunRecord) → AllByRecursion (IsOfLanes options.lanes) batches → IsPlayed limits options batches made
-    → IsRecordRight limits options.lanes options.merge batches made
-record_right stay limits options batches made lanes (denials, is) =
-    subst (λ r. IsRecordRight limits options.lanes options.merge batches r) (sym is)
-    (ended_right limits options.lanes options.merge batches (played limits options batches denials) made.ended (right_from stay limits options batches denials lanes))
+pub record_right : PlansStay → (rules : Rules) (options : Options) (batches : List Batch) (made : RunRecord) → AllByRecursion (IsOfLanes options.lanes) batches → IsPlayed rules options batches made
+    → IsRecordRight rules options.lanes options.merge batches made
+record_right stay rules options batches made lanes (denials, is) =
+    subst (λ r. IsRecordRight rules options.lanes options.merge batches r) (sym is)
+    (ended_right rules options.lanes options.merge batches (played rules options batches denials) made.ended (right_from stay rules options batches denials lanes))

@@ -5,7 +5,7 @@ use Rattle.std.proofs.lemmas.List.{append-nil, length-map}
 use Rattle.std.proofs.lemmas.List.Sums.{sum_by-cons}
 use Rattle.std.proofs.Math.Seq.{take-append_seam}
 use Rattle.lake_model.specs.declared.Who.{Who}
-use Rattle.lake_model.specs.declared.Counts.{Counts}
+use Rattle.record_model.specs.Rules.{Rules}
 use Rattle.record_model.proofs.ProgressLemmas.{AreLanes, batch_done, played_batch_right}
 use Rattle.lake_model.specs.Journal.{Entry}
 use Rattle.script_model.specs.Commands.{Command, Batch, Merge, command_with, updates}
@@ -24,12 +24,12 @@ cut_behind before behind later =
     ∙ ap (λ j. take (length behind) (drop (length before) j)) (append_assoc before behind later)
     ∙ ap (take (length behind)) (drop_seam before (behind ++ later)) ∙ take-append_seam behind later
 
-batch_is : (limits : Counts) (n : ℕ) (commands : List Command) (answers : List Answered) (before behind later : List Entry) → ((l : ℕ) → l ≤ n → IsRight limits l before behind (done_of l commands answers))
-    → map (λ (a : Answered). a.who) answers ≡ map who_of commands → IsBatchRight limits n ((before ++ behind) ++ later) (length before) (length (before ++ behind)) commands answers
-batch_is limits n commands answers before behind later each whos = record {
+batch_is : (rules : Rules) (n : ℕ) (commands : List Command) (answers : List Answered) (before behind later : List Entry) → ((l : ℕ) → l ≤ n → IsRight rules l before behind (done_of l commands answers))
+    → map (λ (a : Answered). a.who) answers ≡ map who_of commands → IsBatchRight rules n ((before ++ behind) ++ later) (length before) (length (before ++ behind)) commands answers
+batch_is rules n commands answers before behind later each whos = record {
   answered = whos;
-  each = λ l le. subst (λ j. IsRight limits l j (between (length before) (length (before ++ behind)) ((before ++ behind) ++ later)) (done_of l commands answers)) (sym (cut_before before behind later))
-      (subst (λ j. IsRight limits l before j (done_of l commands answers)) (sym (cut_behind before behind later)) (each l le));
+  each = λ l le. subst (λ j. IsRight rules l j (between (length before) (length (before ++ behind)) ((before ++ behind) ++ later)) (done_of l commands answers)) (sym (cut_before before behind later))
+      (subst (λ j. IsRight rules l before j (done_of l commands answers)) (sym (cut_behind before behind later)) (each l le));
 }
 
 pub merges_are : (merge : Bool) (next : ℕ) (batch : Batch) → AllByRecursion (λ c. c.lane ≡ 0) (merger_commands merge next batch)
@@ -41,30 +41,30 @@ merges_are true next batch = by next (updates batch)
     by a (suc count) = (refl, by (a + 1) count)
 
 -- what was played behind a record
-pub record Played (limits : Counts) (n : ℕ) (merge : Bool) (next : ℕ) (batches : List Batch) (before made : RunRecord) : Type 0 where
+pub record Played (rules : Rules) (n : ℕ) (merge : Bool) (next : ℕ) (batches : List Batch) (before made : RunRecord) : Type 0 where
   pub behind : List Entry
   pub syncs : List ℕ
   pub answers : List Answered
   pub journal_is : made.journal ≡ before.journal ++ behind
   pub syncs_are : made.syncs ≡ before.syncs ++ syncs
   pub answers_are : made.answers ≡ before.answers ++ answers
-  pub right : AreBatchesRight limits n merge next made.journal (length before.journal) batches syncs answers
+  pub right : AreBatchesRight rules n merge next made.journal (length before.journal) batches syncs answers
 
-one_more : (limits : Counts) (n : ℕ) (merge : Bool) (next : ℕ) (batch : Batch) (batches : List Batch) (piece : List ℕ) (denials : List Bool) (before made : RunRecord) → AreLanes n batch
-    → Played limits n merge (next + updates batch) batches (batch_after limits n batch (merger_commands merge next batch) piece denials before) made → Played limits n merge next (batch ∷ batches) before made
-one_more limits n merge next batch batches piece denials before made lanes rest =
+one_more : (rules : Rules) (n : ℕ) (merge : Bool) (next : ℕ) (batch : Batch) (batches : List Batch) (piece : List ℕ) (denials : List Bool) (before made : RunRecord) → AreLanes n batch
+    → Played rules n merge (next + updates batch) batches (batch_after rules n batch (merger_commands merge next batch) piece denials before) made → Played rules n merge next (batch ∷ batches) before made
+one_more rules n merge next batch batches piece denials before made lanes rest =
     let merges : List Command = merger_commands merge next batch in
     let commands : List Command = batch ++ merges in
-    let own : List Answered = answers_of (batch_done limits n batch merges piece denials before.journal) in
-    let mid : List Entry = (play_batch limits n batch merges piece denials before.journal).journal in
-    let (behind, journal, each, whos) = played_batch_right limits n batch merges piece denials before.journal lanes (merges_are merge next batch) in
+    let own : List Answered = answers_of (batch_done rules n batch merges piece denials before.journal) in
+    let mid : List Entry = (play_batch rules n batch merges piece denials before.journal).journal in
+    let (behind, journal, each, whos) = played_batch_right rules n batch merges piece denials before.journal lanes (merges_are merge next batch) in
     let size : length own ≡ length commands = sym (length-map own (λ (a : Answered). a.who)) ∙ ap (λ (ws : List Who). length ws) whos ∙ length-map commands who_of in
     let first : take (length commands) (own ++ rest.answers) ≡ own = ap (λ (m : ℕ). take m (own ++ rest.answers)) (sym size) ∙ take-append_seam own rest.answers in
     let others : drop (length commands) (own ++ rest.answers) ≡ rest.answers = ap (λ (m : ℕ). drop m (own ++ rest.answers)) (sym size) ∙ drop_seam own rest.answers in
     let whole : made.journal ≡ (before.journal ++ behind) ++ rest.behind = rest.journal_is ∙ ap (λ j. j ++ rest.behind) journal in
-    let here : IsBatchRight limits n made.journal (length before.journal) (length mid) commands own =
-    subst (λ j. IsBatchRight limits n made.journal (length before.journal) (length j) commands own) (sym journal)
-    (subst (λ j. IsBatchRight limits n j (length before.journal) (length (before.journal ++ behind)) commands own) (sym whole) (batch_is limits n commands own before.journal behind rest.behind each whos)) in
+    let here : IsBatchRight rules n made.journal (length before.journal) (length mid) commands own =
+    subst (λ j. IsBatchRight rules n made.journal (length before.journal) (length j) commands own) (sym journal)
+    (subst (λ j. IsBatchRight rules n j (length before.journal) (length (before.journal ++ behind)) commands own) (sym whole) (batch_is rules n commands own before.journal behind rest.behind each whos)) in
     let up : length before.journal ≤ length mid = (let e : length mid ≡ length (before.journal ++ behind) = ap (λ (j : List Entry). length j) journal in omega (arith, e, length-append before.journal behind)) in
     record {
       behind = behind ++ rest.behind;
@@ -75,16 +75,16 @@ one_more limits n merge next batch batches piece denials before made lanes rest 
       answers_are = rest.answers_are ∙ append_assoc before.answers own rest.answers;
       right = (
         up,
-        subst (λ a. IsBatchRight limits n made.journal (length before.journal) (length mid) commands a) (sym first) here,
-        subst (λ a. AreBatchesRight limits n merge (next + updates batch) made.journal (length mid) batches rest.syncs a) (sym others) rest.right,
+        subst (λ a. IsBatchRight rules n made.journal (length before.journal) (length mid) commands a) (sym first) here,
+        subst (λ a. AreBatchesRight rules n merge (next + updates batch) made.journal (length mid) batches rest.syncs a) (sym others) rest.right,
       );
     }
 
 -- A record that was played is right for its batches, whatever the pieces and wherever memory was wanting.
-pub played_right : (limits : Counts) (n : ℕ) (merge : Bool) (next : ℕ) (batches : List Batch) (pieces : List (List ℕ)) (denials : List (List Bool)) (before : RunRecord) → AllByRecursion (AreLanes n) batches
-    → Played limits n merge next batches before (played_from limits n merge next batches pieces denials before)
+pub played_right : (rules : Rules) (n : ℕ) (merge : Bool) (next : ℕ) (batches : List Batch) (pieces : List (List ℕ)) (denials : List (List Bool)) (before : RunRecord) → AllByRecursion (AreLanes n) batches
+    → Played rules n merge next batches before (played_from rules n merge next batches pieces denials before)
 unfolding played_from
-played_right limits n merge next [] pieces denials before lanes = record {
+played_right rules n merge next [] pieces denials before lanes = record {
   behind = [];
   syncs = [];
   answers = [];
@@ -93,16 +93,16 @@ played_right limits n merge next [] pieces denials before lanes = record {
   answers_are = sym (append-nil before.answers);
   right = refl;
 }
-played_right limits n merge next (batch ∷ batches) pieces denials before lanes =
-    one_more limits n merge next batch batches (head_or_empty pieces) (head_or_empty denials) before
-    (played_from limits n merge (next + updates batch) batches (drop 1 pieces) (drop 1 denials) (batch_after limits n batch (merger_commands merge next batch) (head_or_empty pieces) (head_or_empty denials) before))
+played_right rules n merge next (batch ∷ batches) pieces denials before lanes =
+    one_more rules n merge next batch batches (head_or_empty pieces) (head_or_empty denials) before
+    (played_from rules n merge (next + updates batch) batches (drop 1 pieces) (drop 1 denials) (batch_after rules n batch (merger_commands merge next batch) (head_or_empty pieces) (head_or_empty denials) before))
     lanes.0
-    (played_right limits n merge (next + updates batch) batches (drop 1 pieces) (drop 1 denials) (batch_after limits n batch (merger_commands merge next batch) (head_or_empty pieces) (head_or_empty denials) before) lanes.1)
+    (played_right rules n merge (next + updates batch) batches (drop 1 pieces) (drop 1 denials) (batch_after rules n batch (merger_commands merge next batch) (head_or_empty pieces) (head_or_empty denials) before) lanes.1)
 
 -- ---- one batch behind another
 
-abbrev batch_behind : Counts → ℕ → Bool → Batch → List Bool → RunRecord → ℕ → List ℕ → RunRecord
-batch_behind limits lanes merge batch turns before next piece = batch_after limits lanes batch (merger_commands merge next batch) piece turns before
+abbrev batch_behind : Rules → ℕ → Bool → Batch → List Bool → RunRecord → ℕ → List ℕ → RunRecord
+batch_behind rules lanes merge batch turns before next piece = batch_after rules lanes batch (merger_commands merge next batch) piece turns before
 
 first_piece : (pieces : List (List ℕ)) → head_or_empty pieces ≡ get_or pieces 0 []
 first_piece [] = refl
@@ -113,21 +113,21 @@ later_piece [] n = refl
 later_piece (piece ∷ pieces) n = refl
 
 -- One more batch is played behind the others.
-pub batches_go_on : (limits : Counts) (lanes : ℕ) (merge : Bool) (next : ℕ) (batches : List Batch) (batch : Batch) (pieces : List (List ℕ)) (denials : List (List Bool)) (turns : List Bool) (before : RunRecord)
+pub batches_go_on : (rules : Rules) (lanes : ℕ) (merge : Bool) (next : ℕ) (batches : List Batch) (batch : Batch) (pieces : List (List ℕ)) (denials : List (List Bool)) (turns : List Bool) (before : RunRecord)
     → length denials ≡ length batches
-    → played_from limits lanes merge next (batches ++ batch ∷ []) pieces (denials ++ turns ∷ []) before
-    ≡ batch_after limits lanes batch (merger_commands merge (next + sum_by updates batches) batch) (get_or pieces (length batches) []) turns (played_from limits lanes merge next batches pieces denials before)
+    → played_from rules lanes merge next (batches ++ batch ∷ []) pieces (denials ++ turns ∷ []) before
+    ≡ batch_after rules lanes batch (merger_commands merge (next + sum_by updates batches) batch) (get_or pieces (length batches) []) turns (played_from rules lanes merge next batches pieces denials before)
 unfolding played_from
-batches_go_on limits lanes merge next [] batch pieces [] turns before same =
+batches_go_on rules lanes merge next [] batch pieces [] turns before same =
     let none : next ≡ next + sum_by updates [] = omega arith in
-    ap (batch_behind limits lanes merge batch turns before next) (first_piece pieces)
-    ∙ ap (λ (n : ℕ). batch_behind limits lanes merge batch turns before n (get_or pieces 0 [])) none
-batches_go_on limits lanes merge next [] batch pieces (d ∷ denials) turns before same = absurd (omega (arith, same))
-batches_go_on limits lanes merge next (b ∷ batches) batch pieces [] turns before same = absurd (omega (arith, same))
-batches_go_on limits lanes merge next (b ∷ batches) batch pieces (d ∷ denials) turns before same =
-    let first : RunRecord = batch_after limits lanes b (merger_commands merge next b) (head_or_empty pieces) d before in
-    let made : RunRecord = played_from limits lanes merge (next + updates b) batches (drop 1 pieces) denials first in
+    ap (batch_behind rules lanes merge batch turns before next) (first_piece pieces)
+    ∙ ap (λ (n : ℕ). batch_behind rules lanes merge batch turns before n (get_or pieces 0 [])) none
+batches_go_on rules lanes merge next [] batch pieces (d ∷ denials) turns before same = absurd (omega (arith, same))
+batches_go_on rules lanes merge next (b ∷ batches) batch pieces [] turns before same = absurd (omega (arith, same))
+batches_go_on rules lanes merge next (b ∷ batches) batch pieces (d ∷ denials) turns before same =
+    let first : RunRecord = batch_after rules lanes b (merger_commands merge next b) (head_or_empty pieces) d before in
+    let made : RunRecord = played_from rules lanes merge (next + updates b) batches (drop 1 pieces) denials first in
     let sum : next + updates b + sum_by updates batches ≡ next + sum_by updates (b ∷ batches) = omega (arith, sum_by-cons updates b batches) in
-    batches_go_on limits lanes merge (next + updates b) batches batch (drop 1 pieces) denials turns first (omega (arith, same))
-    ∙ ap (λ (n : ℕ). batch_behind limits lanes merge batch turns made n (get_or (drop 1 pieces) (length batches) [])) sum
-    ∙ ap (batch_behind limits lanes merge batch turns made (next + sum_by updates (b ∷ batches))) (later_piece pieces (length batches))
+    batches_go_on rules lanes merge (next + updates b) batches batch (drop 1 pieces) denials turns first (omega (arith, same))
+    ∙ ap (λ (n : ℕ). batch_behind rules lanes merge batch turns made n (get_or (drop 1 pieces) (length batches) [])) sum
+    ∙ ap (batch_behind rules lanes merge batch turns made (next + sum_by updates (b ∷ batches))) (later_piece pieces (length batches))

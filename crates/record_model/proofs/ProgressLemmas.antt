@@ -9,7 +9,7 @@ use Rattle.record_model.proofs.StepLemmas.{LanesAre, batch_right}
 use Rattle.record_model.proofs.GatherLemmas.{AreLists, gathered_commands, gathered_lane}
 use Rattle.std.proofs.lemmas.Bool.Decides.{nat_tests}
 use Rattle.std.proofs.lemmas.Grind.{flat_map-append}
-use Rattle.lake_model.specs.declared.Counts.{Counts}
+use Rattle.record_model.specs.Rules.{Rules}
 use Rattle.record_model.specs.Right.{IsRight, done_of}
 use Rattle.lake_model.specs.Journal.{Entry}
 use Rattle.script_model.specs.Commands.{Command, Batch}
@@ -91,23 +91,23 @@ answer_goes lane command todo reply first =
       falls = omega (arith, size, one_le lane.pin);
     }
 
-step_of_moves : (limits : Counts) (denied : Bool) (journal : List Entry) (lanes : List Lane) (l : ℕ) (lane : Lane) (command : Command) (todo : List Command) (b : Bool) (pin : Option ℕ)
-    → slice_get lanes l ≡ Some lane → lane.todo ≡ command ∷ todo → lane.pin ≡ pin → Moves l lanes (step_of limits denied journal lanes l lane.done command todo b pin).lanes
-step_of_moves limits denied journal lanes l lane command todo true None e first pin = moved lanes l lane _ e (pin_goes lane command todo (length journal) first pin)
-step_of_moves limits denied journal lanes l lane command todo true (Some at) e first pin = moved lanes l lane _ e (answer_goes lane command todo (reply_or_denied denied (answer_to limits command.task (take at journal) journal)) first)
-step_of_moves limits denied journal lanes l lane command todo false pin e first was = moved lanes l lane _ e (answer_goes lane command todo (reply_or_denied denied (answer_to limits command.task journal journal)) first)
+step_of_moves : (rules : Rules) (denied : Bool) (journal : List Entry) (lanes : List Lane) (l : ℕ) (lane : Lane) (command : Command) (todo : List Command) (b : Bool) (pin : Option ℕ)
+    → slice_get lanes l ≡ Some lane → lane.todo ≡ command ∷ todo → lane.pin ≡ pin → Moves l lanes (step_of rules denied journal lanes l lane.done command todo b pin).lanes
+step_of_moves rules denied journal lanes l lane command todo true None e first pin = moved lanes l lane _ e (pin_goes lane command todo (length journal) first pin)
+step_of_moves rules denied journal lanes l lane command todo true (Some at) e first pin = moved lanes l lane _ e (answer_goes lane command todo (reply_or_denied denied (answer_to rules command.task (take at journal) journal)) first)
+step_of_moves rules denied journal lanes l lane command todo false pin e first was = moved lanes l lane _ e (answer_goes lane command todo (reply_or_denied denied (answer_to rules command.task journal journal)) first)
 
-lane_step_moves : (limits : Counts) (denied : Bool) (journal : List Entry) (lanes : List Lane) (l : ℕ) (lane : Lane) (todo : List Command) → slice_get lanes l ≡ Some lane → lane.todo ≡ todo
-    → Moves l lanes (lane_step limits denied journal lanes l todo lane).lanes
-lane_step_moves limits denied journal lanes l lane [] e first =
+lane_step_moves : (rules : Rules) (denied : Bool) (journal : List Entry) (lanes : List Lane) (l : ℕ) (lane : Lane) (todo : List Command) → slice_get lanes l ≡ Some lane → lane.todo ≡ todo
+    → Moves l lanes (lane_step rules denied journal lanes l todo lane).lanes
+lane_step_moves rules denied journal lanes l lane [] e first =
     let size : length lane.todo ≡ 0 = ap (λ (cs : List Command). length cs) first in
     let zero_weight : weight lane ≡ 0 = omega (arith, size) in
     still lanes l (ap weight (got lanes l (Some lane) e) ∙ zero_weight)
-lane_step_moves limits denied journal lanes l lane (command ∷ todo) e first = step_of_moves limits denied journal lanes l lane command todo (has_pin command.task) lane.pin e first refl
+lane_step_moves rules denied journal lanes l lane (command ∷ todo) e first = step_of_moves rules denied journal lanes l lane command todo (has_pin command.task) lane.pin e first refl
 
-step_at_moves : (limits : Counts) (denied : Bool) (journal : List Entry) (lanes : List Lane) (l : ℕ) (o : Option Lane) → slice_get lanes l ≡ o → Moves l lanes (step_at limits denied journal lanes l o).lanes
-step_at_moves limits denied journal lanes l None e = still lanes l (ap weight (got lanes l None e))
-step_at_moves limits denied journal lanes l (Some lane) e = lane_step_moves limits denied journal lanes l lane lane.todo e refl
+step_at_moves : (rules : Rules) (denied : Bool) (journal : List Entry) (lanes : List Lane) (l : ℕ) (o : Option Lane) → slice_get lanes l ≡ o → Moves l lanes (step_at rules denied journal lanes l o).lanes
+step_at_moves rules denied journal lanes l None e = still lanes l (ap weight (got lanes l None e))
+step_at_moves rules denied journal lanes l (Some lane) e = lane_step_moves rules denied journal lanes l lane lane.todo e refl
 
 -- how often a lane has its turn
 abbrev turns_of : ℕ → List (ℕ × Bool) → ℕ
@@ -127,11 +127,11 @@ one_ran l m old new false e moves = record {
   falls = let z : weight (get_or new m idle) ≡ weight (get_or old m idle) = ap weight (moves.others m e) in omega (arith, z);
 }
 
-runs : (limits : Counts) (m : ℕ) (state : Play) (turns : List (ℕ × Bool)) → Ran m (turns_of m turns) state.lanes (fold (step limits) state turns).lanes
-runs limits m state [] = record { serves = refl; falls = omega arith }
-runs limits m state (turn ∷ turns) =
-    let first = one_ran turn.0 m state.lanes (step limits state turn).lanes (turn.0 == m) refl (step_at_moves limits turn.1 state.journal state.lanes turn.0 (slice_get state.lanes turn.0) refl) in
-    let rest = runs limits m (step limits state turn) turns in
+runs : (rules : Rules) (m : ℕ) (state : Play) (turns : List (ℕ × Bool)) → Ran m (turns_of m turns) state.lanes (fold (step rules) state turns).lanes
+runs rules m state [] = record { serves = refl; falls = omega arith }
+runs rules m state (turn ∷ turns) =
+    let first = one_ran turn.0 m state.lanes (step rules state turn).lanes (turn.0 == m) refl (step_at_moves rules turn.1 state.journal state.lanes turn.0 (slice_get state.lanes turn.0) refl) in
+    let rest = runs rules m (step rules state turn) turns in
     record { serves = rest.serves ∙ first.serves; falls = omega (arith, rest.falls, first.falls) }
 
 abbrev occurs : ℕ → List ℕ → ℕ
@@ -144,12 +144,12 @@ turns_occur m (l ∷ order) [] = ap (λ (n : ℕ). cond (l == m) 1 0 + n) (turns
 turns_occur m (l ∷ order) (denied ∷ denials) = ap (λ (n : ℕ). cond (l == m) 1 0 + n) (turns_occur m order denials)
 
 -- Where a lane has as many turns as it has steps, nothing is left of it, and it has answered all its commands.
-pub all_done : (limits : Counts) (m : ℕ) (order : List ℕ) (denials : List Bool) (state : Play) → 2 * length (get_or state.lanes m idle).todo ≤ occurs m order → (get_or state.lanes m idle).done ≡ []
-    → commands_in (get_or (play limits order denials state).lanes m idle).done ≡ (get_or state.lanes m idle).todo
+pub all_done : (rules : Rules) (m : ℕ) (order : List ℕ) (denials : List Bool) (state : Play) → 2 * length (get_or state.lanes m idle).todo ≤ occurs m order → (get_or state.lanes m idle).done ≡ []
+    → commands_in (get_or (play rules order denials state).lanes m idle).done ≡ (get_or state.lanes m idle).todo
 unfolding play
-all_done limits m order denials state enough none =
-    let ran = runs limits m state (with_denials order denials) in
-    let new : Lane = get_or (fold (step limits) state (with_denials order denials)).lanes m idle in
+all_done rules m order denials state enough none =
+    let ran = runs rules m state (with_denials order denials) in
+    let new : Lane = get_or (fold (step rules) state (with_denials order denials)).lanes m idle in
     let gone : length new.todo ≡ 0 = omega (arith, ran.falls, enough, turns_occur m order denials, one_le new.pin) in
     let empty : new.todo ≡ [] = nothing new.todo gone in
     sym (append-nil (commands_in new.done)) ∙ ap (λ cs. commands_in new.done ++ cs) (sym empty) ∙ ran.serves ∙ ap (λ ds. commands_in ds ++ (get_or state.lanes m idle).todo) none
@@ -158,14 +158,14 @@ all_done limits m order denials state enough none =
     nothing [] e = refl
     nothing (c ∷ cs) e = absurd (let f : 1 + length cs ≡ 0 = omega (arith, e) in omega (arith, f))
 
-size_stays : (limits : Counts) (state : Play) (turns : List (ℕ × Bool)) → length (fold (step limits) state turns).lanes ≡ length state.lanes
-size_stays limits state [] = refl
-size_stays limits state (turn ∷ turns) =
-    size_stays limits (step limits state turn) turns ∙ (step_at_moves limits turn.1 state.journal state.lanes turn.0 (slice_get state.lanes turn.0) refl).size
+size_stays : (rules : Rules) (state : Play) (turns : List (ℕ × Bool)) → length (fold (step rules) state turns).lanes ≡ length state.lanes
+size_stays rules state [] = refl
+size_stays rules state (turn ∷ turns) =
+    size_stays rules (step rules state turn) turns ∙ (step_at_moves rules turn.1 state.journal state.lanes turn.0 (slice_get state.lanes turn.0) refl).size
 
-play_size : (limits : Counts) (order : List ℕ) (denials : List Bool) (state : Play) → length (play limits order denials state).lanes ≡ length state.lanes
+play_size : (rules : Rules) (order : List ℕ) (denials : List Bool) (state : Play) → length (play rules order denials state).lanes ≡ length state.lanes
 unfolding play
-play_size limits order denials state = size_stays limits state (with_denials order denials)
+play_size rules order denials state = size_stays rules state (with_denials order denials)
 
 -- ---- how often a lane comes in a whole order
 
@@ -288,31 +288,31 @@ pub whos : (done : List Done) → map (λ (a : Answered). a.who) (answers_of don
 whos [] = refl
 whos (d ∷ done) = ap (λ ws. who_of d.command ∷ ws) (whos done)
 
-right_at : (limits : Counts) (before behind : List Entry) (n : ℕ) (lanes : List Lane) (l : ℕ) → l < length lanes → LanesAre limits before behind n lanes → IsRight limits (n + l) before behind (get_or lanes l idle).done
-right_at limits before behind n [] l h all = absurd (omega (arith, h))
-right_at limits before behind n (x ∷ lanes) zero h all = let e : n ≡ n + 0 = omega arith in subst (λ (m : ℕ). IsRight limits m before behind x.done) e all.0.right
-right_at limits before behind n (x ∷ lanes) (suc l) h all =
+right_at : (rules : Rules) (before behind : List Entry) (n : ℕ) (lanes : List Lane) (l : ℕ) → l < length lanes → LanesAre rules before behind n lanes → IsRight rules (n + l) before behind (get_or lanes l idle).done
+right_at rules before behind n [] l h all = absurd (omega (arith, h))
+right_at rules before behind n (x ∷ lanes) zero h all = let e : n ≡ n + 0 = omega arith in subst (λ (m : ℕ). IsRight rules m before behind x.done) e all.0.right
+right_at rules before behind n (x ∷ lanes) (suc l) h all =
     let e : n + 1 + l ≡ n + suc l = omega arith in
-    subst (λ (m : ℕ). IsRight limits m before behind (get_or lanes l idle).done) e (right_at limits before behind (n + 1) lanes l (omega (arith, h)) all.1)
+    subst (λ (m : ℕ). IsRight rules m before behind (get_or lanes l idle).done) e (right_at rules before behind (n + 1) lanes l (omega (arith, h)) all.1)
 
 filter_le : (p : Command → Bool) (cs : List Command) → length (filter p cs) ≤ length cs
 filter_le p cs = omega (arith, length-filter p cs, count_by-le-length p cs)
 
-abbrev pub batch_done : Counts → ℕ → Batch → List Command → List ℕ → List Bool → List Entry → List Done
-batch_done limits n batch merges piece denials before = gathered (batch ++ merges) (map (λ lane. lane.done) (play_batch limits n batch merges piece denials before).lanes)
+abbrev pub batch_done : Rules → ℕ → Batch → List Command → List ℕ → List Bool → List Entry → List Done
+batch_done rules n batch merges piece denials before = gathered (batch ++ merges) (map (λ lane. lane.done) (play_batch rules n batch merges piece denials before).lanes)
 
 done_at : (lanes : List Lane) (l : ℕ) → get_or (map (λ (lane : Lane). lane.done) lanes) l [] ≡ (get_or lanes l idle).done
 done_at [] l = refl
 done_at (x ∷ lanes) zero = refl
 done_at (x ∷ lanes) (suc l) = done_at lanes l
 
-lists_are : (limits : Counts) (n : ℕ) (batch : Batch) (merges : List Command) (piece : List ℕ) (denials : List Bool) (before : List Entry) → AreLanes n batch → AreLane 0 merges
-    → AreLists (batch ++ merges) (map (λ lane. lane.done) (play_batch limits n batch merges piece denials before).lanes)
-lists_are limits n batch merges piece denials before h k l =
+lists_are : (rules : Rules) (n : ℕ) (batch : Batch) (merges : List Command) (piece : List ℕ) (denials : List Bool) (before : List Entry) → AreLanes n batch → AreLane 0 merges
+    → AreLists (batch ++ merges) (map (λ lane. lane.done) (play_batch rules n batch merges piece denials before).lanes)
+lists_are rules n batch merges piece denials before h k l =
     let state : Play = play_with before (lanes_of n batch merges) in
     let steps : ℕ = 2 * (length batch + length merges) in
-    ap commands_in (done_at (play_batch limits n batch merges piece denials before).lanes l)
-    ∙ all_done limits l (whole_order piece n steps) denials state (enough (nat_le l n) refl) (start_done n batch merges l)
+    ap commands_in (done_at (play_batch rules n batch merges piece denials before).lanes l)
+    ∙ all_done rules l (whole_order piece n steps) denials state (enough (nat_le l n) refl) (start_done n batch merges l)
     ∙ start_todo n batch merges l h k
   where
     todo_size : length (get_or (lanes_of n batch merges) l idle).todo ≤ length batch + length merges
@@ -341,27 +341,27 @@ lanes_size n batch merges = let z : length (lanes_of n batch merges) ≡ 1 + len
     by a (suc count) = let z : length (map (lane_of batch) (range_with_len a (suc count))) ≡ 1 + length (map (lane_of batch) (range_with_len (a + 1) count)) = omega arith in omega (arith, z, by (a + 1) count)
 
 -- A batch played in any order, and with memory wanting anywhere, is right.
-pub played_batch_right : (limits : Counts) (n : ℕ) (batch : Batch) (merges : List Command) (piece : List ℕ) (denials : List Bool) (before : List Entry) → AreLanes n batch → AreLane 0 merges
-    → (behind : List Entry) × ((play_batch limits n batch merges piece denials before).journal ≡ before ++ behind)
-    × ((l : ℕ) → l ≤ n → IsRight limits l before behind (done_of l (batch ++ merges) (answers_of (batch_done limits n batch merges piece denials before))))
-    × (map (λ (a : Answered). a.who) (answers_of (batch_done limits n batch merges piece denials before)) ≡ map who_of (batch ++ merges))
-played_batch_right limits n batch merges piece denials before h k =
-    let kept = batch_right limits n batch merges piece denials before k in
-    let lists = lists_are limits n batch merges piece denials before h k in
-    let same = gathered_commands (batch ++ merges) (map (λ lane. lane.done) (play_batch limits n batch merges piece denials before).lanes) lists in (
+pub played_batch_right : (rules : Rules) (n : ℕ) (batch : Batch) (merges : List Command) (piece : List ℕ) (denials : List Bool) (before : List Entry) → AreLanes n batch → AreLane 0 merges
+    → (behind : List Entry) × ((play_batch rules n batch merges piece denials before).journal ≡ before ++ behind)
+    × ((l : ℕ) → l ≤ n → IsRight rules l before behind (done_of l (batch ++ merges) (answers_of (batch_done rules n batch merges piece denials before))))
+    × (map (λ (a : Answered). a.who) (answers_of (batch_done rules n batch merges piece denials before)) ≡ map who_of (batch ++ merges))
+played_batch_right rules n batch merges piece denials before h k =
+    let kept = batch_right rules n batch merges piece denials before k in
+    let lists = lists_are rules n batch merges piece denials before h k in
+    let same = gathered_commands (batch ++ merges) (map (λ lane. lane.done) (play_batch rules n batch merges piece denials before).lanes) lists in (
       kept.behind,
       kept.journal,
       (λ l le.
-          let size : length (play_batch limits n batch merges piece denials before).lanes ≡ length (lanes_of n batch merges) = play_size limits (whole_order piece n (2 * (length batch + length merges))) denials (play_with before (lanes_of n batch merges)) in
+          let size : length (play_batch rules n batch merges piece denials before).lanes ≡ length (lanes_of n batch merges) = play_size rules (whole_order piece n (2 * (length batch + length merges))) denials (play_with before (lanes_of n batch merges)) in
           let full : length (lanes_of n batch merges) ≡ 1 + n = lanes_size n batch merges in
           let at : 0 + l ≡ l = omega arith in
-          let own : done_of l (batch ++ merges) (answers_of (batch_done limits n batch merges piece denials before)) ≡ (get_or (play_batch limits n batch merges piece denials before).lanes l idle).done =
-          ap (λ (cs : List Command). done_of l cs (answers_of (batch_done limits n batch merges piece denials before))) (sym same)
-          ∙ ap (filter (λ (d : Done). d.command.lane == l)) (zip_again (batch_done limits n batch merges piece denials before))
-          ∙ gathered_lane (batch ++ merges) (map (λ lane. lane.done) (play_batch limits n batch merges piece denials before).lanes) l lists
-          ∙ done_at (play_batch limits n batch merges piece denials before).lanes l in
-          subst (λ (ds : List Done). IsRight limits l before kept.behind ds) (sym own)
-          (subst (λ (m : ℕ). IsRight limits m before kept.behind (get_or (play_batch limits n batch merges piece denials before).lanes l idle).done) at
-          (right_at limits before kept.behind 0 (play_batch limits n batch merges piece denials before).lanes l (omega (arith, size, full, le)) kept.lanes))),
-      whos (batch_done limits n batch merges piece denials before) ∙ ap (map who_of) same,
+          let own : done_of l (batch ++ merges) (answers_of (batch_done rules n batch merges piece denials before)) ≡ (get_or (play_batch rules n batch merges piece denials before).lanes l idle).done =
+          ap (λ (cs : List Command). done_of l cs (answers_of (batch_done rules n batch merges piece denials before))) (sym same)
+          ∙ ap (filter (λ (d : Done). d.command.lane == l)) (zip_again (batch_done rules n batch merges piece denials before))
+          ∙ gathered_lane (batch ++ merges) (map (λ lane. lane.done) (play_batch rules n batch merges piece denials before).lanes) l lists
+          ∙ done_at (play_batch rules n batch merges piece denials before).lanes l in
+          subst (λ (ds : List Done). IsRight rules l before kept.behind ds) (sym own)
+          (subst (λ (m : ℕ). IsRight rules m before kept.behind (get_or (play_batch rules n batch merges piece denials before).lanes l idle).done) at
+          (right_at rules before kept.behind 0 (play_batch rules n batch merges piece denials before).lanes l (omega (arith, size, full, le)) kept.lanes))),
+      whos (batch_done rules n batch merges piece denials before) ∙ ap (map who_of) same,
     )

@@ -5,7 +5,7 @@ use Rattle.std.specs.List.{AllByRecursion, enumerate_from, filter}
 use Rattle.std.proofs.lemmas.List.{take-append-le, append-nil}
 use Rattle.std.proofs.lemmas.List.Elements.{filter-append}
 use Rattle.std.proofs.lemmas.Grind.{flat_map-append}
-use Rattle.lake_model.specs.declared.Counts.{Counts}
+use Rattle.record_model.specs.Rules.{Rules}
 use Rattle.lake_model.specs.Journal.{Entry}
 use Rattle.script_model.specs.Commands.{Command}
 use Rattle.record_model.specs.Replies.{Reply}
@@ -58,48 +58,48 @@ within (Added at) low high size le h = record { pinned = omega (arith, le, h.1);
 within (PlannedAndSaw pinned at) low high size le h = record { pinned = omega (arith, le, h.1.0, h.1.1); made = omega (arith, le, h.1.1) }
 within (PlannedAndAdded pinned at) low high size le h = record { pinned = omega (arith, le, h.1.0, h.1.1); made = omega (arith, le, h.1.1) }
 
-answer_stays : (limits : Counts) (journal more : List Entry) (command : Command) (s : Standing) → IsWithin (length journal) s
-    → answer_by limits (journal ++ more) command s ≡ answer_by limits journal command s
-answer_stays limits journal more command s h =
-    ap (λ p. answer_to limits command.task p (take (made_by s) (journal ++ more))) (take-append-le (pinned_by s) journal more h.pinned)
-    ∙ ap (λ p. answer_to limits command.task (take (pinned_by s) journal) p) (take-append-le (made_by s) journal more h.made)
+answer_stays : (rules : Rules) (journal more : List Entry) (command : Command) (s : Standing) → IsWithin (length journal) s
+    → answer_by rules (journal ++ more) command s ≡ answer_by rules journal command s
+answer_stays rules journal more command s h =
+    ap (λ p. answer_to rules command.task p (take (made_by s) (journal ++ more))) (take-append-le (pinned_by s) journal more h.pinned)
+    ∙ ap (λ p. answer_to rules command.task (take (pinned_by s) journal) p) (take-append-le (made_by s) journal more h.made)
 
-placed_stays : (limits : Counts) (journal more : List Entry) (command : Command) (reply : Reply) (s : Standing) → IsWithin (length journal) s
-    → IsPlaced limits journal command reply s → IsPlaced limits (journal ++ more) command reply s
-placed_stays limits journal more command reply Nowhere h k = k
-placed_stays limits journal more command reply (Saw at) h k = k ∙ sym (answer_stays limits journal more command (Saw at) h)
-placed_stays limits journal more command reply (Added at) h k = k ∙ sym (answer_stays limits journal more command (Added at) h)
-placed_stays limits journal more command reply (PlannedAndSaw pinned at) h k = k ∙ sym (answer_stays limits journal more command (PlannedAndSaw pinned at) h)
-placed_stays limits journal more command reply (PlannedAndAdded pinned at) h k = k ∙ sym (answer_stays limits journal more command (PlannedAndAdded pinned at) h)
+placed_stays : (rules : Rules) (journal more : List Entry) (command : Command) (reply : Reply) (s : Standing) → IsWithin (length journal) s
+    → IsPlaced rules journal command reply s → IsPlaced rules (journal ++ more) command reply s
+placed_stays rules journal more command reply Nowhere h k = k
+placed_stays rules journal more command reply (Saw at) h k = k ∙ sym (answer_stays rules journal more command (Saw at) h)
+placed_stays rules journal more command reply (Added at) h k = k ∙ sym (answer_stays rules journal more command (Added at) h)
+placed_stays rules journal more command reply (PlannedAndSaw pinned at) h k = k ∙ sym (answer_stays rules journal more command (PlannedAndSaw pinned at) h)
+placed_stays rules journal more command reply (PlannedAndAdded pinned at) h k = k ∙ sym (answer_stays rules journal more command (PlannedAndAdded pinned at) h)
 
-entries_stay : (limits : Counts) (journal more : List Entry) (command : Command) (reply : Reply) (s : Standing) → IsWithin (length journal) s
-    → entries_by (journal ++ more) command reply s ≡ entries_by journal command reply s
-entries_stay limits journal more command reply Nowhere h = refl
-entries_stay limits journal more command reply (Saw at) h = refl
-entries_stay limits journal more command reply (Added at) h = ap (λ p. at_position at (entries_of p command reply)) (take-append-le (at - 1) journal more h.made)
-entries_stay limits journal more command reply (PlannedAndSaw pinned at) h = refl
-entries_stay limits journal more command reply (PlannedAndAdded pinned at) h = ap (λ p. at_position at (entries_of p command reply)) (take-append-le pinned journal more h.pinned)
+entries_stay : (rules : Rules) (journal more : List Entry) (command : Command) (reply : Reply) (s : Standing) → IsWithin (length journal) s
+    → entries_by rules (journal ++ more) command reply s ≡ entries_by rules journal command reply s
+entries_stay rules journal more command reply Nowhere h = refl
+entries_stay rules journal more command reply (Saw at) h = refl
+entries_stay rules journal more command reply (Added at) h = ap (λ p. at_position at (entries_of rules p command reply)) (take-append-le (at - 1) journal more h.made)
+entries_stay rules journal more command reply (PlannedAndSaw pinned at) h = refl
+entries_stay rules journal more command reply (PlannedAndAdded pinned at) h = ap (λ p. at_position at (entries_of rules p command reply)) (take-append-le pinned journal more h.pinned)
 
 -- what a list of answers says of a journal, it says of one that goes on
-pub all_placed_stay : (limits : Counts) (journal more : List Entry) (done : List Done) (low high : ℕ) → high ≤ length journal → Rises low (moments done) high
-    → AllByRecursion (λ d. IsPlaced limits journal d.command d.reply (standing d.reply)) done
-    → AllByRecursion (λ d. IsPlaced limits (journal ++ more) d.command d.reply (standing d.reply)) done
-all_placed_stay limits journal more [] low high le rises h = h
-all_placed_stay limits journal more (d ∷ done) low high le rises h =
+pub all_placed_stay : (rules : Rules) (journal more : List Entry) (done : List Done) (low high : ℕ) → high ≤ length journal → Rises low (moments done) high
+    → AllByRecursion (λ d. IsPlaced rules journal d.command d.reply (standing d.reply)) done
+    → AllByRecursion (λ d. IsPlaced rules (journal ++ more) d.command d.reply (standing d.reply)) done
+all_placed_stay rules journal more [] low high le rises h = h
+all_placed_stay rules journal more (d ∷ done) low high le rises h =
     let parts = rises_split low (moments_by (standing d.reply)) (moments done) high rises in
     let below : parts.0 ≤ high = rises_le parts.0 (moments done) high parts.2 in
     let inside : IsWithin (length journal) (standing d.reply) = within (standing d.reply) low parts.0 (length journal) (omega (arith, below, le)) parts.1 in
-    (placed_stays limits journal more d.command d.reply (standing d.reply) inside h.0, all_placed_stay limits journal more done parts.0 high le parts.2 h.1)
+    (placed_stays rules journal more d.command d.reply (standing d.reply) inside h.0, all_placed_stay rules journal more done parts.0 high le parts.2 h.1)
 
-pub accepted_stay : (limits : Counts) (journal more : List Entry) (done : List Done) (low high : ℕ) → high ≤ length journal → Rises low (moments done) high
-    → accepted (journal ++ more) done ≡ accepted journal done
-accepted_stay limits journal more [] low high le rises = refl
-accepted_stay limits journal more (d ∷ done) low high le rises =
+pub accepted_stay : (rules : Rules) (journal more : List Entry) (done : List Done) (low high : ℕ) → high ≤ length journal → Rises low (moments done) high
+    → accepted rules (journal ++ more) done ≡ accepted rules journal done
+accepted_stay rules journal more [] low high le rises = refl
+accepted_stay rules journal more (d ∷ done) low high le rises =
     let parts = rises_split low (moments_by (standing d.reply)) (moments done) high rises in
     let below : parts.0 ≤ high = rises_le parts.0 (moments done) high parts.2 in
     let inside : IsWithin (length journal) (standing d.reply) = within (standing d.reply) low parts.0 (length journal) (omega (arith, below, le)) parts.1 in
-    ap (λ es. es ++ accepted (journal ++ more) done) (entries_stay limits journal more d.command d.reply (standing d.reply) inside)
-    ∙ ap (λ es. entries_by journal d.command d.reply (standing d.reply) ++ es) (accepted_stay limits journal more done parts.0 high le parts.2)
+    ap (λ es. es ++ accepted rules (journal ++ more) done) (entries_stay rules journal more d.command d.reply (standing d.reply) inside)
+    ∙ ap (λ es. entries_by rules journal d.command d.reply (standing d.reply) ++ es) (accepted_stay rules journal more done parts.0 high le parts.2)
 
 -- ---- a lane's own entries
 
@@ -128,39 +128,39 @@ longer : (before behind more : List Entry) → length (before ++ behind) ≤ len
 longer before behind more = omega (arith, length-append before behind, length-append before (behind ++ more), length-append behind more)
 
 -- Answers that are right stay right when entries of others follow.
-pub right_stays : (limits : Counts) (lane : ℕ) (before behind more : List Entry) (done : List Done) → AreOthers lane more
-    → IsRight limits lane before behind done → IsRight limits lane before (behind ++ more) done
-right_stays limits lane before behind more done others right =
+pub right_stays : (rules : Rules) (lane : ℕ) (before behind more : List Entry) (done : List Done) → AreOthers lane more
+    → IsRight rules lane before behind done → IsRight rules lane before (behind ++ more) done
+right_stays rules lane before behind more done others right =
     let same : (before ++ behind) ++ more ≡ before ++ (behind ++ more) = append_assoc before behind more in
     let none : own_entries lane (before ++ behind) more ≡ [] = none_own lane (length (before ++ behind) + 1) more others in
     let first : own_entries lane before (behind ++ more) ≡ own_entries lane before behind =
     own_entries_more lane before behind more ∙ ap (λ es. own_entries lane before behind ++ es) none ∙ append-nil (own_entries lane before behind) in
-    let stay : accepted ((before ++ behind) ++ more) done ≡ accepted (before ++ behind) done =
-    accepted_stay limits (before ++ behind) more done (length before) (length (before ++ behind)) (omega arith) right.positions in
+    let stay : accepted rules ((before ++ behind) ++ more) done ≡ accepted rules (before ++ behind) done =
+    accepted_stay rules (before ++ behind) more done (length before) (length (before ++ behind)) (omega arith) right.positions in
     record {
-      entries = first ∙ right.entries ∙ sym stay ∙ ap (λ j. accepted j done) same;
-      placed = subst (λ j. AllByRecursion (λ d. IsPlaced limits j d.command d.reply (standing d.reply)) done) same (all_placed_stay limits (before ++ behind) more done (length before) (length (before ++ behind)) (omega arith) right.positions right.placed);
+      entries = first ∙ right.entries ∙ sym stay ∙ ap (λ j. accepted rules j done) same;
+      placed = subst (λ j. AllByRecursion (λ d. IsPlaced rules j d.command d.reply (standing d.reply)) done) same (all_placed_stay rules (before ++ behind) more done (length before) (length (before ++ behind)) (omega arith) right.positions right.placed);
       positions = rises_up (length before) (moments done) (length (before ++ behind)) (length (before ++ (behind ++ more))) (longer before behind more) right.positions;
       unplaced = right.unplaced;
     }
 
 -- Answers that are right up to a journal, and answers that are right from there on, are right together.
-pub right_on : (limits : Counts) (lane : ℕ) (before behind more : List Entry) (done later : List Done)
-    → IsRight limits lane before behind done → IsRight limits lane (before ++ behind) more later → IsRight limits lane before (behind ++ more) (done ++ later)
-right_on limits lane before behind more done later first second =
+pub right_on : (rules : Rules) (lane : ℕ) (before behind more : List Entry) (done later : List Done)
+    → IsRight rules lane before behind done → IsRight rules lane (before ++ behind) more later → IsRight rules lane before (behind ++ more) (done ++ later)
+right_on rules lane before behind more done later first second =
     let same : (before ++ behind) ++ more ≡ before ++ (behind ++ more) = append_assoc before behind more in
-    let stay : accepted ((before ++ behind) ++ more) done ≡ accepted (before ++ behind) done =
-    accepted_stay limits (before ++ behind) more done (length before) (length (before ++ behind)) (omega arith) first.positions in
+    let stay : accepted rules ((before ++ behind) ++ more) done ≡ accepted rules (before ++ behind) done =
+    accepted_stay rules (before ++ behind) more done (length before) (length (before ++ behind)) (omega arith) first.positions in
     record {
       entries = own_entries_more lane before behind more ∙ ap (λ es. es ++ own_entries lane (before ++ behind) more) (first.entries ∙ sym stay)
-          ∙ ap (λ es. accepted ((before ++ behind) ++ more) done ++ es) second.entries
-          ∙ sym (flat_map-append (λ (d : Done). entries_by ((before ++ behind) ++ more) d.command d.reply (standing d.reply)) done later)
-          ∙ ap (λ j. accepted j (done ++ later)) same;
-      placed = subst (λ j. AllByRecursion (λ d. IsPlaced limits j d.command d.reply (standing d.reply)) (done ++ later)) same
-          (all_append (λ (d : Done). IsPlaced limits ((before ++ behind) ++ more) d.command d.reply (standing d.reply)) done later
-          (all_placed_stay limits (before ++ behind) more done (length before) (length (before ++ behind)) (omega arith) first.positions first.placed) second.placed);
+          ∙ ap (λ es. accepted rules ((before ++ behind) ++ more) done ++ es) second.entries
+          ∙ sym (flat_map-append (λ (d : Done). entries_by rules ((before ++ behind) ++ more) d.command d.reply (standing d.reply)) done later)
+          ∙ ap (λ j. accepted rules j (done ++ later)) same;
+      placed = subst (λ j. AllByRecursion (λ d. IsPlaced rules j d.command d.reply (standing d.reply)) (done ++ later)) same
+          (all_append (λ (d : Done). IsPlaced rules ((before ++ behind) ++ more) d.command d.reply (standing d.reply)) done later
+          (all_placed_stay rules (before ++ behind) more done (length before) (length (before ++ behind)) (omega arith) first.positions first.placed) second.placed);
       positions = subst (λ (ms : List Moment). Rises (length before) ms (length (before ++ (behind ++ more)))) (sym (flat_map-append (λ (d : Done). moments_by (standing d.reply)) done later))
           (rises_on (length before) (moments done) (length (before ++ behind)) (moments later) (length (before ++ (behind ++ more))) first.positions
           (subst (λ (j : List Entry). Rises (length (before ++ behind)) (moments later) (length j)) same second.positions));
-      unplaced = all_append (λ (d : Done). IsUnplaced limits d.command d.reply (standing d.reply)) done later first.unplaced second.unplaced;
+      unplaced = all_append (λ (d : Done). IsUnplaced rules d.command d.reply (standing d.reply)) done later first.unplaced second.unplaced;
     }

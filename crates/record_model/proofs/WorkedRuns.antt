@@ -32,7 +32,7 @@ abbrev commands_of : List ℕ → Commands
 commands_of script = commands standard 1 script []
 
 abbrev written : List ℕ → List ℕ
-written script = text (played standard_limits plain (commands_of script).batches [])
+written script = text (played (standard_rules Canonical) plain (commands_of script).batches [])
 
 -- a search of an empty lake
 nothing_loaded : written (lines (codes "search 5" ∷ codes "a" ∷ codes "." ∷ [])) ≡ lines (codes "1 answer 0 of 1 at 0" ∷ [])
@@ -87,10 +87,10 @@ replaced = refl
 -- ---- traces
 
 abbrev traced : Options
-traced = options_with 1 None false true
+traced = options_with 1 None false true Canonical
 
 abbrev written_traced : List ℕ → List ℕ
-written_traced script = text (with_end true (played standard_limits traced (commands_of script).batches []))
+written_traced script = text (with_end true (played (standard_rules Canonical) traced (commands_of script).batches []))
 
 -- One list and one probe close the search: the column with all four keys stands in the rarest list.
 one_read_one_probe : written_traced (lines (codes "load t1" ∷ codes "c" ∷ codes "a" ∷ codes "b" ∷ codes "c" ∷ codes "d" ∷ codes "." ∷ codes "load t2" ∷ codes "c" ∷ codes "d" ∷ codes "." ∷ codes "load t3" ∷ codes "c" ∷ codes "c" ∷ codes "d" ∷ codes "." ∷ codes "merge all" ∷ codes "search 1" ∷ codes "a" ∷ codes "b" ∷ codes "c" ∷ codes "d" ∷ codes "." ∷ [])) ≡ lines (codes "1 loaded t1 columns 1 members 4 at 1" ∷ codes "2 loaded t2 columns 1 members 1 at 2" ∷ codes "3 loaded t3 columns 1 members 2 at 3" ∷ codes "4 merged 3 parts into 3 tables at 4" ∷ codes "  layout at 3 parts 1:1 2:2 3:3" ∷ codes "5 answer 1 of 4 at 4" ∷ codes "  4 t1 1 \"c\"" ∷ codes "  work reads 1 probes 1" ∷ codes "  layout at 4 parts 4:1,2,3" ∷ codes "journal 4" ∷ codes "  1 load lane 1 command 1 t1" ∷ codes "  2 load lane 1 command 2 t2" ∷ codes "  3 load lane 1 command 3 t3" ∷ codes "  4 swap lane 1 command 4 from 1,2,3 kept 1,2,3" ∷ [])

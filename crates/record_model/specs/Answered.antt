@@ -2,14 +2,14 @@
 use Rattle.std.specs.Prelude.{ℕ, Bool, true, false, List, [], ◌∷◌, if◌then◌else◌, Option, Some, None}
 use Rattle.lake_model.specs.declared.Policy.{Policy}
 use Rattle.lake_model.specs.declared.Policy.TheVariants.{Tier, All}
-use Rattle.lake_model.specs.declared.Counts.{Counts}
+use Rattle.record_model.specs.Rules.{Rules}
 use Rattle.lake_model.specs.declared.CsvRefused.{CsvRefused}
-use Rattle.lake_model.specs.declared.Keys.TheVariants.{Canonical}
+use Rattle.lake_model.specs.declared.Keys.{Keys}
 use Rattle.lake_model.specs.declared.SetRefused.{SetRefused}
 use Rattle.lake_model.specs.declared.QueryRefused.{QueryRefused}
 use Rattle.lake_model.specs.Texts.{Text}
 use Rattle.lake_model.specs.Tables.{Table}
-use Rattle.lake_model.specs.Records.{Record, records_of, csv_fault, sets_fault, table_of}
+use Rattle.lake_model.specs.Records.{Record, records_of, csv_fault, most_columns, sets_fault, table_of}
 use Rattle.lake_model.specs.Queries.{query_of, query_fault}
 use Rattle.lake_model.specs.Journal.{What, Entry}
 use Rattle.lake_model.specs.Journal as journal
@@ -29,30 +29,30 @@ pub data QueryRead : Type 0 where
   NoQuery : (fault : Fault) → QueryRead
 
 -- The table of bytes under a name. The first fault of the records refuses them, or else the first of the sets.
-abbrev pub sets_read : Text → List Record → Option SetRefused → TableRead
-sets_read name rows None = IsTable (table_of Canonical name rows)
-sets_read name rows (Some why) = NoTable (OfSets why)
+abbrev pub sets_read : Keys → Text → List Record → Option SetRefused → TableRead
+sets_read keys name rows None = IsTable (table_of keys name rows)
+sets_read keys name rows (Some why) = NoTable (OfSets why)
 
-abbrev pub records_read : Text → List Record → Option CsvRefused → TableRead
-records_read name rows None = sets_read name rows (sets_fault Canonical rows)
-records_read name rows (Some why) = NoTable (OfCsv why)
+abbrev pub records_read : Keys → Text → List Record → Option CsvRefused → TableRead
+records_read keys name rows None = sets_read keys name rows (sets_fault keys rows)
+records_read keys name rows (Some why) = NoTable (OfCsv why)
 
-unfoldable pub table_read : Text → List ℕ → TableRead
-table_read name bytes = records_read name (records_of bytes) (csv_fault 1024 bytes)
+unfoldable pub table_read : Keys → Text → List ℕ → TableRead
+table_read keys name bytes = records_read keys name (records_of bytes) (csv_fault (most_columns keys) bytes)
 
 -- the query of a body, whose first fault refuses it
-abbrev pub keys_read : List ℕ → Option QueryRefused → QueryRead
-keys_read body None = IsQuery (query_of Canonical body)
-keys_read body (Some why) = NoQuery (OfQuery why)
+abbrev pub keys_read : Keys → List ℕ → Option QueryRefused → QueryRead
+keys_read keys body None = IsQuery (query_of keys body)
+keys_read keys body (Some why) = NoQuery (OfQuery why)
 
-unfoldable pub query_read : List ℕ → QueryRead
-query_read body = keys_read body (query_fault Canonical body)
+unfoldable pub query_read : Keys → List ℕ → QueryRead
+query_read keys body = keys_read keys body (query_fault keys body)
 
-abbrev pub file_read : Text → File → TableRead
-file_read name (Bytes bytes) = table_read name bytes
-file_read name Failed = NoTable (OfFile FailedFault)
-file_read name Missing = NoTable (OfFile MissingFault)
-file_read name TooLong = NoTable (OfFile TooLongFault)
+abbrev pub file_read : Keys → Text → File → TableRead
+file_read keys name (Bytes bytes) = table_read keys name bytes
+file_read keys name Failed = NoTable (OfFile FailedFault)
+file_read keys name Missing = NoTable (OfFile MissingFault)
+file_read keys name TooLong = NoTable (OfFile TooLongFault)
 
 abbrev pub policy_of : Bool → Policy
 policy_of true = All
@@ -61,13 +61,13 @@ policy_of false = Tier
 abbrev pub plain_query : ℕ → List Text → Query
 plain_query k keys = record { keys = keys; k = k; except = None }
 
-abbrev pub load_answer : Counts → TableRead → List Entry → Reply
-load_answer limits (IsTable table) now = load_reply limits table now
-load_answer limits (NoTable fault) now = fault_reply fault
+abbrev pub load_answer : Rules → TableRead → List Entry → Reply
+load_answer rules (IsTable table) now = load_reply rules.limits table now
+load_answer rules (NoTable fault) now = fault_reply fault
 
-abbrev pub replace_answer : Counts → TableRead → List Entry → Reply
-replace_answer limits (IsTable table) now = replace_reply limits table now
-replace_answer limits (NoTable fault) now = fault_reply fault
+abbrev pub replace_answer : Rules → TableRead → List Entry → Reply
+replace_answer rules (IsTable table) now = replace_reply rules.limits table now
+replace_answer rules (NoTable fault) now = fault_reply fault
 
 abbrev pub search_answer : ℕ → QueryRead → List Entry → Reply
 search_answer k (IsQuery keys) pinned = search_reply (plain_query k keys) pinned
@@ -78,16 +78,16 @@ contain_answer a b (IsQuery keys) pinned = contain_reply keys a b pinned
 contain_answer a b (NoQuery fault) pinned = fault_reply fault
 
 -- the reply to a command that was pinned at one journal and is answered at another
-abbrev pub answer_to : Counts → Task → List Entry → List Entry → Reply
-answer_to limits (Load name body) pinned now = load_answer limits (table_read name body) now
-answer_to limits (LoadFile name file) pinned now = load_answer limits (file_read name file) now
-answer_to limits (DropTable name) pinned now = drop_reply limits name now
-answer_to limits (Replace name body) pinned now = replace_answer limits (table_read name body) now
-answer_to limits Tables pinned now = tables_reply now
-answer_to limits (Search k body) pinned now = search_answer k (query_read body) pinned
-answer_to limits (Like k name place) pinned now = like_reply k name place pinned
-answer_to limits (Contain a b body) pinned now = contain_answer a b (query_read body) pinned
-answer_to limits (Merge all) pinned now = merge_reply (policy_of all) pinned now
+abbrev pub answer_to : Rules → Task → List Entry → List Entry → Reply
+answer_to rules (Load name body) pinned now = load_answer rules (table_read rules.keys name body) now
+answer_to rules (LoadFile name file) pinned now = load_answer rules (file_read rules.keys name file) now
+answer_to rules (DropTable name) pinned now = drop_reply rules.limits name now
+answer_to rules (Replace name body) pinned now = replace_answer rules (table_read rules.keys name body) now
+answer_to rules Tables pinned now = tables_reply now
+answer_to rules (Search k body) pinned now = search_answer k (query_read rules.keys body) pinned
+answer_to rules (Like k name place) pinned now = like_reply k name place pinned
+answer_to rules (Contain a b body) pinned now = contain_answer a b (query_read rules.keys body) pinned
+answer_to rules (Merge all) pinned now = merge_reply (policy_of all) pinned now
 
 -- a search, a like, a contain and a merge have a pin of their own
 abbrev pub has_pin : Task → Bool
@@ -114,16 +114,16 @@ abbrev pub swaps : Option (List ℕ × List ℕ) → List What
 swaps None = []
 swaps (Some planned) = journal.Swapped planned.0 planned.1 ∷ []
 
-abbrev pub change_of : Task → List Entry → List What
-change_of (Load name body) pinned = loads (table_read name body)
-change_of (LoadFile name file) pinned = loads (file_read name file)
-change_of (DropTable name) pinned = journal.Dropped name ∷ []
-change_of (Replace name body) pinned = replaces (table_read name body)
-change_of Tables pinned = []
-change_of (Search k body) pinned = []
-change_of (Like k name place) pinned = []
-change_of (Contain a b body) pinned = []
-change_of (Merge all) pinned = swaps (plan (policy_of all) pinned)
+abbrev pub change_of : Rules → Task → List Entry → List What
+change_of rules (Load name body) pinned = loads (table_read rules.keys name body)
+change_of rules (LoadFile name file) pinned = loads (file_read rules.keys name file)
+change_of rules (DropTable name) pinned = journal.Dropped name ∷ []
+change_of rules (Replace name body) pinned = replaces (table_read rules.keys name body)
+change_of rules Tables pinned = []
+change_of rules (Search k body) pinned = []
+change_of rules (Like k name place) pinned = []
+change_of rules (Contain a b body) pinned = []
+change_of rules (Merge all) pinned = swaps (plan (policy_of all) pinned)
 
 -- where a reply stands: at no position, at one it has seen, at its own entry; a merge has the position of its plan besides
 pub data Standing : Type 0 where
@@ -155,5 +155,5 @@ is_accepted (Added at) = true
 is_accepted (PlannedAndSaw pinned at) = false
 is_accepted (PlannedAndAdded pinned at) = true
 
-abbrev pub adds : Task → List Entry → Reply → List What
-adds task pinned reply = if is_accepted (standing reply) then change_of task pinned else []
+abbrev pub adds : Rules → Task → List Entry → Reply → List What
+adds rules task pinned reply = if is_accepted (standing reply) then change_of rules task pinned else []

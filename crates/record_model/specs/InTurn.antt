@@ -1,23 +1,23 @@
 -- One lane without a stated order: its commands, one after another.
 use Rattle.std.specs.Prelude.{◌≡◌, Bool, false, List, [], ◌∷◌, ◌++◌, length}
 use Rattle.std.specs.List.{AllByRecursion}
-use Rattle.lake_model.specs.declared.Counts.{Counts}
+use Rattle.record_model.specs.Rules.{Rules}
 use Rattle.script_model.specs.Commands.{Command, Batch}
 use Rattle.record_model.specs.Answered.{answer_to}
 use Rattle.record_model.specs.Record.{answered_with, RunRecord}
 use Rattle.record_model.specs.Play.{who_of, reply_or_denied, entries_of}
 
 -- the record behind one more command, which is answered at the journal as it stands; `denied` says that memory is wanting
-abbrev pub after_command : Counts → RunRecord → Command → Bool → RunRecord
-after_command limits before command denied =
-    let reply = reply_or_denied denied (answer_to limits command.task before.journal before.journal) in
-    record before { journal = before.journal ++ entries_of before.journal command reply; answers = before.answers ++ answered_with (who_of command) reply ∷ [] }
+abbrev pub after_command : Rules → RunRecord → Command → Bool → RunRecord
+after_command rules before command denied =
+    let reply = reply_or_denied denied (answer_to rules command.task before.journal before.journal) in
+    record before { journal = before.journal ++ entries_of rules before.journal command reply; answers = before.answers ++ answered_with (who_of command) reply ∷ [] }
 
 -- each command with what is said of memory when it is answered; where nothing more is said, there is enough
-unfoldable pub in_turn : Counts → List Command → List Bool → RunRecord → RunRecord
-in_turn limits [] denials before = before
-in_turn limits (command ∷ commands) [] before = in_turn limits commands [] (after_command limits before command false)
-in_turn limits (command ∷ commands) (denied ∷ denials) before = in_turn limits commands denials (after_command limits before command denied)
+unfoldable pub in_turn : Rules → List Command → List Bool → RunRecord → RunRecord
+in_turn rules [] denials before = before
+in_turn rules (command ∷ commands) [] before = in_turn rules commands [] (after_command rules before command false)
+in_turn rules (command ∷ commands) (denied ∷ denials) before = in_turn rules commands denials (after_command rules before command denied)
 
 -- the record behind a batch: the length of the journal is noted
 abbrev pub with_sync : RunRecord → RunRecord

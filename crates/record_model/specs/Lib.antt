@@ -1,3 +1,4 @@
+pub mod Rules
 pub mod Work
 pub mod Replies
 pub mod Answered

@@ -2,7 +2,7 @@
 use Rattle.std.specs.Prelude.{ℕ, ◌+◌, ◌*◌, ◌==◌, ◌≡◌, Bool, true, false, List, [], ◌∷◌, ◌++◌, length, map, take, drop, filter, fold, flat_map, replicate, slice_get, slice_set, get_or, Option, Some, None}
 use Rattle.std.specs.List.{range_with_len}
 use Rattle.lake_model.specs.declared.Who.{Who}
-use Rattle.lake_model.specs.declared.Counts.{Counts}
+use Rattle.record_model.specs.Rules.{Rules}
 use Rattle.lake_model.specs.Journal.{who_with, Entry, entry_with}
 use Rattle.script_model.specs.Commands.{Merge, Command, command_with, Batch, updates}
 use Rattle.record_model.specs.Replies.{Reply, NoMemory}
@@ -42,31 +42,31 @@ reply_or_denied true reply = NoMemory
 reply_or_denied false reply = reply
 
 -- the entries that a reply adds
-abbrev pub entries_of : List Entry → Command → Reply → List Entry
-entries_of pinned command reply = map (entry_with (who_of command)) (adds command.task pinned reply)
+abbrev pub entries_of : Rules → List Entry → Command → Reply → List Entry
+entries_of rules pinned command reply = map (entry_with (who_of command)) (adds rules command.task pinned reply)
 
 -- a command is answered, and its lane goes on to the next
-abbrev pub answered : Counts → Bool → List Entry → List Lane → ℕ → List Done → Command → List Command → List Entry → Play
-answered limits denied journal lanes l done command todo pinned =
-    let reply = reply_or_denied denied (answer_to limits command.task pinned journal) in
-    play_with (journal ++ entries_of pinned command reply) (slice_set lanes l (lane_with todo None (done ++ done_with command reply ∷ [])))
+abbrev pub answered : Rules → Bool → List Entry → List Lane → ℕ → List Done → Command → List Command → List Entry → Play
+answered rules denied journal lanes l done command todo pinned =
+    let reply = reply_or_denied denied (answer_to rules command.task pinned journal) in
+    play_with (journal ++ entries_of rules pinned command reply) (slice_set lanes l (lane_with todo None (done ++ done_with command reply ∷ [])))
 
-abbrev pub step_of : Counts → Bool → List Entry → List Lane → ℕ → List Done → Command → List Command → Bool → Option ℕ → Play
-step_of limits denied journal lanes l done command todo true None = play_with journal (slice_set lanes l (lane_with (command ∷ todo) (Some (length journal)) done))
-step_of limits denied journal lanes l done command todo true (Some at) = answered limits denied journal lanes l done command todo (take at journal)
-step_of limits denied journal lanes l done command todo false pin = answered limits denied journal lanes l done command todo journal
+abbrev pub step_of : Rules → Bool → List Entry → List Lane → ℕ → List Done → Command → List Command → Bool → Option ℕ → Play
+step_of rules denied journal lanes l done command todo true None = play_with journal (slice_set lanes l (lane_with (command ∷ todo) (Some (length journal)) done))
+step_of rules denied journal lanes l done command todo true (Some at) = answered rules denied journal lanes l done command todo (take at journal)
+step_of rules denied journal lanes l done command todo false pin = answered rules denied journal lanes l done command todo journal
 
 -- the next step of a lane, where it has one; `denied` says that memory is wanting, if the step is one that answers
-abbrev pub lane_step : Counts → Bool → List Entry → List Lane → ℕ → List Command → Lane → Play
-lane_step limits denied journal lanes l [] lane = play_with journal lanes
-lane_step limits denied journal lanes l (command ∷ todo) lane = step_of limits denied journal lanes l lane.done command todo (has_pin command.task) lane.pin
+abbrev pub lane_step : Rules → Bool → List Entry → List Lane → ℕ → List Command → Lane → Play
+lane_step rules denied journal lanes l [] lane = play_with journal lanes
+lane_step rules denied journal lanes l (command ∷ todo) lane = step_of rules denied journal lanes l lane.done command todo (has_pin command.task) lane.pin
 
-abbrev pub step_at : Counts → Bool → List Entry → List Lane → ℕ → Option Lane → Play
-step_at limits denied journal lanes l None = play_with journal lanes
-step_at limits denied journal lanes l (Some lane) = lane_step limits denied journal lanes l lane.todo lane
+abbrev pub step_at : Rules → Bool → List Entry → List Lane → ℕ → Option Lane → Play
+step_at rules denied journal lanes l None = play_with journal lanes
+step_at rules denied journal lanes l (Some lane) = lane_step rules denied journal lanes l lane.todo lane
 
-abbrev pub step : Counts → Play → ℕ × Bool → Play
-step limits play turn = step_at limits turn.1 play.journal play.lanes turn.0 (slice_get play.lanes turn.0)
+abbrev pub step : Rules → Play → ℕ × Bool → Play
+step rules play turn = step_at rules turn.1 play.journal play.lanes turn.0 (slice_get play.lanes turn.0)
 
 -- each turn with what is said of memory in it; where nothing more is said, there is enough
 abbrev pub with_denials : List ℕ → List Bool → List (ℕ × Bool)
@@ -74,8 +74,8 @@ with_denials [] denials = []
 with_denials (l ∷ order) [] = (l, false) ∷ with_denials order []
 with_denials (l ∷ order) (denied ∷ denials) = (l, denied) ∷ with_denials order denials
 
-unfoldable pub play : Counts → List ℕ → List Bool → Play → Play
-play limits order denials before = fold (step limits) before (with_denials order denials)
+unfoldable pub play : Rules → List ℕ → List Bool → Play → Play
+play rules order denials before = fold (step rules) before (with_denials order denials)
 
 -- the merger's commands in a batch, from its next number on
 abbrev pub merger_commands : Bool → ℕ → Batch → List Command
@@ -104,9 +104,9 @@ gathered [] lists = []
 gathered (command ∷ commands) lists =
     take 1 (get_or lists command.lane []) ++ gathered commands (slice_set lists command.lane (drop 1 (get_or lists command.lane [])))
 
-abbrev pub play_batch : Counts → ℕ → Batch → List Command → List ℕ → List Bool → List Entry → Play
-play_batch limits lanes batch merges piece denials journal =
-    play limits (whole_order piece lanes (2 * (length batch + length merges))) denials (play_with journal (lanes_of lanes batch merges))
+abbrev pub play_batch : Rules → ℕ → Batch → List Command → List ℕ → List Bool → List Entry → Play
+play_batch rules lanes batch merges piece denials journal =
+    play rules (whole_order piece lanes (2 * (length batch + length merges))) denials (play_with journal (lanes_of lanes batch merges))
 
 abbrev pub answers_of : List Done → List Answered
 answers_of done = map (λ d. answered_with (who_of d.command) d.reply) done
@@ -123,24 +123,24 @@ abbrev pub head_or_empty : {X : Type 0} → List (List X) → List X
 head_or_empty [] = []
 head_or_empty (xs ∷ xss) = xs
 
-abbrev pub batch_after : Counts → ℕ → Batch → List Command → List ℕ → List Bool → RunRecord → RunRecord
-batch_after limits lanes batch merges piece denials before = record_after before (batch ++ merges) (play_batch limits lanes batch merges piece denials before.journal)
+abbrev pub batch_after : Rules → ℕ → Batch → List Command → List ℕ → List Bool → RunRecord → RunRecord
+batch_after rules lanes batch merges piece denials before = record_after before (batch ++ merges) (play_batch rules lanes batch merges piece denials before.journal)
 
 -- the record behind these batches, where `next` is the merger's next number
-unfoldable pub played_from : Counts → ℕ → Bool → ℕ → List Batch → List (List ℕ) → List (List Bool) → RunRecord → RunRecord
-played_from limits lanes merge next [] pieces denials before = before
-played_from limits lanes merge next (batch ∷ batches) pieces denials before =
-    played_from limits lanes merge (next + updates batch) batches (drop 1 pieces) (drop 1 denials)
-    (batch_after limits lanes batch (merger_commands merge next batch) (head_or_empty pieces) (head_or_empty denials) before)
+unfoldable pub played_from : Rules → ℕ → Bool → ℕ → List Batch → List (List ℕ) → List (List Bool) → RunRecord → RunRecord
+played_from rules lanes merge next [] pieces denials before = before
+played_from rules lanes merge next (batch ∷ batches) pieces denials before =
+    played_from rules lanes merge (next + updates batch) batches (drop 1 pieces) (drop 1 denials)
+    (batch_after rules lanes batch (merger_commands merge next batch) (head_or_empty pieces) (head_or_empty denials) before)
 
 abbrev pub pieces_of : Option (List (List ℕ)) → List (List ℕ)
 pieces_of None = []
 pieces_of (Some pieces) = pieces
 
 -- the record of these batches with these options, where memory is wanting at these turns
-abbrev pub played : Counts → Options → List Batch → List (List Bool) → RunRecord
-played limits options batches denials = played_from limits options.lanes options.merge 1 batches (pieces_of options.order) denials (empty options)
+abbrev pub played : Rules → Options → List Batch → List (List Bool) → RunRecord
+played rules options batches denials = played_from rules options.lanes options.merge 1 batches (pieces_of options.order) denials (empty options)
 
 -- The record was played of these batches, with these options, where memory was wanting at some turns or at none.
-abbrev pub IsPlayed : Counts → Options → List Batch → RunRecord → Type 0
-IsPlayed limits options batches made = (denials : List (List Bool)) × (made ≡ with_end made.ended (played limits options batches denials))
+abbrev pub IsPlayed : Rules → Options → List Batch → RunRecord → Type 0
+IsPlayed rules options batches made = (denials : List (List Bool)) × (made ≡ with_end made.ended (played rules options batches denials))

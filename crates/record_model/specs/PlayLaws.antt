@@ -1,7 +1,7 @@
 -- The laws of play.
 use Rattle.std.specs.Prelude.{ℕ, ◌+◌, ◌==◌, ◌≡◌, Bool, false, List, [], ◌∷◌, ◌++◌, get_or, length, sum_by}
 use Rattle.std.specs.List.{AllByRecursion}
-use Rattle.lake_model.specs.declared.Counts.{Counts}
+use Rattle.record_model.specs.Rules.{Rules}
 use Rattle.lake_model.specs.Journal.{Entry}
 use Rattle.script_model.specs.Commands.{Command, Batch, updates}
 use Rattle.script_model.specs.Options.{Options}
@@ -13,32 +13,32 @@ use Rattle.script_model.specs.Lanes.{IsOfLanes}
 
 -- What was played is right, in whatever order it was played, wherever memory was wanting, with merges and a merger.
 abbrev pub PlayedIsRight : Type 0
-PlayedIsRight = (limits : Counts) (options : Options) (batches : List Batch) (made : RunRecord) → AllByRecursion (IsOfLanes options.lanes) batches
-    → IsPlayed limits options batches made → IsRecordRight limits options.lanes options.merge batches made
+PlayedIsRight = (rules : Rules) (options : Options) (batches : List Batch) (made : RunRecord) → AllByRecursion (IsOfLanes options.lanes) batches
+    → IsPlayed rules options batches made → IsRecordRight rules options.lanes options.merge batches made
 
 -- One more command in turn comes behind all others.
 abbrev pub GoesOnInTurn : Type 0
-GoesOnInTurn = (limits : Counts) (commands : List Command) (denials : List Bool) (command : Command) (denied : Bool) (before : RunRecord) → length denials ≡ length commands
-    → in_turn limits (commands ++ command ∷ []) (denials ++ denied ∷ []) before ≡ after_command limits (in_turn limits commands denials before) command denied
+GoesOnInTurn = (rules : Rules) (commands : List Command) (denials : List Bool) (command : Command) (denied : Bool) (before : RunRecord) → length denials ≡ length commands
+    → in_turn rules (commands ++ command ∷ []) (denials ++ denied ∷ []) before ≡ after_command rules (in_turn rules commands denials before) command denied
 
 -- What the commands of a batch of one lane make in turn is that batch played without a stated order, with memory wanting at some turns or at none.
 abbrev pub BatchIsPlayed : Type 0
-BatchIsPlayed = (limits : Counts) (batch : Batch) (denials : List Bool) (before : RunRecord) → IsOneLane batch
-    → (turns : List Bool) × (batch_after limits 1 batch [] [] turns before ≡ with_sync (in_turn limits batch denials before))
+BatchIsPlayed = (rules : Rules) (batch : Batch) (denials : List Bool) (before : RunRecord) → IsOneLane batch
+    → (turns : List Bool) × (batch_after rules 1 batch [] [] turns before ≡ with_sync (in_turn rules batch denials before))
 
 -- One more batch is played behind the others, where its piece is the one at its place and `next` was the merger's next number before them.
 abbrev pub BatchesGoOn : Type 0
-BatchesGoOn = (limits : Counts) (lanes : ℕ) (merge : Bool) (next : ℕ) (batches : List Batch) (batch : Batch) (pieces : List (List ℕ)) (denials : List (List Bool)) (turns : List Bool) (before : RunRecord)
+BatchesGoOn = (rules : Rules) (lanes : ℕ) (merge : Bool) (next : ℕ) (batches : List Batch) (batch : Batch) (pieces : List (List ℕ)) (denials : List (List Bool)) (turns : List Bool) (before : RunRecord)
     → length denials ≡ length batches
-    → played_from limits lanes merge next (batches ++ batch ∷ []) pieces (denials ++ turns ∷ []) before
-    ≡ batch_after limits lanes batch (merger_commands merge (next + sum_by updates batches) batch) (get_or pieces (length batches) []) turns (played_from limits lanes merge next batches pieces denials before)
+    → played_from rules lanes merge next (batches ++ batch ∷ []) pieces (denials ++ turns ∷ []) before
+    ≡ batch_after rules lanes batch (merger_commands merge (next + sum_by updates batches) batch) (get_or pieces (length batches) []) turns (played_from rules lanes merge next batches pieces denials before)
 
 -- Answers of a lane that are right stay right when entries of other callers come behind.
 abbrev pub AnswersStayRight : Type 0
-AnswersStayRight = (limits : Counts) (lane : ℕ) (before behind more : List Entry) (done : List Done) → AllByRecursion (λ e. (e.who.caller == lane) ≡ false) more
-    → IsRight limits lane before behind done → IsRight limits lane before (behind ++ more) done
+AnswersStayRight = (rules : Rules) (lane : ℕ) (before behind more : List Entry) (done : List Done) → AllByRecursion (λ e. (e.who.caller == lane) ≡ false) more
+    → IsRight rules lane before behind done → IsRight rules lane before (behind ++ more) done
 
 -- Two lists of a lane's answers, the one right up to a journal and the other from it on, are right in a row.
 abbrev pub AnswersGoOn : Type 0
-AnswersGoOn = (limits : Counts) (lane : ℕ) (before behind more : List Entry) (done later : List Done) → IsRight limits lane before behind done
-    → IsRight limits lane (before ++ behind) more later → IsRight limits lane before (behind ++ more) (done ++ later)
+AnswersGoOn = (rules : Rules) (lane : ℕ) (before behind more : List Entry) (done later : List Done) → IsRight rules lane before behind done
+    → IsRight rules lane (before ++ behind) more later → IsRight rules lane before (behind ++ more) (done ++ later)

@@ -1,7 +1,7 @@
 -- What it is for a lane's answers, and for a record, to be right.
 use Rattle.std.specs.Prelude.{ℕ, ◌+◌, ◌-◌, ◌==◌, ◌≡◌, ◌≤◌, ◌<◌, ◌⊎◌, ⊤, Bool, true, false, List, [], ◌∷◌, ◌++◌, length, map, take, drop, filter, flat_map, zip}
 use Rattle.std.specs.List.{AllByRecursion, enumerate_from}
-use Rattle.lake_model.specs.declared.Counts.{Counts}
+use Rattle.record_model.specs.Rules.{Rules}
 use Rattle.lake_model.specs.Journal.{Entry}
 use Rattle.lake_model.specs.Layout.{is_legal}
 use Rattle.script_model.specs.Commands.{Command, Batch, updates}
@@ -60,22 +60,22 @@ made_by (PlannedAndSaw pinned at) = at
 made_by (PlannedAndAdded pinned at) = at - 1
 
 -- the reply that the command has at these positions; one with no position is the same at each journal, so also at the empty one
-abbrev pub answer_by : Counts → List Entry → Command → Standing → Reply
-answer_by limits journal command standing = answer_to limits command.task (take (pinned_by standing) journal) (take (made_by standing) journal)
+abbrev pub answer_by : Rules → List Entry → Command → Standing → Reply
+answer_by rules journal command standing = answer_to rules command.task (take (pinned_by standing) journal) (take (made_by standing) journal)
 
-abbrev pub IsPlaced : Counts → List Entry → Command → Reply → Standing → Type 0
-IsPlaced limits journal command reply Nowhere = ⊤
-IsPlaced limits journal command reply (Saw at) = reply ≡ answer_by limits journal command (Saw at)
-IsPlaced limits journal command reply (Added at) = reply ≡ answer_by limits journal command (Added at)
-IsPlaced limits journal command reply (PlannedAndSaw pinned at) = reply ≡ answer_by limits journal command (PlannedAndSaw pinned at)
-IsPlaced limits journal command reply (PlannedAndAdded pinned at) = reply ≡ answer_by limits journal command (PlannedAndAdded pinned at)
+abbrev pub IsPlaced : Rules → List Entry → Command → Reply → Standing → Type 0
+IsPlaced rules journal command reply Nowhere = ⊤
+IsPlaced rules journal command reply (Saw at) = reply ≡ answer_by rules journal command (Saw at)
+IsPlaced rules journal command reply (Added at) = reply ≡ answer_by rules journal command (Added at)
+IsPlaced rules journal command reply (PlannedAndSaw pinned at) = reply ≡ answer_by rules journal command (PlannedAndSaw pinned at)
+IsPlaced rules journal command reply (PlannedAndAdded pinned at) = reply ≡ answer_by rules journal command (PlannedAndAdded pinned at)
 
-abbrev pub IsUnplaced : Counts → Command → Reply → Standing → Type 0
-IsUnplaced limits command reply Nowhere = (reply ≡ NoMemory) ⊎ (reply ≡ answer_to limits command.task [] [])
-IsUnplaced limits command reply (Saw at) = ⊤
-IsUnplaced limits command reply (Added at) = ⊤
-IsUnplaced limits command reply (PlannedAndSaw pinned at) = ⊤
-IsUnplaced limits command reply (PlannedAndAdded pinned at) = ⊤
+abbrev pub IsUnplaced : Rules → Command → Reply → Standing → Type 0
+IsUnplaced rules command reply Nowhere = (reply ≡ NoMemory) ⊎ (reply ≡ answer_to rules command.task [] [])
+IsUnplaced rules command reply (Saw at) = ⊤
+IsUnplaced rules command reply (Added at) = ⊤
+IsUnplaced rules command reply (PlannedAndSaw pinned at) = ⊤
+IsUnplaced rules command reply (PlannedAndAdded pinned at) = ⊤
 
 -- ---- entries
 
@@ -87,23 +87,23 @@ abbrev pub at_position : ℕ → List Entry → List (ℕ × Entry)
 at_position at entries = map (λ e. (at, e)) entries
 
 -- the entry of an accepted update, at its reply's position; none of another command
-abbrev pub entries_by : List Entry → Command → Reply → Standing → List (ℕ × Entry)
-entries_by journal command reply Nowhere = []
-entries_by journal command reply (Saw at) = []
-entries_by journal command reply (Added at) = at_position at (entries_of (take (at - 1) journal) command reply)
-entries_by journal command reply (PlannedAndSaw pinned at) = []
-entries_by journal command reply (PlannedAndAdded pinned at) = at_position at (entries_of (take pinned journal) command reply)
+abbrev pub entries_by : Rules → List Entry → Command → Reply → Standing → List (ℕ × Entry)
+entries_by rules journal command reply Nowhere = []
+entries_by rules journal command reply (Saw at) = []
+entries_by rules journal command reply (Added at) = at_position at (entries_of rules (take (at - 1) journal) command reply)
+entries_by rules journal command reply (PlannedAndSaw pinned at) = []
+entries_by rules journal command reply (PlannedAndAdded pinned at) = at_position at (entries_of rules (take pinned journal) command reply)
 
-abbrev pub accepted : List Entry → List Done → List (ℕ × Entry)
-accepted journal done = flat_map (λ d. entries_by journal d.command d.reply (standing d.reply)) done
+abbrev pub accepted : Rules → List Entry → List Done → List (ℕ × Entry)
+accepted rules journal done = flat_map (λ d. entries_by rules journal d.command d.reply (standing d.reply)) done
 
 -- ---- a lane's answers between a journal and the same with more behind it
 
-pub record IsRight (limits : Counts) (lane : ℕ) (before behind : List Entry) (done : List Done) : Type 0 where
-  pub entries : own_entries lane before behind ≡ accepted (before ++ behind) done
-  pub placed : AllByRecursion (λ d. IsPlaced limits (before ++ behind) d.command d.reply (standing d.reply)) done
+pub record IsRight (rules : Rules) (lane : ℕ) (before behind : List Entry) (done : List Done) : Type 0 where
+  pub entries : own_entries lane before behind ≡ accepted rules (before ++ behind) done
+  pub placed : AllByRecursion (λ d. IsPlaced rules (before ++ behind) d.command d.reply (standing d.reply)) done
   pub positions : Rises (length before) (moments done) (length (before ++ behind))
-  pub unplaced : AllByRecursion (λ d. IsUnplaced limits d.command d.reply (standing d.reply)) done
+  pub unplaced : AllByRecursion (λ d. IsUnplaced rules d.command d.reply (standing d.reply)) done
 
 -- ---- a record
 
@@ -114,22 +114,22 @@ abbrev pub between : ℕ → ℕ → List Entry → List Entry
 between from to journal = take (to - from) (drop from journal)
 
 -- the answers of a batch whose commands, the merger's last, are these
-pub record IsBatchRight (limits : Counts) (lanes : ℕ) (journal : List Entry) (from to : ℕ) (commands : List Command) (answers : List Answered) : Type 0 where
+pub record IsBatchRight (rules : Rules) (lanes : ℕ) (journal : List Entry) (from to : ℕ) (commands : List Command) (answers : List Answered) : Type 0 where
   pub answered : map (λ a. a.who) answers ≡ map who_of commands
-  pub each : (lane : ℕ) → lane ≤ lanes → IsRight limits lane (take from journal) (between from to journal) (done_of lane commands answers)
+  pub each : (lane : ℕ) → lane ≤ lanes → IsRight rules lane (take from journal) (between from to journal) (done_of lane commands answers)
 
 -- one sync for each batch, rising; every command has one answer
-abbrev pub AreBatchesRight : Counts → ℕ → Bool → ℕ → List Entry → ℕ → List Batch → List ℕ → List Answered → Type 0
-AreBatchesRight limits lanes merge next journal from [] [] [] = from ≡ length journal
-AreBatchesRight limits lanes merge next journal from [] [] (answer ∷ answers) = ⊥
-AreBatchesRight limits lanes merge next journal from [] (sync ∷ syncs) answers = ⊥
-AreBatchesRight limits lanes merge next journal from (batch ∷ batches) [] answers = ⊥
-AreBatchesRight limits lanes merge next journal from (batch ∷ batches) (sync ∷ syncs) answers =
+abbrev pub AreBatchesRight : Rules → ℕ → Bool → ℕ → List Entry → ℕ → List Batch → List ℕ → List Answered → Type 0
+AreBatchesRight rules lanes merge next journal from [] [] [] = from ≡ length journal
+AreBatchesRight rules lanes merge next journal from [] [] (answer ∷ answers) = ⊥
+AreBatchesRight rules lanes merge next journal from [] (sync ∷ syncs) answers = ⊥
+AreBatchesRight rules lanes merge next journal from (batch ∷ batches) [] answers = ⊥
+AreBatchesRight rules lanes merge next journal from (batch ∷ batches) (sync ∷ syncs) answers =
     let commands = batch ++ merger_commands merge next batch in
-    (from ≤ sync) × IsBatchRight limits lanes journal from sync commands (take (length commands) answers)
-    × AreBatchesRight limits lanes merge (next + updates batch) journal sync batches syncs (drop (length commands) answers)
+    (from ≤ sync) × IsBatchRight rules lanes journal from sync commands (take (length commands) answers)
+    × AreBatchesRight rules lanes merge (next + updates batch) journal sync batches syncs (drop (length commands) answers)
 
-pub record IsRecordRight (limits : Counts) (lanes : ℕ) (merge : Bool) (batches : List Batch) (made : RunRecord) : Type 0 where
+pub record IsRecordRight (rules : Rules) (lanes : ℕ) (merge : Bool) (batches : List Batch) (made : RunRecord) : Type 0 where
   pub legal : is_legal made.journal ≡ true
   pub callers : AllByRecursion (λ e. e.who.caller ≤ lanes) made.journal
-  pub each : AreBatchesRight limits lanes merge 1 made.journal 0 batches made.syncs made.answers
+  pub each : AreBatchesRight rules lanes merge 1 made.journal 0 batches made.syncs made.answers

@@ -2,7 +2,7 @@
 -- of the outcomes of the fetches, of the bytes that the sink took, and of the record. `came` says of paths that these outcomes came of them.
 use Rattle.std.specs.Prelude.{ℕ, ◌-◌, ◌≡◌, ◌≤◌, ◌⊎◌, ⊤, Bool, true, false, if◌then◌else◌, List, [], ◌++◌, ◌+◌, length, take, sum_by, Option, MatchOption}
 use Rattle.std.specs.Io.KnownBytes.{IsAtEnd}
-use Rattle.lake_model.specs.declared.Counts.{Counts}
+use Rattle.record_model.specs.Rules.{Rules}
 use Rattle.lake_model.specs.Texts.{Text, lines_of}
 use Rattle.record_model.specs.declared.Status.{Status}
 use Rattle.record_model.specs.declared.Status.TheVariants.{Done, Script, Usage, ReadFault, WriteFault, NoMemory}
@@ -29,30 +29,30 @@ abbrev pub IsStated : Options → Type 0
 IsStated options = MatchOption options.order ⊥ (λ order. ⊤)
 
 -- The record has these options and is right for these batches. Where an order is stated, it was played of them in that order.
-pub record IsRecordOf (limits : Counts) (options : Options) (batches : List Batch) (made : RunRecord) : Type 0 where
+pub record IsRecordOf (rules : Rules) (options : Options) (batches : List Batch) (made : RunRecord) : Type 0 where
   pub options_are : made.options ≡ options
-  pub right : IsRecordRight limits options.lanes options.merge batches made
-  pub played : IsStated options → IsPlayed limits options batches made
+  pub right : IsRecordRight rules options.lanes options.merge batches made
+  pub played : IsStated options → IsPlayed rules options batches made
 
 -- nothing was written, and the record is empty
 abbrev pub NothingDone : List ℕ → RunRecord → Type 0
 NothingDone taken made = (taken ≡ []) × (made ≡ empty plain)
 
 -- The script was read to its end and is not at fault, its commands were all answered, and all text was written.
-pub record IsDone (limits : Counts) (options : Options) (came : List Text → Type 0) (script : Commands) (left : Option (List ℕ)) (taken : List ℕ) (made : RunRecord) : Type 0 where
+pub record IsDone (rules : Rules) (options : Options) (came : List Text → Type 0) (script : Commands) (left : Option (List ℕ)) (taken : List ℕ) (made : RunRecord) : Type 0 where
   pub read : IsAtEnd left
   pub whole : script.end ≡ Whole
   pub fetched : came script.asked
   pub ended : made.ended ≡ true
-  pub record_of : IsRecordOf limits options script.batches made
+  pub record_of : IsRecordOf rules options script.batches made
   pub written : taken ≡ text made
 
 -- The line is the first at fault. The batches before the one that holds it were answered, and all text was written.
-pub record IsRefused (limits : Counts) (options : Options) (came : List Text → Type 0) (script : Commands) (line : ℕ) (reason : Reason) (taken : List ℕ) (made : RunRecord) : Type 0 where
+pub record IsRefused (rules : Rules) (options : Options) (came : List Text → Type 0) (script : Commands) (line : ℕ) (reason : Reason) (taken : List ℕ) (made : RunRecord) : Type 0 where
   pub fault : script.end ≡ FaultAt line reason
   pub fetched : came script.asked
   pub ended : made.ended ≡ false
-  pub record_of : IsRecordOf limits options script.batches made
+  pub record_of : IsRecordOf rules options script.batches made
   pub written : taken ≡ text made
 
 -- what the bytes give by their last line feed, as the beginning of an input that goes on
@@ -68,11 +68,11 @@ asked_by (Stands reading) = reading.asked
 asked_by (AtFault line reason asked) = asked
 
 -- The batches whose `sync` line came whole were answered, and all text was written. No line that came whole is at fault.
-pub record IsBrokenOff (limits : Counts) (options : Options) (came : List Text → Type 0) (begun : LinesRead) (taken : List ℕ) (made : RunRecord) : Type 0 where
+pub record IsBrokenOff (rules : Rules) (options : Options) (came : List Text → Type 0) (begun : LinesRead) (taken : List ℕ) (made : RunRecord) : Type 0 where
   pub no_fault : HasNoFault begun.reached
   pub fetched : came (asked_by begun.reached)
   pub ended : made.ended ≡ false
-  pub record_of : IsRecordOf limits options begun.batches made
+  pub record_of : IsRecordOf rules options begun.batches made
   pub written : taken ≡ text made
 
 -- how many answers these batches have, the merger's among them
@@ -81,20 +81,20 @@ answer_count merge batches = sum_by (λ batch. length batch + (if merge then upd
 
 -- The first batches, so many of them, were answered, and each file that they ask for has its outcome. What was written is the beginning
 -- of the record's text, and has the text of these batches but the last.
-pub record IsCutOff (limits : Counts) (options : Options) (outcomes : List File) (came : List Text → Type 0) (script : Commands) (left : Option (List ℕ)) (taken : List ℕ) (made : RunRecord) : Type 0 where
+pub record IsCutOff (rules : Rules) (options : Options) (outcomes : List File) (came : List Text → Type 0) (script : Commands) (left : Option (List ℕ)) (taken : List ℕ) (made : RunRecord) : Type 0 where
   pub count : ℕ
   pub fetched : came (take (length outcomes) script.asked)
   pub asked : sum_by fetches (take count script.batches) ≤ length outcomes
-  pub record_of : IsRecordOf limits options (take count script.batches) made
+  pub record_of : IsRecordOf rules options (take count script.batches) made
   pub ended : made.ended ≡ true → IsAtEnd left × (script.end ≡ Whole) × (take count script.batches ≡ script.batches)
   pub beginning : IsPrefix taken (text made)
   pub holds : IsPrefix (answers_text options.trace (take (answer_count options.merge (take (count - 1) script.batches)) made.answers)) taken
 
 -- the row of a status
-abbrev pub Row : Counts → Options → List File → (List Text → Type 0) → Status → List ℕ → Option (List ℕ) → List ℕ → RunRecord → Type 0
-Row limits options outcomes came Done given left taken made = IsDone limits options came (script_of options outcomes given left) left taken made
-Row limits options outcomes came (Script line reason) given left taken made = IsRefused limits options came (script_of options outcomes given left) line reason taken made
-Row limits options outcomes came Usage given left taken made = (given ≡ []) × NothingDone taken made
-Row limits options outcomes came ReadFault given left taken made = IsBrokenOff limits options came (begun options outcomes given) taken made
-Row limits options outcomes came WriteFault given left taken made = IsCutOff limits options outcomes came (script_of options outcomes given left) left taken made
-Row limits options outcomes came NoMemory given left taken made = NothingDone taken made ⊎ IsCutOff limits options outcomes came (script_of options outcomes given left) left taken made
+abbrev pub Row : Rules → Options → List File → (List Text → Type 0) → Status → List ℕ → Option (List ℕ) → List ℕ → RunRecord → Type 0
+Row rules options outcomes came Done given left taken made = IsDone rules options came (script_of options outcomes given left) left taken made
+Row rules options outcomes came (Script line reason) given left taken made = IsRefused rules options came (script_of options outcomes given left) line reason taken made
+Row rules options outcomes came Usage given left taken made = (given ≡ []) × NothingDone taken made
+Row rules options outcomes came ReadFault given left taken made = IsBrokenOff rules options came (begun options outcomes given) taken made
+Row rules options outcomes came WriteFault given left taken made = IsCutOff rules options outcomes came (script_of options outcomes given left) left taken made
+Row rules options outcomes came NoMemory given left taken made = NothingDone taken made ⊎ IsCutOff rules options outcomes came (script_of options outcomes given left) left taken made

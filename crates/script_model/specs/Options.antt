@@ -1,5 +1,8 @@
--- The options of a run: how many lanes it has, a stated order of their steps, whether a merger runs beside them, and whether it is traced.
+-- The options of a run: how many lanes it has, a stated order of their steps, whether a merger runs beside them, whether it is traced, and by which
+-- match values are the same.
 use Rattle.std.specs.Prelude.{ℕ, Bool, false, List, Option, None}
+use Rattle.lake_model.specs.declared.Keys.{Keys}
+use Rattle.lake_model.specs.declared.Keys.TheVariants.{Canonical}
 
 -- an order has a piece for each batch, and a piece the numbers of lanes
 pub record Options : Type 0 where
@@ -7,9 +10,10 @@ pub record Options : Type 0 where
   pub order : Option (List (List ℕ))
   pub merge : Bool
   pub trace : Bool
+  pub keys : Keys
 
-abbrev pub options_with : ℕ → Option (List (List ℕ)) → Bool → Bool → Options
-options_with lanes order merge trace = record { lanes = lanes; order = order; merge = merge; trace = trace }
+abbrev pub options_with : ℕ → Option (List (List ℕ)) → Bool → Bool → Keys → Options
+options_with lanes order merge trace keys = record { lanes = lanes; order = order; merge = merge; trace = trace; keys = keys }
 
 abbrev pub plain : Options
-plain = record { lanes = 1; order = None; merge = false; trace = false }
+plain = record { lanes = 1; order = None; merge = false; trace = false; keys = Canonical }
