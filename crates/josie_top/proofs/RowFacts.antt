@@ -6,7 +6,7 @@ use Rattle.std.proofs.KnownBytes.{Consumes-trans}
 use Rattle.std.proofs.lemmas.List.{append-nil}
 use Rattle.std.proofs.Math.Seq.{take-append_seam}
 use Rattle.lake_io.specs.Files as shelf
-use Rattle.lake_model.specs.declared.Counts.{Counts}
+use Rattle.record_model.specs.Rules.{Rules}
 use Rattle.lake_model.specs.Texts.{Text, Lines, lines_of}
 use Rattle.script_model.specs.declared.Reason.{Reason}
 use Rattle.script_model.specs.declared.ScriptLimits.{ScriptLimits}
@@ -65,15 +65,15 @@ front_fetches script rest batches asked outcomes is size few =
     subst (λ (b : List Batch). sum_by fetches b ≤ length outcomes) (sym (front_batches script rest batches asked is)) (subst (λ (n : ℕ). sum_by fetches batches ≤ n) (sym size) few)
 
 -- a run that ends behind some batches, whose source may have more
-pub cut : (limits : Counts) (options : Options) (outcomes : List File) (came : List Text → Type 0) (script rest : Commands) (left : Option (List ℕ)) (taken : List ℕ) (made : RunRecord) (batches : List Batch) (asked : List Text)
-    → script ≡ given_before batches asked rest → length outcomes ≡ length asked → sum_by fetches batches ≤ length asked → came asked → IsRecordOf limits options batches made → made.ended ≡ false
+pub cut : (rules : Rules) (options : Options) (outcomes : List File) (came : List Text → Type 0) (script rest : Commands) (left : Option (List ℕ)) (taken : List ℕ) (made : RunRecord) (batches : List Batch) (asked : List Text)
+    → script ≡ given_before batches asked rest → length outcomes ≡ length asked → sum_by fetches batches ≤ length asked → came asked → IsRecordOf rules options batches made → made.ended ≡ false
     → IsPrefix taken (text made) → IsPrefix (answers_text options.trace (take (answer_count options.merge (take (length batches - 1) script.batches)) made.answers)) taken
-    → IsCutOff limits options outcomes came script left taken made
-cut limits options outcomes came script rest left taken made batches asked is size few fetched record_of not_ended beginning holds = record {
+    → IsCutOff rules options outcomes came script left taken made
+cut rules options outcomes came script rest left taken made batches asked is size few fetched record_of not_ended beginning holds = record {
   count = length batches;
   fetched = subst came (sym (front_asked script rest batches asked outcomes is size)) fetched;
   asked = front_fetches script rest batches asked outcomes is size few;
-  record_of = subst (λ (b : List Batch). IsRecordOf limits options b made) (sym (front_batches script rest batches asked is)) record_of;
+  record_of = subst (λ (b : List Batch). IsRecordOf rules options b made) (sym (front_batches script rest batches asked is)) record_of;
   ended = λ e. absurd (let no : true ≡ false = sym e ∙ not_ended in cc);
   beginning = beginning;
   holds = holds;
@@ -88,19 +88,19 @@ fetched_on before mid now asked paths outcomes others moved first second =
     (subst (λ (files : Option (List shelf.File)). AreFetched files mid.fetch_faults now.fetch_faults paths others) moved.files second)
 
 -- a run that ends between two batches, all whose text is written
-pub meets_between : (limits : Counts) (options : Options) (before mid now : World) (gathering : Gathering) (batches : List Batch) (made : RunRecord) (more : List ℕ)
-    → (been : AreRead options before mid gathering batches) → IsGoingOn options gathering → IsMade limits options batches made → (writ : AreWritten options before mid made)
-    → Consumes mid.left now.left more → mid.fetch_faults ≤ now.fetch_faults → now.written ≡ mid.written → Meets limits options status.NoMemory before now made
-meets_between limits options before mid now gathering batches made more been goes is writ gave later unwritten =
+pub meets_between : (rules : Rules) (options : Options) (before mid now : World) (gathering : Gathering) (batches : List Batch) (made : RunRecord) (more : List ℕ)
+    → (been : AreRead options before mid gathering batches) → IsGoingOn options gathering → IsMade rules options batches made → (writ : AreWritten options before mid made)
+    → Consumes mid.left now.left more → mid.fetch_faults ≤ now.fetch_faults → now.written ≡ mid.written → Meets rules options status.NoMemory before now made
+meets_between rules options before mid now gathering batches made more been goes is writ gave later unwritten =
     let not_ended = is.unended in
     let front = script_front options before mid now.left gathering batches been goes more [] in
     let same : been.outcomes ++ [] ≡ been.outcomes = append-nil been.outcomes in
     let script : script_of options been.outcomes (been.given ++ more) now.left ≡ given_before batches been.asked _ = ap (λ (o : List File). script_of options o (been.given ++ more) now.left) (sym same) ∙ front in
     let all : writ.taken ≡ text made = writ.text_is ∙ sym (text_unended options made is.options_are not_ended) in
-    let row : IsCutOff limits options been.outcomes (λ asked. AreFetchedSoFar before.files before.fetch_faults now.fetch_faults asked been.outcomes) (script_of options been.outcomes (been.given ++ more) now.left) now.left writ.taken made =
-    cut limits options been.outcomes (λ asked. AreFetchedSoFar before.files before.fetch_faults now.fetch_faults asked been.outcomes) _ _ now.left writ.taken made batches been.asked script (outcomes_size before.files before.fetch_faults mid.fetch_faults been.asked been.outcomes been.fetched)
+    let row : IsCutOff rules options been.outcomes (λ asked. AreFetchedSoFar before.files before.fetch_faults now.fetch_faults asked been.outcomes) (script_of options been.outcomes (been.given ++ more) now.left) now.left writ.taken made =
+    cut rules options been.outcomes (λ asked. AreFetchedSoFar before.files before.fetch_faults now.fetch_faults asked been.outcomes) _ _ now.left writ.taken made batches been.asked script (outcomes_size before.files before.fetch_faults mid.fetch_faults been.asked been.outcomes been.fetched)
     (reads_fetches standard options.lanes gathering.reading been.given gathering.held been.outcomes batches been.asked been.lines_read)
-    (fetched_so_far before.files before.fetch_faults mid.fetch_faults now.fetch_faults been.asked been.outcomes been.fetched later) (made_record_now limits options batches made is) not_ended
+    (fetched_so_far before.files before.fetch_faults mid.fetch_faults now.fetch_faults been.asked been.outcomes been.fetched later) (made_record_now rules options batches made is) not_ended
     (whole_prefix writ.taken (text made) all) (subst (IsPrefix _) (sym writ.text_is) (answers_prefix options.trace _ made.answers)) in
     record {
       given = been.given ++ more;
@@ -132,19 +132,19 @@ first_answers options script rest batches batch asked before now new is count ar
     ∙ ap (λ (n : ℕ). take n now.answers) (sym count) ∙ ap (take (length before.answers)) are ∙ take-append_seam before.answers new
 
 -- The run ended while a batch's text was written.
-pub cut_within : (limits : Counts) (options : Options) (outcomes : List File) (came : List Text → Type 0) (script rest : Commands) (left : Option (List ℕ)) (before now : RunRecord) (new : List Answered) (batches : List Batch) (batch : Batch) (asked : List Text) (taken part : List ℕ)
+pub cut_within : (rules : Rules) (options : Options) (outcomes : List File) (came : List Text → Type 0) (script rest : Commands) (left : Option (List ℕ)) (before now : RunRecord) (new : List Answered) (batches : List Batch) (batch : Batch) (asked : List Text) (taken part : List ℕ)
     → script ≡ given_before (batches ++ batch ∷ []) asked rest → length outcomes ≡ length asked → sum_by fetches (batches ++ batch ∷ []) ≤ length asked → came asked
-    → IsMade limits options batches before → IsMade limits options (batches ++ batch ∷ []) now → now.answers ≡ before.answers ++ new
+    → IsMade rules options batches before → IsMade rules options (batches ++ batch ∷ []) now → now.answers ≡ before.answers ++ new
     → taken ≡ answers_text options.trace before.answers → IsPrefix part (text_behind options.trace (length before.answers) now)
-    → IsCutOff limits options outcomes came script left (taken ++ part) now
-cut_within limits options outcomes came script rest left before now new batches batch asked taken part is size few fetched made_before made_now are taken_is beginning =
+    → IsCutOff rules options outcomes came script left (taken ++ part) now
+cut_within rules options outcomes came script rest left before now new batches batch asked taken part is size few fetched made_before made_now are taken_is beginning =
     let not_ended = made_now.unended in
     let whole : text now ≡ taken ++ text_behind options.trace (length before.answers) now =
     batch_text options before now new made_now.options_are are not_ended ∙ ap (λ (t : List ℕ). t ++ text_behind options.trace (length before.answers) now) (sym taken_is) in
-    let count : length before.answers ≡ answer_count options.merge batches = record_count limits options batches before (made_record_now limits options batches before made_before) in
+    let count : length before.answers ≡ answer_count options.merge batches = record_count rules options batches before (made_record_now rules options batches before made_before) in
     let first : answers_text options.trace (take (answer_count options.merge (take (length (batches ++ batch ∷ []) - 1) script.batches)) now.answers) ≡ taken =
     ap (answers_text options.trace) (first_answers options script rest batches batch asked before now new is count are) ∙ sym taken_is in
-    cut limits options outcomes came script rest left (taken ++ part) now (batches ++ batch ∷ []) asked is size few fetched (made_record_now limits options (batches ++ batch ∷ []) now made_now) not_ended
+    cut rules options outcomes came script rest left (taken ++ part) now (batches ++ batch ∷ []) asked is size few fetched (made_record_now rules options (batches ++ batch ∷ []) now made_now) not_ended
     (subst (IsPrefix (taken ++ part)) (sym whole) (prefix_behind taken part _ beginning))
     (prefix_more _ taken part (whole_prefix _ taken first))
 
@@ -171,24 +171,24 @@ whole_front script batches asked is =
     is ∙ ap (λ (b : List Batch). commands_with b Whole asked) (sym (append-nil batches)) ∙ ap (λ (a : List Text). commands_with (batches ++ []) Whole a) (sym (append-nil asked))
 
 -- All batches were answered, and all their text was written.
-pub done : (limits : Counts) (options : Options) (came : List Text → Type 0) (script : Commands) (left : Option (List ℕ)) (batches : List Batch) (asked : List Text) (made : RunRecord) (taken : List ℕ)
-    → script ≡ commands_with batches Whole asked → came asked → IsAtEnd left → IsMade limits options batches made
-    → taken ≡ answers_text options.trace made.answers → IsDone limits options came script left (taken ++ text_behind options.trace (length made.answers) (with_end true made)) (with_end true made)
-done limits options came script left batches asked made taken is fetched at_end is_made taken_is = record {
+pub done : (rules : Rules) (options : Options) (came : List Text → Type 0) (script : Commands) (left : Option (List ℕ)) (batches : List Batch) (asked : List Text) (made : RunRecord) (taken : List ℕ)
+    → script ≡ commands_with batches Whole asked → came asked → IsAtEnd left → IsMade rules options batches made
+    → taken ≡ answers_text options.trace made.answers → IsDone rules options came script left (taken ++ text_behind options.trace (length made.answers) (with_end true made)) (with_end true made)
+done rules options came script left batches asked made taken is fetched at_end is_made taken_is = record {
   read = at_end;
   whole = ap (λ (s : Commands). s.end) is;
   fetched = subst came (sym (ap (λ (s : Commands). s.asked) is)) fetched;
   ended = refl;
-  record_of = subst (λ (b : List Batch). IsRecordOf limits options b (with_end true made)) (sym (ap (λ (s : Commands). s.batches) is)) (made_record limits options batches made true is_made);
+  record_of = subst (λ (b : List Batch). IsRecordOf rules options b (with_end true made)) (sym (ap (λ (s : Commands). s.batches) is)) (made_record rules options batches made true is_made);
   written = ap (λ (t : List ℕ). t ++ text_behind options.trace (length made.answers) (with_end true made)) taken_is ∙ sym (text_ended options made is_made.options_are);
 }
 
 -- All batches were answered, and their text was written, but of the journal's only a part.
-pub cut_at_end : (limits : Counts) (options : Options) (outcomes : List File) (came : List Text → Type 0) (script : Commands) (left : Option (List ℕ)) (batches : List Batch) (asked : List Text) (made : RunRecord) (taken part : List ℕ)
-    → script ≡ commands_with batches Whole asked → length outcomes ≡ length asked → sum_by fetches batches ≤ length asked → came asked → IsAtEnd left → IsMade limits options batches made
+pub cut_at_end : (rules : Rules) (options : Options) (outcomes : List File) (came : List Text → Type 0) (script : Commands) (left : Option (List ℕ)) (batches : List Batch) (asked : List Text) (made : RunRecord) (taken part : List ℕ)
+    → script ≡ commands_with batches Whole asked → length outcomes ≡ length asked → sum_by fetches batches ≤ length asked → came asked → IsAtEnd left → IsMade rules options batches made
     → taken ≡ answers_text options.trace made.answers → IsPrefix part (text_behind options.trace (length made.answers) (with_end true made))
-    → IsCutOff limits options outcomes came script left (taken ++ part) (with_end true made)
-cut_at_end limits options outcomes came script left batches asked made taken part is size few fetched at_end is_made taken_is beginning =
+    → IsCutOff rules options outcomes came script left (taken ++ part) (with_end true made)
+cut_at_end rules options outcomes came script left batches asked made taken part is size few fetched at_end is_made taken_is beginning =
     let front = whole_front script batches asked is in
     let all : take (length batches) script.batches ≡ script.batches = front_batches script (commands_with [] Whole []) batches asked front ∙ sym (ap (λ (s : Commands). s.batches) is) in
     let whole : text (with_end true made) ≡ taken ++ text_behind options.trace (length made.answers) (with_end true made) =
@@ -197,7 +197,7 @@ cut_at_end limits options outcomes came script left batches asked made taken par
       count = length batches;
       fetched = subst came (sym (front_asked script (commands_with [] Whole []) batches asked outcomes front size)) fetched;
       asked = front_fetches script (commands_with [] Whole []) batches asked outcomes front size few;
-      record_of = subst (λ (b : List Batch). IsRecordOf limits options b (with_end true made)) (sym (front_batches script (commands_with [] Whole []) batches asked front)) (made_record limits options batches made true is_made);
+      record_of = subst (λ (b : List Batch). IsRecordOf rules options b (with_end true made)) (sym (front_batches script (commands_with [] Whole []) batches asked front)) (made_record rules options batches made true is_made);
       ended = λ e. (at_end, ap (λ (s : Commands). s.end) is, all);
       beginning = subst (IsPrefix (taken ++ part)) (sym whole) (prefix_behind taken part _ beginning);
       holds = prefix_more _ taken part (subst (IsPrefix _) (sym taken_is) (answers_prefix options.trace _ made.answers));
@@ -206,11 +206,11 @@ cut_at_end limits options outcomes came script left batches asked made taken par
 -- ---- faults of the script and of the source
 
 -- The line is the first at fault.
-pub refused : (limits : Counts) (options : Options) (before mid now : World) (gathering : Gathering) (batches : List Batch) (made : RunRecord) (taken more : List ℕ) (paths : List Text) (others : List File) (line : ℕ) (why : Reason)
-    → HasMoved before mid → (been : AreRead options before mid gathering batches) → IsGoingOn options gathering → IsMade limits options batches made → taken ≡ answers_text options.trace made.answers
+pub refused : (rules : Rules) (options : Options) (before mid now : World) (gathering : Gathering) (batches : List Batch) (made : RunRecord) (taken more : List ℕ) (paths : List Text) (others : List File) (line : ℕ) (why : Reason)
+    → HasMoved before mid → (been : AreRead options before mid gathering batches) → IsGoingOn options gathering → IsMade rules options batches made → taken ≡ answers_text options.trace made.answers
     → AreFetched mid.files mid.fetch_faults now.fetch_faults paths others → IsFaulty gathering now.left more paths others line why
-    → IsRefused limits options (λ asked. AreFetched before.files before.fetch_faults now.fetch_faults asked (been.outcomes ++ others)) (script_of options (been.outcomes ++ others) (been.given ++ more) now.left) line why taken made
-refused limits options before mid now gathering batches made taken more paths others line why moved been goes is taken_is fetched faulty =
+    → IsRefused rules options (λ asked. AreFetched before.files before.fetch_faults now.fetch_faults asked (been.outcomes ++ others)) (script_of options (been.outcomes ++ others) (been.given ++ more) now.left) line why taken made
+refused rules options before mid now gathering batches made taken more paths others line why moved been goes is taken_is fetched faulty =
     let here : commands_from (grammar_of standard options.lanes) (reading_at gathering.reading [] others) ((gathering.held ++ more) ++ left_of now.left) ≡ commands_with [] (FaultAt line why) paths =
     subst (λ (g : Grammar). commands_from g (reading_at gathering.reading [] others) ((gathering.held ++ more) ++ left_of now.left) ≡ commands_with [] (FaultAt line why) paths) (grammar_is options gathering goes) faulty.commands in
     let script : script_of options (been.outcomes ++ others) (been.given ++ more) now.left ≡ commands_with (batches ++ []) (FaultAt line why) (been.asked ++ paths) =
@@ -222,7 +222,7 @@ refused limits options before mid now gathering batches made taken more paths ot
       fetched = subst (λ (asked : List Text). AreFetched before.files before.fetch_faults now.fetch_faults asked (been.outcomes ++ others)) (sym (ap (λ (s : Commands). s.asked) script))
           (fetched_on before mid now been.asked paths been.outcomes others moved been.fetched fetched);
       ended = not_ended;
-      record_of = subst (λ (b : List Batch). IsRecordOf limits options b made) (sym same) (made_record_now limits options batches made is);
+      record_of = subst (λ (b : List Batch). IsRecordOf rules options b made) (sym same) (made_record_now rules options batches made is);
       written = taken_is ∙ sym (text_unended options made is.options_are not_ended);
     }
 
@@ -237,11 +237,11 @@ begun_is options outcomes given held batches after asked lines_read no_feed late
     ap (read (grammar_of standard options.lanes) (read_with [] (Stands (start (outcomes ++ later))))) ends ∙ lines_read.reads later
 
 -- The source failed behind these batches.
-pub broken_off : (limits : Counts) (options : Options) (before mid now : World) (gathering : Gathering) (batches : List Batch) (made : RunRecord) (taken more : List ℕ) (paths : List Text) (others : List File)
-    → HasMoved before mid → (been : AreRead options before mid gathering batches) → IsGoingOn options gathering → IsMade limits options batches made → taken ≡ answers_text options.trace made.answers
+pub broken_off : (rules : Rules) (options : Options) (before mid now : World) (gathering : Gathering) (batches : List Batch) (made : RunRecord) (taken more : List ℕ) (paths : List Text) (others : List File)
+    → HasMoved before mid → (been : AreRead options before mid gathering batches) → IsGoingOn options gathering → IsMade rules options batches made → taken ≡ answers_text options.trace made.answers
     → AreFetched mid.files mid.fetch_faults now.fetch_faults paths others → IsUnfinished gathering more paths others
-    → IsBrokenOff limits options (λ asked. AreFetched before.files before.fetch_faults now.fetch_faults asked (been.outcomes ++ others)) (begun options (been.outcomes ++ others) (been.given ++ more)) taken made
-broken_off limits options before mid now gathering batches made taken more paths others moved been goes is taken_is fetched unfinished =
+    → IsBrokenOff rules options (λ asked. AreFetched before.files before.fetch_faults now.fetch_faults asked (been.outcomes ++ others)) (begun options (been.outcomes ++ others) (been.given ++ more)) taken made
+broken_off rules options before mid now gathering batches made taken more paths others moved been goes is taken_is fetched unfinished =
     let here : ReadsOn (grammar_of standard options.lanes) gathering.reading (gathering.held ++ more) others [] unfinished.reading unfinished.held paths =
     subst (λ (g : Grammar). ReadsOn g gathering.reading (gathering.held ++ more) others [] unfinished.reading unfinished.held paths) (grammar_is options gathering goes) unfinished.lines_read in
     let all = reads_more (grammar_of standard options.lanes) (start []) gathering.reading unfinished.reading been.given more gathering.held unfinished.held been.outcomes others batches [] been.asked paths been.lines_read here in
@@ -249,15 +249,15 @@ broken_off limits options before mid now gathering batches made taken more paths
     ap (λ (o : List File). begun options o (been.given ++ more)) (sym (append-nil (been.outcomes ++ others)))
     ∙ begun_is options (been.outcomes ++ others) (been.given ++ more) unfinished.held (batches ++ []) unfinished.reading (been.asked ++ paths) all unfinished.rest [] in
     let not_ended = is.unended in
-    let row : IsBrokenOff limits options (λ asked. AreFetched before.files before.fetch_faults now.fetch_faults asked (been.outcomes ++ others)) (read_with (batches ++ []) (Stands (reading_at unfinished.reading (been.asked ++ paths) []))) taken made =
+    let row : IsBrokenOff rules options (λ asked. AreFetched before.files before.fetch_faults now.fetch_faults asked (been.outcomes ++ others)) (read_with (batches ++ []) (Stands (reading_at unfinished.reading (been.asked ++ paths) []))) taken made =
     record {
       no_fault = tt;
       fetched = fetched_on before mid now been.asked paths been.outcomes others moved been.fetched fetched;
       ended = not_ended;
-      record_of = subst (λ (b : List Batch). IsRecordOf limits options b made) (sym (append-nil batches)) (made_record_now limits options batches made is);
+      record_of = subst (λ (b : List Batch). IsRecordOf rules options b made) (sym (append-nil batches)) (made_record_now rules options batches made is);
       written = taken_is ∙ sym (text_unended options made is.options_are not_ended);
     } in
-    subst (λ (b : LinesRead). IsBrokenOff limits options (λ asked. AreFetched before.files before.fetch_faults now.fetch_faults asked (been.outcomes ++ others)) b taken made) (sym begun_here) row
+    subst (λ (b : LinesRead). IsBrokenOff rules options (λ asked. AreFetched before.files before.fetch_faults now.fetch_faults asked (been.outcomes ++ others)) b taken made) (sym begun_here) row
 
 -- ---- one batch more
 

@@ -7,7 +7,7 @@ use Rattle.std.proofs.KnownBytes.{Consumes-nil, Consumes-trans, Appends-nil, App
 use Rattle.std.proofs.lemmas.List.{append-nil}
 use Rattle.std.proofs.lemmas.List.Sums.{count_by-le-length, sum_by_push}
 use Rattle.lake_io.specs.Causes.{Rose}
-use Rattle.lake_model.specs.declared.Counts.{Counts}
+use Rattle.record_model.specs.Rules.{Rules}
 use Rattle.lake_model.specs.Texts.{Text}
 use Rattle.lake_model.specs.Journal.{standard_limits}
 use Rattle.catalogue.specs.Kept.{IsWithin}
@@ -91,17 +91,17 @@ done_moves moved = moves_freely status.Done moved
 -- ---- the start
 
 -- Nothing was read, answered or written.
-pub starts : (limits : Counts) (options : Options) (world : World) (gathering : Gathering) (made : RunRecord) (lanes : ℕ)
-    → gathering ≡ gathering_with (start []) [] false standard lanes → lanes ≡ options.lanes → made ≡ empty options → IsUnderWay limits options world world gathering made 0 1
+pub starts : (rules : Rules) (options : Options) (world : World) (gathering : Gathering) (made : RunRecord) (lanes : ℕ)
+    → gathering ≡ gathering_with (start []) [] false standard lanes → lanes ≡ options.lanes → made ≡ empty options → IsUnderWay rules options world world gathering made 0 1
 unfolding read
-starts limits options world gathering made lanes gathers are is =
-    subst (λ (g : Gathering). IsUnderWay limits options world world g made 0 1) (sym gathers)
-    (subst (λ (m : RunRecord). IsUnderWay limits options world world (gathering_with (start []) [] false standard lanes) m 0 1) (sym is) (record {
+starts rules options world gathering made lanes gathers are is =
+    subst (λ (g : Gathering). IsUnderWay rules options world world g made 0 1) (sym gathers)
+    (subst (λ (m : RunRecord). IsUnderWay rules options world world (gathering_with (start []) [] false standard lanes) m 0 1) (sym is) (record {
       batches = [];
       moved = still world;
       been = record { given = []; asked = []; outcomes = []; gave = Consumes-nil world.left; fetched = refl; lines_read = record { lines = []; whole = tt; cut = refl; reads = λ later. refl } };
       goes = record { limits_are = refl; lanes_are = are; within = omega arith };
-      is_made = made_start limits options;
+      is_made = made_start rules options;
       writ = record { taken = []; took = Appends-nil world.written; text_is = refl };
       counted = record { number_is = refl; next_is = refl; few = omega arith };
       late = late_start options;
@@ -115,46 +115,46 @@ whole_fetches options outcomes given left batches asked is =
     subst (λ (script : Commands). sum_by fetches script.batches ≤ length script.asked) is (script_fetches standard options.lanes (given ++ left_of left) outcomes)
 
 -- All batches were answered and written, and the rest of the text as this status has it.
-finished : (limits : Counts) (options : Options) (ends : Status) (before mid : World) (written : Option (List ℕ)) (faults : ℕ) (given : List ℕ) (outcomes : List File) (asked : List Text) (batches : List Batch) (made now : RunRecord)
+finished : (rules : Rules) (options : Options) (ends : Status) (before mid : World) (written : Option (List ℕ)) (faults : ℕ) (given : List ℕ) (outcomes : List File) (asked : List Text) (batches : List Batch) (made now : RunRecord)
     → Consumes before.left mid.left given → IsAtEnd mid.left → AreFetched before.files before.fetch_faults mid.fetch_faults asked outcomes → script_of options outcomes given mid.left ≡ commands_with batches Whole asked
-    → IsMade limits options batches made → (writ : AreWritten options before mid made) → now ≡ with_end true made → IsWritten ends mid.written written (text_behind options.trace (length made.answers) (with_end true made))
-    → Meets limits options ends before (with_sink written faults mid) now
-finished limits options status.Done before mid written faults given outcomes asked batches made now gave at_end fetched script is writ closed all =
-    subst (Meets limits options status.Done before (with_sink written faults mid)) (sym closed) (record {
+    → IsMade rules options batches made → (writ : AreWritten options before mid made) → now ≡ with_end true made → IsWritten ends mid.written written (text_behind options.trace (length made.answers) (with_end true made))
+    → Meets rules options ends before (with_sink written faults mid) now
+finished rules options status.Done before mid written faults given outcomes asked batches made now gave at_end fetched script is writ closed all =
+    subst (Meets rules options status.Done before (with_sink written faults mid)) (sym closed) (record {
       given = given;
       taken = writ.taken ++ text_behind options.trace (length made.answers) (with_end true made);
       outcomes = outcomes;
       gave = gave;
       took = Appends-trans before.written mid.written written writ.taken _ writ.took all;
-      row = done limits options (λ paths. AreFetched before.files before.fetch_faults mid.fetch_faults paths outcomes) _ mid.left batches asked made writ.taken script fetched at_end is writ.text_is;
+      row = done rules options (λ paths. AreFetched before.files before.fetch_faults mid.fetch_faults paths outcomes) _ mid.left batches asked made writ.taken script fetched at_end is writ.text_is;
       late = tt;
     })
-finished limits options status.WriteFault before mid written faults given outcomes asked batches made now gave at_end fetched script is writ closed (part, beginning, took) =
-    subst (Meets limits options status.WriteFault before (with_sink written faults mid)) (sym closed) (record {
+finished rules options status.WriteFault before mid written faults given outcomes asked batches made now gave at_end fetched script is writ closed (part, beginning, took) =
+    subst (Meets rules options status.WriteFault before (with_sink written faults mid)) (sym closed) (record {
       given = given;
       taken = writ.taken ++ part;
       outcomes = outcomes;
       gave = gave;
       took = Appends-trans before.written mid.written written writ.taken part writ.took took;
-      row = cut_at_end limits options outcomes (λ paths. AreFetched before.files before.fetch_faults mid.fetch_faults paths outcomes) _ mid.left batches asked made writ.taken part script
+      row = cut_at_end rules options outcomes (λ paths. AreFetched before.files before.fetch_faults mid.fetch_faults paths outcomes) _ mid.left batches asked made writ.taken part script
           (outcomes_size before.files before.fetch_faults mid.fetch_faults asked outcomes fetched) (whole_fetches options outcomes given mid.left batches asked script) fetched at_end is writ.text_is beginning;
       late = λ not_ended. absurd (let no : true ≡ false = not_ended in cc);
     })
-finished limits options status.NoMemory before mid written faults given outcomes asked batches made now gave at_end fetched script is writ closed (part, beginning, took) =
-    subst (Meets limits options status.NoMemory before (with_sink written faults mid)) (sym closed) (record {
+finished rules options status.NoMemory before mid written faults given outcomes asked batches made now gave at_end fetched script is writ closed (part, beginning, took) =
+    subst (Meets rules options status.NoMemory before (with_sink written faults mid)) (sym closed) (record {
       given = given;
       taken = writ.taken ++ part;
       outcomes = outcomes;
       gave = gave;
       took = Appends-trans before.written mid.written written writ.taken part writ.took took;
-      row = inr (cut_at_end limits options outcomes (λ paths. AreFetchedSoFar before.files before.fetch_faults mid.fetch_faults paths outcomes) _ mid.left batches asked made writ.taken part script
+      row = inr (cut_at_end rules options outcomes (λ paths. AreFetchedSoFar before.files before.fetch_faults mid.fetch_faults paths outcomes) _ mid.left batches asked made writ.taken part script
           (outcomes_size before.files before.fetch_faults mid.fetch_faults asked outcomes fetched) (whole_fetches options outcomes given mid.left batches asked script)
           (fetched_so_far before.files before.fetch_faults mid.fetch_faults mid.fetch_faults asked outcomes fetched (omega arith)) at_end is writ.text_is beginning);
       late = tt;
     })
-finished limits options status.Usage before mid written faults given outcomes asked batches made now gave at_end fetched script is writ closed none = absurd none
-finished limits options status.ReadFault before mid written faults given outcomes asked batches made now gave at_end fetched script is writ closed none = absurd none
-finished limits options (status.Script line why) before mid written faults given outcomes asked batches made now gave at_end fetched script is writ closed none = absurd none
+finished rules options status.Usage before mid written faults given outcomes asked batches made now gave at_end fetched script is writ closed none = absurd none
+finished rules options status.ReadFault before mid written faults given outcomes asked batches made now gave at_end fetched script is writ closed none = absurd none
+finished rules options (status.Script line why) before mid written faults given outcomes asked batches made now gave at_end fetched script is writ closed none = absurd none
 
 -- what was written before stands, where nothing was written since
 still_written : (options : Options) (before mid now : World) (made : RunRecord) → now.written ≡ mid.written → AreWritten options before mid made → AreWritten options before now made
@@ -165,14 +165,14 @@ still_written options before mid now made unwritten writ = record {
 }
 
 -- The input ended behind a `sync`, or behind no command.
-pub ends_without : {number next : ℕ} {found : Option Batch} (limits : Counts) (options : Options) (ends : Status) (first second third : World) (written : Option (List ℕ)) (faults : ℕ) (before after : Gathering) (made now : RunRecord)
-    → IsUnderWay limits options first second before made number next → (took : Taken (Ok found) second.left third.left second.files second.fetch_faults third.fetch_faults) → third.written ≡ second.written
+pub ends_without : {number next : ℕ} {found : Option Batch} (rules : Rules) (options : Options) (ends : Status) (first second third : World) (written : Option (List ℕ)) (faults : ℕ) (before after : Gathering) (made now : RunRecord)
+    → IsUnderWay rules options first second before made number next → (took : Taken (Ok found) second.left third.left second.files second.fetch_faults third.fetch_faults) → third.written ≡ second.written
     → IsWhole before after third.left took.given took.asked took.outcomes [] → now ≡ with_end true made → IsWritten ends third.written written (text_behind options.trace (length made.answers) (with_end true made))
-    → Meets limits options ends first (with_sink written faults third) now
-ends_without limits options ends first second third written faults before after made now way took unwritten whole closed rest =
+    → Meets rules options ends first (with_sink written faults third) now
+ends_without rules options ends first second third written faults before after made now way took unwritten whole closed rest =
     let script : script_of options (way.been.outcomes ++ took.outcomes) (way.been.given ++ took.given) third.left ≡ commands_with (way.batches ++ []) Whole (way.been.asked ++ took.asked) =
     script_whole options first second third.left before after way.batches [] took.given took.asked took.outcomes way.been way.goes whole in
-    finished limits options ends first third written faults (way.been.given ++ took.given) (way.been.outcomes ++ took.outcomes) (way.been.asked ++ took.asked) way.batches made now
+    finished rules options ends first third written faults (way.been.given ++ took.given) (way.been.outcomes ++ took.outcomes) (way.been.asked ++ took.asked) way.batches made now
     (Consumes-trans first.left second.left third.left way.been.given took.given way.been.gave took.gave) whole.at_end
     (fetched_on first second third way.been.asked took.asked way.been.outcomes took.outcomes way.moved way.been.fetched took.fetched)
     (script ∙ ap (λ (b : List Batch). commands_with b Whole (way.been.asked ++ took.asked)) (append-nil way.batches)) way.is_made (still_written options first second third made unwritten way.writ) closed rest
@@ -185,19 +185,19 @@ merger_made true merger next batch is = ap (λ (m : Option ℕ). merges_of m bat
 merger_made false merger next batch is = ap (λ (m : Option ℕ). merges_of m batch) is
 
 -- A driver made a batch of the record that is under way.
-pub batch_made : {used number next : ℕ} (limits : Counts) (options : Options) (batches : List Batch) (before now : RunRecord) (batch : Batch) (merge : Bool) (merger : Option ℕ)
+pub batch_made : {used number next : ℕ} (rules : Rules) (options : Options) (batches : List Batch) (before now : RunRecord) (batch : Batch) (merge : Bool) (merger : Option ℕ)
     → merge ≡ options.merge → merger ≡ (if merge then Some next else None) → AreCounted batches used number next
-    → HasOneMore limits number merger batch before now → IsMade limits options batches before → IsMade limits options (batches ++ batch ∷ []) now
-batch_made {next = next} limits options batches before now batch merge merger same merger_is counted more is =
+    → HasOneMore rules number merger batch before now → IsMade rules options batches before → IsMade rules options (batches ++ batch ∷ []) now
+batch_made {next = next} rules options batches before now batch merge merger same merger_is counted more is =
     let merges : merges_of merger batch ≡ merger_commands before.options.merge (1 + sum_by updates batches) batch =
     merger_made merge merger next batch merger_is ∙ ap (λ (n : ℕ). merger_commands merge n batch) counted.next_is
     ∙ ap (λ (b : Bool). merger_commands b (1 + sum_by updates batches) batch) (same ∙ sym (ap (λ (o : Options). o.merge) is.options_are)) in
-    subst (λ (o : Options). IsMade limits o (batches ++ batch ∷ []) now) is.options_are
-    (more batches counted.number_is merges (subst (λ (o : Options). IsMade limits o batches before) (sym is.options_are) is))
+    subst (λ (o : Options). IsMade rules o (batches ++ batch ∷ []) now) is.options_are
+    (more batches counted.number_is merges (subst (λ (o : Options). IsMade rules o batches before) (sym is.options_are) is))
 
-pub batch_written : (limits : Counts) (options : Options) (first mid : World) (written : Option (List ℕ)) (faults : ℕ) (batches : List Batch) (before now : RunRecord) (new : List Answered) → AreWritten options first mid before
-    → IsMade limits options batches now → now.answers ≡ before.answers ++ new → Appends mid.written written (text_behind options.trace (length before.answers) now) → AreWritten options first (with_sink written faults mid) now
-batch_written limits options first mid written faults batches before now new writ is are took =
+pub batch_written : (rules : Rules) (options : Options) (first mid : World) (written : Option (List ℕ)) (faults : ℕ) (batches : List Batch) (before now : RunRecord) (new : List Answered) → AreWritten options first mid before
+    → IsMade rules options batches now → now.answers ≡ before.answers ++ new → Appends mid.written written (text_behind options.trace (length before.answers) now) → AreWritten options first (with_sink written faults mid) now
+batch_written rules options first mid written faults batches before now new writ is are took =
     let text : List ℕ = text_behind options.trace (length before.answers) now in
     record {
       taken = writ.taken ++ text;
@@ -232,9 +232,9 @@ counted_more batches batch used0 used number next counted grows =
     }
 
 -- the merger's numbers in a batch: each stands for a byte that was read
-pub next_fits : (batches : List Batch) (batch : Batch) (used0 used number next : ℕ) (limits : ScriptLimits) → AreCounted batches used0 number next → used0 + length batch ≤ used → used ≤ limits.input → limits ≡ standard
+pub next_fits : (batches : List Batch) (batch : Batch) (used0 used number next : ℕ) (rules : ScriptLimits) → AreCounted batches used0 number next → used0 + length batch ≤ used → used ≤ rules.input → rules ≡ standard
     → next + updates batch < 2 ^ 64
-next_fits batches batch used0 used number next limits counted grows within is =
+next_fits batches batch used0 used number next rules counted grows within is =
     let low : used ≤ standard.input = subst (λ (l : ScriptLimits). used ≤ l.input) is within in
     omega (arith, counted.next_is, counted.few, grows, low, few_updates batch)
 
@@ -243,8 +243,8 @@ pub merger_fits : (merge : Bool) (merger : Option ℕ) (next : ℕ) (batch : Bat
 merger_fits true merger next batch is fits = subst (λ (m : Option ℕ). MatchOption m ⊤ (λ first. first + updates batch < 2 ^ 64)) (sym is) fits
 merger_fits false merger next batch is fits = subst (λ (m : Option ℕ). MatchOption m ⊤ (λ first. first + updates batch < 2 ^ 64)) (sym is) tt
 
-pub standard_within : (limits : Counts) → limits ≡ standard_limits → IsWithin standard_limits limits
-standard_within limits is = subst (IsWithin standard_limits) (sym is) (record { live = omega arith; updates = omega arith; members = omega arith; key_bytes = omega arith })
+pub standard_within : (rules : Rules) → rules ≡ standard_limits → IsWithin standard_limits rules
+standard_within rules is = subst (IsWithin standard_limits) (sym is) (record { live = omega arith; updates = omega arith; members = omega arith; key_bytes = omega arith })
 
 -- the source was read late, or not at all
 once : {Nothing Late : Type 0} → Nothing ⊎ Late → (⊤ × Nothing) ⊎ Late
@@ -252,19 +252,19 @@ once (inl nothing) = inl (tt, nothing)
 once (inr late) = inr late
 
 -- The batch was answered and written, and the gatherer goes on.
-pub one_more : {number next : ℕ} (limits : Counts) (options : Options) (first second third : World) (written : Option (List ℕ)) (faults : ℕ) (before after : Gathering) (made now : RunRecord) (batch : Batch) (new : List Answered)
-    → (way : IsUnderWay limits options first second before made number next) → IsBegun second third before after batch → after.ended ≡ false → third.write_faults ≤ faults
-    → IsMade limits options (way.batches ++ batch ∷ []) now → now.answers ≡ made.answers ++ new → Appends third.written written (text_behind options.trace (length made.answers) now)
-    → IsUnderWay limits options first (with_sink written faults third) after now (number + 1) (next + updates batch)
+pub one_more : {number next : ℕ} (rules : Rules) (options : Options) (first second third : World) (written : Option (List ℕ)) (faults : ℕ) (before after : Gathering) (made now : RunRecord) (batch : Batch) (new : List Answered)
+    → (way : IsUnderWay rules options first second before made number next) → IsBegun second third before after batch → after.ended ≡ false → third.write_faults ≤ faults
+    → IsMade rules options (way.batches ++ batch ∷ []) now → now.answers ≡ made.answers ++ new → Appends third.written written (text_behind options.trace (length made.answers) now)
+    → IsUnderWay rules options first (with_sink written faults third) after now (number + 1) (next + updates batch)
 unfolding read_synced
-one_more {number = number} {next = next} limits options first second third written faults before after made now batch new way has on later is are wrote = record {
+one_more {number = number} {next = next} rules options first second third written faults before after made now batch new way has on later is are wrote = record {
   batches = way.batches ++ batch ∷ [];
   moved = moved_on (moved_on way.moved has.moved) (sink_moved written faults third later);
   been = read_synced options first second (with_sink written faults third) before after way.batches batch has.taken.given has.taken.asked has.taken.outcomes way.moved way.been way.goes has.taken.gave has.taken.fetched
       (not_whole before after third.left has.taken.given has.taken.asked has.taken.outcomes batch on has.gathered);
   goes = goes_on options before after way.goes has.limits_are has.lanes_are has.within;
   is_made = is;
-  writ = batch_written limits options first third written faults (way.batches ++ batch ∷ []) made now new (still_written options first second third made has.unwritten way.writ) is are wrote;
+  writ = batch_written rules options first third written faults (way.batches ++ batch ∷ []) made now new (still_written options first second third made has.unwritten way.writ) is are wrote;
   counted = counted_more way.batches batch before.reading.used after.reading.used number next way.counted has.grows;
   late = subst (IsLateSoFar options (way.been.given ++ has.taken.given) (way.been.outcomes ++ has.taken.outcomes))
       (let many : length way.batches ≡ length (way.batches ++ batch ∷ []) - 1 = omega (arith, length-append way.batches (batch ∷ [])) in many)
@@ -272,18 +272,18 @@ one_more {number = number} {next = next} limits options first second third writt
 }
 
 -- The last batch was answered and written.
-pub ends_with : {number next : ℕ} (limits : Counts) (options : Options) (ends : Status) (first second third : World) (written last : Option (List ℕ)) (faults later : ℕ) (before after : Gathering) (made mid now : RunRecord) (batch : Batch) (new : List Answered)
-    → (way : IsUnderWay limits options first second before made number next) → IsBegun second third before after batch → after.ended ≡ true
-    → IsMade limits options (way.batches ++ batch ∷ []) mid → mid.answers ≡ made.answers ++ new → Appends third.written written (text_behind options.trace (length made.answers) mid)
+pub ends_with : {number next : ℕ} (rules : Rules) (options : Options) (ends : Status) (first second third : World) (written last : Option (List ℕ)) (faults later : ℕ) (before after : Gathering) (made mid now : RunRecord) (batch : Batch) (new : List Answered)
+    → (way : IsUnderWay rules options first second before made number next) → IsBegun second third before after batch → after.ended ≡ true
+    → IsMade rules options (way.batches ++ batch ∷ []) mid → mid.answers ≡ made.answers ++ new → Appends third.written written (text_behind options.trace (length made.answers) mid)
     → now ≡ with_end true mid → IsWritten ends written last (text_behind options.trace (length mid.answers) (with_end true mid))
-    → Meets limits options ends first (with_sink last later third) now
-ends_with limits options ends first second third written last faults later before after made mid now batch new way has over is are wrote closed rest =
+    → Meets rules options ends first (with_sink last later third) now
+ends_with rules options ends first second third written last faults later before after made mid now batch new way has over is are wrote closed rest =
     let whole = not_synced before after third.left has.taken.given has.taken.asked has.taken.outcomes batch over has.gathered in
-    finished limits options ends first (with_sink written faults third) last later (way.been.given ++ has.taken.given) (way.been.outcomes ++ has.taken.outcomes) (way.been.asked ++ has.taken.asked) (way.batches ++ batch ∷ []) mid now
+    finished rules options ends first (with_sink written faults third) last later (way.been.given ++ has.taken.given) (way.been.outcomes ++ has.taken.outcomes) (way.been.asked ++ has.taken.asked) (way.batches ++ batch ∷ []) mid now
     (Consumes-trans first.left second.left third.left way.been.given has.taken.given way.been.gave has.taken.gave) whole.at_end
     (fetched_on first second third way.been.asked has.taken.asked way.been.outcomes has.taken.outcomes way.moved way.been.fetched has.taken.fetched)
     (script_whole options first second third.left before after way.batches (batch ∷ []) has.taken.given has.taken.asked has.taken.outcomes way.been way.goes whole) is
-    (batch_written limits options first third written faults (way.batches ++ batch ∷ []) made mid new (still_written options first second third made has.unwritten way.writ) is are wrote) closed rest
+    (batch_written rules options first third written faults (way.batches ++ batch ∷ []) made mid new (still_written options first second third made has.unwritten way.writ) is are wrote) closed rest
 
 -- ---- ends within a batch
 
@@ -293,12 +293,12 @@ record Begins (options : Options) (outcomes : List File) (given : List ℕ) (lef
   pub is : script_of options outcomes given left ≡ given_before batches asked rest
   pub few : sum_by fetches batches ≤ length asked
 
-begins : {number next : ℕ} (limits : Counts) (options : Options) (first second third : World) (before after : Gathering) (made : RunRecord) (batch : Batch)
-    → (way : IsUnderWay limits options first second before made number next) → (has : IsBegun second third before after batch)
+begins : {number next : ℕ} (rules : Rules) (options : Options) (first second third : World) (before after : Gathering) (made : RunRecord) (batch : Batch)
+    → (way : IsUnderWay rules options first second before made number next) → (has : IsBegun second third before after batch)
     → IsSynced before after has.taken.given has.taken.asked has.taken.outcomes batch ⊎ IsWhole before after third.left has.taken.given has.taken.asked has.taken.outcomes (batch ∷ [])
     → Begins options (way.been.outcomes ++ has.taken.outcomes) (way.been.given ++ has.taken.given) third.left (way.batches ++ batch ∷ []) (way.been.asked ++ has.taken.asked)
 unfolding read_synced
-begins limits options first second third before after made batch way has (inl synced) =
+begins rules options first second third before after made batch way has (inl synced) =
     let took = has.taken in
     let been = read_synced options first second third before after way.batches batch took.given took.asked took.outcomes way.moved way.been way.goes took.gave took.fetched synced in
     let front = script_front options first third third.left after (way.batches ++ batch ∷ []) been (goes_on options before after way.goes has.limits_are has.lanes_are has.within) [] [] in
@@ -308,7 +308,7 @@ begins limits options first second third before after made batch way has (inl sy
           ∙ ap (λ (b : List ℕ). script_of options ((way.been.outcomes ++ took.outcomes) ++ []) b third.left) (sym (append-nil (way.been.given ++ took.given))) ∙ front;
       few = reads_fetches standard options.lanes after.reading (way.been.given ++ took.given) after.held (way.been.outcomes ++ took.outcomes) (way.batches ++ batch ∷ []) (way.been.asked ++ took.asked) been.lines_read;
     }
-begins limits options first second third before after made batch way has (inr whole) =
+begins rules options first second third before after made batch way has (inr whole) =
     let took = has.taken in
     let script = script_whole options first second third.left before after way.batches (batch ∷ []) took.given took.asked took.outcomes way.been way.goes whole in
     record {
@@ -318,10 +318,10 @@ begins limits options first second third before after made batch way has (inr wh
     }
 
 -- a run that is cut for want of memory
-cut_so_far : (limits : Counts) (options : Options) (outcomes : List File) (before now : World) (script : Commands) (left : Option (List ℕ)) (taken : List ℕ) (made : RunRecord)
-    → IsCutOff limits options outcomes (λ paths. AreFetched before.files before.fetch_faults now.fetch_faults paths outcomes) script left taken made
-    → IsCutOff limits options outcomes (λ paths. AreFetchedSoFar before.files before.fetch_faults now.fetch_faults paths outcomes) script left taken made
-cut_so_far limits options outcomes before now script left taken made row = record {
+cut_so_far : (rules : Rules) (options : Options) (outcomes : List File) (before now : World) (script : Commands) (left : Option (List ℕ)) (taken : List ℕ) (made : RunRecord)
+    → IsCutOff rules options outcomes (λ paths. AreFetched before.files before.fetch_faults now.fetch_faults paths outcomes) script left taken made
+    → IsCutOff rules options outcomes (λ paths. AreFetchedSoFar before.files before.fetch_faults now.fetch_faults paths outcomes) script left taken made
+cut_so_far rules options outcomes before now script left taken made row = record {
   count = row.count;
   fetched = fetched_so_far before.files before.fetch_faults now.fetch_faults now.fetch_faults _ outcomes row.fetched (omega arith);
   asked = row.asked;
@@ -332,32 +332,32 @@ cut_so_far limits options outcomes before now script left taken made row = recor
 }
 
 -- a run that is cut, by why its text is not written whole
-cut_meets : (limits : Counts) (options : Options) (why : WriteStop) (before now : World) (made : RunRecord) (given taken : List ℕ) (outcomes : List File)
+cut_meets : (rules : Rules) (options : Options) (why : WriteStop) (before now : World) (made : RunRecord) (given taken : List ℕ) (outcomes : List File)
     → Consumes before.left now.left given → Appends before.written now.written taken
-    → IsCutOff limits options outcomes (λ paths. AreFetched before.files before.fetch_faults now.fetch_faults paths outcomes) (script_of options outcomes given now.left) now.left taken made
-    → IsReadLate options given outcomes made → Meets limits options (status_of_stop why) before now made
-cut_meets limits options stop.Failed before now made given taken outcomes gave wrote row late =
+    → IsCutOff rules options outcomes (λ paths. AreFetched before.files before.fetch_faults now.fetch_faults paths outcomes) (script_of options outcomes given now.left) now.left taken made
+    → IsReadLate options given outcomes made → Meets rules options (status_of_stop why) before now made
+cut_meets rules options stop.Failed before now made given taken outcomes gave wrote row late =
     record { given = given; taken = taken; outcomes = outcomes; gave = gave; took = wrote; row = row; late = λ not_ended. late }
-cut_meets limits options stop.NoMemory before now made given taken outcomes gave wrote row late =
-    record { given = given; taken = taken; outcomes = outcomes; gave = gave; took = wrote; row = inr (cut_so_far limits options outcomes before now _ now.left taken made row); late = tt }
+cut_meets rules options stop.NoMemory before now made given taken outcomes gave wrote row late =
+    record { given = given; taken = taken; outcomes = outcomes; gave = gave; took = wrote; row = inr (cut_so_far rules options outcomes before now _ now.left taken made row); late = tt }
 
 -- The batch was answered, but its text not written whole.
-pub ends_writing : {number next : ℕ} (limits : Counts) (options : Options) (why : WriteStop) (first second third : World) (written : Option (List ℕ)) (faults : ℕ) (before after : Gathering) (made now : RunRecord) (batch : Batch) (new : List Answered) (part : List ℕ)
-    → (way : IsUnderWay limits options first second before made number next) → IsBegun second third before after batch
-    → IsMade limits options (way.batches ++ batch ∷ []) now → now.answers ≡ made.answers ++ new → IsPrefix part (text_behind options.trace (length made.answers) now) → Appends third.written written part
-    → Meets limits options (status_of_stop why) first (with_sink written faults third) now
-ends_writing limits options why first second third written faults before after made now batch new part way has is are beginning wrote =
+pub ends_writing : {number next : ℕ} (rules : Rules) (options : Options) (why : WriteStop) (first second third : World) (written : Option (List ℕ)) (faults : ℕ) (before after : Gathering) (made now : RunRecord) (batch : Batch) (new : List Answered) (part : List ℕ)
+    → (way : IsUnderWay rules options first second before made number next) → IsBegun second third before after batch
+    → IsMade rules options (way.batches ++ batch ∷ []) now → now.answers ≡ made.answers ++ new → IsPrefix part (text_behind options.trace (length made.answers) now) → Appends third.written written part
+    → Meets rules options (status_of_stop why) first (with_sink written faults third) now
+ends_writing rules options why first second third written faults before after made now batch new part way has is are beginning wrote =
     let took = has.taken in
     let writ = still_written options first second third made has.unwritten way.writ in
-    let script = begins limits options first second third before after made batch way has has.gathered in
+    let script = begins rules options first second third before after made batch way has has.gathered in
     let fetched = fetched_on first second third way.been.asked took.asked way.been.outcomes took.outcomes way.moved way.been.fetched took.fetched in
-    cut_meets limits options why first (with_sink written faults third) now (way.been.given ++ took.given) (writ.taken ++ part) (way.been.outcomes ++ took.outcomes)
+    cut_meets rules options why first (with_sink written faults third) now (way.been.given ++ took.given) (writ.taken ++ part) (way.been.outcomes ++ took.outcomes)
     (Consumes-trans first.left second.left third.left way.been.given took.given way.been.gave took.gave) (Appends-trans first.written third.written written writ.taken part writ.took wrote)
-    (cut_within limits options (way.been.outcomes ++ took.outcomes) (λ paths. AreFetched first.files first.fetch_faults third.fetch_faults paths (way.been.outcomes ++ took.outcomes)) _ script.rest third.left made now new way.batches batch (way.been.asked ++ took.asked) writ.taken part
+    (cut_within rules options (way.been.outcomes ++ took.outcomes) (λ paths. AreFetched first.files first.fetch_faults third.fetch_faults paths (way.been.outcomes ++ took.outcomes)) _ script.rest third.left made now new way.batches batch (way.been.asked ++ took.asked) writ.taken part
     script.is (outcomes_size first.files first.fetch_faults third.fetch_faults (way.been.asked ++ took.asked) (way.been.outcomes ++ took.outcomes) fetched) script.few fetched way.is_made is are writ.text_is beginning)
     (late_within options (way.been.given ++ took.given) (way.been.outcomes ++ took.outcomes) (length way.batches) now
     (late_more options first second before way.batches ⊤ took.given took.outcomes way.been way.goes way.late (once has.late))
-    (omega (arith, record_syncs limits options (way.batches ++ batch ∷ []) now (made_record_now limits options (way.batches ++ batch ∷ []) now is), length-append way.batches (batch ∷ []))))
+    (omega (arith, record_syncs rules options (way.batches ++ batch ∷ []) now (made_record_now rules options (way.batches ++ batch ∷ []) now is), length-append way.batches (batch ∷ []))))
 
 -- ---- a batch that was gathered
 
@@ -396,17 +396,17 @@ begun {Idle = Idle} first second before after found batch is moved unwritten =
     (sym is) (begun_with first second before after batch moved unwritten)
 
 -- A run whose record stands.
-pub stands_still : {number next : ℕ} (limits : Counts) (options : Options) (first second : World) (before : Gathering) (made now : RunRecord)
-    → now ≡ made → IsUnderWay limits options first second before made number next → IsUnderWay limits options first second before now number next
-stands_still {number = number} {next = next} limits options first second before made now same way =
-    subst (λ (m : RunRecord). IsUnderWay limits options first second before m number next) (sym same) way
+pub stands_still : {number next : ℕ} (rules : Rules) (options : Options) (first second : World) (before : Gathering) (made now : RunRecord)
+    → now ≡ made → IsUnderWay rules options first second before made number next → IsUnderWay rules options first second before now number next
+stands_still {number = number} {next = next} rules options first second before made now same way =
+    subst (λ (m : RunRecord). IsUnderWay rules options first second before m number next) (sym same) way
 
 -- The batch that was gathered was answered too.
-pub is_answered : {number next : ℕ} (limits : Counts) (options : Options) (first second third : World) (before after : Gathering) (made now : RunRecord) (from : ℕ) (batch : Batch) (merge : Bool) (merger : Option ℕ)
-    → IsUnderWay limits options first second before made number next → IsBegun second third before after batch
-    → from ≡ length made.answers → merge ≡ made.options.merge → merger ≡ (if merge then Some next else None) → HasOneMore limits number merger batch made now → AddsAnswers made now
-    → IsAnswered limits options first third after now from (number + 1) (next + updates batch)
-is_answered {number = number} {next = next} limits options first second third before after made now from batch merge merger way has from_is same merger_is more adds = record {
+pub is_answered : {number next : ℕ} (rules : Rules) (options : Options) (first second third : World) (before after : Gathering) (made now : RunRecord) (from : ℕ) (batch : Batch) (merge : Bool) (merger : Option ℕ)
+    → IsUnderWay rules options first second before made number next → IsBegun second third before after batch
+    → from ≡ length made.answers → merge ≡ made.options.merge → merger ≡ (if merge then Some next else None) → HasOneMore rules number merger batch made now → AddsAnswers made now
+    → IsAnswered rules options first third after now from (number + 1) (next + updates batch)
+is_answered {number = number} {next = next} rules options first second third before after made now from batch merge merger way has from_is same merger_is more adds = record {
   mid = second;
   gathering_before = before;
   record_before = made;
@@ -415,7 +415,7 @@ is_answered {number = number} {next = next} limits options first second third be
   batch = batch;
   way = way;
   begun = has;
-  is_made = batch_made limits options way.batches made now batch merge merger (same ∙ ap (λ (o : Options). o.merge) way.is_made.options_are) merger_is way.counted more way.is_made;
+  is_made = batch_made rules options way.batches made now batch merge merger (same ∙ ap (λ (o : Options). o.merge) way.is_made.options_are) merger_is way.counted more way.is_made;
   adds = adds;
   first_is = from_is;
   number_is = refl;
@@ -423,51 +423,51 @@ is_answered {number = number} {next = next} limits options first second third be
 }
 
 -- the text of the answers of a batch
-answers_behind : (limits : Counts) (options : Options) (batches : List Batch) (made now : RunRecord) (first : ℕ) → IsMade limits options batches now → first ≡ length made.answers
+answers_behind : (rules : Rules) (options : Options) (batches : List Batch) (made now : RunRecord) (first : ℕ) → IsMade rules options batches now → first ≡ length made.answers
     → text_behind now.options.trace first now ≡ text_behind options.trace (length made.answers) now
-answers_behind limits options batches made now first is first_is =
+answers_behind rules options batches made now first is first_is =
     ap (λ (o : Options). text_behind o.trace first now) is.options_are ∙ ap (λ (n : ℕ). text_behind options.trace n now) first_is
 
 -- It was written, and the gatherer goes on.
-pub answered_goes : {from number next : ℕ} (limits : Counts) (options : Options) (first third : World) (written : Option (List ℕ)) (faults : ℕ) (after : Gathering) (now : RunRecord)
-    → IsAnswered limits options first third after now from number next → after.ended ≡ false → third.write_faults ≤ faults → Appends third.written written (text_behind now.options.trace from now)
-    → IsUnderWay limits options first (with_sink written faults third) after now number next
-answered_goes {from = from} {number = number} {next = next} limits options first third written faults after now is on later took =
-    let took_all = subst (Appends third.written written) (answers_behind limits options (is.way.batches ++ is.batch ∷ []) is.record_before now from is.is_made is.first_is) took in
-    subst (λ (n : ℕ). IsUnderWay limits options first (with_sink written faults third) after now n next) (sym is.number_is)
-    (subst (λ (n : ℕ). IsUnderWay limits options first (with_sink written faults third) after now (is.number_before + 1) n) (sym is.next_is)
-    (one_more limits options first is.mid third written faults is.gathering_before after is.record_before now is.batch is.adds.new is.way is.begun on later is.is_made is.adds.are took_all))
+pub answered_goes : {from number next : ℕ} (rules : Rules) (options : Options) (first third : World) (written : Option (List ℕ)) (faults : ℕ) (after : Gathering) (now : RunRecord)
+    → IsAnswered rules options first third after now from number next → after.ended ≡ false → third.write_faults ≤ faults → Appends third.written written (text_behind now.options.trace from now)
+    → IsUnderWay rules options first (with_sink written faults third) after now number next
+answered_goes {from = from} {number = number} {next = next} rules options first third written faults after now is on later took =
+    let took_all = subst (Appends third.written written) (answers_behind rules options (is.way.batches ++ is.batch ∷ []) is.record_before now from is.is_made is.first_is) took in
+    subst (λ (n : ℕ). IsUnderWay rules options first (with_sink written faults third) after now n next) (sym is.number_is)
+    (subst (λ (n : ℕ). IsUnderWay rules options first (with_sink written faults third) after now (is.number_before + 1) n) (sym is.next_is)
+    (one_more rules options first is.mid third written faults is.gathering_before after is.record_before now is.batch is.adds.new is.way is.begun on later is.is_made is.adds.are took_all))
 
 -- It was written, and was the last one.
-pub answered_ends : {from number next : ℕ} (limits : Counts) (options : Options) (ends : Status) (first third : World) (written last : Option (List ℕ)) (faults later : ℕ) (after : Gathering) (mid now : RunRecord)
-    → IsAnswered limits options first third after mid from number next → after.ended ≡ true → Appends third.written written (text_behind mid.options.trace from mid)
-    → now ≡ with_end true mid → IsWritten ends written last (text_behind mid.options.trace (length mid.answers) (with_end true mid)) → Meets limits options ends first (with_sink last later third) now
-answered_ends {from = from} limits options ends first third written last faults later after mid now is over took closed rest =
-    let took_all = subst (Appends third.written written) (answers_behind limits options (is.way.batches ++ is.batch ∷ []) is.record_before mid from is.is_made is.first_is) took in
-    ends_with limits options ends first is.mid third written last faults later is.gathering_before after is.record_before mid now is.batch is.adds.new is.way is.begun over is.is_made is.adds.are took_all closed
+pub answered_ends : {from number next : ℕ} (rules : Rules) (options : Options) (ends : Status) (first third : World) (written last : Option (List ℕ)) (faults later : ℕ) (after : Gathering) (mid now : RunRecord)
+    → IsAnswered rules options first third after mid from number next → after.ended ≡ true → Appends third.written written (text_behind mid.options.trace from mid)
+    → now ≡ with_end true mid → IsWritten ends written last (text_behind mid.options.trace (length mid.answers) (with_end true mid)) → Meets rules options ends first (with_sink last later third) now
+answered_ends {from = from} rules options ends first third written last faults later after mid now is over took closed rest =
+    let took_all = subst (Appends third.written written) (answers_behind rules options (is.way.batches ++ is.batch ∷ []) is.record_before mid from is.is_made is.first_is) took in
+    ends_with rules options ends first is.mid third written last faults later is.gathering_before after is.record_before mid now is.batch is.adds.new is.way is.begun over is.is_made is.adds.are took_all closed
     (subst (λ (o : Options). IsWritten ends written last (text_behind o.trace (length mid.answers) (with_end true mid))) is.is_made.options_are rest)
 
 -- It was not written whole.
-pub answered_stops : {from number next : ℕ} (limits : Counts) (options : Options) (why : WriteStop) (first third : World) (written : Option (List ℕ)) (faults : ℕ) (after : Gathering) (now : RunRecord)
-    → IsAnswered limits options first third after now from number next → (part : List ℕ) → IsPrefix part (text_behind now.options.trace from now) → Appends third.written written part
-    → Meets limits options (status_of_stop why) first (with_sink written faults third) now
-answered_stops {from = from} limits options why first third written faults after now is part beginning took =
-    let begins_all = subst (IsPrefix part) (answers_behind limits options (is.way.batches ++ is.batch ∷ []) is.record_before now from is.is_made is.first_is) beginning in
-    ends_writing limits options why first is.mid third written faults is.gathering_before after is.record_before now is.batch is.adds.new part is.way is.begun is.is_made is.adds.are begins_all took
+pub answered_stops : {from number next : ℕ} (rules : Rules) (options : Options) (why : WriteStop) (first third : World) (written : Option (List ℕ)) (faults : ℕ) (after : Gathering) (now : RunRecord)
+    → IsAnswered rules options first third after now from number next → (part : List ℕ) → IsPrefix part (text_behind now.options.trace from now) → Appends third.written written part
+    → Meets rules options (status_of_stop why) first (with_sink written faults third) now
+answered_stops {from = from} rules options why first third written faults after now is part beginning took =
+    let begins_all = subst (IsPrefix part) (answers_behind rules options (is.way.batches ++ is.batch ∷ []) is.record_before now from is.is_made is.first_is) beginning in
+    ends_writing rules options why first is.mid third written faults is.gathering_before after is.record_before now is.batch is.adds.new part is.way is.begun is.is_made is.adds.are begins_all took
 
 -- Memory was wanting between two batches.
-pub ends_between : {number next : ℕ} (limits : Counts) (options : Options) (first second third : World) (before : Gathering) (made : RunRecord) (given : List ℕ)
-    → IsUnderWay limits options first second before made number next → Consumes second.left third.left given → second.fetch_faults ≤ third.fetch_faults → third.written ≡ second.written
-    → Meets limits options status.NoMemory first third made
-ends_between limits options first second third before made given way gave later unwritten =
-    meets_between limits options first second third before way.batches made given way.been way.goes way.is_made way.writ gave later unwritten
+pub ends_between : {number next : ℕ} (rules : Rules) (options : Options) (first second third : World) (before : Gathering) (made : RunRecord) (given : List ℕ)
+    → IsUnderWay rules options first second before made number next → Consumes second.left third.left given → second.fetch_faults ≤ third.fetch_faults → third.written ≡ second.written
+    → Meets rules options status.NoMemory first third made
+ends_between rules options first second third before made given way gave later unwritten =
+    meets_between rules options first second third before way.batches made given way.been way.goes way.is_made way.writ gave later unwritten
 
 -- The gatherer gave no batch.
-pub ends_gathering : {number next : ℕ} (limits : Counts) (options : Options) (why : ScriptEnd) (first second third : World) (before after : Gathering) (made : RunRecord)
-    → IsUnderWay limits options first second before made number next → (took : Taken (Err why) second.left third.left second.files second.fetch_faults third.fetch_faults)
+pub ends_gathering : {number next : ℕ} (rules : Rules) (options : Options) (why : ScriptEnd) (first second third : World) (before after : Gathering) (made : RunRecord)
+    → IsUnderWay rules options first second before made number next → (took : Taken (Err why) second.left third.left second.files second.fetch_faults third.fetch_faults)
     → Gathers (Err why) before after third.left took.given took.asked took.outcomes → second.fetch_faults ≤ third.fetch_faults → third.written ≡ second.written
-    → Meets limits options (status_of_end why) first third made
-ends_gathering limits options (end.Script line why) first second third before after made way took faulty later unwritten =
+    → Meets rules options (status_of_end why) first third made
+ends_gathering rules options (end.Script line why) first second third before after made way took faulty later unwritten =
     let writ = still_written options first second third made unwritten way.writ in
     record {
       given = way.been.given ++ took.given;
@@ -475,10 +475,10 @@ ends_gathering limits options (end.Script line why) first second third before af
       outcomes = way.been.outcomes ++ took.outcomes;
       gave = Consumes-trans first.left second.left third.left way.been.given took.given way.been.gave took.gave;
       took = writ.took;
-      row = refused limits options first second third before way.batches made writ.taken took.given took.asked took.outcomes line why way.moved way.been way.goes way.is_made writ.text_is took.fetched faulty;
+      row = refused rules options first second third before way.batches made writ.taken took.given took.asked took.outcomes line why way.moved way.been way.goes way.is_made writ.text_is took.fetched faulty;
       late = tt;
     }
-ends_gathering limits options end.ReadFault first second third before after made way took unfinished later unwritten =
+ends_gathering rules options end.ReadFault first second third before after made way took unfinished later unwritten =
     let writ = still_written options first second third made unwritten way.writ in
     record {
       given = way.been.given ++ took.given;
@@ -486,11 +486,11 @@ ends_gathering limits options end.ReadFault first second third before after made
       outcomes = way.been.outcomes ++ took.outcomes;
       gave = Consumes-trans first.left second.left third.left way.been.given took.given way.been.gave took.gave;
       took = writ.took;
-      row = broken_off limits options first second third before way.batches made writ.taken took.given took.asked took.outcomes way.moved way.been way.goes way.is_made writ.text_is took.fetched unfinished;
+      row = broken_off rules options first second third before way.batches made writ.taken took.given took.asked took.outcomes way.moved way.been way.goes way.is_made writ.text_is took.fetched unfinished;
       late = tt;
     }
-ends_gathering limits options end.NoMemory first second third before after made way took nothing later unwritten =
-    ends_between limits options first second third before made took.given way took.gave later unwritten
+ends_gathering rules options end.NoMemory first second third before after made way took nothing later unwritten =
+    ends_between rules options first second third before made took.given way took.gave later unwritten
 
 -- ---- completeness
 
@@ -503,9 +503,9 @@ whole_input (Some xs) (Some ys) given script gave told = let same : xs ≡ scrip
     same_some h = ap (λ (o : Option (List ℕ)). left_of o) h
 
 -- A script without a fault is not refused.
-pub not_refused : (limits : Counts) (options : Options) (line : ℕ) (why : Reason) (before now : World) (made : RunRecord) (script : List ℕ)
-    → Meets limits options (status.Script line why) before now made → before.left ≡ Some script → HasNoFault options script before now → ⊥
-not_refused limits options line why before now made script met told whole =
+pub not_refused : (rules : Rules) (options : Options) (line : ℕ) (why : Reason) (before now : World) (made : RunRecord) (script : List ℕ)
+    → Meets rules options (status.Script line why) before now made → before.left ≡ Some script → HasNoFault options script before now → ⊥
+not_refused rules options line why before now made script met told whole =
     let input : script ≡ met.given ++ left_of now.left = whole_input before.left now.left met.given script met.gave told in
     let fetched : AreFetched before.files before.fetch_faults now.fetch_faults (commands standard options.lanes script met.outcomes).asked met.outcomes =
     subst (λ (bytes : List ℕ). AreFetched before.files before.fetch_faults now.fetch_faults (commands standard options.lanes bytes met.outcomes).asked met.outcomes) (sym input) met.row.fetched in
@@ -536,39 +536,39 @@ stop_moves stop.Failed moved wrote = record {
 stop_moves stop.NoMemory moved wrote = memory_moves moved
 
 -- Memory ran out before anything was read.
-pub nothing_done : (limits : Counts) (options : Options) (world : World) (made : RunRecord) → made ≡ empty plain → Meets limits options status.NoMemory world world made
-nothing_done limits options world made is = record { given = []; taken = []; outcomes = []; gave = Consumes-nil world.left; took = Appends-nil world.written; row = inl (refl, is); late = tt }
+pub nothing_done : (rules : Rules) (options : Options) (world : World) (made : RunRecord) → made ≡ empty plain → Meets rules options status.NoMemory world world made
+nothing_done rules options world made is = record { given = []; taken = []; outcomes = []; gave = Consumes-nil world.left; took = Appends-nil world.written; row = inl (refl, is); late = tt }
 
 -- The words are refused.
-pub nothing_asked : (limits : Counts) (options : Options) (world : World) (made : RunRecord) → made ≡ empty plain → Meets limits options status.Usage world world made
-nothing_asked limits options world made is = record { given = []; taken = []; outcomes = []; gave = Consumes-nil world.left; took = Appends-nil world.written; row = (refl, (refl, is)); late = tt }
+pub nothing_asked : (rules : Rules) (options : Options) (world : World) (made : RunRecord) → made ≡ empty plain → Meets rules options status.Usage world world made
+nothing_asked rules options world made is = record { given = []; taken = []; outcomes = []; gave = Consumes-nil world.left; took = Appends-nil world.written; row = (refl, (refl, is)); late = tt }
 
 -- ---- the words
 
 -- Memory ran out before anything was read, whatever the mode.
-pub nothing_made : (limits : Counts) (mode : Mode) (world : World) (made : RunRecord) → made ≡ empty plain → MeetsMode limits mode status.NoMemory world world made
-nothing_made limits (Run options) world made is = nothing_done limits options world made is
-nothing_made limits (Make seed tables rows) world made is = record { taken = []; took = Appends-nil world.written; row = inl (refl, is) }
+pub nothing_made : (rules : Rules) (mode : Mode) (world : World) (made : RunRecord) → made ≡ empty plain → MeetsMode rules mode status.NoMemory world world made
+nothing_made rules (Run options) world made is = nothing_done rules options world made is
+nothing_made rules (Make seed tables rows) world made is = record { taken = []; took = Appends-nil world.written; row = inl (refl, is) }
 
 -- The mode that the words say; any, where they say none.
-record Said (limits : Counts) (said : Option Mode) (result : Status) (world : World) (made : RunRecord) : Type 0 where
+record Said (rules : Rules) (said : Option Mode) (result : Status) (world : World) (made : RunRecord) : Type 0 where
   pub mode : Mode
   pub is : IsSaid said mode
-  pub met : MeetsMode limits mode result world world made
+  pub met : MeetsMode rules mode result world world made
 
-said_by : (limits : Counts) (said : Option Mode) (world : World) (made : RunRecord) → made ≡ empty plain → Said limits said status.NoMemory world made
-said_by limits None world made is = record { mode = Run plain; is = tt; met = nothing_done limits plain world made is }
-said_by limits (Some mode) world made is = record { mode = mode; is = refl; met = nothing_made limits mode world made is }
+said_by : (rules : Rules) (said : Option Mode) (world : World) (made : RunRecord) → made ≡ empty plain → Said rules said status.NoMemory world made
+said_by rules None world made is = record { mode = Run plain; is = tt; met = nothing_done rules plain world made is }
+said_by rules (Some mode) world made is = record { mode = mode; is = refl; met = nothing_made rules mode world made is }
 
 -- The words are refused, or memory ran out for them.
-pub words_refused : (limits : Counts) (said : Option Mode) (why : WordsRefused) (world : World) (made : RunRecord) → made ≡ empty plain
-    → (why ≡ words.NoMemory) ⊎ (said ≡ None) → (result : Status) → result ≡ status_of_refused why → (mode : Mode) × IsSaid said mode × MeetsMode limits mode result world world made
-words_refused limits said words.NoMemory world made is why result same =
-    let by = said_by limits said world made is in
-    (by.mode, by.is, subst (λ (s : Status). MeetsMode limits by.mode s world world made) (sym same) by.met)
-words_refused limits said words.Usage world made is (inl same_word) result same = absurd (let e : words.Usage ≡ words.NoMemory = same_word in cc)
-words_refused limits said words.Usage world made is (inr none) result same =
-    (Run plain, subst (λ (s : Option Mode). IsSaid s (Run plain)) (sym none) tt, subst (λ (s : Status). Meets limits plain s world world made) (sym same) (nothing_asked limits plain world made is))
+pub words_refused : (rules : Rules) (said : Option Mode) (why : WordsRefused) (world : World) (made : RunRecord) → made ≡ empty plain
+    → (why ≡ words.NoMemory) ⊎ (said ≡ None) → (result : Status) → result ≡ status_of_refused why → (mode : Mode) × IsSaid said mode × MeetsMode rules mode result world world made
+words_refused rules said words.NoMemory world made is why result same =
+    let by = said_by rules said world made is in
+    (by.mode, by.is, subst (λ (s : Status). MeetsMode rules by.mode s world world made) (sym same) by.met)
+words_refused rules said words.Usage world made is (inl same_word) result same = absurd (let e : words.Usage ≡ words.NoMemory = same_word in cc)
+words_refused rules said words.Usage world made is (inr none) result same =
+    (Run plain, subst (λ (s : Option Mode). IsSaid s (Run plain)) (sym none) tt, subst (λ (s : Status). Meets rules plain s world world made) (sym same) (nothing_asked rules plain world made is))
 
 -- And nothing moved.
 pub refused_moves : (said : Option Mode) (why : WordsRefused) (world : World) → (why ≡ words.NoMemory) ⊎ (said ≡ None) → (result : Status) → result ≡ status_of_refused why → Moves (said ≡ None) result world world
@@ -588,13 +588,13 @@ moves_said result moves = record { moved = moves.moved; usage = λ is. absurd (m
 -- ---- completeness
 
 -- Without a fault a script that has none ends well, or memory runs out.
-pub ends_well : (limits : Counts) (options : Options) (result : Status) (before now : World) (made : RunRecord) → Meets limits options result before now made → Moves ⊥ result before now → EndsWell options result before now
-ends_well limits options status.Done before now made met moves = λ script told whole quiet still. inl refl
-ends_well limits options status.NoMemory before now made met moves = λ script told whole quiet still. inr refl
-ends_well limits options status.Usage before now made met moves = λ script told whole quiet still. absurd (moves.usage refl)
-ends_well limits options status.ReadFault before now made met moves = λ script told whole quiet still. absurd (quiet (moves.read_fault refl))
-ends_well limits options status.WriteFault before now made met moves = λ script told whole quiet still. absurd (still (moves.write_fault refl))
-ends_well limits options (status.Script line why) before now made met moves = λ script told whole quiet still. absurd (not_refused limits options line why before now made script met told whole)
+pub ends_well : (rules : Rules) (options : Options) (result : Status) (before now : World) (made : RunRecord) → Meets rules options result before now made → Moves ⊥ result before now → EndsWell options result before now
+ends_well rules options status.Done before now made met moves = λ script told whole quiet still. inl refl
+ends_well rules options status.NoMemory before now made met moves = λ script told whole quiet still. inr refl
+ends_well rules options status.Usage before now made met moves = λ script told whole quiet still. absurd (moves.usage refl)
+ends_well rules options status.ReadFault before now made met moves = λ script told whole quiet still. absurd (quiet (moves.read_fault refl))
+ends_well rules options status.WriteFault before now made met moves = λ script told whole quiet still. absurd (still (moves.write_fault refl))
+ends_well rules options (status.Script line why) before now made met moves = λ script told whole quiet still. absurd (not_refused rules options line why before now made script met told whole)
 
 -- Words that are refused say no mode, or memory ran out for them.
 pub refused_ends_well : (said : Option Mode) (why : WordsRefused) (world : World) → (why ≡ words.NoMemory) ⊎ (said ≡ None) → (result : Status) → result ≡ status_of_refused why → (mode : Mode) → said ≡ Some mode → EndsModeWell mode result world world

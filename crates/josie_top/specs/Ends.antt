@@ -29,6 +29,7 @@ abbrev pub IsWritten : Status → Option (List ℕ) → Option (List ℕ) → Li
 IsWritten status.Done before now text = Appends before now text
 IsWritten (status.Script line reason) before now text = ⊥
 IsWritten status.Usage before now text = ⊥
+IsWritten (status.Given path why) before now text = ⊥
 IsWritten status.ReadFault before now text = ⊥
 IsWritten status.WriteFault before now text = (part : List ℕ) × IsPrefix part text × Appends before now part
 IsWritten status.NoMemory before now text = (part : List ℕ) × IsPrefix part text × Appends before now part

@@ -2,10 +2,11 @@
 use Rattle.std.specs.Prelude.{ℕ, ◌≡◌, ◌<◌, ◌≤◌, ◌⊎◌, ⊤, false, List, ◌++◌, length, Option, Some, None}
 use Rattle.std.specs.Io.KnownBytes.{Consumes, Appends}
 use Rattle.lake_io.specs.Causes.{Rose}
-use Rattle.lake_model.specs.declared.Counts.{Counts}
+use Rattle.record_model.specs.Rules.{Rules, standard_rules}
+use Rattle.lake_model.specs.declared.Keys.TheVariants.{Canonical}
 use Rattle.lake_model.specs.Texts.{Text}
 use Rattle.record_model.specs.declared.Status.{Status}
-use Rattle.record_model.specs.declared.Status.TheVariants.{Done, Script, Usage, ReadFault, WriteFault, NoMemory}
+use Rattle.record_model.specs.declared.Status.TheVariants.{Done, Script, Usage, Given, ReadFault, WriteFault, NoMemory}
 use Rattle.script_model.specs.Commands.{File}
 use Rattle.option_model.specs.Plain.{Mode, Run, Make}
 use Rattle.script_model.specs.Script.{Commands, Whole, commands, standard}
@@ -21,6 +22,7 @@ abbrev pub FetchedBy : Status → World → World → List Text → List File �
 FetchedBy Done before now asked outcomes = AreFetched before.files before.fetch_faults now.fetch_faults asked outcomes
 FetchedBy (Script line reason) before now asked outcomes = AreFetched before.files before.fetch_faults now.fetch_faults asked outcomes
 FetchedBy Usage before now asked outcomes = AreFetched before.files before.fetch_faults now.fetch_faults asked outcomes
+FetchedBy (Given path why) before now asked outcomes = AreFetched before.files before.fetch_faults now.fetch_faults asked outcomes
 FetchedBy ReadFault before now asked outcomes = AreFetched before.files before.fetch_faults now.fetch_faults asked outcomes
 FetchedBy WriteFault before now asked outcomes = AreFetched before.files before.fetch_faults now.fetch_faults asked outcomes
 FetchedBy NoMemory before now asked outcomes = AreFetchedSoFar before.files before.fetch_faults now.fetch_faults asked outcomes
@@ -39,31 +41,32 @@ abbrev pub ReadsLate : Status → Options → List ℕ → List File → RunReco
 ReadsLate Done options given outcomes made = ⊤
 ReadsLate (Script line reason) options given outcomes made = ⊤
 ReadsLate Usage options given outcomes made = ⊤
+ReadsLate (Given path why) options given outcomes made = ⊤
 ReadsLate ReadFault options given outcomes made = ⊤
 ReadsLate WriteFault options given outcomes made = made.ended ≡ false → IsReadLate options given outcomes made
 ReadsLate NoMemory options given outcomes made = ⊤
 
 -- The bytes that the source gave and those that the sink took, where they tell their content, and what came of the fetches; and of these the row of the
 -- status in the table.
-pub record Meets (limits : Counts) (options : Options) (status : Status) (before now : World) (made : RunRecord) : Type 0 where
+pub record Meets (rules : Rules) (options : Options) (status : Status) (before now : World) (made : RunRecord) : Type 0 where
   pub given : List ℕ
   pub taken : List ℕ
   pub outcomes : List File
   pub gave : Consumes before.left now.left given
   pub took : Appends before.written now.written taken
-  pub row : Row limits options outcomes (λ asked. FetchedBy status before now asked outcomes) status given now.left taken made
+  pub row : Row rules options outcomes (λ asked. FetchedBy status before now asked outcomes) status given now.left taken made
   pub late : ReadsLate status options given outcomes made
 
 -- The bytes that the sink took of the summary of a lake that is made, where it tells its content, and of these the row of the status.
-pub record Makes (limits : Counts) (seed tables rows : ℕ) (status : Status) (before now : World) (made : RunRecord) : Type 0 where
+pub record Makes (rules : Rules) (seed tables rows : ℕ) (status : Status) (before now : World) (made : RunRecord) : Type 0 where
   pub taken : List ℕ
   pub took : Appends before.written now.written taken
-  pub row : MakeRow limits seed tables rows status taken made
+  pub row : MakeRow rules seed tables rows status taken made
 
 -- what a run of this mode comes to
-abbrev pub MeetsMode : Counts → Mode → Status → World → World → RunRecord → Type 0
-MeetsMode limits (Run options) status before now made = Meets limits options status before now made
-MeetsMode limits (Make seed tables rows) status before now made = Makes limits seed tables rows status before now made
+abbrev pub MeetsMode : Mode → Status → World → World → RunRecord → Type 0
+MeetsMode (Run options) status before now made = Meets (standard_rules options.keys) options status before now made
+MeetsMode (Make seed tables rows) status before now made = Makes (standard_rules Canonical) seed tables rows status before now made
 
 -- this mode is the one that the words say, where they say any
 abbrev pub IsSaid : Option Mode → Mode → Type 0

@@ -2,7 +2,7 @@
 use Rattle.std.specs.Prelude.{ℕ, ◌+◌, ◌-◌, ◌≡◌, ◌≤◌, ◌⊎◌, Bool, false, List, [], ◌∷◌, ◌++◌, length, sum_by, Option, Some, Ok}
 use Rattle.std.specs.List.{AllByRecursion}
 use Rattle.std.specs.Io.KnownBytes.{Consumes, Appends}
-use Rattle.lake_model.specs.declared.Counts.{Counts}
+use Rattle.record_model.specs.Rules.{Rules}
 use Rattle.lake_model.specs.Texts.{Text}
 use Rattle.script_model.specs.Commands.{File, Batch, updates}
 use Rattle.script_model.specs.Reading.{Reading}
@@ -22,17 +22,17 @@ use Rattle.script_text.specs.Gathers.{Taken}
 use Rattle.josie_top.specs.World.{HasMoved, World}
 
 -- The record is that of these batches, played one after another in the stated order; at each turn of each, memory sufficed or did not.
-pub record IsPlayedSoFar (limits : Counts) (options : Options) (batches : List Batch) (made : RunRecord) : Type 0 where
+pub record IsPlayedSoFar (rules : Rules) (options : Options) (batches : List Batch) (made : RunRecord) : Type 0 where
   pub denials : List (List Bool)
   pub size : length denials ≡ length batches
-  pub played : made ≡ played_from limits options.lanes options.merge 1 batches (pieces_of options.order) denials (empty options)
+  pub played : made ≡ played_from rules options.lanes options.merge 1 batches (pieces_of options.order) denials (empty options)
 
 -- The record has these options and is right for these batches, and the source is not at its end. Where an order is stated, the batches were played in it.
-pub record IsMade (limits : Counts) (options : Options) (batches : List Batch) (made : RunRecord) : Type 0 where
+pub record IsMade (rules : Rules) (options : Options) (batches : List Batch) (made : RunRecord) : Type 0 where
   pub options_are : made.options ≡ options
   pub unended : made.ended ≡ false
-  pub right : IsRecordRight limits options.lanes options.merge batches made
-  pub played : IsStated options → IsPlayedSoFar limits options batches made
+  pub right : IsRecordRight rules options.lanes options.merge batches made
+  pub played : IsStated options → IsPlayedSoFar rules options batches made
   pub lanes : AllByRecursion (IsOfLanes options.lanes) batches
 
 -- The gatherer is of these options, and goes on.
@@ -81,12 +81,12 @@ pub record AreCounted (batches : List Batch) (used number next : ℕ) : Type 0 w
   pub few : sum_by updates batches ≤ used
 
 -- A run between two batches.
-pub record IsUnderWay (limits : Counts) (options : Options) (before now : World) (gathering : Gathering) (made : RunRecord) (number next : ℕ) : Type 0 where
+pub record IsUnderWay (rules : Rules) (options : Options) (before now : World) (gathering : Gathering) (made : RunRecord) (number next : ℕ) : Type 0 where
   pub batches : List Batch
   pub moved : HasMoved before now
   pub been : AreRead options before now gathering batches
   pub goes : IsGoingOn options gathering
-  pub is_made : IsMade limits options batches made
+  pub is_made : IsMade rules options batches made
   pub writ : AreWritten options before now made
   pub counted : AreCounted batches gathering.reading.used number next
   pub late : IsLateSoFar options been.given been.outcomes (length batches - 1)
@@ -98,10 +98,10 @@ pub record AddsAnswers (before now : RunRecord) : Type 0 where
 
 -- Whatever batches the record was made of, so many in number, it is now made of these and of one batch more, where the merger's commands are numbered as
 -- they have to be behind them.
-abbrev pub HasOneMore : Counts → ℕ → Option ℕ → Batch → RunRecord → RunRecord → Type 0
-HasOneMore limits number merger batch before now = (batches : List Batch) → length batches ≡ number
+abbrev pub HasOneMore : Rules → ℕ → Option ℕ → Batch → RunRecord → RunRecord → Type 0
+HasOneMore rules number merger batch before now = (batches : List Batch) → length batches ≡ number
     → merges_of merger batch ≡ merger_commands before.options.merge (1 + sum_by updates batches) batch
-    → IsMade limits before.options batches before → IsMade limits before.options (batches ++ batch ∷ []) now
+    → IsMade rules before.options batches before → IsMade rules before.options (batches ++ batch ∷ []) now
 
 -- A batch was gathered: what the source gave for it, what was fetched, and where the gatherer is. Nothing was written.
 pub record IsBegun (before now : World) (gathering_before gathering_now : Gathering) (batch : Batch) : Type 0 where
@@ -117,16 +117,16 @@ pub record IsBegun (before now : World) (gathering_before gathering_now : Gather
   pub grows : gathering_before.reading.used + length batch ≤ gathering_now.reading.used
 
 -- A run behind a batch that was gathered and answered, but not written: its answers follow the first ones, so many in number. `mid` is the world before the batch.
-pub record IsAnswered (limits : Counts) (options : Options) (before now : World) (gathering : Gathering) (made : RunRecord) (first number next : ℕ) : Type 0 where
+pub record IsAnswered (rules : Rules) (options : Options) (before now : World) (gathering : Gathering) (made : RunRecord) (first number next : ℕ) : Type 0 where
   pub mid : World
   pub gathering_before : Gathering
   pub record_before : RunRecord
   pub number_before : ℕ
   pub next_before : ℕ
   pub batch : Batch
-  pub way : IsUnderWay limits options before mid gathering_before record_before number_before next_before
+  pub way : IsUnderWay rules options before mid gathering_before record_before number_before next_before
   pub begun : IsBegun mid now gathering_before gathering batch
-  pub is_made : IsMade limits options (way.batches ++ batch ∷ []) made
+  pub is_made : IsMade rules options (way.batches ++ batch ∷ []) made
   pub adds : AddsAnswers record_before made
   pub first_is : first ≡ length record_before.answers
   pub number_is : number ≡ number_before + 1

@@ -1,7 +1,7 @@
 //! The batches of a script, one after another: each is gathered, answered and written before the next is gathered.
 ghost use Rattle.std.specs.Prelude.{◌≡◌, ◌≤◌, ℕ, false, if◌then◌else◌, length, true, None, Some, IfErr, IfOk, IfSome, MatchOption, OnOk};
 ghost use Rattle.lake_io.specs.Causes.{Rose};
-ghost use Rattle.lake_model.specs.Journal.{standard_limits};
+ghost use Rattle.record_model.specs.Rules.{Rules};
 ghost use Rattle.script_model.specs.Options.{Options as OptionsOf};
 ghost use Rattle.record_model.specs.Record.{with_end};
 ghost use Rattle.record_model.specs.Texts.{text_behind};
@@ -78,9 +78,9 @@ pub(crate) fn begin_batch<S: Source, K: Sink, F: Shelf>(
     ensures stands { OnOk result (out.new.made ≡ out.old.made) }
     ensures ends { let before = world_of (S.left source.old) (S.faults source.old) (K.written sink.old) (K.faults sink.old) (F.files shelf.old) (F.faults shelf.old) in
         let now = world_of (S.left source.new) (S.faults source.new) (K.written sink.new) (K.faults sink.new) (F.files shelf.new) (F.faults shelf.new) in
-        IfErr result (λ status. (options : OptionsOf) (first : World) (number next : ℕ)
-        → IsUnderWay standard_limits options first before gather.old out.old.made number next
-        → Meets standard_limits options status first now out.new.made) }
+        IfErr result (λ status. (rules : Rules) (options : OptionsOf) (first : World) (number next : ℕ)
+        → IsUnderWay rules options first before gather.old out.old.made number next
+        → Meets rules options status first now out.new.made) }
     ensures moves { let before = world_of (S.left source.old) (S.faults source.old) (K.written sink.old) (K.faults sink.old) (F.files shelf.old) (F.faults shelf.old) in
         let now = world_of (S.left source.new) (S.faults source.new) (K.written sink.new) (K.faults sink.new) (F.files shelf.new) (F.faults shelf.new) in
         IfErr result (λ status. Moves ⊥ status before now) }
@@ -102,11 +102,11 @@ pub(crate) fn end_batch<K: Sink>(
     out: &mut RunRecord,
 ) -> Option<Status>
     ensures goes { result ≡ None → (out.new.made ≡ out.old.made) × (gather.now.ended ≡ false) }
-    ensures answered { (options : OptionsOf) (before outside : World) (number next : ℕ)
-        → IsAnswered standard_limits options before (with_sink (K.written sink.old) (K.faults sink.old) outside) gather.now out.old.made first number next
+    ensures answered { (rules : Rules) (options : OptionsOf) (before outside : World) (number next : ℕ)
+        → IsAnswered rules options before (with_sink (K.written sink.old) (K.faults sink.old) outside) gather.now out.old.made first number next
         → MatchOption result
-        (IsUnderWay standard_limits options before (with_sink (K.written sink.new) (K.faults sink.new) outside) gather.now out.new.made number next)
-        (λ status. Meets standard_limits options status before (with_sink (K.written sink.new) (K.faults sink.new) outside) out.new.made) }
+        (IsUnderWay rules options before (with_sink (K.written sink.new) (K.faults sink.new) outside) gather.now out.new.made number next)
+        (λ status. Meets rules options status before (with_sink (K.written sink.new) (K.faults sink.new) outside) out.new.made) }
     ensures moves { IfSome result (λ status. (outside : World) → Moves ⊥ status (with_sink (K.written sink.old) (K.faults sink.old) outside) (with_sink (K.written sink.new) (K.faults sink.new) outside)) }
 {
     if let Err(stop) = write_record(alloc, out, first, sink) {

@@ -1,6 +1,7 @@
 //! The run of a script whose lanes run at the same time.
 ghost use Rattle.std.specs.Prelude.{◌≡◌, ◌≤◌, ◌⊎◌, ℕ, [], false, List, Some};
-ghost use Rattle.lake_model.specs.Journal.{standard_limits};
+ghost use Rattle.record_model.specs.Rules.{rules_with, standard_rules, wide_limits};
+ghost use Rattle.catalogue.specs.Kept.{IsWithin};
 ghost use Rattle.record_model.specs.Record.{empty};
 ghost use Rattle.script_model.specs.Options.{plain};
 ghost use Rattle.script_model.specs.Script.{standard, start};
@@ -13,9 +14,11 @@ ghost use Rattle.josie_top.specs.World.{Moves, world_of};
 use crate::batches::{begin_batch, end_batch, merger_from};
 use catalogue::Limits;
 use commands::Options;
-use lake::Lake;
-use lake_desk::{LakeDesk, Standard, answer_batch, open_desks};
+use crate::limits::limits_of;
+use lake::{Bounds, Lake};
+use lake_desk::{LakeDesk, Standard, Wide, answer_batch, open_desks};
 use lake_io::{Gate, Shelf, Sink, Source};
+use lake_model::Keys;
 use record_model::Status;
 use run_record::RunRecord;
 use script_model::ScriptLimits;
@@ -26,11 +29,11 @@ use std::thread::Threads;
 
 /// Runs the batches of a script, in an empty record with the run's options, until the script ends, is refused or breaks off, or the text
 /// cannot be written. The lanes of a batch run at the same time, and the merger beside them.
-fn run_batches<'a, R: Threads + Wait + Sync, S: Source, K: Sink, F: Shelf, G: Gate + Sync>(
+fn run_batches<'a, B: Bounds + Send + Sync, R: Threads + Wait + Sync, S: Source, K: Sink, F: Shelf, G: Gate + Sync>(
     rt: &R,
     alloc: Global,
     gather: &mut Gather,
-    desks: &mut Vec<LakeDesk<'a, Standard>>,
+    desks: &mut Vec<LakeDesk<'a, B>>,
     source: &mut S,
     sink: &mut K,
     shelf: &mut F,
@@ -43,7 +46,7 @@ fn run_batches<'a, R: Threads + Wait + Sync, S: Source, K: Sink, F: Shelf, G: Ga
     requires order { IsStated out.old.made.options → ⊥ }
     ensures table { let before = world_of (S.left source.old) (S.faults source.old) (K.written sink.old) (K.faults sink.old) (F.files shelf.old) (F.faults shelf.old) in
         let now = world_of (S.left source.new) (S.faults source.new) (K.written sink.new) (K.faults sink.new) (F.files shelf.new) (F.faults shelf.new) in
-        Meets standard_limits out.old.made.options result before now out.new.made }
+        Meets (rules_with B.keys B.limits) out.old.made.options result before now out.new.made }
     ensures moves { let before = world_of (S.left source.old) (S.faults source.old) (K.written sink.old) (K.faults sink.old) (F.files shelf.old) (F.faults shelf.old) in
         let now = world_of (S.left source.new) (S.faults source.new) (K.written sink.new) (K.faults sink.new) (F.files shelf.new) (F.faults shelf.new) in
         Moves ⊥ result before now }
@@ -67,6 +70,60 @@ fn run_batches<'a, R: Threads + Wait + Sync, S: Source, K: Sink, F: Shelf, G: Ga
     Status::NoMemory
 }
 
+/// Runs a script over an empty lake of these limits, with these options, which state no order, into an empty record. The lanes of a batch
+/// run at the same time, and the merger beside them.
+fn run_over<B: Bounds + Send + Sync, R: Threads + Wait + Sync, S: Source, K: Sink, F: Shelf, G: Gate + Sync>(
+    rt: &R,
+    alloc: Global,
+    limits: Limits,
+    options: Options,
+    source: &mut S,
+    sink: &mut K,
+    shelf: &mut F,
+    gate: &G,
+    out: &mut RunRecord,
+) -> Status
+    requires empty { out.old.made ≡ empty plain }
+    requires lanes { 1 ≤ options.lanes }
+    requires few { options.lanes ≤ 16 }
+    requires limits { limits ≡ B.limits }
+    requires keys { options.keys ≡ B.keys }
+    requires wide { IsWithin wide_limits B.limits }
+    requires order { IsStated options → ⊥ }
+    ensures table { let before = world_of (S.left source.old) (S.faults source.old) (K.written sink.old) (K.faults sink.old) (F.files shelf.old) (F.faults shelf.old) in
+        let now = world_of (S.left source.new) (S.faults source.new) (K.written sink.new) (K.faults sink.new) (F.files shelf.new) (F.faults shelf.new) in
+        Meets (rules_with B.keys B.limits) options result before now out.new.made }
+    ensures moves { let before = world_of (S.left source.old) (S.faults source.old) (K.written sink.old) (K.faults sink.old) (F.files shelf.old) (F.faults shelf.old) in
+        let now = world_of (S.left source.new) (S.faults source.new) (K.written sink.new) (K.faults sink.new) (F.files shelf.new) (F.faults shelf.new) in
+        Moves ⊥ result before now }
+    ensures complete { let before = world_of (S.left source.old) (S.faults source.old) (K.written sink.old) (K.faults sink.old) (F.files shelf.old) (F.faults shelf.old) in
+        let now = world_of (S.left source.new) (S.faults source.new) (K.written sink.new) (K.faults sink.new) (F.files shelf.new) (F.faults shelf.new) in
+        EndsWell options result before now }
+{
+    let lanes = options.lanes;
+    let Ok(mut gather) = Gather::new(alloc, lanes, ScriptLimits::standard()) else {
+        return Status::NoMemory;
+    };
+    let Ok((lake, opening)) = Lake::<B>::new(alloc, limits, lanes + 1) else {
+        return Status::NoMemory;
+    };
+    let Ok(mut desks) = open_desks(alloc, options.keys, &lake, opening, lanes) else {
+        return Status::NoMemory;
+    };
+    out.set_options(options);
+    run_batches(
+        rt,
+        alloc,
+        &mut gather,
+        &mut desks,
+        source,
+        sink,
+        shelf,
+        gate,
+        out,
+    )
+}
+
 /// Runs a script over an empty lake, with these options, which state no order, into an empty record. The lanes of a batch run at the
 /// same time, and the merger beside them.
 pub(crate) fn run_lanes<R: Threads + Wait + Sync, S: Source, K: Sink, F: Shelf, G: Gate + Sync>(
@@ -85,7 +142,7 @@ pub(crate) fn run_lanes<R: Threads + Wait + Sync, S: Source, K: Sink, F: Shelf, 
     requires order { IsStated options → ⊥ }
     ensures table { let before = world_of (S.left source.old) (S.faults source.old) (K.written sink.old) (K.faults sink.old) (F.files shelf.old) (F.faults shelf.old) in
         let now = world_of (S.left source.new) (S.faults source.new) (K.written sink.new) (K.faults sink.new) (F.files shelf.new) (F.faults shelf.new) in
-        Meets standard_limits options result before now out.new.made }
+        Meets (standard_rules options.keys) options result before now out.new.made }
     ensures moves { let before = world_of (S.left source.old) (S.faults source.old) (K.written sink.old) (K.faults sink.old) (F.files shelf.old) (F.faults shelf.old) in
         let now = world_of (S.left source.new) (S.faults source.new) (K.written sink.new) (K.faults sink.new) (F.files shelf.new) (F.faults shelf.new) in
         Moves ⊥ result before now }
@@ -93,26 +150,13 @@ pub(crate) fn run_lanes<R: Threads + Wait + Sync, S: Source, K: Sink, F: Shelf, 
         let now = world_of (S.left source.new) (S.faults source.new) (K.written sink.new) (K.faults sink.new) (F.files shelf.new) (F.faults shelf.new) in
         EndsWell options result before now }
 {
-    let lanes = options.lanes;
-    let Ok(mut gather) = Gather::new(alloc, lanes, ScriptLimits::standard()) else {
-        return Status::NoMemory;
-    };
-    let Ok((lake, opening)) = Lake::new(alloc, Limits::standard(), lanes + 1) else {
-        return Status::NoMemory;
-    };
-    let Ok(mut desks) = open_desks(alloc, &lake, opening, lanes) else {
-        return Status::NoMemory;
-    };
-    out.set_options(options);
-    run_batches(
-        rt,
-        alloc,
-        &mut gather,
-        &mut desks,
-        source,
-        sink,
-        shelf,
-        gate,
-        out,
-    )
+    let limits = limits_of(options.keys);
+    match options.keys {
+        Keys::Canonical => run_over::<Standard, R, S, K, F, G>(
+            rt, alloc, limits, options, source, sink, shelf, gate, out,
+        ),
+        Keys::Compatibility => run_over::<Wide, R, S, K, F, G>(
+            rt, alloc, limits, options, source, sink, shelf, gate, out,
+        ),
+    }
 }

@@ -2,7 +2,6 @@
 #![tactic(auto)]
 
 ghost use Rattle.std.specs.Prelude.{◌≡◌, ◌⊎◌, None, Some, map, string_bytes};
-ghost use Rattle.lake_model.specs.Journal.{standard_limits};
 ghost use Rattle.option_model.specs.Plain.{plain_mode};
 ghost use Rattle.option_model.specs.Plain as said;
 ghost use Rattle.record_model.specs.Record.{empty};
@@ -27,6 +26,7 @@ use std::thread::Threads;
 
 mod batches;
 mod lanes;
+mod limits;
 mod making;
 mod ordered;
 mod script;
@@ -50,7 +50,7 @@ pub fn run_ordered<S: Source, K: Sink, F: Shelf>(
     // what was read, recorded and written
     ensures table { let before = world_of (S.left source.old) (S.faults source.old) (K.written sink.old) (K.faults sink.old) (F.files shelf.old) (F.faults shelf.old) in
         let now = world_of (S.left source.new) (S.faults source.new) (K.written sink.new) (K.faults sink.new) (F.files shelf.new) (F.faults shelf.new) in
-        MeetsMode standard_limits (mode_of mode) result before now out.new.made }
+        MeetsMode (mode_of mode) result before now out.new.made }
     // when each status comes, and what moved
     ensures moves { let before = world_of (S.left source.old) (S.faults source.old) (K.written sink.old) (K.faults sink.old) (F.files shelf.old) (F.faults shelf.old) in
         let now = world_of (S.left source.new) (S.faults source.new) (K.written sink.new) (K.faults sink.new) (F.files shelf.new) (F.faults shelf.new) in
@@ -84,7 +84,7 @@ fn run_mode<R: Threads + Wait + Sync, S: Source, K: Sink, F: Shelf, G: Gate + Sy
     // what was read, recorded and written
     ensures table { let before = world_of (S.left source.old) (S.faults source.old) (K.written sink.old) (K.faults sink.old) (F.files shelf.old) (F.faults shelf.old) in
         let now = world_of (S.left source.new) (S.faults source.new) (K.written sink.new) (K.faults sink.new) (F.files shelf.new) (F.faults shelf.new) in
-        MeetsMode standard_limits (mode_of mode) result before now out.new.made }
+        MeetsMode (mode_of mode) result before now out.new.made }
     // when each status comes, and what moved
     ensures moves { let before = world_of (S.left source.old) (S.faults source.old) (K.written sink.old) (K.faults sink.old) (F.files shelf.old) (F.faults shelf.old) in
         let now = world_of (S.left source.new) (S.faults source.new) (K.written sink.new) (K.faults sink.new) (F.files shelf.new) (F.faults shelf.new) in
@@ -130,7 +130,7 @@ pub fn run<R: Threads + Wait + Sync, S: Source, K: Sink, F: Shelf, G: Gate + Syn
     // what was read, recorded and written, in the mode that the words say
     ensures table { let before = world_of (S.left source.old) (S.faults source.old) (K.written sink.old) (K.faults sink.old) (F.files shelf.old) (F.faults shelf.old) in
         let now = world_of (S.left source.new) (S.faults source.new) (K.written sink.new) (K.faults sink.new) (F.files shelf.new) (F.faults shelf.new) in
-        (mode : said.Mode) × IsSaid (mode_read (map string_bytes words.now)) mode × MeetsMode standard_limits mode result before now out.new.made }
+        (mode : said.Mode) × IsSaid (mode_read (map string_bytes words.now)) mode × MeetsMode mode result before now out.new.made }
     // plain words are read as they say
     ensures plain { (mode : said.Mode) → plain_mode (map string_bytes words.now) ≡ Some mode → mode_read (map string_bytes words.now) ≡ Some mode }
     // when each status comes, and what moved

@@ -2,7 +2,8 @@
 ghost use Rattle.std.specs.Prelude.{◌≡◌, ◌≤◌, ◌⊎◌, [], List, ℕ, IfOk, IsErrOf, OnErr, OnOk};
 ghost use Rattle.std.specs.Io.KnownBytes.{Appends};
 ghost use Rattle.lake_io.specs.Causes.{Rose};
-ghost use Rattle.lake_model.specs.Journal.{standard_limits};
+ghost use Rattle.lake_model.specs.declared.Keys.TheVariants.{Canonical};
+ghost use Rattle.record_model.specs.Rules.{standard_rules};
 ghost use Rattle.option_model.specs.Generator.{made_options as the_options, summary};
 ghost use Rattle.record_model.specs.Record.{empty};
 ghost use Rattle.script_model.specs.Options.{plain};
@@ -17,6 +18,7 @@ use catalogue::{Catalogue, Limits};
 use commands::{Options, Order, Piece};
 use lake_core::drive;
 use lake_io::Sink;
+use lake_model::Keys;
 use lake_maker::{made_batch, write_summary};
 use no_memory::NoMemory;
 use record_model::Status;
@@ -34,6 +36,7 @@ fn made_options(alloc: Global) -> Result<Options, NoMemory>
         order: Some(Order::new(vec![in alloc; first, second]?)),
         merge: false,
         trace: false,
+        keys: Keys::Canonical,
     })
 }
 
@@ -50,7 +53,7 @@ fn fill_record(
     requires few_tables { tables ≤ 1000 }
     requires some_rows { 1 ≤ rows }
     requires few_rows { rows ≤ 5000 }
-    ensures made { OnOk result (IsLakeMade standard_limits seed tables rows out.new.made) }
+    ensures made { OnOk result (IsLakeMade (standard_rules Canonical) seed tables rows out.new.made) }
     ensures err { OnErr result (out.new.made ≡ empty plain) }
 {
     let options = made_options(alloc)?;
@@ -58,7 +61,17 @@ fn fill_record(
     let Ok(mut catalogue) = Catalogue::new(alloc, Limits::standard()) else {
         return Err(NoMemory);
     };
-    if drive(alloc, &mut catalogue, &batch, &[], 1, None, out).is_err() {
+    if drive(
+        alloc,
+        &mut catalogue,
+        Keys::Canonical,
+        &batch,
+        &[],
+        1,
+        None,
+        out,
+    )
+    .is_err() {
         return Err(NoMemory);
     }
     out.set_options(options);
@@ -97,7 +110,7 @@ pub fn make_lake<K: Sink>(
     requires few_tables { tables ≤ 1000 }
     requires some_rows { 1 ≤ rows }
     requires few_rows { rows ≤ 5000 }
-    ensures table { (outside : World) → Makes standard_limits seed tables rows result (with_sink (K.written sink.old) (K.faults sink.old) outside) (with_sink (K.written sink.new) (K.faults sink.new) outside) out.new.made }
+    ensures table { (outside : World) → Makes (standard_rules Canonical) seed tables rows result (with_sink (K.written sink.old) (K.faults sink.old) outside) (with_sink (K.written sink.new) (K.faults sink.new) outside) out.new.made }
     ensures moves { (outside : World) → Moves ⊥ result (with_sink (K.written sink.old) (K.faults sink.old) outside) (with_sink (K.written sink.new) (K.faults sink.new) outside) }
     ensures ends { (result ≡ Status.Done) ⊎ (result ≡ Status.WriteFault) ⊎ (result ≡ Status.NoMemory) }
 {

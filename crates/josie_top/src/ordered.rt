@@ -1,6 +1,6 @@
 //! The run of a script whose lanes take turns in a stated order, on one thread.
 ghost use Rattle.std.specs.Prelude.{◌≡◌, ◌≤◌, ◌<◌, ◌+◌, ◌^◌, ◌⊎◌, ⊤, ℕ, [], false, get_or, List, IfOk, MatchOption, OnErr, OnOk, Some};
-ghost use Rattle.lake_model.specs.Journal.{standard_limits};
+ghost use Rattle.record_model.specs.Rules.{limits_of, standard_rules};
 ghost use Rattle.catalogue.specs.Kept.{catalogue_with};
 ghost use Rattle.script_model.specs.Lanes.{IsOfLanes};
 ghost use Rattle.record_model.specs.Play.{pieces_of};
@@ -15,7 +15,8 @@ ghost use Rattle.josie_top.specs.Progress.{AddsAnswers, HasOneMore};
 ghost use Rattle.josie_top.specs.World.{Moves, world_of};
 
 use crate::batches::{begin_batch, end_batch, merger_from};
-use catalogue::{Catalogue, Limits};
+use crate::limits::limits_of;
+use catalogue::Catalogue;
 use commands::{Batch, Options};
 use lake_core::drive;
 use lake_io::{Shelf, Sink, Source};
@@ -49,19 +50,22 @@ fn answer_in_order(
     out: &mut RunRecord,
 ) -> Result<(), NoMemory>
     requires journal { out.old.made.journal ≡ catalogue.old.journal }
-    requires limits { catalogue.old.limits ≡ standard_limits }
+    requires limits { catalogue.old.limits ≡ limits_of out.old.made.options.keys }
     requires order { IsStated out.old.made.options }
     requires lanes { IsOfLanes out.old.made.options.lanes batch.now }
     requires numbers { MatchOption merger ⊤ (λ first. first + updates batch.now < 2 ^ 64) }
     ensures journal { OnOk result (out.new.made.journal ≡ catalogue.new.journal) }
     ensures limits { catalogue.new.limits ≡ catalogue.old.limits }
-    ensures more { OnOk result (HasOneMore standard_limits number merger batch.now out.old.made out.new.made) }
+    ensures more { OnOk result (HasOneMore (standard_rules out.old.made.options.keys) number merger batch.now out.old.made out.new.made) }
     ensures answers { OnOk result (AddsAnswers out.old.made out.new.made) }
     ensures err { OnErr result (out.new.made ≡ out.old.made) }
 {
     let lanes = out.options().lanes;
     let piece = piece_of(alloc, out.options(), number)?;
-    drive(alloc, catalogue, batch, &piece, lanes, merger, out)
+    let keys = out.options().keys;
+    drive(
+        alloc, catalogue, keys, batch, &piece, lanes, merger, out,
+    )
 }
 
 /// Runs the batches of a script, in an empty record with the run's options, until the script ends, is refused or breaks off, or the text
@@ -76,12 +80,12 @@ fn run_batches<S: Source, K: Sink, F: Shelf>(
     out: &mut RunRecord,
 ) -> Status
     requires start { gather.old ≡ gathering_with (start []) [] false standard out.old.made.options.lanes }
-    requires lake { catalogue.old ≡ catalogue_with standard_limits [] }
+    requires lake { catalogue.old ≡ catalogue_with (limits_of out.old.made.options.keys) [] }
     requires empty { out.old.made ≡ empty out.old.made.options }
     requires order { IsStated out.old.made.options }
     ensures table { let before = world_of (S.left source.old) (S.faults source.old) (K.written sink.old) (K.faults sink.old) (F.files shelf.old) (F.faults shelf.old) in
         let now = world_of (S.left source.new) (S.faults source.new) (K.written sink.new) (K.faults sink.new) (F.files shelf.new) (F.faults shelf.new) in
-        Meets standard_limits out.old.made.options result before now out.new.made }
+        Meets (standard_rules out.old.made.options.keys) out.old.made.options result before now out.new.made }
     ensures moves { let before = world_of (S.left source.old) (S.faults source.old) (K.written sink.old) (K.faults sink.old) (F.files shelf.old) (F.faults shelf.old) in
         let now = world_of (S.left source.new) (S.faults source.new) (K.written sink.new) (K.faults sink.new) (F.files shelf.new) (F.faults shelf.new) in
         Moves ⊥ result before now }
@@ -119,7 +123,7 @@ pub(crate) fn run_in_order<S: Source, K: Sink, F: Shelf>(
     requires order { IsStated options }
     ensures table { let before = world_of (S.left source.old) (S.faults source.old) (K.written sink.old) (K.faults sink.old) (F.files shelf.old) (F.faults shelf.old) in
         let now = world_of (S.left source.new) (S.faults source.new) (K.written sink.new) (K.faults sink.new) (F.files shelf.new) (F.faults shelf.new) in
-        Meets standard_limits options result before now out.new.made }
+        Meets (standard_rules options.keys) options result before now out.new.made }
     ensures moves { let before = world_of (S.left source.old) (S.faults source.old) (K.written sink.old) (K.faults sink.old) (F.files shelf.old) (F.faults shelf.old) in
         let now = world_of (S.left source.new) (S.faults source.new) (K.written sink.new) (K.faults sink.new) (F.files shelf.new) (F.faults shelf.new) in
         Moves ⊥ result before now }
@@ -130,7 +134,7 @@ pub(crate) fn run_in_order<S: Source, K: Sink, F: Shelf>(
     let Ok(mut gather) = Gather::new(alloc, options.lanes, ScriptLimits::standard()) else {
         return Status::NoMemory;
     };
-    let Ok(mut catalogue) = Catalogue::new(alloc, Limits::standard()) else {
+    let Ok(mut catalogue) = Catalogue::new(alloc, limits_of(options.keys)) else {
         return Status::NoMemory;
     };
     out.set_options(options);

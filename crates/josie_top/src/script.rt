@@ -1,6 +1,6 @@
 //! The run of a script.
 ghost use Rattle.std.specs.Prelude.{◌≡◌, ◌≤◌, ◌⊎◌, ℕ, List, Some};
-ghost use Rattle.lake_model.specs.Journal.{standard_limits};
+ghost use Rattle.record_model.specs.Rules.{standard_rules};
 ghost use Rattle.record_model.specs.Record.{empty};
 ghost use Rattle.script_model.specs.Options.{plain};
 ghost use Rattle.josie_top.specs.Meets.{EndsWell, Meets};
@@ -33,7 +33,7 @@ pub(crate) fn run_script<R: Threads + Wait + Sync, S: Source, K: Sink, F: Shelf,
     requires few { options.lanes ≤ 16 }
     ensures table { let before = world_of (S.left source.old) (S.faults source.old) (K.written sink.old) (K.faults sink.old) (F.files shelf.old) (F.faults shelf.old) in
         let now = world_of (S.left source.new) (S.faults source.new) (K.written sink.new) (K.faults sink.new) (F.files shelf.new) (F.faults shelf.new) in
-        Meets standard_limits options result before now out.new.made }
+        Meets (standard_rules options.keys) options result before now out.new.made }
     ensures moves { let before = world_of (S.left source.old) (S.faults source.old) (K.written sink.old) (K.faults sink.old) (F.files shelf.old) (F.faults shelf.old) in
         let now = world_of (S.left source.new) (S.faults source.new) (K.written sink.new) (K.faults sink.new) (F.files shelf.new) (F.faults shelf.new) in
         Moves ⊥ result before now }

@@ -1,9 +1,8 @@
 //! What lies behind the lock of a lake.
 ghost use Rattle.std.specs.Prelude.{◌≡◌, ◌≤◌, ◌<◌, ◌^◌, ◌++◌, ◌∷◌, ◌⊎◌, [], drop, length, take, IfErr, IfOk, None, OnErr, Some};
-ghost use Rattle.lake_model.specs.Journal.{entry_with, live, standard_limits, Dropped, Loaded, Replaced, Swapped};
+ghost use Rattle.lake_model.specs.Journal.{entry_with, live, Dropped, Loaded, Replaced, Swapped};
 ghost use Rattle.lake_model.specs.Layout.{layout};
 ghost use Rattle.segment_core.specs.Versions.{live_of, version_with};
-ghost use Rattle.catalogue.specs.Kept.{IsWithin};
 ghost use Rattle.catalogue.specs.Refusals.{drop_refusal, load_refusal, replace_refusal};
 ghost use Rattle.catalogue.specs.Swaps.{numbers_in, swap_refusal, IsMergeOf};
 ghost use Rattle.lake.specs.Lawful.{IsLawful};
@@ -19,11 +18,14 @@ use std::marker::{Model, PhantomData};
 use std::sync::Arc;
 use turn_lock::Kept;
 
-/// The limits of a lake, which contracts alone see.
+/// What holds for a whole lake, which contracts alone see: its limits, and by which match the values of its tables are the same. The lake
+/// itself asks for the limits alone; who fills it goes by the match.
 pub trait Bounds {
     ghost use Rattle.lake_model.specs.declared.Counts.{Counts};
+    ghost use Rattle.lake_model.specs.declared.Keys.{Keys};
 
     ghost limits: { Counts };
+    ghost keys: { Keys };
 }
 
 /// One catalogue, of these limits. Contracts see its journal.
@@ -35,14 +37,13 @@ pub struct Held<B: Bounds> {
 
 impl<B: Bounds> Model for Held<B> {
     ghost use Rattle.std.specs.Prelude.{◌≡◌, List};
-    ghost use Rattle.lake_model.specs.Journal.{Entry, standard_limits};
-    ghost use Rattle.catalogue.specs.Kept.{IsWithin};
+    ghost use Rattle.lake_model.specs.Journal.{Entry};
 
     ghost Value = { List Entry };
 
     ghost view = { λ h. h.catalogue.journal };
 
-    ghost invariant = { λ h. (h.catalogue.limits ≡ B.limits) × IsWithin standard_limits B.limits };
+    ghost invariant = { λ h. h.catalogue.limits ≡ B.limits };
 }
 
 impl<B: Bounds> Kept for Held<B> {
@@ -63,7 +64,7 @@ impl<B: Bounds> Held<B> {
     /// A catalogue with an empty journal.
     pub fn new(alloc: Global, limits: Limits) -> Result<Held<B>, NoMemory>
         requires limits { limits ≡ B.limits }
-        requires standard { IsWithin standard_limits B.limits }
+        requires narrow { limits.updates < 2 ^ 32 }
         ensures { IfOk result (λ held. held ≡ []) }
     {
         Ok(Held {
@@ -75,7 +76,6 @@ impl<B: Bounds> Held<B> {
     // What is known of the journal.
     fn look(&self)
         ensures lawful { IsLawful B.limits self.now }
-        ensures standard { IsWithin standard_limits B.limits }
         ensures room { length self.now < 2 ^ 62 }
     {
         let _journal = self.catalogue.journal();
@@ -153,7 +153,6 @@ impl<B: Bounds> Held<B> {
         ensures version { IfOk result (λ pin. pin ≡ version_with (length self.now) (layout self.now)) }
         ensures live { IfOk result (λ pin. live_of pin.parts ≡ live self.now) }
         ensures lawful { IsLawful B.limits self.now }
-        ensures standard { IsWithin standard_limits B.limits }
         ensures room { length self.now < 2 ^ 62 }
     {
         self.look();

@@ -1,12 +1,11 @@
 //! The lake, and the calls on it.
-ghost use Rattle.std.specs.Prelude.{◌≡◌, ◌≤◌, ◌<◌, ◌-◌, ◌⊎◌, ℕ, ◌∷◌, [], drop, false, length, take, IfErr, IfOk, IfSome, IsSome, None, Some};
+ghost use Rattle.std.specs.Prelude.{◌≡◌, ◌≤◌, ◌<◌, ◌^◌, ◌-◌, ◌⊎◌, ℕ, ◌∷◌, [], drop, false, length, take, IfErr, IfOk, IfSome, IsSome, None, Some};
 ghost use mathlib.Core.List.{IsPrefix};
-ghost use Rattle.lake_model.specs.Journal.{entry_with, live, standard_limits, who_with, Dropped, Loaded, Replaced, Swapped};
+ghost use Rattle.lake_model.specs.Journal.{entry_with, live, who_with, Dropped, Loaded, Replaced, Swapped};
 ghost use Rattle.lake_model.specs.Layout.{layout};
 ghost use Rattle.segment_core.specs.Versions.{live_of, version_with};
 ghost use Rattle.turn_lock.specs.History.{longer, Grows, IsOfGiven};
 ghost use Rattle.turn_lock.specs.Passes.{after_ending, after_numbering, after_seeing, callers_of, known, new_pass_of, noted};
-ghost use Rattle.catalogue.specs.Kept.{IsWithin};
 ghost use Rattle.catalogue.specs.Refusals.{drop_refusal, load_refusal, replace_refusal};
 ghost use Rattle.catalogue.specs.Swaps.{numbers_in, swap_refusal, IsMergeOf};
 ghost use Rattle.lake.specs.Lawful.{caller_of, IsAccepted, IsLawful};
@@ -41,7 +40,7 @@ impl<B: Bounds> Lake<B> {
     pub fn new(alloc: Global, limits: Limits, callers: u32) -> Result<(Lake<B>, Pass<B>), NoMemory>
         requires callers { 1 ≤ callers }
         requires limits { limits ≡ B.limits }
-        requires standard { IsWithin standard_limits B.limits }
+        requires narrow { limits.updates < 2 ^ 32 }
         ensures { IfOk result (λ made. made.1 ≡ known made.0 0 [] [] false (Some 1) (callers - 1)) }
     {
         let held = Held::new(alloc, limits)?;
@@ -171,7 +170,6 @@ impl<B: Bounds> Lake<B> {
         ensures pass { pass.new ≡ after_seeing pass.old pass.new.seen false }
         ensures grows { Grows caller_of (callers_of pass.old) pass.old.seen pass.new.seen }
         ensures lawful { IsLawful B.limits pass.new.seen }
-        ensures standard { IsWithin standard_limits B.limits }
         ensures version { IfOk result (λ pin. pin ≡ version_with (length pass.new.seen) (layout pass.new.seen)) }
         ensures live { IfOk result (λ pin. live_of pin.parts ≡ live pass.new.seen) }
     {

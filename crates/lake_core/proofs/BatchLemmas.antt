@@ -4,8 +4,9 @@ use Rattle.std.specs.List.{flat_map, range_with_len}
 use Rattle.std.proofs.lemmas.Simd.{map-map}
 use Rattle.std.proofs.lemmas.List.{replicate-append-replicate}
 use Rattle.std.proofs.lemmas.Grind.{flat_map-append, replicate_next}
-use Rattle.lake_model.specs.declared.Counts.{Counts}
-use Rattle.lake_model.specs.Journal.{Entry, standard_limits}
+use Rattle.lake_model.specs.declared.Keys.{Keys}
+use Rattle.lake_model.specs.Journal.{Entry}
+use Rattle.record_model.specs.Rules.{Rules, rules_with, wide_limits}
 use Rattle.catalogue.specs.Kept.{CatalogueOf, IsWithin}
 use Rattle.run_record.specs.Rooms.{RecordOf}
 use Rattle.script_model.specs.Commands.{Command, Batch}
@@ -68,7 +69,7 @@ new_held journal (lane ∷ lanes) are = (subst (λ (held : Option Held). IsHeld 
 
 -- lanes that have not begun
 ready_new : (catalogue : CatalogueOf) (lanes : List LaneOf) (out : RecordOf) (before : RunRecord) (commands : ℕ) → before.journal ≡ catalogue.journal → out.made ≡ before → AreNew lanes
-    → left lanes ≡ commands → commands ≤ out.entries_room → IsWithin standard_limits catalogue.limits → IsReady (state_with catalogue lanes out)
+    → left lanes ≡ commands → commands ≤ out.entries_room → IsWithin wide_limits catalogue.limits → IsReady (state_with catalogue lanes out)
 ready_new catalogue lanes out before commands same made are all room within = record {
   journal = ap (λ (m : RunRecord). m.journal) made ∙ same;
   held = new_held catalogue.journal lanes are;
@@ -78,7 +79,7 @@ ready_new catalogue lanes out before commands same made are all room within = re
 
 -- lanes to which the work was shared out
 pub ready_shared : (catalogue : CatalogueOf) (lanes all : List LaneOf) (out : RecordOf) (before : RunRecord) (count many : ℕ) (works : Batch) → before.journal ≡ catalogue.journal → out.made ≡ before → lanes ≡ all
-    → AreShared count works all → many ≡ length works → many ≤ out.entries_room → IsWithin standard_limits catalogue.limits → IsReady (state_with catalogue lanes out)
+    → AreShared count works all → many ≡ length works → many ≤ out.entries_room → IsWithin wide_limits catalogue.limits → IsReady (state_with catalogue lanes out)
 ready_shared catalogue lanes all out before count many works same made lent shared full room within =
     let here : AreShared count works lanes = subst (AreShared count works) (sym lent) shared in
     ready_new catalogue lanes out before many same made here.fresh (here.all ∙ sym full) room within
@@ -89,12 +90,12 @@ abbrev pub synced : RunRecord → RunRecord
 synced made = record made { syncs = made.syncs ++ length made.journal ∷ [] }
 
 -- The record of lanes that were played, gathered and synced.
-pub batch_made : (count many : ℕ) (commands : List Command) (piece : List ℕ) (made final : RunRecord) (catalogue mid after : CatalogueOf) (lanes some rest : List LaneOf) (out out' out'' : RecordOf)
-    → Goes piece (state_with catalogue lanes out) (state_with mid some out')
-    → Goes (turns_each (2 * many) (range_with_len 1 count ++ 0 ∷ [])) (state_with mid some out') (state_with after rest out'')
+pub batch_made : (keys : Keys) (count many : ℕ) (commands : List Command) (piece : List ℕ) (made final : RunRecord) (catalogue mid after : CatalogueOf) (lanes some rest : List LaneOf) (out out' out'' : RecordOf)
+    → Goes keys piece (state_with catalogue lanes out) (state_with mid some out')
+    → Goes keys (turns_each (2 * many) (range_with_len 1 count ++ 0 ∷ [])) (state_with mid some out') (state_with after rest out'')
     → made ≡ with_answers (answers_of (gathered commands (lists_of rest))) out''.made → final ≡ synced made
-    → (denials : List Bool) × (final ≡ record_after out.made commands (play catalogue.limits (whole_order piece count (2 * many)) denials (play_of catalogue.journal lanes)))
-batch_made count many commands piece made final catalogue mid after lanes some rest out out' out'' first second gathers syncs =
+    → (denials : List Bool) × (final ≡ record_after out.made commands (play (rules_with keys catalogue.limits) (whole_order piece count (2 * many)) denials (play_of catalogue.journal lanes)))
+batch_made keys count many commands piece made final catalogue mid after lanes some rest out out' out'' first second gathers syncs =
     let goes = goes_on piece (turns_each (2 * many) (range_with_len 1 count ++ 0 ∷ [])) (state_with catalogue lanes out) (state_with mid some out') (state_with after rest out'') first second in
     let lists : map (λ (lane : Lane). lane.done) (map played rest) ≡ lists_of rest = map-map (λ (lane : Lane). lane.done) played rest in (
       goes.leads.0,
@@ -109,12 +110,12 @@ batch_made count many commands piece made final catalogue mid after lanes some r
     )
 
 -- The record of a batch whose work was shared out to its lanes.
-pub batch_played : (limits : Counts) (count many : ℕ) (batch works : Batch) (piece : List ℕ) (merger : Option ℕ) (denials : List Bool) (before made final : RunRecord) (journal : List Entry) (lanes all : List LaneOf)
+pub batch_played : (rules : Rules) (count many : ℕ) (batch works : Batch) (piece : List ℕ) (merger : Option ℕ) (denials : List Bool) (before made final : RunRecord) (journal : List Entry) (lanes all : List LaneOf)
     → IsOfLanes count batch → many ≡ length works → before.journal ≡ journal → made ≡ before → works ≡ batch ++ merges_of merger batch → lanes ≡ all → map played all ≡ map (lane_of works) (range_with_len 0 (count + 1))
-    → final ≡ record_after made works (play limits (whole_order piece count (2 * many)) denials (play_of journal lanes))
-    → final ≡ batch_after limits count batch (merges_of merger batch) piece denials before
-batch_played limits count many batch works piece merger denials before made final journal lanes all are full same room is lent shared played_is =
+    → final ≡ record_after made works (play rules (whole_order piece count (2 * many)) denials (play_of journal lanes))
+    → final ≡ batch_after rules count batch (merges_of merger batch) piece denials before
+batch_played rules count many batch works piece merger denials before made final journal lanes all are full same room is lent shared played_is =
     let merges = merges_of merger batch in
     let long : many ≡ length batch + length merges = full ∙ ap (λ (cs : Batch). length cs) is ∙ length-append batch merges in
     let start : play_of journal lanes ≡ play_with before.journal (lanes_of count batch merges) = λ i. play_with (sym same i) ((ap (map played) lent ∙ shared ∙ lanes_shared count merger batch works are is) i) in
-    played_is ∙ (λ i. record_after (room i) (is i) (play limits (whole_order piece count (2 * long i)) denials (start i)))
+    played_is ∙ (λ i. record_after (room i) (is i) (play rules (whole_order piece count (2 * long i)) denials (start i)))

@@ -2,7 +2,7 @@
 use Rattle.std.proofs.Common.{◌≡◌, refl, ap, sym, ◌∙◌, subst, ℕ, ◌+◌, ◌≤◌, List, [], ◌∷◌, ◌++◌, Bool, true, false, length, take, cond, Option, Some, None, arith, length-append}
 use Rattle.std.proofs.lemmas.List.{take-append-le, take_all}
 use Rattle.segment_core.specs.Versions.{VersionOf}
-use Rattle.lake_model.specs.declared.Counts.{Counts}
+use Rattle.record_model.specs.Rules.{Rules}
 use Rattle.lake_model.specs.declared.Policy.{Policy}
 use Rattle.lake_model.specs.declared.Who.{Who}
 use Rattle.lake_model.specs.Journal.{What, Entry}
@@ -24,82 +24,82 @@ use Rattle.lake_core.specs.Lanes.{LaneOf, lane_from, position_of, pin_of, played
 use Rattle.record_model.proofs.LegalLemmas.{either_none}
 
 -- a lane that has nothing to do
-pub none_left : (limits : Counts) (journal : List Entry) (lane : LaneOf) → lane.todo ≡ [] → alone journal lane ≡ step limits (alone journal lane) (0, false)
-none_left limits journal lane none = sym (ap (λ (cs : List Command). lane_step limits false journal (played lane ∷ []) 0 cs (played lane)) none)
+pub none_left : (rules : Rules) (journal : List Entry) (lane : LaneOf) → lane.todo ≡ [] → alone journal lane ≡ step rules (alone journal lane) (0, false)
+none_left rules journal lane none = sym (ap (λ (cs : List Command). lane_step rules false journal (played lane ∷ []) 0 cs (played lane)) none)
 
 -- the first command, where it has no pin
-pub answered_now : (limits : Counts) (denied : Bool) (journal after : List Entry) (command : Command) (todo : List Command) (reply : Reply) (lane new : LaneOf)
-    → lane.todo ≡ command ∷ todo → has_pin command.task ≡ false → reply ≡ reply_or_denied denied (answer_to limits command.task journal journal)
-    → after ≡ journal ++ entries_of journal command reply → new ≡ lane_from todo None (lane.done ++ done_with command reply ∷ [])
-    → alone after new ≡ step limits (alone journal lane) (0, denied)
-answered_now limits denied journal after command todo reply lane new first kind said goes is =
+pub answered_now : (rules : Rules) (denied : Bool) (journal after : List Entry) (command : Command) (todo : List Command) (reply : Reply) (lane new : LaneOf)
+    → lane.todo ≡ command ∷ todo → has_pin command.task ≡ false → reply ≡ reply_or_denied denied (answer_to rules command.task journal journal)
+    → after ≡ journal ++ entries_of rules journal command reply → new ≡ lane_from todo None (lane.done ++ done_with command reply ∷ [])
+    → alone after new ≡ step rules (alone journal lane) (0, denied)
+answered_now rules denied journal after command todo reply lane new first kind said goes is =
     (λ i. alone (goes i) (is i))
-    ∙ ap (λ (r : Reply). alone (journal ++ entries_of journal command r) (lane_from todo None (lane.done ++ done_with command r ∷ []))) said
-    ∙ sym (ap (λ b. step_of limits denied journal (played lane ∷ []) 0 lane.done command todo b (pin_of lane.held)) kind)
-    ∙ sym (ap (λ (cs : List Command). lane_step limits denied journal (played lane ∷ []) 0 cs (played lane)) first)
+    ∙ ap (λ (r : Reply). alone (journal ++ entries_of rules journal command r) (lane_from todo None (lane.done ++ done_with command r ∷ []))) said
+    ∙ sym (ap (λ b. step_of rules denied journal (played lane ∷ []) 0 lane.done command todo b (pin_of lane.held)) kind)
+    ∙ sym (ap (λ (cs : List Command). lane_step rules denied journal (played lane ∷ []) 0 cs (played lane)) first)
 
 -- the first command, where it has a pin that is not taken yet
-pub begun : (limits : Counts) (journal : List Entry) (command : Command) (todo : List Command) (held : Held) (lane new : LaneOf)
+pub begun : (rules : Rules) (journal : List Entry) (command : Command) (todo : List Command) (held : Held) (lane new : LaneOf)
     → lane.todo ≡ command ∷ todo → has_pin command.task ≡ true → lane.held ≡ None → position_of held ≡ length journal → new ≡ lane_from lane.todo (Some held) lane.done
-    → alone journal new ≡ step limits (alone journal lane) (0, false)
-begun limits journal command todo held lane new first kind none here is =
+    → alone journal new ≡ step rules (alone journal lane) (0, false)
+begun rules journal command todo held lane new first kind none here is =
     ap (alone journal) is
     ∙ (λ i. play_with journal (lane_with (first i) (Some (here i)) lane.done ∷ []))
-    ∙ sym (ap (λ (h : Option Held). step_of limits false journal (played lane ∷ []) 0 lane.done command todo true (pin_of h)) none)
-    ∙ sym (ap (λ b. step_of limits false journal (played lane ∷ []) 0 lane.done command todo b (pin_of lane.held)) kind)
-    ∙ sym (ap (λ (cs : List Command). lane_step limits false journal (played lane ∷ []) 0 cs (played lane)) first)
+    ∙ sym (ap (λ (h : Option Held). step_of rules false journal (played lane ∷ []) 0 lane.done command todo true (pin_of h)) none)
+    ∙ sym (ap (λ b. step_of rules false journal (played lane ∷ []) 0 lane.done command todo b (pin_of lane.held)) kind)
+    ∙ sym (ap (λ (cs : List Command). lane_step rules false journal (played lane ∷ []) 0 cs (played lane)) first)
 
 -- a search and a like add nothing
-no_change : (task : Task) (pinned : List Entry) → has_pin task ≡ true → merge_policy task ≡ None → change_of task pinned ≡ []
-no_change (Load name body) pinned kind plain = absurd (let f : false ≡ true = kind in cc)
-no_change (LoadFile name file) pinned kind plain = absurd (let f : false ≡ true = kind in cc)
-no_change (DropTable name) pinned kind plain = absurd (let f : false ≡ true = kind in cc)
-no_change (Replace name body) pinned kind plain = absurd (let f : false ≡ true = kind in cc)
-no_change Tables pinned kind plain = absurd (let f : false ≡ true = kind in cc)
-no_change (Search k body) pinned kind plain = refl
-no_change (Like k name place) pinned kind plain = refl
-no_change (Contain a b body) pinned kind plain = refl
-no_change (Merge all) pinned kind plain = absurd (let f : Some (policy_of all) ≡ None = plain in cc)
+no_change : (rules : Rules) (task : Task) (pinned : List Entry) → has_pin task ≡ true → merge_policy task ≡ None → change_of rules task pinned ≡ []
+no_change rules (Load name body) pinned kind plain = absurd (let f : false ≡ true = kind in cc)
+no_change rules (LoadFile name file) pinned kind plain = absurd (let f : false ≡ true = kind in cc)
+no_change rules (DropTable name) pinned kind plain = absurd (let f : false ≡ true = kind in cc)
+no_change rules (Replace name body) pinned kind plain = absurd (let f : false ≡ true = kind in cc)
+no_change rules Tables pinned kind plain = absurd (let f : false ≡ true = kind in cc)
+no_change rules (Search k body) pinned kind plain = refl
+no_change rules (Like k name place) pinned kind plain = refl
+no_change rules (Contain a b body) pinned kind plain = refl
+no_change rules (Merge all) pinned kind plain = absurd (let f : Some (policy_of all) ≡ None = plain in cc)
 
-none_added : (task : Task) (pinned : List Entry) (reply : Reply) → has_pin task ≡ true → merge_policy task ≡ None → adds task pinned reply ≡ []
-none_added task pinned reply kind plain =
-    ap (λ (whats : List What). cond (is_accepted (standing reply)) whats []) (no_change task pinned kind plain) ∙ either_none (is_accepted (standing reply))
+none_added : (rules : Rules) (task : Task) (pinned : List Entry) (reply : Reply) → has_pin task ≡ true → merge_policy task ≡ None → adds rules task pinned reply ≡ []
+none_added rules task pinned reply kind plain =
+    ap (λ (whats : List What). cond (is_accepted (standing reply)) whats []) (no_change rules task pinned kind plain) ∙ either_none (is_accepted (standing reply))
 
 -- the first command, where its pin was taken
-pub answered_then : (limits : Counts) (denied : Bool) (journal after : List Entry) (command : Command) (todo : List Command) (held : Held) (reply : Reply) (lane new : LaneOf)
+pub answered_then : (rules : Rules) (denied : Bool) (journal after : List Entry) (command : Command) (todo : List Command) (held : Held) (reply : Reply) (lane new : LaneOf)
     → lane.todo ≡ command ∷ todo → has_pin command.task ≡ true → lane.held ≡ Some held
-    → reply ≡ reply_or_denied denied (answer_to limits command.task (take (position_of held) journal) journal)
-    → after ≡ journal ++ entries_of (take (position_of held) journal) command reply
-    → new ≡ lane_from todo None (lane.done ++ done_with command reply ∷ []) → alone after new ≡ step limits (alone journal lane) (0, denied)
-answered_then limits denied journal after command todo held reply lane new first kind holds said goes is =
+    → reply ≡ reply_or_denied denied (answer_to rules command.task (take (position_of held) journal) journal)
+    → after ≡ journal ++ entries_of rules (take (position_of held) journal) command reply
+    → new ≡ lane_from todo None (lane.done ++ done_with command reply ∷ []) → alone after new ≡ step rules (alone journal lane) (0, denied)
+answered_then rules denied journal after command todo held reply lane new first kind holds said goes is =
     let pinned : List Entry = take (position_of held) journal in
     (λ i. alone (goes i) (is i))
-    ∙ ap (λ (r : Reply). alone (journal ++ entries_of pinned command r) (lane_from todo None (lane.done ++ done_with command r ∷ []))) said
-    ∙ sym (ap (λ (h : Option Held). step_of limits denied journal (played lane ∷ []) 0 lane.done command todo true (pin_of h)) holds)
-    ∙ sym (ap (λ b. step_of limits denied journal (played lane ∷ []) 0 lane.done command todo b (pin_of lane.held)) kind)
-    ∙ sym (ap (λ (cs : List Command). lane_step limits denied journal (played lane ∷ []) 0 cs (played lane)) first)
+    ∙ ap (λ (r : Reply). alone (journal ++ entries_of rules pinned command r) (lane_from todo None (lane.done ++ done_with command r ∷ []))) said
+    ∙ sym (ap (λ (h : Option Held). step_of rules denied journal (played lane ∷ []) 0 lane.done command todo true (pin_of h)) holds)
+    ∙ sym (ap (λ b. step_of rules denied journal (played lane ∷ []) 0 lane.done command todo b (pin_of lane.held)) kind)
+    ∙ sym (ap (λ (cs : List Command). lane_step rules denied journal (played lane ∷ []) 0 cs (played lane)) first)
 
 -- what a search and a like add to a record
-pub pinned_adds : (who : Who) (task : Task) (pinned : List Entry) (reply : Reply) (made : RunRecord) → has_pin task ≡ true → merge_policy task ≡ None → made ≡ with_added who (adds task pinned reply) made
-pinned_adds who task pinned reply made kind plain = added_none who made ∙ ap (λ (whats : List What). with_added who whats made) (sym (none_added task pinned reply kind plain))
+pub pinned_adds : (rules : Rules) (who : Who) (task : Task) (pinned : List Entry) (reply : Reply) (made : RunRecord) → has_pin task ≡ true → merge_policy task ≡ None → made ≡ with_added who (adds rules task pinned reply) made
+pinned_adds rules who task pinned reply made kind plain = added_none who made ∙ ap (λ (whats : List What). with_added who whats made) (sym (none_added rules task pinned reply kind plain))
 
 -- want of memory adds nothing
-pub denied_adds : (who : Who) (task : Task) (pinned : List Entry) (made : RunRecord) → made ≡ with_added who (adds task pinned NoMemory) made
-denied_adds who task pinned made = added_none who made
+pub denied_adds : (rules : Rules) (who : Who) (task : Task) (pinned : List Entry) (made : RunRecord) → made ≡ with_added who (adds rules task pinned NoMemory) made
+denied_adds rules who task pinned made = added_none who made
 
 -- ---- what is held
 
 -- what is answered at a pin alone
-pub pinned_alone : (limits : Counts) (task : Task) (pinned now : List Entry) → has_pin task ≡ true → merge_policy task ≡ None → answer_to limits task pinned now ≡ answer_to limits task pinned pinned
-pinned_alone limits (Load name body) pinned now kind plain = absurd (let f : false ≡ true = kind in cc)
-pinned_alone limits (LoadFile name file) pinned now kind plain = absurd (let f : false ≡ true = kind in cc)
-pinned_alone limits (DropTable name) pinned now kind plain = absurd (let f : false ≡ true = kind in cc)
-pinned_alone limits (Replace name body) pinned now kind plain = absurd (let f : false ≡ true = kind in cc)
-pinned_alone limits Tables pinned now kind plain = absurd (let f : false ≡ true = kind in cc)
-pinned_alone limits (Search k body) pinned now kind plain = refl
-pinned_alone limits (Like k name place) pinned now kind plain = refl
-pinned_alone limits (Contain a b body) pinned now kind plain = refl
-pinned_alone limits (Merge all) pinned now kind plain = absurd (let f : Some (policy_of all) ≡ None = plain in cc)
+pub pinned_alone : (rules : Rules) (task : Task) (pinned now : List Entry) → has_pin task ≡ true → merge_policy task ≡ None → answer_to rules task pinned now ≡ answer_to rules task pinned pinned
+pinned_alone rules (Load name body) pinned now kind plain = absurd (let f : false ≡ true = kind in cc)
+pinned_alone rules (LoadFile name file) pinned now kind plain = absurd (let f : false ≡ true = kind in cc)
+pinned_alone rules (DropTable name) pinned now kind plain = absurd (let f : false ≡ true = kind in cc)
+pinned_alone rules (Replace name body) pinned now kind plain = absurd (let f : false ≡ true = kind in cc)
+pinned_alone rules Tables pinned now kind plain = absurd (let f : false ≡ true = kind in cc)
+pinned_alone rules (Search k body) pinned now kind plain = refl
+pinned_alone rules (Like k name place) pinned now kind plain = refl
+pinned_alone rules (Contain a b body) pinned now kind plain = refl
+pinned_alone rules (Merge all) pinned now kind plain = absurd (let f : Some (policy_of all) ≡ None = plain in cc)
 
 held_at_grows : (journal more : List Entry) (policy : Option Policy) (held : Held) → IsHeldAt journal policy held → IsHeldAt (journal ++ more) policy held
 held_at_grows journal more None (At version) is =
@@ -131,13 +131,13 @@ at_no_merge journal None version is = refl
 at_no_merge journal (Some policy) version is = absurd is
 
 -- what is answered at a pin that is held
-pub held_answer : (limits : Counts) (task : Task) (journal : List Entry) (version : VersionOf) (reply : Reply) → has_pin task ≡ true → IsHeldAt journal (merge_policy task) (At version)
-    → ((pinned : List Entry) → IsPinOf pinned version → Answers reply (answer_to limits task pinned pinned)) → Answers reply (answer_to limits task (take version.at journal) journal)
-held_answer limits task journal version reply kind holds answers =
+pub held_answer : (rules : Rules) (task : Task) (journal : List Entry) (version : VersionOf) (reply : Reply) → has_pin task ≡ true → IsHeldAt journal (merge_policy task) (At version)
+    → ((pinned : List Entry) → IsPinOf pinned version → Answers reply (answer_to rules task pinned pinned)) → Answers reply (answer_to rules task (take version.at journal) journal)
+held_answer rules task journal version reply kind holds answers =
     let plain = at_no_merge journal (merge_policy task) version holds in
     let here : IsHeldAt journal None (At version) = subst (λ (policy : Option Policy). IsHeldAt journal policy (At version)) plain holds in
-    let there : Answers reply (answer_to limits task (take version.at journal) (take version.at journal)) = answers (take version.at journal) here.1 in
-    (there.0, there.1 ∙ ap (reply_or_denied there.0) (sym (pinned_alone limits task (take version.at journal) journal kind plain)))
+    let there : Answers reply (answer_to rules task (take version.at journal) (take version.at journal)) = answers (take version.at journal) here.1 in
+    (there.0, there.1 ∙ ap (reply_or_denied there.0) (sym (pinned_alone rules task (take version.at journal) journal kind plain)))
 
 -- what is held for a merge can be swapped
 pub held_can : (journal : List Entry) (policy : Option Policy) (planned : Planned) → IsHeldAt journal policy (Swap planned) → CanSwap journal planned.merged
@@ -145,32 +145,32 @@ held_can journal None planned is = absurd is
 held_can journal (Some policy) planned is = is.swaps
 
 -- what the swap is answered
-pub held_swap : (limits : Counts) (task : Task) (journal : List Entry) (planned : Planned) (reply : Reply) → IsHeldAt journal (merge_policy task) (Swap planned)
-    → Answers reply (swap_reply planned.layout planned.merged journal) → Answers reply (answer_to limits task (take planned.layout.at journal) journal)
-held_swap limits (Merge all) journal planned reply is answers = (answers.0, answers.1 ∙ ap (reply_or_denied answers.0) (planned_reply (policy_of all) journal planned is))
-held_swap limits (Load name body) journal planned reply is answers = absurd is
-held_swap limits (LoadFile name file) journal planned reply is answers = absurd is
-held_swap limits (DropTable name) journal planned reply is answers = absurd is
-held_swap limits (Replace name body) journal planned reply is answers = absurd is
-held_swap limits Tables journal planned reply is answers = absurd is
-held_swap limits (Search k body) journal planned reply is answers = absurd is
-held_swap limits (Like k name place) journal planned reply is answers = absurd is
-held_swap limits (Contain a b body) journal planned reply is answers = absurd is
+pub held_swap : (rules : Rules) (task : Task) (journal : List Entry) (planned : Planned) (reply : Reply) → IsHeldAt journal (merge_policy task) (Swap planned)
+    → Answers reply (swap_reply planned.layout planned.merged journal) → Answers reply (answer_to rules task (take planned.layout.at journal) journal)
+held_swap rules (Merge all) journal planned reply is answers = (answers.0, answers.1 ∙ ap (reply_or_denied answers.0) (planned_reply (policy_of all) journal planned is))
+held_swap rules (Load name body) journal planned reply is answers = absurd is
+held_swap rules (LoadFile name file) journal planned reply is answers = absurd is
+held_swap rules (DropTable name) journal planned reply is answers = absurd is
+held_swap rules (Replace name body) journal planned reply is answers = absurd is
+held_swap rules Tables journal planned reply is answers = absurd is
+held_swap rules (Search k body) journal planned reply is answers = absurd is
+held_swap rules (Like k name place) journal planned reply is answers = absurd is
+held_swap rules (Contain a b body) journal planned reply is answers = absurd is
 
 -- and what it adds
-pub held_adds : (task : Task) (journal made : List Entry) (planned : Planned) (reply : Reply) → IsHeldAt journal (merge_policy task) (Swap planned) → made ≡ journal
-    → swapped_by planned.merged reply ≡ adds task (take planned.layout.at made) reply
-held_adds (Merge all) journal made planned reply is same =
+pub held_adds : (rules : Rules) (task : Task) (journal made : List Entry) (planned : Planned) (reply : Reply) → IsHeldAt journal (merge_policy task) (Swap planned) → made ≡ journal
+    → swapped_by planned.merged reply ≡ adds rules task (take planned.layout.at made) reply
+held_adds rules (Merge all) journal made planned reply is same =
     ap (λ (whats : List What). cond (is_accepted (standing reply)) whats []) (planned_change (policy_of all) journal planned is)
-    ∙ ap (λ (j : List Entry). adds (Merge all) (take planned.layout.at j) reply) (sym same)
-held_adds (Load name body) journal made planned reply is same = absurd is
-held_adds (LoadFile name file) journal made planned reply is same = absurd is
-held_adds (DropTable name) journal made planned reply is same = absurd is
-held_adds (Replace name body) journal made planned reply is same = absurd is
-held_adds Tables journal made planned reply is same = absurd is
-held_adds (Search k body) journal made planned reply is same = absurd is
-held_adds (Like k name place) journal made planned reply is same = absurd is
-held_adds (Contain a b body) journal made planned reply is same = absurd is
+    ∙ ap (λ (j : List Entry). adds rules (Merge all) (take planned.layout.at j) reply) (sym same)
+held_adds rules (Load name body) journal made planned reply is same = absurd is
+held_adds rules (LoadFile name file) journal made planned reply is same = absurd is
+held_adds rules (DropTable name) journal made planned reply is same = absurd is
+held_adds rules (Replace name body) journal made planned reply is same = absurd is
+held_adds rules Tables journal made planned reply is same = absurd is
+held_adds rules (Search k body) journal made planned reply is same = absurd is
+held_adds rules (Like k name place) journal made planned reply is same = absurd is
+held_adds rules (Contain a b body) journal made planned reply is same = absurd is
 
 -- ---- what a step leaves to do
 

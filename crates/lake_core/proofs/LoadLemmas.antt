@@ -11,8 +11,8 @@ use Rattle.lake_model.specs.declared.QueryRefused.{QueryRefused}
 use Rattle.lake_model.specs.declared.QueryRefused.TheVariants as query
 use Rattle.lake_model.specs.Texts.{Text}
 use Rattle.lake_model.specs.Tables.{Table, members}
-use Rattle.lake_model.specs.declared.Keys.TheVariants.{Canonical}
-use Rattle.lake_model.specs.Records.{Record, records_of, csv_fault, sets_fault, table_of}
+use Rattle.lake_model.specs.declared.Keys.{Keys}
+use Rattle.lake_model.specs.Records.{Record, records_of, csv_fault, most_columns, sets_fault, table_of}
 use Rattle.lake_model.specs.Queries.{query_of, query_fault}
 use Rattle.lake_model.specs.Journal.{What, Entry, entry_with, is_live, live, counts}
 use Rattle.lake_model.specs.Journal as entries
@@ -23,13 +23,14 @@ use Rattle.catalogue.specs.declared.refusal.DropRefused.{DropRefused}
 use Rattle.catalogue.specs.declared.refusal.DropRefused.TheVariants as dropping
 use Rattle.catalogue.specs.Refusals.{load_refusal, drop_refusal}
 use Rattle.catalogue.specs.Kept.{CatalogueOf, catalogue_with}
-use Rattle.script_model.specs.Commands.{Load, DropTable, Tables, Search}
+use Rattle.script_model.specs.Commands.{Load}
+use Rattle.record_model.specs.Rules.{Rules}
 use Rattle.record_model.specs.Replies.{Reply, Fault, Loaded, Dropped, Unknown, Full, Repeated, OfCsv, OfSets, OfQuery, fault_reply, csv_reply, sets_reply, query_reply, load_reply, drop_reply, search_reply, unless_lake_full}
 use Rattle.record_model.specs.Answered.{TableRead, IsTable, QueryRead, IsQuery, NoQuery, table_read, query_read, records_read, sets_read, keys_read, load_answer, search_answer, loads, adds, is_accepted, standing}
 use Rattle.record_model.specs.Play.{reply_or_denied}
 use Rattle.record_model.specs.Record.{RunRecord}
 use Rattle.record_model.proofs.PlayLemmas.{fault_nowhere}
-use Rattle.lake_core.specs.Drops.{drop_refusal_reply}
+use Rattle.lake_core.specs.Drops.{drop_refusal_reply, dropped_by}
 use Rattle.lake_core.specs.Loads.{IsRefusal, refusal_reply, loaded_by, with_added}
 use Rattle.record_model.proofs.LegalLemmas.{either_none}
 
@@ -70,25 +71,25 @@ added_at catalogue limits journal entry at is h = h ∙ ap (λ (c : CatalogueOf)
 
 -- ---- what is read of a block
 
-pub csv_refusal : (name : Text) (bytes : List ℕ) (e : CsvRefused) → (e ≡ csv.NoMemory) ⊎ (csv_fault 1024 bytes ≡ Some e) → IsRefusal (table_read name bytes) (csv_reply e)
+pub csv_refusal : (keys : Keys) (name : Text) (bytes : List ℕ) (e : CsvRefused) → (e ≡ csv.NoMemory) ⊎ (csv_fault (most_columns keys) bytes ≡ Some e) → IsRefusal (table_read keys name bytes) (csv_reply e)
 unfolding table_read
-csv_refusal name bytes e (inl none) = inl (ap csv_reply none)
-csv_refusal name bytes e (inr h) = inr (OfCsv e, ap (records_read name (records_of bytes)) h, refl)
+csv_refusal keys name bytes e (inl none) = inl (ap csv_reply none)
+csv_refusal keys name bytes e (inr h) = inr (OfCsv e, ap (records_read keys name (records_of bytes)) h, refl)
 
-sets_of : (name : Text) (bytes : List ℕ) → csv_fault 1024 bytes ≡ None → table_read name bytes ≡ sets_read name (records_of bytes) (sets_fault Canonical (records_of bytes))
+sets_of : (keys : Keys) (name : Text) (bytes : List ℕ) → csv_fault (most_columns keys) bytes ≡ None → table_read keys name bytes ≡ sets_read keys name (records_of bytes) (sets_fault keys (records_of bytes))
 unfolding table_read
-sets_of name bytes none = ap (records_read name (records_of bytes)) none
+sets_of keys name bytes none = ap (records_read keys name (records_of bytes)) none
 
-pub sets_refusal : (name : Text) (bytes : List ℕ) (rows : List Record) (e : SetRefused) → csv_fault 1024 bytes ≡ None → rows ≡ records_of bytes
-    → (e ≡ sets.NoMemory) ⊎ (sets_fault Canonical rows ≡ Some e) → IsRefusal (table_read name bytes) (sets_reply e)
-sets_refusal name bytes rows e none same (inl memory) = inl (ap sets_reply memory)
-sets_refusal name bytes rows e none same (inr h) =
-    inr (OfSets e, sets_of name bytes none ∙ ap (sets_read name (records_of bytes)) (ap (sets_fault Canonical) (sym same) ∙ h), refl)
+pub sets_refusal : (keys : Keys) (name : Text) (bytes : List ℕ) (rows : List Record) (e : SetRefused) → csv_fault (most_columns keys) bytes ≡ None → rows ≡ records_of bytes
+    → (e ≡ sets.NoMemory) ⊎ (sets_fault keys rows ≡ Some e) → IsRefusal (table_read keys name bytes) (sets_reply e)
+sets_refusal keys name bytes rows e none same (inl memory) = inl (ap sets_reply memory)
+sets_refusal keys name bytes rows e none same (inr h) =
+    inr (OfSets e, sets_of keys name bytes none ∙ ap (sets_read keys name (records_of bytes)) (ap (sets_fault keys) (sym same) ∙ h), refl)
 
-pub table_made : (name : Text) (bytes : List ℕ) (rows : List Record) → csv_fault 1024 bytes ≡ None → rows ≡ records_of bytes → sets_fault Canonical rows ≡ None
-    → table_read name bytes ≡ IsTable (table_of Canonical name rows)
-table_made name bytes rows none same small =
-    sets_of name bytes none ∙ ap (sets_read name (records_of bytes)) (ap (sets_fault Canonical) (sym same) ∙ small) ∙ ap (λ r. IsTable (table_of Canonical name r)) (sym same)
+pub table_made : (keys : Keys) (name : Text) (bytes : List ℕ) (rows : List Record) → csv_fault (most_columns keys) bytes ≡ None → rows ≡ records_of bytes → sets_fault keys rows ≡ None
+    → table_read keys name bytes ≡ IsTable (table_of keys name rows)
+table_made keys name bytes rows none same small =
+    sets_of keys name bytes none ∙ ap (sets_read keys name (records_of bytes)) (ap (sets_fault keys) (sym same) ∙ small) ∙ ap (λ r. IsTable (table_of keys name r)) (sym same)
 
 -- ---- a load that its bytes refuse
 
@@ -96,44 +97,38 @@ pub refused_nowhere : (read : TableRead) (reply : Reply) → IsRefusal read repl
 refused_nowhere read reply (inl none) = ap (λ r. is_accepted (standing r)) none
 refused_nowhere read reply (inr (fault, is, said)) = ap (λ r. is_accepted (standing r)) said ∙ ap is_accepted (fault_nowhere fault)
 
-pub refused_answer : (limits : Counts) (journal : List Entry) (read : TableRead) (reply : Reply) → IsRefusal read reply → Answers reply (load_answer limits read journal)
-refused_answer limits journal read reply (inl none) = (true, none)
-refused_answer limits journal read reply (inr (fault, is, said)) = (false, said ∙ ap (λ r. load_answer limits r journal) (sym is))
+pub refused_answer : (rules : Rules) (journal : List Entry) (read : TableRead) (reply : Reply) → IsRefusal read reply → Answers reply (load_answer rules read journal)
+refused_answer rules journal read reply (inl none) = (true, none)
+refused_answer rules journal read reply (inr (fault, is, said)) = (false, said ∙ ap (λ r. load_answer rules r journal) (sym is))
 
 pub added_none : (who : Who) (made : RunRecord) → made ≡ with_added who [] made
 added_none who made = λ i. record made { journal = sym (append-nil made.journal) i }
 
-pub refused_adds : (who : Who) (name : Text) (bytes : List ℕ) (reply : Reply) (made : RunRecord) → IsRefusal (table_read name bytes) reply
-    → made ≡ with_added who (adds (Load name bytes) made.journal reply) made
-refused_adds who name bytes reply made why =
-    added_none who made ∙ ap (λ (b : Bool). with_added who (cond b (loads (table_read name bytes)) []) made) (sym (refused_nowhere (table_read name bytes) reply why))
+pub refused_adds : (rules : Rules) (who : Who) (name : Text) (bytes : List ℕ) (reply : Reply) (made : RunRecord) → IsRefusal (table_read rules.keys name bytes) reply
+    → made ≡ with_added who (adds rules (Load name bytes) made.journal reply) made
+refused_adds rules who name bytes reply made why =
+    added_none who made ∙ ap (λ (b : Bool). with_added who (cond b (loads (table_read rules.keys name bytes)) []) made) (sym (refused_nowhere (table_read rules.keys name bytes) reply why))
 
-pub loaded_adds : (who : Who) (name : Text) (bytes : List ℕ) (table : Table) (reply : Reply) (made : RunRecord) → table_read name bytes ≡ IsTable table
-    → with_added who (loaded_by table reply) made ≡ with_added who (adds (Load name bytes) made.journal reply) made
-loaded_adds who name bytes table reply made is = ap (λ read. with_added who (cond (is_accepted (standing reply)) (loads read) []) made) (sym is)
+pub loaded_adds : (rules : Rules) (who : Who) (name : Text) (bytes : List ℕ) (table : Table) (reply : Reply) (made : RunRecord) → table_read rules.keys name bytes ≡ IsTable table
+    → with_added who (loaded_by table reply) made ≡ with_added who (adds rules (Load name bytes) made.journal reply) made
+loaded_adds rules who name bytes table reply made is = ap (λ read. with_added who (cond (is_accepted (standing reply)) (loads read) []) made) (sym is)
 
-pub loaded_answer : (limits : Counts) (journal : List Entry) (read : TableRead) (table : Table) (reply : Reply) → read ≡ IsTable table → Answers reply (load_reply limits table journal)
-    → Answers reply (load_answer limits read journal)
-loaded_answer limits journal read table reply is answers = (answers.0, answers.1 ∙ ap (λ r. reply_or_denied answers.0 (load_answer limits r journal)) (sym is))
+pub loaded_answer : (rules : Rules) (journal : List Entry) (read : TableRead) (table : Table) (reply : Reply) → read ≡ IsTable table → Answers reply (load_reply rules.limits table journal)
+    → Answers reply (load_answer rules read journal)
+loaded_answer rules journal read table reply is answers = (answers.0, answers.1 ∙ ap (λ r. reply_or_denied answers.0 (load_answer rules r journal)) (sym is))
 
 -- ---- searches
 
 -- whatever is answered to a query, a body that is none is refused for its fault
-pub query_refused : (answer : QueryRead → Reply) → ((fault : Fault) → answer (NoQuery fault) ≡ fault_reply fault) → (bytes : List ℕ) (e : QueryRefused) → (e ≡ query.NoMemory) ⊎ (query_fault Canonical bytes ≡ Some e)
-    → Answers (query_reply e) (answer (query_read bytes))
+pub query_refused : (keys : Keys) (answer : QueryRead → Reply) → ((fault : Fault) → answer (NoQuery fault) ≡ fault_reply fault) → (bytes : List ℕ) (e : QueryRefused) → (e ≡ query.NoMemory) ⊎ (query_fault keys bytes ≡ Some e)
+    → Answers (query_reply e) (answer (query_read keys bytes))
 unfolding query_read
-query_refused answer refuses bytes e (inl none) = (true, ap query_reply none)
-query_refused answer refuses bytes e (inr h) = (false, sym (refuses (OfQuery e)) ∙ ap (λ fault. answer (keys_read bytes fault)) (sym h))
+query_refused keys answer refuses bytes e (inl none) = (true, ap query_reply none)
+query_refused keys answer refuses bytes e (inr h) = (false, sym (refuses (OfQuery e)) ∙ ap (λ fault. answer (keys_read keys bytes fault)) (sym h))
 
-pub query_found : (answer : QueryRead → Reply) (bytes : List ℕ) (keys : List Text) → query_fault Canonical bytes ≡ None → keys ≡ query_of Canonical bytes → answer (IsQuery keys) ≡ answer (query_read bytes)
+pub query_found : (keys : Keys) (answer : QueryRead → Reply) (bytes : List ℕ) (query : List Text) → query_fault keys bytes ≡ None → query ≡ query_of keys bytes → answer (IsQuery query) ≡ answer (query_read keys bytes)
 unfolding query_read
-query_found answer bytes keys none same = ap (λ ks. answer (IsQuery ks)) same ∙ ap (λ fault. answer (keys_read bytes fault)) (sym none)
-
-pub search_adds : (who : Who) (k : ℕ) (bytes : List ℕ) (reply : Reply) (made : RunRecord) → made ≡ with_added who (adds (Search k bytes) made.journal reply) made
-search_adds who k bytes reply made = added_none who made ∙ ap (λ whats. with_added who whats made) (sym (either_none (is_accepted (standing reply))))
-
-pub tables_add : (who : Who) (reply : Reply) (made : RunRecord) → made ≡ with_added who (adds Tables made.journal reply) made
-tables_add who reply made = added_none who made ∙ ap (λ whats. with_added who whats made) (sym (either_none (is_accepted (standing reply))))
+query_found keys answer bytes query none same = ap (λ ks. answer (IsQuery ks)) same ∙ ap (λ fault. answer (keys_read keys bytes fault)) (sym none)
 
 -- ---- drops
 
@@ -171,6 +166,6 @@ refusal_adds_none name (dropping.Unknown at) = refl
 refusal_adds_none name (dropping.Full which count more at) = refl
 refusal_adds_none name dropping.NoMemory = refl
 
-pub refused_drop_adds : (who : Who) (name : Text) (e : DropRefused) (made : RunRecord) → made ≡ with_added who (adds (DropTable name) made.journal (drop_refusal_reply name e)) made
+pub refused_drop_adds : (who : Who) (name : Text) (e : DropRefused) (made : RunRecord) → made ≡ with_added who (dropped_by name (drop_refusal_reply name e)) made
 refused_drop_adds who name e made =
     added_none who made ∙ ap (λ (b : Bool). with_added who (cond b (entries.Dropped name ∷ []) []) made) (sym (refusal_adds_none name e))

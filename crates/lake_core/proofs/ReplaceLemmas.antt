@@ -16,6 +16,7 @@ use Rattle.record_model.specs.Answered.{TableRead, IsTable, table_read, replace_
 use Rattle.record_model.specs.Play.{reply_or_denied}
 use Rattle.record_model.specs.Record.{RunRecord}
 use Rattle.lake_core.specs.Loads.{IsRefusal, with_added}
+use Rattle.record_model.specs.Rules.{Rules}
 use Rattle.lake_core.specs.Replaces.{replace_refusal_reply, replaced_by}
 use Rattle.lake_core.proofs.LoadLemmas.{Answers, live_refused, live_accepted, refused_nowhere, added_none}
 
@@ -38,21 +39,21 @@ accepted_replace limits table journal h =
 
 -- ---- a replace that its bytes refuse
 
-pub refused_replace_answer : (limits : Counts) (journal : List Entry) (read : TableRead) (reply : Reply) → IsRefusal read reply → Answers reply (replace_answer limits read journal)
-refused_replace_answer limits journal read reply (inl none) = (true, none)
-refused_replace_answer limits journal read reply (inr (fault, is, said)) = (false, said ∙ ap (λ r. replace_answer limits r journal) (sym is))
+pub refused_replace_answer : (rules : Rules) (journal : List Entry) (read : TableRead) (reply : Reply) → IsRefusal read reply → Answers reply (replace_answer rules read journal)
+refused_replace_answer rules journal read reply (inl none) = (true, none)
+refused_replace_answer rules journal read reply (inr (fault, is, said)) = (false, said ∙ ap (λ r. replace_answer rules r journal) (sym is))
 
-pub refused_replace_adds : (who : Who) (name : Text) (bytes : List ℕ) (reply : Reply) (made : RunRecord) → IsRefusal (table_read name bytes) reply
-    → made ≡ with_added who (adds (Replace name bytes) made.journal reply) made
-refused_replace_adds who name bytes reply made why =
-    added_none who made ∙ ap (λ b. with_added who (cond b (replaces (table_read name bytes)) []) made) (sym (refused_nowhere (table_read name bytes) reply why))
+pub refused_replace_adds : (rules : Rules) (who : Who) (name : Text) (bytes : List ℕ) (reply : Reply) (made : RunRecord) → IsRefusal (table_read rules.keys name bytes) reply
+    → made ≡ with_added who (adds rules (Replace name bytes) made.journal reply) made
+refused_replace_adds rules who name bytes reply made why =
+    added_none who made ∙ ap (λ b. with_added who (cond b (replaces (table_read rules.keys name bytes)) []) made) (sym (refused_nowhere (table_read rules.keys name bytes) reply why))
 
 -- ---- one whose bytes are a table
 
-pub replaced_adds : (who : Who) (name : Text) (bytes : List ℕ) (table : Table) (reply : Reply) (made : RunRecord) → table_read name bytes ≡ IsTable table
-    → with_added who (replaced_by table reply) made ≡ with_added who (adds (Replace name bytes) made.journal reply) made
-replaced_adds who name bytes table reply made is = ap (λ read. with_added who (cond (is_accepted (standing reply)) (replaces read) []) made) (sym is)
+pub replaced_adds : (rules : Rules) (who : Who) (name : Text) (bytes : List ℕ) (table : Table) (reply : Reply) (made : RunRecord) → table_read rules.keys name bytes ≡ IsTable table
+    → with_added who (replaced_by table reply) made ≡ with_added who (adds rules (Replace name bytes) made.journal reply) made
+replaced_adds rules who name bytes table reply made is = ap (λ read. with_added who (cond (is_accepted (standing reply)) (replaces read) []) made) (sym is)
 
-pub replaced_answer : (limits : Counts) (journal : List Entry) (read : TableRead) (table : Table) (reply : Reply) → read ≡ IsTable table → Answers reply (replace_reply limits table journal)
-    → Answers reply (replace_answer limits read journal)
-replaced_answer limits journal read table reply is answers = (answers.0, answers.1 ∙ ap (λ r. reply_or_denied answers.0 (replace_answer limits r journal)) (sym is))
+pub replaced_answer : (rules : Rules) (journal : List Entry) (read : TableRead) (table : Table) (reply : Reply) → read ≡ IsTable table → Answers reply (replace_reply rules.limits table journal)
+    → Answers reply (replace_answer rules read journal)
+replaced_answer rules journal read table reply is answers = (answers.0, answers.1 ∙ ap (λ r. reply_or_denied answers.0 (replace_answer rules r journal)) (sym is))

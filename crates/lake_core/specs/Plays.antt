@@ -1,9 +1,9 @@
 -- A play as the code holds it, and where a stated order of turns leads it.
 use Rattle.std.specs.Prelude.{◌≡◌, ◌≤◌, ℕ, Bool, List, length}
-use Rattle.lake_model.specs.declared.Counts.{Counts}
-use Rattle.lake_model.specs.Journal.{standard_limits}
+use Rattle.lake_model.specs.declared.Keys.{Keys}
 use Rattle.catalogue.specs.Kept.{CatalogueOf, IsWithin}
 use Rattle.run_record.specs.Rooms.{RecordOf}
+use Rattle.record_model.specs.Rules.{Rules, rules_with, wide_limits}
 use Rattle.record_model.specs.Play.{Play, play}
 use Rattle.lake_core.specs.Lanes.{LaneOf, AreHeld, left, play_of}
 
@@ -25,19 +25,19 @@ pub record IsReady (state : StateOf) : Type 0 where
   pub journal : state.out.made.journal ≡ state.catalogue.journal
   pub held : AreHeld state.catalogue.journal state.lanes
   pub entries : left state.lanes ≤ state.out.entries_room
-  pub limits : IsWithin standard_limits state.catalogue.limits
+  pub limits : IsWithin wide_limits state.catalogue.limits
 
 -- the turns of this order lead from one play to another, with memory wanting at some of them or at none
-abbrev pub Leads : Counts → List ℕ → Play → Play → Type 0
-Leads limits order before after = (denials : List Bool) × (length denials ≡ length order) × (after ≡ play limits order denials before)
+abbrev pub Leads : Rules → List ℕ → Play → Play → Type 0
+Leads rules order before after = (denials : List Bool) × (length denials ≡ length order) × (after ≡ play rules order denials before)
 
 -- The turns of this order lead from one state to another: of the record only the journal changes.
-pub record Goes (order : List ℕ) (before after : StateOf) : Type 0 where
-  pub leads : Leads before.catalogue.limits order (play_at before) (play_at after)
+pub record Goes (keys : Keys) (order : List ℕ) (before after : StateOf) : Type 0 where
+  pub leads : Leads (rules_with keys before.catalogue.limits) order (play_at before) (play_at after)
   pub held : AreHeld after.catalogue.journal after.lanes
   pub entries : left after.lanes ≤ after.out.entries_room
   pub made : after.out.made ≡ record before.out.made { journal = after.catalogue.journal }
   pub limits : after.catalogue.limits ≡ before.catalogue.limits
-  pub within : IsWithin standard_limits after.catalogue.limits
+  pub within : IsWithin wide_limits after.catalogue.limits
   pub answers_room : after.out.answers_room ≡ before.out.answers_room
   pub syncs_room : after.out.syncs_room ≡ before.out.syncs_room

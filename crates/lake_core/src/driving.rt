@@ -7,13 +7,14 @@ ghost use Rattle.script_model.specs.Commands.{updates};
 ghost use Rattle.lake_core.specs.Lanes.{AreShared, done_in, lane_from, play_of};
 ghost use Rattle.lake_core.specs.Plays.{Goes, IsReady, state_with};
 ghost use Rattle.batch_work.specs.Works.{works_of, IsWithinLanes};
-ghost use Rattle.lake_model.specs.Journal.{standard_limits};
+ghost use Rattle.record_model.specs.Rules.{rules_with, wide_limits};
 ghost use Rattle.catalogue.specs.Kept.{IsWithin};
 
 use crate::lane::Lane;
 use batch_work::{Work, works_of};
 use catalogue::Catalogue;
 use commands::Batch;
+use lake_model::Keys;
 use no_memory::NoMemory;
 use run_record::{Answered, RunRecord};
 use std::alloc::Global;
@@ -46,15 +47,16 @@ fn share_out<'a>(alloc: Global, works: &[Work<'a>], lanes: u32) -> Result<Vec<La
 fn step(
     alloc: Global,
     catalogue: &mut Catalogue,
+    keys: Keys,
     lanes: &mut [Lane<'_>],
     lane: usize,
     out: &mut RunRecord,
 )
     requires { IsReady (state_with catalogue.old lanes.old out.old) }
-    ensures { Goes (lane ∷ []) (state_with catalogue.old lanes.old out.old) (state_with catalogue.new lanes.new out.new) }
+    ensures { Goes keys (lane ∷ []) (state_with catalogue.old lanes.old out.old) (state_with catalogue.new lanes.new out.new) }
 {
     if lane < lanes.len() {
-        lanes[lane].step(alloc, catalogue, out);
+        lanes[lane].step(alloc, catalogue, keys, out);
     }
 }
 
@@ -62,15 +64,16 @@ fn step(
 fn play_piece(
     alloc: Global,
     catalogue: &mut Catalogue,
+    keys: Keys,
     lanes: &mut [Lane<'_>],
     piece: &[u32],
     out: &mut RunRecord,
 )
     requires { IsReady (state_with catalogue.old lanes.old out.old) }
-    ensures { Goes piece.now (state_with catalogue.old lanes.old out.old) (state_with catalogue.new lanes.new out.new) }
+    ensures { Goes keys piece.now (state_with catalogue.old lanes.old out.old) (state_with catalogue.new lanes.new out.new) }
 {
     for lane in piece {
-        step(alloc, catalogue, lanes, *lane as usize, out);
+        step(alloc, catalogue, keys, lanes, *lane as usize, out);
     }
 }
 
@@ -85,20 +88,21 @@ fn is_idle(lanes: &[Lane<'_>], lane: usize) -> bool
 fn play_lane(
     alloc: Global,
     catalogue: &mut Catalogue,
+    keys: Keys,
     lanes: &mut [Lane<'_>],
     lane: usize,
     works: usize,
     out: &mut RunRecord,
 )
     requires { IsReady (state_with catalogue.old lanes.old out.old) }
-    ensures { Goes (replicate (2 * works) lane) (state_with catalogue.old lanes.old out.old) (state_with catalogue.new lanes.new out.new) }
+    ensures { Goes keys (replicate (2 * works) lane) (state_with catalogue.old lanes.old out.old) (state_with catalogue.new lanes.new out.new) }
 {
     for _taken in 0..works {
         if is_idle(lanes, lane) {
             return;
         }
-        step(alloc, catalogue, lanes, lane, out);
-        step(alloc, catalogue, lanes, lane, out);
+        step(alloc, catalogue, keys, lanes, lane, out);
+        step(alloc, catalogue, keys, lanes, lane, out);
     }
 }
 
@@ -106,18 +110,19 @@ fn play_lane(
 fn play_rest(
     alloc: Global,
     catalogue: &mut Catalogue,
+    keys: Keys,
     lanes: &mut [Lane<'_>],
     count: u32,
     works: usize,
     out: &mut RunRecord,
 )
     requires { IsReady (state_with catalogue.old lanes.old out.old) }
-    ensures { Goes (flat_map (λ l. replicate (2 * works) l) (range_with_len 1 count ++ 0 ∷ [])) (state_with catalogue.old lanes.old out.old) (state_with catalogue.new lanes.new out.new) }
+    ensures { Goes keys (flat_map (λ l. replicate (2 * works) l) (range_with_len 1 count ++ 0 ∷ [])) (state_with catalogue.old lanes.old out.old) (state_with catalogue.new lanes.new out.new) }
 {
     for before in 0..count {
-        play_lane(alloc, catalogue, lanes, before as usize + 1, works, out);
+        play_lane(alloc, catalogue, keys, lanes, before as usize + 1, works, out);
     }
-    play_lane(alloc, catalogue, lanes, 0, works, out);
+    play_lane(alloc, catalogue, keys, lanes, 0, works, out);
 }
 
 // The first answer of those that a lane has done, taken out.
@@ -150,6 +155,7 @@ fn gather(works: &[Work<'_>], lanes: &mut [Lane<'_>], out: &mut RunRecord)
 fn play(
     alloc: Global,
     catalogue: &mut Catalogue,
+    keys: Keys,
     works: &[Work<'_>],
     lanes: &mut [Lane<'_>],
     piece: &[u32],
@@ -159,18 +165,18 @@ fn play(
     requires ready { IsReady (state_with catalogue.old lanes.old out.old) }
     requires answers { length works.now ≤ out.old.answers_room }
     requires syncs { 0 < out.old.syncs_room }
-    ensures played { (denials : List Bool) × (out.new.made ≡ record_after out.old.made (works_of works.now) (play catalogue.old.limits (whole_order piece.now count (2 * length works.now)) denials (play_of catalogue.old.journal lanes.old))) }
+    ensures played { (denials : List Bool) × (out.new.made ≡ record_after out.old.made (works_of works.now) (play (rules_with keys catalogue.old.limits) (whole_order piece.now count (2 * length works.now)) denials (play_of catalogue.old.journal lanes.old))) }
     ensures journal { out.new.made.journal ≡ catalogue.new.journal }
     ensures limits { catalogue.new.limits ≡ catalogue.old.limits }
 {
-    play_piece(alloc, catalogue, lanes, piece, out);
-    play_rest(alloc, catalogue, lanes, count, works.len(), out);
+    play_piece(alloc, catalogue, keys, lanes, piece, out);
+    play_rest(alloc, catalogue, keys, lanes, count, works.len(), out);
     gather(works, lanes, out);
     out.add_sync();
 }
 
 /// Answers the commands of a batch, of which each is of a lane from 1 to `lanes`: the steps of the lanes are taken in the order of the
-/// piece, and what is left behind it lane by lane, the merger last. A load, a drop and a list of the tables is one step; a search, a like
+/// piece, and what is left behind it lane by lane, the merger last. Values are compared by the match of `keys`. A load, a drop and a list of the tables is one step; a search, a like
 /// and a merge are two, the pin and the answer. `merger` is the merger's first number in this batch, where there is one; it has a merge
 /// for each load and drop. The answers come in the order of the script, and then the merger's.
 ///
@@ -178,6 +184,7 @@ fn play(
 pub fn drive(
     alloc: Global,
     catalogue: &mut Catalogue,
+    keys: Keys,
     batch: &Batch,
     piece: &[u32],
     lanes: u32,
@@ -187,10 +194,10 @@ pub fn drive(
     requires journal { out.old.made.journal ≡ catalogue.old.journal }
     requires lanes { IsOfLanes lanes batch.now }
     // the limits of the lake are at most those of one as it is shipped
-    requires limits { IsWithin standard_limits catalogue.old.limits }
+    requires limits { IsWithin wide_limits catalogue.old.limits }
     // the merger's numbers stay below 2^64
     requires numbers { MatchOption merger ⊤ (λ first. first + updates batch.now < 2 ^ 64) }
-    ensures played { OnOk result ((denials : List Bool) × (out.new.made ≡ batch_after catalogue.old.limits lanes batch.now (merges_of merger batch.now) piece.now denials out.old.made)) }
+    ensures played { OnOk result ((denials : List Bool) × (out.new.made ≡ batch_after (rules_with keys catalogue.old.limits) lanes batch.now (merges_of merger batch.now) piece.now denials out.old.made)) }
     ensures journal { OnOk result (out.new.made.journal ≡ catalogue.new.journal) }
     ensures limits { catalogue.new.limits ≡ catalogue.old.limits }
     ensures err { OnErr result ((out.new.made ≡ out.old.made) × (catalogue.new ≡ catalogue.old)) }
@@ -198,6 +205,6 @@ pub fn drive(
     let works = works_of(alloc, batch, merger)?;
     let mut all = share_out(alloc, &works, lanes)?;
     out.room(works.len(), works.len())?;
-    play(alloc, catalogue, &works, &mut all, piece, lanes, out);
+    play(alloc, catalogue, keys, &works, &mut all, piece, lanes, out);
     Ok(())
 }

@@ -1,11 +1,9 @@
 //! Drops: the entry that takes a table out of the lake.
 ghost use Rattle.std.specs.Prelude.{◌≡◌, ◌<◌, ◌+◌, ◌≤◌, Bool};
-ghost use Rattle.script_model.specs.Commands.{DropTable};
 ghost use Rattle.record_model.specs.Replies.{drop_reply};
-ghost use Rattle.record_model.specs.Answered.{adds};
 ghost use Rattle.record_model.specs.Play.{reply_or_denied};
 ghost use Rattle.run_record.specs.Replies.{reply_of};
-ghost use Rattle.lake_core.specs.Drops.{drop_refusal_reply};
+ghost use Rattle.lake_core.specs.Drops.{drop_refusal_reply, dropped_by};
 ghost use Rattle.lake_core.specs.Loads.{Adds};
 
 use catalogue::{Catalogue, DropRefused, Entry, Who};
@@ -44,7 +42,7 @@ pub(crate) fn drop_table(
     requires journal { out.old.made.journal ≡ catalogue.old.journal }
     requires room { 0 < out.old.entries_room }
     ensures answered { (denied : Bool) × (reply_of result ≡ reply_or_denied denied (drop_reply catalogue.old.limits name.now catalogue.old.journal)) }
-    ensures adds { Adds who (adds (DropTable name.now) out.old.made.journal (reply_of result)) catalogue.old catalogue.new out.old out.new }
+    ensures adds { Adds who (dropped_by name.now (reply_of result)) catalogue.old catalogue.new out.old out.new }
 {
     match catalogue.drop_table(who, name) {
         Ok(at) => {

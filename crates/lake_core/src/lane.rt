@@ -1,11 +1,12 @@
 //! A lane of a batch: the work that it still has to do, what it holds for the first of it, and what it has done.
 ghost use Rattle.std.specs.Prelude.{◌≡◌, ◌==◌, ◌≤◌, ◌<◌, ◌+◌, ◌++◌, ◌∷◌, [], false, true, Bool, List, drop, length, take, MatchOption, None, OnOk, Some, option_to_list, map};
 ghost use Rattle.lake_model.specs.declared.Counts.{Counts};
-ghost use Rattle.lake_model.specs.Journal.{Entry, standard_limits};
+ghost use Rattle.lake_model.specs.Journal.{Entry};
 ghost use Rattle.catalogue.specs.Kept.{IsWithin};
 ghost use Rattle.record_model.specs.Answered.{answer_to, adds, has_pin};
 ghost use Rattle.script_model.specs.Commands.{Command as CommandOf};
 ghost use Rattle.record_model.specs.Replies.{tables_reply};
+ghost use Rattle.record_model.specs.Rules.{rules_with, wide_limits};
 ghost use Rattle.record_model.specs.Play.{answers_of, done_with, reply_or_denied, step, who_of};
 ghost use Rattle.run_record.specs.Replies.{reply_of};
 ghost use Rattle.lake_core.specs.Lanes.{alone, lane_from, position_of, IsHeld, IsHeldAt};
@@ -21,7 +22,7 @@ use crate::searching::finish;
 use batch_work::{Done, Work, next_answer};
 use catalogue::Catalogue;
 use commands::Task;
-use lake_model::Policy;
+use lake_model::{Keys, Policy};
 use no_memory::NoMemory;
 use run_record::{Answered, Reply, RunRecord};
 use segment_core::Pin;
@@ -74,7 +75,7 @@ fn hold(catalogue: &Catalogue) -> Held
 
 // Holds a merge that is planned in the newest version, or else the position at which memory was wanting for that.
 fn hold_merge(alloc: Global, catalogue: &Catalogue, policy: Policy) -> Held
-    requires { IsWithin standard_limits catalogue.now.limits }
+    requires { IsWithin wide_limits catalogue.now.limits }
     ensures held { IsHeldAt catalogue.now.journal (Some policy) result }
     ensures position { position_of result ≡ length catalogue.now.journal }
 {
@@ -86,7 +87,7 @@ fn hold_merge(alloc: Global, catalogue: &Catalogue, policy: Policy) -> Held
 
 // What is held for work that has a pin, from its first step on.
 fn begin(alloc: Global, catalogue: &Catalogue, work: &Work<'_>) -> Held
-    requires { IsWithin standard_limits catalogue.now.limits }
+    requires { IsWithin wide_limits catalogue.now.limits }
     ensures held { IsHeldAt catalogue.now.journal (merge_policy (work_of work.now).task) result }
     ensures position { position_of result ≡ length catalogue.now.journal }
 {
@@ -97,13 +98,13 @@ fn begin(alloc: Global, catalogue: &Catalogue, work: &Work<'_>) -> Held
 }
 
 // The reply to a search or a like at its pin.
-fn reply_at_pin(alloc: Global, pin: Pin, work: &Work<'_>) -> Reply
+fn reply_at_pin(alloc: Global, keys: Keys, pin: Pin, work: &Work<'_>) -> Reply
     requires pins { has_pin (work_of work.now).task ≡ true }
     requires merges { merge_policy (work_of work.now).task ≡ None }
-    ensures { (limits : Counts) (journal : List Entry) → IsPinOf journal pin → (denied : Bool) × (reply_of result ≡ reply_or_denied denied (answer_to limits (work_of work.now).task journal journal)) }
+    ensures { (limits : Counts) (journal : List Entry) → IsPinOf journal pin → (denied : Bool) × (reply_of result ≡ reply_or_denied denied (answer_to (rules_with keys limits) (work_of work.now).task journal journal)) }
 {
     match work {
-        Work::Given(command) => finish(alloc, pin, command.task()),
+        Work::Given(command) => finish(alloc, keys, pin, command.task()),
         Work::Merge { .. } => unreachable!(),
     }
 }
@@ -112,6 +113,7 @@ fn reply_at_pin(alloc: Global, pin: Pin, work: &Work<'_>) -> Reply
 fn reply_when_held(
     alloc: Global,
     catalogue: &mut Catalogue,
+    keys: Keys,
     work: &Work<'_>,
     held: Held,
     out: &mut RunRecord,
@@ -120,22 +122,22 @@ fn reply_when_held(
     requires held { IsHeldAt catalogue.old.journal (merge_policy (work_of work.now).task) held }
     requires journal { out.old.made.journal ≡ catalogue.old.journal }
     requires entries { 0 < out.old.entries_room }
-    ensures answered { (denied : Bool) × (reply_of result ≡ reply_or_denied denied (answer_to catalogue.old.limits (work_of work.now).task (take (position_of held) catalogue.old.journal) catalogue.old.journal)) }
-    ensures adds { Adds (who_of (work_of work.now)) (adds (work_of work.now).task (take (position_of held) out.old.made.journal) (reply_of result)) catalogue.old catalogue.new out.old out.new }
+    ensures answered { (denied : Bool) × (reply_of result ≡ reply_or_denied denied (answer_to (rules_with keys catalogue.old.limits) (work_of work.now).task (take (position_of held) catalogue.old.journal) catalogue.old.journal)) }
+    ensures adds { Adds (who_of (work_of work.now)) (adds (rules_with keys catalogue.old.limits) (work_of work.now).task (take (position_of held) out.old.made.journal) (reply_of result)) catalogue.old catalogue.new out.old out.new }
 {
     match held {
-        Held::At(pin) => reply_at_pin(alloc, pin, work),
+        Held::At(pin) => reply_at_pin(alloc, keys, pin, work),
         Held::Swap(planned) => swap(alloc, catalogue, work.who(), planned, out),
         Held::Denied { .. } => Reply::NoMemory,
     }
 }
 
 // The reply to a request for the live tables.
-fn list_now(alloc: Global, catalogue: &Catalogue) -> Reply
+fn list_now(alloc: Global, catalogue: &Catalogue, keys: Keys) -> Reply
     ensures { (denied : Bool) × (reply_of result ≡ reply_or_denied denied (tables_reply catalogue.now.journal)) }
 {
     match catalogue.pin() {
-        Ok(pin) => finish(alloc, pin, &Task::Tables),
+        Ok(pin) => finish(alloc, keys, pin, &Task::Tables),
         Err(NoMemory) => Reply::NoMemory,
     }
 }
@@ -144,25 +146,26 @@ fn list_now(alloc: Global, catalogue: &Catalogue) -> Reply
 fn reply_now(
     alloc: Global,
     catalogue: &mut Catalogue,
+    keys: Keys,
     work: &Work<'_>,
     out: &mut RunRecord,
 ) -> Reply
     requires pins { has_pin (work_of work.now).task ≡ false }
     requires journal { out.old.made.journal ≡ catalogue.old.journal }
     requires entries { 0 < out.old.entries_room }
-    ensures answered { (denied : Bool) × (reply_of result ≡ reply_or_denied denied (answer_to catalogue.old.limits (work_of work.now).task catalogue.old.journal catalogue.old.journal)) }
-    ensures adds { Adds (who_of (work_of work.now)) (adds (work_of work.now).task out.old.made.journal (reply_of result)) catalogue.old catalogue.new out.old out.new }
+    ensures answered { (denied : Bool) × (reply_of result ≡ reply_or_denied denied (answer_to (rules_with keys catalogue.old.limits) (work_of work.now).task catalogue.old.journal catalogue.old.journal)) }
+    ensures adds { Adds (who_of (work_of work.now)) (adds (rules_with keys catalogue.old.limits) (work_of work.now).task out.old.made.journal (reply_of result)) catalogue.old catalogue.new out.old out.new }
 {
     let who = work.who();
     let Work::Given(command) = work else {
         unreachable!()
     };
     match command.task() {
-        Task::Load { name, body } => load(alloc, catalogue, who, name, body, out),
-        Task::LoadFile { name, file } => load_file(alloc, catalogue, who, name, file, out),
+        Task::Load { name, body } => load(alloc, catalogue, keys, who, name, body, out),
+        Task::LoadFile { name, file } => load_file(alloc, catalogue, keys, who, name, file, out),
         Task::Drop { name } => drop_table(catalogue, who, name, out),
-        Task::Replace { name, body } => replace(alloc, catalogue, who, name, body, out),
-        Task::Tables => list_now(alloc, catalogue),
+        Task::Replace { name, body } => replace(alloc, catalogue, keys, who, name, body, out),
+        Task::Tables => list_now(alloc, catalogue, keys),
         Task::Search { .. } | Task::Like { .. } | Task::Contain { .. } | Task::Merge { .. } =>
             unreachable!(),
     }
@@ -219,12 +222,18 @@ impl<'a> Lane<'a> {
 
     /// Takes the next step, where there is one: the first of the work still to do is answered; but a search, a like or a merge has a
     /// step before, in which the version of the lake is held at which it is answered, or the merge is planned.
-    pub fn step(&mut self, alloc: Global, catalogue: &mut Catalogue, out: &mut RunRecord)
-        requires limits { IsWithin standard_limits catalogue.old.limits }
+    pub fn step(
+        &mut self,
+        alloc: Global,
+        catalogue: &mut Catalogue,
+        keys: Keys,
+        out: &mut RunRecord,
+    )
+        requires limits { IsWithin wide_limits catalogue.old.limits }
         requires journal { out.old.made.journal ≡ catalogue.old.journal }
         requires held { IsHeld catalogue.old.journal self.old.todo self.old.held }
         requires entries { length self.old.todo ≤ out.old.entries_room }
-        ensures steps { (denied : Bool) × (alone catalogue.new.journal self.new ≡ step catalogue.old.limits (alone catalogue.old.journal self.old) (0, denied)) }
+        ensures steps { (denied : Bool) × (alone catalogue.new.journal self.new ≡ step (rules_with keys catalogue.old.limits) (alone catalogue.old.journal self.old) (0, denied)) }
         ensures held { IsHeld catalogue.new.journal self.new.todo self.new.held }
         ensures grows { (more : List Entry) × (catalogue.new.journal ≡ catalogue.old.journal ++ more) }
         ensures made { out.new.made ≡ record out.old.made { journal = catalogue.new.journal } }
@@ -237,13 +246,13 @@ impl<'a> Lane<'a> {
             return;
         };
         if !work.has_pin() {
-            let reply = reply_now(alloc, catalogue, &work, out);
+            let reply = reply_now(alloc, catalogue, keys, &work, out);
             self.answer(reply);
             return;
         }
         match self.held.take() {
             None => self.held = Some(begin(alloc, catalogue, &work)),
-            Some(held) => self.answer(reply_when_held(alloc, catalogue, &work, held, out)),
+            Some(held) => self.answer(reply_when_held(alloc, catalogue, keys, &work, held, out)),
         }
     }
 

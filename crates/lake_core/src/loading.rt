@@ -1,10 +1,12 @@
 //! Loads: the table of a block, and its entry.
 ghost use Rattle.std.specs.Prelude.{◌≡◌, ◌<◌, ◌+◌, ◌≤◌, ◌∷◌, [], Bool, IfOk, IfErr};
+ghost use Rattle.lake_model.specs.Records.{most_columns};
 ghost use Rattle.lake_model.specs.Tables.{members};
 ghost use Rattle.script_model.specs.Commands.{Load, LoadFile};
 ghost use Rattle.record_model.specs.Replies.{csv_reply, sets_reply, load_reply};
 ghost use Rattle.record_model.specs.Answered.{IsTable, file_read, table_read, load_answer, adds};
 ghost use Rattle.record_model.specs.Play.{reply_or_denied};
+ghost use Rattle.record_model.specs.Rules.{rules_with};
 ghost use Rattle.run_record.specs.Replies.{reply_of};
 ghost use Rattle.commands.specs.Tasks.{file_of};
 ghost use Rattle.lake_core.specs.Loads.{Adds, IsRefusal, refusal_reply, loaded_by};
@@ -29,12 +31,17 @@ pub struct Loadable {
 
 /// The table of a block under a name with its segment, or the reply that refuses it: for the first fault of its records, or else of its
 /// sets, or for want of memory.
-pub fn make_table(alloc: Global, name: &Name, body: &Body) -> Result<Loadable, Reply>
-    ensures table { IfOk result (λ made. table_read name.now body.now ≡ IsTable made.table) }
+pub fn make_table(
+    alloc: Global,
+    keys: Keys,
+    name: &Name,
+    body: &Body,
+) -> Result<Loadable, Reply>
+    ensures table { IfOk result (λ made. table_read keys name.now body.now ≡ IsTable made.table) }
     ensures segment { IfOk result (λ made. made.segment.value ≡ made.table ∷ []) }
-    ensures refused { IfErr result (λ reply. IsRefusal (table_read name.now body.now) (reply_of reply)) }
+    ensures refused { IfErr result (λ reply. IsRefusal (table_read keys name.now body.now) (reply_of reply)) }
 {
-    let table = match read_sets(alloc, name, body) {
+    let table = match read_sets(alloc, keys, name, body) {
         Ok(table) => table,
         Err(reply) => return Err(reply),
     };
@@ -46,30 +53,52 @@ pub fn make_table(alloc: Global, name: &Name, body: &Body) -> Result<Loadable, R
 
 /// The table of a file under a name with its segment, or the reply that refuses it: where no file came, for the reason of that, and
 /// else as a block of its bytes is refused.
-pub fn make_table_of_file(alloc: Global, name: &Name, file: &FileBody) -> Result<Loadable, Reply>
-    ensures table { IfOk result (λ made. file_read name.now (file_of file.now) ≡ IsTable made.table) }
+pub fn make_table_of_file(
+    alloc: Global,
+    keys: Keys,
+    name: &Name,
+    file: &FileBody,
+) -> Result<Loadable, Reply>
+    ensures table { IfOk result (λ made. file_read keys name.now (file_of file.now) ≡ IsTable made.table) }
     ensures segment { IfOk result (λ made. made.segment.value ≡ made.table ∷ []) }
-    ensures refused { IfErr result (λ reply. IsRefusal (file_read name.now (file_of file.now)) (reply_of reply)) }
+    ensures refused { IfErr result (λ reply. IsRefusal (file_read keys name.now (file_of file.now)) (reply_of reply)) }
 {
     match file {
-        FileBody::Bytes(body) => make_table(alloc, name, body),
+        FileBody::Bytes(body) => make_table(alloc, keys, name, body),
         FileBody::Failed => Err(Reply::FileFailed),
         FileBody::Missing => Err(Reply::FileMissing),
         FileBody::TooLong => Err(Reply::FileTooLong),
     }
 }
 
-// The table of a block under a name, or the reply that refuses it.
-fn read_sets(alloc: Global, name: &Name, body: &Body) -> Result<SharedTable, Reply>
-    ensures table { IfOk result (λ table. table_read name.now body.now ≡ IsTable table) }
-    ensures members { IfOk result (λ table. members table ≤ 67108864) }
-    ensures refused { IfErr result (λ reply. IsRefusal (table_read name.now body.now) (reply_of reply)) }
+// How many columns a table may have.
+fn most_columns(keys: Keys) -> u32
+    ensures value { result ≡ most_columns keys }
+    ensures some { 1 ≤ result }
+    ensures few { result ≤ 4096 }
 {
-    let raw = match read_table(alloc, body.bytes(), 1_024) {
+    match keys {
+        Keys::Canonical => 1_024,
+        Keys::Compatibility => 4_096,
+    }
+}
+
+// The table of a block under a name, or the reply that refuses it.
+fn read_sets(
+    alloc: Global,
+    keys: Keys,
+    name: &Name,
+    body: &Body,
+) -> Result<SharedTable, Reply>
+    ensures table { IfOk result (λ table. table_read keys name.now body.now ≡ IsTable table) }
+    ensures members { IfOk result (λ table. members table ≤ 67108864) }
+    ensures refused { IfErr result (λ reply. IsRefusal (table_read keys name.now body.now) (reply_of reply)) }
+{
+    let raw = match read_table(alloc, body.bytes(), most_columns(keys)) {
         Ok(raw) => raw,
         Err(refused) => return Err(reply_to_csv(refused)),
     };
-    let sets = match TableSets::build(alloc, Keys::Canonical, name.copy(), &raw) {
+    let sets = match TableSets::build(alloc, keys, name.copy(), &raw) {
         Ok(sets) => sets,
         Err(refused) => return Err(reply_to_sets(refused)),
     };
@@ -174,6 +203,7 @@ fn accept(
 pub(crate) fn load(
     alloc: Global,
     catalogue: &mut Catalogue,
+    keys: Keys,
     who: Who,
     name: &Name,
     body: &Body,
@@ -181,10 +211,10 @@ pub(crate) fn load(
 ) -> Reply
     requires journal { out.old.made.journal ≡ catalogue.old.journal }
     requires room { 0 < out.old.entries_room }
-    ensures answered { (denied : Bool) × (reply_of result ≡ reply_or_denied denied (load_answer catalogue.old.limits (table_read name.now body.now) catalogue.old.journal)) }
-    ensures adds { Adds who (adds (Load name.now body.now) out.old.made.journal (reply_of result)) catalogue.old catalogue.new out.old out.new }
+    ensures answered { (denied : Bool) × (reply_of result ≡ reply_or_denied denied (load_answer (rules_with keys catalogue.old.limits) (table_read keys name.now body.now) catalogue.old.journal)) }
+    ensures adds { Adds who (adds (rules_with keys catalogue.old.limits) (Load name.now body.now) out.old.made.journal (reply_of result)) catalogue.old catalogue.new out.old out.new }
 {
-    match make_table(alloc, name, body) {
+    match make_table(alloc, keys, name, body) {
         Ok(Loadable { table, segment }) => accept(catalogue, who, table, segment, out),
         Err(reply) => reply,
     }
@@ -194,6 +224,7 @@ pub(crate) fn load(
 pub(crate) fn load_file(
     alloc: Global,
     catalogue: &mut Catalogue,
+    keys: Keys,
     who: Who,
     name: &Name,
     file: &FileBody,
@@ -201,10 +232,10 @@ pub(crate) fn load_file(
 ) -> Reply
     requires journal { out.old.made.journal ≡ catalogue.old.journal }
     requires room { 0 < out.old.entries_room }
-    ensures answered { (denied : Bool) × (reply_of result ≡ reply_or_denied denied (load_answer catalogue.old.limits (file_read name.now (file_of file.now)) catalogue.old.journal)) }
-    ensures adds { Adds who (adds (LoadFile name.now (file_of file.now)) out.old.made.journal (reply_of result)) catalogue.old catalogue.new out.old out.new }
+    ensures answered { (denied : Bool) × (reply_of result ≡ reply_or_denied denied (load_answer (rules_with keys catalogue.old.limits) (file_read keys name.now (file_of file.now)) catalogue.old.journal)) }
+    ensures adds { Adds who (adds (rules_with keys catalogue.old.limits) (LoadFile name.now (file_of file.now)) out.old.made.journal (reply_of result)) catalogue.old catalogue.new out.old out.new }
 {
-    match make_table_of_file(alloc, name, file) {
+    match make_table_of_file(alloc, keys, name, file) {
         Ok(Loadable { table, segment }) => accept(catalogue, who, table, segment, out),
         Err(reply) => reply,
     }

@@ -1,12 +1,13 @@
 //! Merges: the plan at a pin with what comes of it, and the swap, which may come later.
 ghost use Rattle.std.specs.Prelude.{◌≡◌, ◌≤◌, ◌<◌, ◌+◌, ◌*◌, Bool, length, sum_by, option_map, IfOk, Some};
-ghost use Rattle.lake_model.specs.Journal.{entry_with, standard_limits, Swapped};
+ghost use Rattle.lake_model.specs.Journal.{entry_with, Swapped};
 ghost use Rattle.lake_model.specs.Tables.{members};
 ghost use Rattle.lake_model.specs.Layout.{shown, shown_with};
 ghost use Rattle.segment_core.specs.Plans.{PlanOf};
 ghost use Rattle.segment_merge.specs.Planned.{load_tables, plan_at};
 ghost use Rattle.catalogue.specs.Kept.{IsWithin};
 ghost use Rattle.catalogue.specs.Swaps.{numbers_in};
+ghost use Rattle.record_model.specs.Rules.{wide_limits};
 ghost use Rattle.record_model.specs.Play.{reply_or_denied};
 ghost use Rattle.run_record.specs.Replies.{reply_of};
 ghost use Rattle.lake_core.specs.Loads.{Adds};
@@ -34,7 +35,7 @@ pub(crate) fn plan_now(
     catalogue: &Catalogue,
     policy: Policy,
 ) -> Result<Planned, NoMemory>
-    requires { IsWithin standard_limits catalogue.now.limits }
+    requires { IsWithin wide_limits catalogue.now.limits }
     ensures { IfOk result (λ planned. IsPlanned policy catalogue.now.journal planned × (planned.layout.at ≡ length catalogue.now.journal)) }
 {
     let pin = catalogue.pin()?;
@@ -47,7 +48,7 @@ pub(crate) fn plan_now(
 /// Plans a merge of the version that a pin holds, and builds the segment of what it keeps. The plan keeps no more tables and members
 /// than a lake may have.
 pub fn plan_pinned(alloc: Global, pin: &Pin, policy: Policy) -> Result<Planned, NoMemory>
-    requires few { (plan : PlanOf) → plan_at policy pin.now ≡ Some plan → length plan.kept ≤ 65536 }
+    requires few { (plan : PlanOf) → plan_at policy pin.now ≡ Some plan → length plan.kept ≤ 262144 }
     requires light { (plan : PlanOf) → plan_at policy pin.now ≡ Some plan → sum_by members (load_tables plan.kept) ≤ 16777216 }
     ensures layout { IfOk result (λ planned. planned.layout ≡ shown_with pin.now.at (shown pin.now.parts)) }
     ensures merged { IfOk result (λ planned. planned.merged ≡ option_map merge_of (plan_at policy pin.now)) }
@@ -65,7 +66,7 @@ pub fn plan_pinned(alloc: Global, pin: &Pin, policy: Policy) -> Result<Planned, 
 
 // What comes of a plan that keeps no more tables and members than a lake may have.
 fn merge_few(alloc: Global, plan: Plan) -> Result<Merged, NoMemory>
-    requires few { length plan.kept ≤ 65536 }
+    requires few { length plan.kept ≤ 262144 }
     requires light { sum_by members (load_tables plan.kept) ≤ 16777216 }
     ensures { IfOk result (λ merged. merged ≡ merge_of plan) }
 {

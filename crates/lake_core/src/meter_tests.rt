@@ -5,6 +5,7 @@ ghost use Rattle.script_model.specs.Lanes.{IsOfLanes};
 use super::drive;
 use crate::tests::{body, command, name};
 use catalogue::{Catalogue, Limits};
+use column_set::Keys;
 use commands::{Batch, Command, Task};
 use run_record::{Reply, RunRecord};
 use std::alloc::Global;
@@ -105,7 +106,7 @@ fn metered(alloc: Global, batch: &Batch) -> Result<(u64, (u64, u64)), Fail>
 {
     let mut catalogue = Catalogue::new(alloc, Limits::standard())?;
     let mut record = RunRecord::new(alloc);
-    drive(alloc, &mut catalogue, batch, &[], 1, None, &mut record)?;
+    drive(alloc, &mut catalogue, Keys::Canonical, batch, &[], 1, None, &mut record)?;
     Ok((meters(&catalogue)?, told(&record)))
 }
 

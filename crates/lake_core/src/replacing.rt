@@ -5,13 +5,14 @@ ghost use Rattle.script_model.specs.Commands.{Replace};
 ghost use Rattle.record_model.specs.Replies.{replace_reply};
 ghost use Rattle.record_model.specs.Answered.{adds, replace_answer, table_read};
 ghost use Rattle.record_model.specs.Play.{reply_or_denied};
+ghost use Rattle.record_model.specs.Rules.{rules_with};
 ghost use Rattle.run_record.specs.Replies.{reply_of};
 ghost use Rattle.lake_core.specs.Loads.{Adds};
 ghost use Rattle.lake_core.specs.Replaces.{replace_refusal_reply, replaced_by};
 
 use crate::loading::{Loadable, make_table};
 use catalogue::{Catalogue, Entry, ReplaceRefused, Who};
-use column_set::{Name, SharedTable};
+use column_set::{Keys, Name, SharedTable};
 use commands::Body;
 use run_record::{Reply, RunRecord};
 use segment_core::Segment;
@@ -79,6 +80,7 @@ fn accept(
 pub(crate) fn replace(
     alloc: Global,
     catalogue: &mut Catalogue,
+    keys: Keys,
     who: Who,
     name: &Name,
     body: &Body,
@@ -86,10 +88,10 @@ pub(crate) fn replace(
 ) -> Reply
     requires journal { out.old.made.journal ≡ catalogue.old.journal }
     requires room { 0 < out.old.entries_room }
-    ensures answered { (denied : Bool) × (reply_of result ≡ reply_or_denied denied (replace_answer catalogue.old.limits (table_read name.now body.now) catalogue.old.journal)) }
-    ensures adds { Adds who (adds (Replace name.now body.now) out.old.made.journal (reply_of result)) catalogue.old catalogue.new out.old out.new }
+    ensures answered { (denied : Bool) × (reply_of result ≡ reply_or_denied denied (replace_answer (rules_with keys catalogue.old.limits) (table_read keys name.now body.now) catalogue.old.journal)) }
+    ensures adds { Adds who (adds (rules_with keys catalogue.old.limits) (Replace name.now body.now) out.old.made.journal (reply_of result)) catalogue.old catalogue.new out.old out.new }
 {
-    match make_table(alloc, name, body) {
+    match make_table(alloc, keys, name, body) {
         Ok(Loadable { table, segment }) => accept(catalogue, who, table, segment, out),
         Err(reply) => reply,
     }

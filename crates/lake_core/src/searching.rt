@@ -7,6 +7,7 @@ ghost use Rattle.record_model.specs.Replies.{like_reply, query_reply, tables_rep
 ghost use Rattle.record_model.specs.Answered.{answer_to, contain_answer, query_read, search_answer};
 ghost use Rattle.script_model.specs.Commands.{is_update_task};
 ghost use Rattle.record_model.specs.Play.{reply_or_denied};
+ghost use Rattle.record_model.specs.Rules.{rules_with};
 ghost use Rattle.commands.specs.Tasks.{IsTaskInRange, task_of};
 ghost use Rattle.lake_core.specs.Searches.{column_reply, contained_at, found_at, found_with, IsPinOf};
 ghost use Rattle.batch_work.specs.Works.{merge_policy};
@@ -99,12 +100,12 @@ fn find_holding(
 }
 
 // The reply to a search: the k columns of the live tables that share most keys with the lines of the body.
-fn search(alloc: Global, pin: &Pin, k: u32, body: &Body) -> Reply
+fn search(alloc: Global, keys: Keys, pin: &Pin, k: u32, body: &Body) -> Reply
     requires low { 1 ≤ k }
     requires high { k ≤ 10000 }
-    ensures { (journal : List Entry) → IsPinOf journal pin.now → (denied : Bool) × (reply_of result ≡ reply_or_denied denied (search_answer k (query_read body.now) journal)) }
+    ensures { (journal : List Entry) → IsPinOf journal pin.now → (denied : Bool) × (reply_of result ≡ reply_or_denied denied (search_answer k (query_read keys body.now) journal)) }
 {
-    let query = match QuerySet::read(alloc, Keys::Canonical, body.bytes()) {
+    let query = match QuerySet::read(alloc, keys, body.bytes()) {
         Ok(query) => query,
         Err(refused) => return reply_to_query(refused),
     };
@@ -115,13 +116,13 @@ fn search(alloc: Global, pin: &Pin, k: u32, body: &Body) -> Reply
 }
 
 // The reply to a contain: the columns of the live tables that hold at least a of b parts of the keys of the body's lines.
-fn contain(alloc: Global, pin: &Pin, a: u32, b: u32, body: &Body) -> Reply
+fn contain(alloc: Global, keys: Keys, pin: &Pin, a: u32, b: u32, body: &Body) -> Reply
     requires some { 1 ≤ a }
     requires whole { a ≤ b }
     requires high { b ≤ 10000 }
-    ensures { (journal : List Entry) → IsPinOf journal pin.now → (denied : Bool) × (reply_of result ≡ reply_or_denied denied (contain_answer a b (query_read body.now) journal)) }
+    ensures { (journal : List Entry) → IsPinOf journal pin.now → (denied : Bool) × (reply_of result ≡ reply_or_denied denied (contain_answer a b (query_read keys body.now) journal)) }
 {
-    let query = match QuerySet::read(alloc, Keys::Canonical, body.bytes()) {
+    let query = match QuerySet::read(alloc, keys, body.bytes()) {
         Ok(query) => query,
         Err(refused) => return reply_to_query(refused),
     };
@@ -163,16 +164,16 @@ fn list(alloc: Global, pin: &Pin) -> Reply
 
 /// Answers a search, a like, a contain or a request for the live tables at a pin: the reply is that at the journal whose version the pin holds, or
 /// that memory is wanting.
-pub fn finish(alloc: Global, pin: Pin, task: &Task) -> Reply
+pub fn finish(alloc: Global, keys: Keys, pin: Pin, task: &Task) -> Reply
     requires asks { is_update_task (task_of task.now) ≡ false }
     requires merges { merge_policy (task_of task.now) ≡ None }
     requires in_range { IsTaskInRange task.now }
-    ensures { (limits : Counts) (journal : List Entry) → IsPinOf journal pin → (denied : Bool) × (reply_of result ≡ reply_or_denied denied (answer_to limits (task_of task.now) journal journal)) }
+    ensures { (limits : Counts) (journal : List Entry) → IsPinOf journal pin → (denied : Bool) × (reply_of result ≡ reply_or_denied denied (answer_to (rules_with keys limits) (task_of task.now) journal journal)) }
 {
     match task {
-        Task::Search { k, body } => search(alloc, &pin, *k, body),
+        Task::Search { k, body } => search(alloc, keys, &pin, *k, body),
         Task::Like { k, name, place } => like(alloc, &pin, *k, name, *place),
-        Task::Contain { a, b, body } => contain(alloc, &pin, *a, *b, body),
+        Task::Contain { a, b, body } => contain(alloc, keys, &pin, *a, *b, body),
         Task::Tables => list(alloc, &pin),
         Task::Load { .. }
         | Task::LoadFile { .. }

@@ -5,7 +5,7 @@ ghost use Rattle.commands.specs.Tasks.{IsTaskInRange};
 
 use super::drive;
 use catalogue::{Catalogue, Limits};
-use column_set::Name;
+use column_set::{Keys, Name};
 use commands::{Batch, Body, Command, Task};
 use run_record::{Reply, RunRecord};
 use std::alloc::Global;
@@ -148,7 +148,7 @@ fn answers(
     let merger = if merge { Some(1) } else { None };
     let mut catalogue = Catalogue::new(alloc, Limits::standard())?;
     let mut record = RunRecord::new(alloc);
-    drive(alloc, &mut catalogue, batch, piece, 2, merger, &mut record)?;
+    drive(alloc, &mut catalogue, Keys::Canonical, batch, piece, 2, merger, &mut record)?;
     let mut kinds = Vec::new(alloc);
     for answered in record.answers().iter().skip(from) {
         kinds.push(kind_of(&answered.reply))?;

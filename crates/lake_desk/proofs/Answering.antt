@@ -3,7 +3,7 @@ use Rattle.std.proofs.Common.{◌≡◌, refl, ap, sym, ◌∙◌, subst, ℕ, �
 use Rattle.std.proofs.lemmas.List.{take_all, take-append-le}
 use Rattle.std.specs.Prelude.{IfOk, Ok, Err, option_map}
 use Rattle.std.specs.declared.result.Result.{Result}
-use Rattle.lake_model.specs.declared.Counts.{Counts}
+use Rattle.record_model.specs.Rules.{Rules}
 use Rattle.lake_model.specs.declared.Policy.{Policy}
 use Rattle.lake_model.specs.Texts.{Text}
 use Rattle.lake_model.specs.Tables.{Table}
@@ -44,48 +44,48 @@ pub same_pass : (pass : Known Entry) → pass.holds ≡ false → pass ≡ after
 same_pass pass free = ap (λ (b : Bool). after_seeing pass pass.seen b) free
 
 -- what the pass had seen, followed by what it saw since
-behind_of : (limits : Counts) (command : Command) (before : Known Entry) (reply : Reply) (after : List Entry) → (a : IsAnswered limits command before reply after) → before.seen ++ (a.grows.rest ++ entries_of a.pinned command reply) ≡ after
-behind_of limits command before reply after a =
-    sym (append_assoc before.seen a.grows.rest (entries_of a.pinned command reply)) ∙ ap (λ (j : List Entry). j ++ entries_of a.pinned command reply) a.grows.begins ∙ sym a.added
+behind_of : (rules : Rules) (command : Command) (before : Known Entry) (reply : Reply) (after : List Entry) → (a : IsAnswered rules command before reply after) → before.seen ++ (a.grows.rest ++ entries_of rules a.pinned command reply) ≡ after
+behind_of rules command before reply after a =
+    sym (append_assoc before.seen a.grows.rest (entries_of rules a.pinned command reply)) ∙ ap (λ (j : List Entry). j ++ entries_of rules a.pinned command reply) a.grows.begins ∙ sym a.added
 
 -- The one answer is right between what was seen before and after.
-answered_right : (limits : Counts) (command : Command) (before : Known Entry) (reply : Reply) (after : List Entry) → (a : IsAnswered limits command before reply after) → command.lane ≡ before.caller
-    → IsRight limits before.caller before.seen (a.grows.rest ++ entries_of a.pinned command reply) (done_with command reply ∷ [])
-answered_right limits command before reply after a mine =
+answered_right : (rules : Rules) (command : Command) (before : Known Entry) (reply : Reply) (after : List Entry) → (a : IsAnswered rules command before reply after) → command.lane ≡ before.caller
+    → IsRight rules before.caller before.seen (a.grows.rest ++ entries_of rules a.pinned command reply) (done_with command reply ∷ [])
+answered_right rules command before reply after a mine =
     let found : before.seen ++ a.grows.rest ≡ a.found = a.grows.begins in
     let others = not_own before.caller (callers_of before) a.grows.rest (inl refl) a.grows.others in
-    let none : IsRight limits before.caller before.seen a.grows.rest [] = right_stays limits before.caller before.seen [] a.grows.rest [] others (none_right limits before.caller before.seen) in
-    let fits : Fits limits command a.pinned a.found (reply_or_denied a.denied (answer_to limits command.task a.pinned a.found)) = reply_fits limits a.denied command a.pinned a.found a.begins a.same in
-    let here : Fits limits command a.pinned (before.seen ++ a.grows.rest) reply =
-    subst (λ (j : List Entry). Fits limits command a.pinned j reply) (sym found) (subst (λ (r : Reply). Fits limits command a.pinned a.found r) (sym a.is) fits) in
-    right_step limits before.caller before.seen a.grows.rest [] command a.pinned reply mine none a.late here
+    let none : IsRight rules before.caller before.seen a.grows.rest [] = right_stays rules before.caller before.seen [] a.grows.rest [] others (none_right rules before.caller before.seen) in
+    let fits : Fits rules command a.pinned a.found (reply_or_denied a.denied (answer_to rules command.task a.pinned a.found)) = reply_fits rules a.denied command a.pinned a.found a.begins a.same in
+    let here : Fits rules command a.pinned (before.seen ++ a.grows.rest) reply =
+    subst (λ (j : List Entry). Fits rules command a.pinned j reply) (sym found) (subst (λ (r : Reply). Fits rules command a.pinned a.found r) (sym a.is) fits) in
+    right_step rules before.caller before.seen a.grows.rest [] command a.pinned reply mine none a.late here
 
-pub answered_step : (limits : Counts) (command : Command) (before : Known Entry) (reply : Reply) (after : Known Entry) → IsAnswered limits command before reply after.seen → after ≡ after_seeing before after.seen before.holds
-    → IsStep limits before command reply after
-answered_step limits command before reply after a same = record {
-  behind = a.grows.rest ++ entries_of a.pinned command reply;
-  sees = same ∙ ap (λ (j : List Entry). after_seeing before j before.holds) (sym (behind_of limits command before reply after.seen a));
-  right = answered_right limits command before reply after.seen a;
+pub answered_step : (rules : Rules) (command : Command) (before : Known Entry) (reply : Reply) (after : Known Entry) → IsAnswered rules command before reply after.seen → after ≡ after_seeing before after.seen before.holds
+    → IsStep rules before command reply after
+answered_step rules command before reply after a same = record {
+  behind = a.grows.rest ++ entries_of rules a.pinned command reply;
+  sees = same ∙ ap (λ (j : List Entry). after_seeing before j before.holds) (sym (behind_of rules command before reply after.seen a));
+  right = answered_right rules command before reply after.seen a;
 }
 
 -- the same for a command that is the pass's own where its lane is
-pub answered_by : (limits : Counts) (command own : Command) (before : Known Entry) (reply : Reply) (after : Known Entry) → (command.lane ≡ before.caller → own ≡ command) → own.lane ≡ before.caller
-    → IsAnswered limits own before reply after.seen → after ≡ after_seeing before after.seen before.holds → IsStep limits before command reply after
-answered_by limits command own before reply after is mine a same =
-    let step = answered_step limits own before reply after a same in
+pub answered_by : (rules : Rules) (command own : Command) (before : Known Entry) (reply : Reply) (after : Known Entry) → (command.lane ≡ before.caller → own ≡ command) → own.lane ≡ before.caller
+    → IsAnswered rules own before reply after.seen → after ≡ after_seeing before after.seen before.holds → IsStep rules before command reply after
+answered_by rules command own before reply after is mine a same =
+    let step = answered_step rules own before reply after a same in
     record {
       behind = step.behind;
       sees = step.sees;
-      right = λ lane. subst (λ (c : Command). IsRight limits before.caller before.seen step.behind (done_with c reply ∷ [])) (is lane) (step.right mine);
+      right = λ lane. subst (λ (c : Command). IsRight rules before.caller before.seen step.behind (done_with c reply ∷ [])) (is lane) (step.right mine);
     }
 
 -- ---- commands without a pin
 
 -- what was made of a command without a pin
-pub made_answered : (limits : Counts) (number : ℕ) (task : Task) (answer : List Entry → Reply) (whats : Reply → List What) (before : Known Entry) (reply : Reply) (after : List Entry)
-    → ((found : List Entry) → answer found ≡ answer_to limits task found found) → ((found : List Entry) → whats reply ≡ adds task found reply)
-    → IsMade answer whats number before reply after → IsAnswered limits (command_with number before.caller task) before reply after
-made_answered limits number task answer whats before reply after answers does made = record {
+pub made_answered : (rules : Rules) (number : ℕ) (task : Task) (answer : List Entry → Reply) (whats : Reply → List What) (before : Known Entry) (reply : Reply) (after : List Entry)
+    → ((found : List Entry) → answer found ≡ answer_to rules task found found) → ((found : List Entry) → whats reply ≡ adds rules task found reply)
+    → IsMade answer whats number before reply after → IsAnswered rules (command_with number before.caller task) before reply after
+made_answered rules number task answer whats before reply after answers does made = record {
   found = made.found;
   pinned = made.found;
   denied = made.denied;
@@ -102,22 +102,22 @@ grown_late callers before after grows = omega (arith, ap (λ (j : List Entry). l
 
 -- ---- loads
 
-pub load_answered : (limits : Counts) (number : ℕ) (name : Text) (bytes : List ℕ) (table : Table) (before : Known Entry) (reply : Reply) (after : List Entry) → table_read name bytes ≡ IsTable table
-    → IsMade (load_reply limits table) (loaded_by table) number before reply after → IsAnswered limits (command_with number before.caller (Load name bytes)) before reply after
-load_answered limits number name bytes table before reply after is made =
-    made_answered limits number (Load name bytes) (load_reply limits table) (loaded_by table) before reply after
-    (λ found. ap (λ (r : TableRead). load_answer limits r found) (sym is)) (λ found. ap (λ (r : TableRead). cond (is_accepted (standing reply)) (loads r) []) (sym is)) made
+pub load_answered : (rules : Rules) (number : ℕ) (name : Text) (bytes : List ℕ) (table : Table) (before : Known Entry) (reply : Reply) (after : List Entry) → table_read rules.keys name bytes ≡ IsTable table
+    → IsMade (load_reply rules.limits table) (loaded_by table) number before reply after → IsAnswered rules (command_with number before.caller (Load name bytes)) before reply after
+load_answered rules number name bytes table before reply after is made =
+    made_answered rules number (Load name bytes) (load_reply rules.limits table) (loaded_by table) before reply after
+    (λ found. ap (λ (r : TableRead). load_answer rules r found) (sym is)) (λ found. ap (λ (r : TableRead). cond (is_accepted (standing reply)) (loads r) []) (sym is)) made
 
-pub file_answered : (limits : Counts) (number : ℕ) (name : Text) (file : File) (table : Table) (before : Known Entry) (reply : Reply) (after : List Entry) → file_read name file ≡ IsTable table
-    → IsMade (load_reply limits table) (loaded_by table) number before reply after → IsAnswered limits (command_with number before.caller (LoadFile name file)) before reply after
-file_answered limits number name file table before reply after is made =
-    made_answered limits number (LoadFile name file) (load_reply limits table) (loaded_by table) before reply after
-    (λ found. ap (λ (r : TableRead). load_answer limits r found) (sym is)) (λ found. ap (λ (r : TableRead). cond (is_accepted (standing reply)) (loads r) []) (sym is)) made
+pub file_answered : (rules : Rules) (number : ℕ) (name : Text) (file : File) (table : Table) (before : Known Entry) (reply : Reply) (after : List Entry) → file_read rules.keys name file ≡ IsTable table
+    → IsMade (load_reply rules.limits table) (loaded_by table) number before reply after → IsAnswered rules (command_with number before.caller (LoadFile name file)) before reply after
+file_answered rules number name file table before reply after is made =
+    made_answered rules number (LoadFile name file) (load_reply rules.limits table) (loaded_by table) before reply after
+    (λ found. ap (λ (r : TableRead). load_answer rules r found) (sym is)) (λ found. ap (λ (r : TableRead). cond (is_accepted (standing reply)) (loads r) []) (sym is)) made
 
 -- a reply that adds nothing, at what the pass had seen
-unmoved : (limits : Counts) (command : Command) (before : Known Entry) (reply : Reply) → Answers reply (answer_to limits command.task before.seen before.seen) → is_accepted (standing reply) ≡ false
-    → IsAnswered limits command before reply before.seen
-unmoved limits command before reply (denied, said) nothing = record {
+unmoved : (rules : Rules) (command : Command) (before : Known Entry) (reply : Reply) → Answers reply (answer_to rules command.task before.seen before.seen) → is_accepted (standing reply) ≡ false
+    → IsAnswered rules command before reply before.seen
+unmoved rules command before reply (denied, said) nothing = record {
   found = before.seen;
   pinned = before.seen;
   denied = denied;
@@ -126,47 +126,47 @@ unmoved limits command before reply (denied, said) nothing = record {
   late = omega arith;
   same = λ _. refl;
   is = said;
-  added = sym (append-nil before.seen) ∙ ap (λ (b : Bool). before.seen ++ map (entry_with (who_of command)) (cond b (change_of command.task before.seen) [])) (sym nothing);
+  added = sym (append-nil before.seen) ∙ ap (λ (b : Bool). before.seen ++ map (entry_with (who_of command)) (cond b (change_of rules command.task before.seen) [])) (sym nothing);
 }
 
-pub load_refused : (limits : Counts) (number : ℕ) (name : Text) (bytes : List ℕ) (before : Known Entry) (reply : Reply) → IsRefusal (table_read name bytes) reply
-    → IsAnswered limits (command_with number before.caller (Load name bytes)) before reply before.seen
-load_refused limits number name bytes before reply why = unmoved limits (command_with number before.caller (Load name bytes)) before reply (refused_answer limits before.seen (table_read name bytes) reply why) (refused_nowhere (table_read name bytes) reply why)
+pub load_refused : (rules : Rules) (number : ℕ) (name : Text) (bytes : List ℕ) (before : Known Entry) (reply : Reply) → IsRefusal (table_read rules.keys name bytes) reply
+    → IsAnswered rules (command_with number before.caller (Load name bytes)) before reply before.seen
+load_refused rules number name bytes before reply why = unmoved rules (command_with number before.caller (Load name bytes)) before reply (refused_answer rules before.seen (table_read rules.keys name bytes) reply why) (refused_nowhere (table_read rules.keys name bytes) reply why)
 
-pub file_refused : (limits : Counts) (number : ℕ) (name : Text) (file : File) (before : Known Entry) (reply : Reply) → IsRefusal (file_read name file) reply
-    → IsAnswered limits (command_with number before.caller (LoadFile name file)) before reply before.seen
-file_refused limits number name file before reply why = unmoved limits (command_with number before.caller (LoadFile name file)) before reply (refused_answer limits before.seen (file_read name file) reply why) (refused_nowhere (file_read name file) reply why)
+pub file_refused : (rules : Rules) (number : ℕ) (name : Text) (file : File) (before : Known Entry) (reply : Reply) → IsRefusal (file_read rules.keys name file) reply
+    → IsAnswered rules (command_with number before.caller (LoadFile name file)) before reply before.seen
+file_refused rules number name file before reply why = unmoved rules (command_with number before.caller (LoadFile name file)) before reply (refused_answer rules before.seen (file_read rules.keys name file) reply why) (refused_nowhere (file_read rules.keys name file) reply why)
 
 -- ---- replaces
 
-pub replace_answered : (limits : Counts) (number : ℕ) (name : Text) (bytes : List ℕ) (table : Table) (before : Known Entry) (reply : Reply) (after : List Entry) → table_read name bytes ≡ IsTable table
-    → IsMade (replace_reply limits table) (replaced_by table) number before reply after → IsAnswered limits (command_with number before.caller (Replace name bytes)) before reply after
-replace_answered limits number name bytes table before reply after is made =
-    made_answered limits number (Replace name bytes) (replace_reply limits table) (replaced_by table) before reply after
-    (λ found. ap (λ (r : TableRead). replace_answer limits r found) (sym is)) (λ found. ap (λ (r : TableRead). cond (is_accepted (standing reply)) (replaces r) []) (sym is)) made
+pub replace_answered : (rules : Rules) (number : ℕ) (name : Text) (bytes : List ℕ) (table : Table) (before : Known Entry) (reply : Reply) (after : List Entry) → table_read rules.keys name bytes ≡ IsTable table
+    → IsMade (replace_reply rules.limits table) (replaced_by table) number before reply after → IsAnswered rules (command_with number before.caller (Replace name bytes)) before reply after
+replace_answered rules number name bytes table before reply after is made =
+    made_answered rules number (Replace name bytes) (replace_reply rules.limits table) (replaced_by table) before reply after
+    (λ found. ap (λ (r : TableRead). replace_answer rules r found) (sym is)) (λ found. ap (λ (r : TableRead). cond (is_accepted (standing reply)) (replaces r) []) (sym is)) made
 
-pub replace_refused : (limits : Counts) (number : ℕ) (name : Text) (bytes : List ℕ) (before : Known Entry) (reply : Reply) → IsRefusal (table_read name bytes) reply
-    → IsAnswered limits (command_with number before.caller (Replace name bytes)) before reply before.seen
-replace_refused limits number name bytes before reply why =
-    unmoved limits (command_with number before.caller (Replace name bytes)) before reply (refused_replace_answer limits before.seen (table_read name bytes) reply why) (refused_nowhere (table_read name bytes) reply why)
+pub replace_refused : (rules : Rules) (number : ℕ) (name : Text) (bytes : List ℕ) (before : Known Entry) (reply : Reply) → IsRefusal (table_read rules.keys name bytes) reply
+    → IsAnswered rules (command_with number before.caller (Replace name bytes)) before reply before.seen
+replace_refused rules number name bytes before reply why =
+    unmoved rules (command_with number before.caller (Replace name bytes)) before reply (refused_replace_answer rules before.seen (table_read rules.keys name bytes) reply why) (refused_nowhere (table_read rules.keys name bytes) reply why)
 
 -- ---- what is asked
 
-asks_nothing : (task : Task) → is_update_task task ≡ false → merge_policy task ≡ None → (pinned : List Entry) → change_of task pinned ≡ []
-asks_nothing (Load name body) u m pinned = absurd (let f : true ≡ false = u in cc)
-asks_nothing (LoadFile name file) u m pinned = absurd (let f : true ≡ false = u in cc)
-asks_nothing (DropTable name) u m pinned = absurd (let f : true ≡ false = u in cc)
-asks_nothing (Replace name body) u m pinned = absurd (let f : true ≡ false = u in cc)
-asks_nothing Tables u m pinned = refl
-asks_nothing (Search k body) u m pinned = refl
-asks_nothing (Like k name place) u m pinned = refl
-asks_nothing (Contain a b body) u m pinned = refl
-asks_nothing (Merge all) u m pinned = absurd (let f : Some (policy_of all) ≡ None = m in cc)
+asks_nothing : (rules : Rules) (task : Task) → is_update_task task ≡ false → merge_policy task ≡ None → (pinned : List Entry) → change_of rules task pinned ≡ []
+asks_nothing rules (Load name body) u m pinned = absurd (let f : true ≡ false = u in cc)
+asks_nothing rules (LoadFile name file) u m pinned = absurd (let f : true ≡ false = u in cc)
+asks_nothing rules (DropTable name) u m pinned = absurd (let f : true ≡ false = u in cc)
+asks_nothing rules (Replace name body) u m pinned = absurd (let f : true ≡ false = u in cc)
+asks_nothing rules Tables u m pinned = refl
+asks_nothing rules (Search k body) u m pinned = refl
+asks_nothing rules (Like k name place) u m pinned = refl
+asks_nothing rules (Contain a b body) u m pinned = refl
+asks_nothing rules (Merge all) u m pinned = absurd (let f : Some (policy_of all) ≡ None = m in cc)
 
-pub asked : (limits : Counts) (number : ℕ) (task : Task) (before : Known Entry) (reply : Reply) (after : List Entry) → is_update_task task ≡ false → merge_policy task ≡ None
-    → Grows caller_of (callers_of before) before.seen after → Answers reply (answer_to limits task after after) → IsAnswered limits (command_with number before.caller task) before reply after
-asked limits number task before reply after u m grows (denied, said) =
-    let none : change_of task after ≡ [] = asks_nothing task u m after in
+pub asked : (rules : Rules) (number : ℕ) (task : Task) (before : Known Entry) (reply : Reply) (after : List Entry) → is_update_task task ≡ false → merge_policy task ≡ None
+    → Grows caller_of (callers_of before) before.seen after → Answers reply (answer_to rules task after after) → IsAnswered rules (command_with number before.caller task) before reply after
+asked rules number task before reply after u m grows (denied, said) =
+    let none : change_of rules task after ≡ [] = asks_nothing rules task u m after in
     record {
       found = after;
       pinned = after;
@@ -181,11 +181,11 @@ asked limits number task before reply after u m grows (denied, said) =
 
 -- ---- merges
 
-pub merged_answered : (limits : Counts) (number : ℕ) (all : Bool) (before between : Known Entry) (planned : Planned) (reply : Reply) (after : List Entry)
+pub merged_answered : (rules : Rules) (number : ℕ) (all : Bool) (before between : Known Entry) (planned : Planned) (reply : Reply) (after : List Entry)
     → Grows caller_of (callers_of before) before.seen between.seen → between ≡ after_seeing before between.seen false → IsPlanned (policy_of all) between.seen planned → planned.layout.at ≡ length between.seen
     → IsMade (swap_reply planned.layout planned.merged) (swapped_by planned.merged) number between reply after
-    → IsAnswered limits (command_with number before.caller (Merge all)) before reply after
-merged_answered limits number all before between planned reply after grows same plans newest made =
+    → IsAnswered rules (command_with number before.caller (Merge all)) before reply after
+merged_answered rules number all before between planned reply after grows same plans newest made =
     let callers : callers_of between ≡ callers_of before = ap callers_of same in
     let on : Grows caller_of (callers_of before) between.seen made.found = subst (λ (cs : List ℕ). Grows caller_of cs between.seen made.found) callers made.grows in
     let later : IsPlanned (policy_of all) made.found planned = subst (λ (j : List Entry). IsPlanned (policy_of all) j planned) on.begins (planned_later (policy_of all) between.seen on.rest planned plans) in
@@ -224,9 +224,9 @@ plans_on_ok policy journal version (Ok planned) legal current shows plans = (pla
 plans_on_ok policy journal version (Err e) legal current shows plans = tt
 
 -- a merge that ran out of memory for its pin
-pub merge_denied : (limits : Counts) (number : ℕ) (all : Bool) (before : Known Entry) (after : List Entry) → Grows caller_of (callers_of before) before.seen after
-    → IsAnswered limits (command_with number before.caller (Merge all)) before NoMemory after
-merge_denied limits number all before after grows = record {
+pub merge_denied : (rules : Rules) (number : ℕ) (all : Bool) (before : Known Entry) (after : List Entry) → Grows caller_of (callers_of before) before.seen after
+    → IsAnswered rules (command_with number before.caller (Merge all)) before NoMemory after
+merge_denied rules number all before after grows = record {
   found = after;
   pinned = after;
   denied = true;

@@ -7,7 +7,7 @@ use Rattle.std.proofs.lemmas.List.{take_all}
 use Rattle.std.proofs.Math.Seq.{drop-append_seam, take-append_seam}
 use mathlib.Core.List.{IsPrefix}
 use Rattle.atomic_table.specs.Seated.{TableId}
-use Rattle.lake_model.specs.declared.Counts.{Counts}
+use Rattle.record_model.specs.Rules.{Rules}
 use Rattle.lake_model.specs.Journal.{Entry}
 use Rattle.list_laws.proofs.ListLemmas.{all_append, all_weaker}
 use Rattle.turn_lock.specs.History.{Grows, IsOfGiven}
@@ -45,33 +45,33 @@ commands_within lanes count merger batch are is =
 -- ---- after the commands
 
 -- what the commands of its lane make of a desk
-came : (limits : Counts) (lanes : ℕ) (journal : List Entry) (commands : List Command) (answers : List Answered) (before served : List (Known Entry)) → AreTogether lanes journal before → AreServed (IsStep limits) before commands answers served
-    → (l : ℕ) (later : Known Entry) → slice_get served l ≡ Some later → (desk : Known Entry) × (slice_get before l ≡ Some desk) × Comes limits l desk (done_of l commands answers) later
-came limits lanes journal commands answers before served together ran l later at =
+came : (rules : Rules) (lanes : ℕ) (journal : List Entry) (commands : List Command) (answers : List Answered) (before served : List (Known Entry)) → AreTogether lanes journal before → AreServed (IsStep rules) before commands answers served
+    → (l : ℕ) (later : Known Entry) → slice_get served l ≡ Some later → (desk : Known Entry) × (slice_get before l ≡ Some desk) × Comes rules l desk (done_of l commands answers) later
+came rules lanes journal commands answers before served together ran l later at =
     let within : l < length served = within_list served l later at in
     let (desk, first) = there before l (omega (arith, within, ran.same)) in
     let own = together.each l desk first in
-    (desk, first, chain_right limits l desk (done_of l commands answers) later (kept_own l _) (sym own.1) (ran.chains l desk later first at))
+    (desk, first, chain_right rules l desk (done_of l commands answers) later (kept_own l _) (sym own.1) (ran.chains l desk later first at))
 
 -- a desk that goes on from a journal
-gone_on : (limits : Counts) (lane : ℕ) (journal : List Entry) (before after : Known Entry) (lock : TableId) → (before.lock ≡ lock) × (before.caller ≡ lane) × (before.holds ≡ false) × (before.seen ≡ journal)
+gone_on : (rules : Rules) (lane : ℕ) (journal : List Entry) (before after : Known Entry) (lock : TableId) → (before.lock ≡ lock) × (before.caller ≡ lane) × (before.holds ≡ false) × (before.seen ≡ journal)
     → (behind : List Entry) → after ≡ after_seeing before (before.seen ++ behind) before.holds
     → (after.lock ≡ lock) × (after.caller ≡ lane) × (after.holds ≡ false) × IsPrefix journal after.seen
-gone_on limits lane journal before after lock first behind is = (
+gone_on rules lane journal before after lock first behind is = (
   ap (λ (p : Known Entry). p.lock) is ∙ first.0,
   ap (λ (p : Known Entry). p.caller) is ∙ first.1,
   ap (λ (p : Known Entry). p.holds) is ∙ first.2,
   (behind, ap (λ (j : List Entry). j ++ behind) (sym first.3) ∙ sym (ap (λ (p : Known Entry). p.seen) is)),
 )
 
-pub served_apart : (limits : Counts) (lanes : ℕ) (journal : List Entry) (commands : List Command) (answers : List Answered) (before served : List (Known Entry)) → AreTogether lanes journal before
-    → AreServed (IsStep limits) before commands answers served → AreApart lanes journal served
-served_apart limits lanes journal commands answers before served together ran = record {
+pub served_apart : (rules : Rules) (lanes : ℕ) (journal : List Entry) (commands : List Command) (answers : List Answered) (before served : List (Known Entry)) → AreTogether lanes journal before
+    → AreServed (IsStep rules) before commands answers served → AreApart lanes journal served
+served_apart rules lanes journal commands answers before served together ran = record {
   lock = together.lock;
   count = ran.same ∙ together.count;
-  each = λ l later at. let (desk, first, comes) = came limits lanes journal commands answers before served together ran l later at in
-      gone_on limits l journal desk later together.lock (together.each l desk first) comes.behind comes.sees;
-  opening = λ later at. let (desk, first, comes) = came limits lanes journal commands answers before served together ran 0 later at in
+  each = λ l later at. let (desk, first, comes) = came rules lanes journal commands answers before served together ran l later at in
+      gone_on rules l journal desk later together.lock (together.each l desk first) comes.behind comes.sees;
+  opening = λ later at. let (desk, first, comes) = came rules lanes journal commands answers before served together ran 0 later at in
       ap (λ (p : Known Entry). p.given) comes.sees ∙ together.opening desk first;
 }
 
@@ -113,27 +113,27 @@ met_together lanes journal whole served after apart met = record {
 
 -- ---- each lane's answers
 
-lanes_right : (limits : Counts) (lanes : ℕ) (journal behind : List Entry) (commands : List Command) (answers : List Answered) (before served after : List (Known Entry)) → AreTogether lanes journal before
-    → AreServed (IsStep limits) before commands answers served → AllMeet (journal ++ behind) served after
-    → (lane : ℕ) → lane ≤ lanes → IsRight limits lane journal behind (done_of lane commands answers)
-lanes_right limits lanes journal behind commands answers before served after together ran met lane le =
+lanes_right : (rules : Rules) (lanes : ℕ) (journal behind : List Entry) (commands : List Command) (answers : List Answered) (before served after : List (Known Entry)) → AreTogether lanes journal before
+    → AreServed (IsStep rules) before commands answers served → AllMeet (journal ++ behind) served after
+    → (lane : ℕ) → lane ≤ lanes → IsRight rules lane journal behind (done_of lane commands answers)
+lanes_right rules lanes journal behind commands answers before served after together ran met lane le =
     let (desk, first) = there before lane (omega (arith, together.count, le)) in
     let (later, second) = there served lane (omega (arith, together.count, le, ran.same)) in
     let own = together.each lane desk first in
-    lane_right limits lane journal behind commands answers desk later own.3 (sym own.1) (ran.chains lane desk later first second) (met_grows (journal ++ behind) served after met lane later second)
+    lane_right rules lane journal behind commands answers desk later own.3 (sym own.1) (ran.chains lane desk later first second) (met_grows (journal ++ behind) served after met lane later second)
 
-pub batch_right : (limits : Counts) (lanes : ℕ) (journal behind : List Entry) (commands : List Command) (answers : List Answered) (before served after : List (Known Entry)) → AreTogether lanes journal before
-    → AreServed (IsStep limits) before commands answers served → AllMeet (journal ++ behind) served after
-    → IsBatchRight limits lanes (journal ++ behind) (length journal) (length (journal ++ behind)) commands answers
-batch_right limits lanes journal behind commands answers before served after together ran met =
+pub batch_right : (rules : Rules) (lanes : ℕ) (journal behind : List Entry) (commands : List Command) (answers : List Answered) (before served after : List (Known Entry)) → AreTogether lanes journal before
+    → AreServed (IsStep rules) before commands answers served → AllMeet (journal ++ behind) served after
+    → IsBatchRight rules lanes (journal ++ behind) (length journal) (length (journal ++ behind)) commands answers
+batch_right rules lanes journal behind commands answers before served after together ran met =
     let cut : take (length journal) (journal ++ behind) ≡ journal = take-append_seam journal behind in
     let size : length (journal ++ behind) - length journal ≡ length behind = omega (arith, length-append journal behind) in
     let rest : between (length journal) (length (journal ++ behind)) (journal ++ behind) ≡ behind =
     ap (λ (n : ℕ). take n (drop (length journal) (journal ++ behind))) size ∙ ap (take (length behind)) (drop-append_seam journal behind) ∙ take_all (length behind) behind (omega arith) in
     record {
       answered = ran.answered;
-      each = λ lane le. subst (λ (j : List Entry). IsRight limits lane j (between (length journal) (length (journal ++ behind)) (journal ++ behind)) (done_of lane commands answers)) (sym cut)
-          (subst (λ (j : List Entry). IsRight limits lane journal j (done_of lane commands answers)) (sym rest) (lanes_right limits lanes journal behind commands answers before served after together ran met lane le));
+      each = λ lane le. subst (λ (j : List Entry). IsRight rules lane j (between (length journal) (length (journal ++ behind)) (journal ++ behind)) (done_of lane commands answers)) (sym cut)
+          (subst (λ (j : List Entry). IsRight rules lane journal j (done_of lane commands answers)) (sym rest) (lanes_right rules lanes journal behind commands answers before served after together ran met lane le));
     }
 
 -- ---- the record
@@ -142,13 +142,13 @@ callers_given : (lanes : ℕ) (journal : List Entry) → IsOfGiven caller_of (la
 callers_given lanes [] of_given = tt
 callers_given lanes (e ∷ journal) of_given = ((let below = of_given.0 in omega (arith, below)), callers_given lanes journal of_given.1)
 
-pub one_more : (limits : Counts) (lanes : ℕ) (commands : List Command) (made now : RunRecord) (behind : List Entry) (answers : List Answered) (before served after : List (Known Entry))
-    → AreTogether lanes made.journal before → AreServed (IsStep limits) before commands answers served → now ≡ with_batch answers behind made
-    → AllMeet now.journal served after → IsLawful limits now.journal → IsOfGiven caller_of (lanes + 1) now.journal
-    → IsOneBatchMore limits lanes commands made now
-one_more limits lanes commands made now behind answers before served after together ran is met lawful of_given =
+pub one_more : (rules : Rules) (lanes : ℕ) (commands : List Command) (made now : RunRecord) (behind : List Entry) (answers : List Answered) (before served after : List (Known Entry))
+    → AreTogether lanes made.journal before → AreServed (IsStep rules) before commands answers served → now ≡ with_batch answers behind made
+    → AllMeet now.journal served after → IsLawful rules.limits now.journal → IsOfGiven caller_of (lanes + 1) now.journal
+    → IsOneBatchMore rules lanes commands made now
+one_more rules lanes commands made now behind answers before served after together ran is met lawful of_given =
     let journal : now.journal ≡ made.journal ++ behind = ap (λ (r : RunRecord). r.journal) is in
-    let right = batch_right limits lanes made.journal behind commands answers before served after together ran (subst (λ (j : List Entry). AllMeet j served after) journal met) in
+    let right = batch_right rules lanes made.journal behind commands answers before served after together ran (subst (λ (j : List Entry). AllMeet j served after) journal met) in
     record {
       behind = behind;
       answers = answers;
@@ -159,21 +159,21 @@ one_more limits lanes commands made now behind answers before served after toget
       ended_is = ap (λ (r : RunRecord). r.ended) is;
       legal = lawful.legal;
       callers = callers_given lanes now.journal of_given;
-      right = subst (λ (j : List Entry). IsBatchRight limits lanes j (length made.journal) (length j) commands answers) (sym journal) right;
+      right = subst (λ (j : List Entry). IsBatchRight rules lanes j (length made.journal) (length j) commands answers) (sym journal) right;
     }
 
-pub one_more_on_ok : {F : Type 0} (limits : Counts) (lanes : ℕ) (commands : List Command) (made now : RunRecord) (answers : List Answered) (before served after : List (Known Entry)) (result : Result (Unit {0}) F)
-    → AreTogether lanes made.journal before → AreServed (IsStep limits) before commands answers served → OnOk result ((behind : List Entry) × (now ≡ with_batch answers behind made))
-    → OnOk result (AllMeet now.journal served after) → OnOk result (IsLawful limits now.journal) → OnOk result (IsOfGiven caller_of (lanes + 1) now.journal)
-    → OnOk result (IsOneBatchMore limits lanes commands made now)
-one_more_on_ok limits lanes commands made now answers before served after (Ok done) together ran is met lawful of_given =
-    one_more limits lanes commands made now is.0 answers before served after together ran is.1 met lawful of_given
-one_more_on_ok limits lanes commands made now answers before served after (Err e) together ran is met lawful of_given = tt
+pub one_more_on_ok : {F : Type 0} (rules : Rules) (lanes : ℕ) (commands : List Command) (made now : RunRecord) (answers : List Answered) (before served after : List (Known Entry)) (result : Result (Unit {0}) F)
+    → AreTogether lanes made.journal before → AreServed (IsStep rules) before commands answers served → OnOk result ((behind : List Entry) × (now ≡ with_batch answers behind made))
+    → OnOk result (AllMeet now.journal served after) → OnOk result (IsLawful rules.limits now.journal) → OnOk result (IsOfGiven caller_of (lanes + 1) now.journal)
+    → OnOk result (IsOneBatchMore rules lanes commands made now)
+one_more_on_ok rules lanes commands made now answers before served after (Ok done) together ran is met lawful of_given =
+    one_more rules lanes commands made now is.0 answers before served after together ran is.1 met lawful of_given
+one_more_on_ok rules lanes commands made now answers before served after (Err e) together ran is met lawful of_given = tt
 
-pub together_on_ok : {F : Type 0} (limits : Counts) (lanes : ℕ) (commands : List Command) (made now : RunRecord) (answers : List Answered) (before served after : List (Known Entry)) (result : Result (Unit {0}) F)
-    → lanes ≡ made.options.lanes → AreTogether lanes made.journal before → AreServed (IsStep limits) before commands answers served → OnOk result ((behind : List Entry) × (now ≡ with_batch answers behind made))
+pub together_on_ok : {F : Type 0} (rules : Rules) (lanes : ℕ) (commands : List Command) (made now : RunRecord) (answers : List Answered) (before served after : List (Known Entry)) (result : Result (Unit {0}) F)
+    → lanes ≡ made.options.lanes → AreTogether lanes made.journal before → AreServed (IsStep rules) before commands answers served → OnOk result ((behind : List Entry) × (now ≡ with_batch answers behind made))
     → OnOk result (AllMeet now.journal served after) → OnOk result (AreTogether now.options.lanes now.journal after)
-together_on_ok limits lanes commands made now answers before served after (Ok done) same together ran is met =
+together_on_ok rules lanes commands made now answers before served after (Ok done) same together ran is met =
     subst (λ (n : ℕ). AreTogether n now.journal after) (same ∙ sym (ap (λ (r : RunRecord). r.options.lanes) is.1))
-    (met_together lanes made.journal now.journal served after (served_apart limits lanes made.journal commands answers before served together ran) met)
-together_on_ok limits lanes commands made now answers before served after (Err e) same together ran is met = tt
+    (met_together lanes made.journal now.journal served after (served_apart rules lanes made.journal commands answers before served together ran) met)
+together_on_ok rules lanes commands made now answers before served after (Err e) same together ran is met = tt

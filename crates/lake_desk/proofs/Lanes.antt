@@ -3,7 +3,7 @@ use Rattle.std.proofs.Common.{◌≡◌, refl, ap, subst, sym, ℕ, List, [], �
 use Rattle.std.specs.Prelude.{◌==◌, filter}
 use Rattle.std.specs.List.{AllByRecursion}
 use Rattle.std.proofs.lemmas.Bool.Decides.{nat_tests}
-use Rattle.lake_model.specs.declared.Counts.{Counts}
+use Rattle.record_model.specs.Rules.{Rules}
 use Rattle.lake_model.specs.Journal.{Entry}
 use Rattle.turn_lock.specs.History.{Has, IsOfOthers}
 use Rattle.lake.specs.Lawful.{caller_of}
@@ -29,5 +29,5 @@ kept_own lane (d ∷ done) = by (d.command.lane == lane) refl (kept_own lane don
     by false is rest = rest
 
 -- no answers are right where nothing has come
-pub none_right : (limits : Counts) (lane : ℕ) (before : List Entry) → IsRight limits lane before [] []
-none_right limits lane before = record { entries = refl; placed = tt; positions = omega (arith, ap (λ (j : List Entry). length j) (append-nil before)); unplaced = tt }
+pub none_right : (rules : Rules) (lane : ℕ) (before : List Entry) → IsRight rules lane before [] []
+none_right rules lane before = record { entries = refl; placed = tt; positions = omega (arith, ap (λ (j : List Entry). length j) (append-nil before)); unplaced = tt }

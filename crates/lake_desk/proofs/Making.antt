@@ -22,7 +22,8 @@ use Rattle.lake_core.specs.Drops.{drop_refusal_reply}
 use Rattle.lake_core.specs.Replaces.{replace_refusal_reply, replaced_by}
 use Rattle.lake_core.proofs.LoadLemmas.{Answers, refused_load, accepted_load, refused_drop, accepted_drop}
 use Rattle.lake_core.proofs.ReplaceLemmas.{refused_replace, accepted_replace}
-use Rattle.lake_desk.specs.Answering.{dropped_by, IsMade}
+use Rattle.lake_core.specs.Drops.{dropped_by}
+use Rattle.lake_desk.specs.Answering.{IsMade}
 
 -- the position of an accepted entry
 at_end : (found after : List Entry) (entry : Entry) (at : ℕ) → after ≡ found ++ entry ∷ [] → at ≡ length after → at ≡ length found + 1

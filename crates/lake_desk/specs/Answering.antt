@@ -1,6 +1,6 @@
 -- What an answer at a lake is.
 use Rattle.std.specs.Prelude.{ℕ, ◌≡◌, ◌≤◌, Bool, false, List, [], ◌∷◌, ◌++◌, length, take, map, if◌then◌else◌}
-use Rattle.lake_model.specs.declared.Counts.{Counts}
+use Rattle.record_model.specs.Rules.{Rules}
 use Rattle.lake_model.specs.Texts.{Text}
 use Rattle.lake_model.specs.Journal.{Entry, What, Dropped, entry_with, who_with}
 use Rattle.turn_lock.specs.History.{Grows}
@@ -21,12 +21,8 @@ pub record IsMade (answer : List Entry → Reply) (adds : Reply → List What) (
   pub is : reply ≡ reply_or_denied denied (answer found)
   pub added : after ≡ found ++ map (entry_with (who_with before.caller number)) (adds reply)
 
--- what a drop adds, where its reply accepts it
-abbrev pub dropped_by : Text → Reply → List What
-dropped_by name reply = if is_accepted (standing reply) then Dropped name ∷ [] else []
-
 -- A command was answered: at what was seen when it was pinned, which for one without a pin is what was seen just before the reply.
-pub record IsAnswered (limits : Counts) (command : Command) (before : Known Entry) (reply : Reply) (after : List Entry) : Type 0 where
+pub record IsAnswered (rules : Rules) (command : Command) (before : Known Entry) (reply : Reply) (after : List Entry) : Type 0 where
   pub found : List Entry
   pub pinned : List Entry
   pub denied : Bool
@@ -34,12 +30,12 @@ pub record IsAnswered (limits : Counts) (command : Command) (before : Known Entr
   pub begins : (length pinned ≤ length found) × (take (length pinned) found ≡ pinned)
   pub late : length before.seen ≤ length pinned
   pub same : has_pin command.task ≡ false → pinned ≡ found
-  pub is : reply ≡ reply_or_denied denied (answer_to limits command.task pinned found)
-  pub added : after ≡ found ++ entries_of pinned command reply
+  pub is : reply ≡ reply_or_denied denied (answer_to rules command.task pinned found)
+  pub added : after ≡ found ++ entries_of rules pinned command reply
 
 -- A command with its reply takes a pass from what it has seen to what it sees then: nothing else of it changes, and where the command is of the
 -- pass's own lane, the one answer is right between the two.
-pub record IsStep (limits : Counts) (before : Known Entry) (command : Command) (reply : Reply) (after : Known Entry) : Type 0 where
+pub record IsStep (rules : Rules) (before : Known Entry) (command : Command) (reply : Reply) (after : Known Entry) : Type 0 where
   pub behind : List Entry
   pub sees : after ≡ after_seeing before (before.seen ++ behind) before.holds
-  pub right : command.lane ≡ before.caller → IsRight limits before.caller before.seen behind (done_with command reply ∷ [])
+  pub right : command.lane ≡ before.caller → IsRight rules before.caller before.seen behind (done_with command reply ∷ [])

@@ -2,7 +2,7 @@
 use Rattle.std.specs.Prelude.{ℕ, ◌+◌, ◌≡◌, ◌≤◌, true, false, List, [], ◌∷◌, ◌++◌, length, slice_get, Some}
 use Rattle.std.specs.List.{AllByRecursion}
 use Rattle.atomic_table.specs.Seated.{TableId}
-use Rattle.lake_model.specs.declared.Counts.{Counts}
+use Rattle.record_model.specs.Rules.{Rules}
 use Rattle.lake_model.specs.Journal.{Entry}
 use Rattle.lake_model.specs.Layout.{is_legal}
 use Rattle.turn_lock.specs.Passes.{Known}
@@ -21,7 +21,7 @@ pub record AreTogether (lanes : ℕ) (journal : List Entry) (desks : List (Known
 
 -- The record got one batch more: the entries that it made, one answer for each command, and the length of the journal after it. The journal
 -- is legal and of these lanes and the merger, and each lane's answers are right between the journal before the batch and the one after it.
-pub record IsOneBatchMore (limits : Counts) (lanes : ℕ) (commands : List Command) (before now : RunRecord) : Type 0 where
+pub record IsOneBatchMore (rules : Rules) (lanes : ℕ) (commands : List Command) (before now : RunRecord) : Type 0 where
   pub behind : List Entry
   pub answers : List Answered
   pub journal_is : now.journal ≡ before.journal ++ behind
@@ -31,7 +31,7 @@ pub record IsOneBatchMore (limits : Counts) (lanes : ℕ) (commands : List Comma
   pub ended_is : now.ended ≡ before.ended
   pub legal : is_legal now.journal ≡ true
   pub callers : AllByRecursion (λ e. e.who.caller ≤ lanes) now.journal
-  pub right : IsBatchRight limits lanes now.journal (length before.journal) (length now.journal) commands answers
+  pub right : IsBatchRight rules lanes now.journal (length before.journal) (length now.journal) commands answers
 
 -- the record with more answers
 abbrev pub with_answers : List Answered → RunRecord → RunRecord

@@ -2,13 +2,15 @@
 ghost use Rattle.std.specs.Prelude.{◌≡◌, false, None};
 ghost use Rattle.turn_lock.specs.Passes.{after_seeing};
 ghost use Rattle.script_model.specs.Commands.{is_update_task, command_with, Load, LoadFile, DropTable, Replace};
+ghost use Rattle.lake_model.specs.declared.Keys.{Keys};
+ghost use Rattle.record_model.specs.Rules.{rules_with}
 ghost use Rattle.run_record.specs.Replies.{reply_of};
 ghost use Rattle.commands.specs.Tasks.{file_of, task_of, IsTaskInRange};
 ghost use Rattle.batch_work.specs.Works.{merge_policy};
 ghost use Rattle.lake_desk.specs.Answering.{IsAnswered};
 
 use crate::changing::{drop_table, load, replace};
-use column_set::Name;
+use column_set::{Keys, Name};
 use commands::{Body, FileBody, Task};
 use lake::{Bounds, Lake, Pass};
 use lake_core::{Loadable, finish, make_table, make_table_of_file};
@@ -21,6 +23,7 @@ use std::sync::Wait;
 pub(crate) fn load_block<B: Bounds, R: Wait>(
     rt: &R,
     alloc: Global,
+    keys: Keys,
     lake: &Lake<B>,
     pass: &mut Pass<B>,
     number: u64,
@@ -30,9 +33,9 @@ pub(crate) fn load_block<B: Bounds, R: Wait>(
     requires lock { pass.old.lock ≡ lake.now }
     requires free { pass.old.holds ≡ false }
     ensures pass { pass.new ≡ after_seeing pass.old pass.new.seen false }
-    ensures answered { IsAnswered B.limits (command_with number pass.old.caller (Load name.now body.now)) pass.old (reply_of result) pass.new.seen }
+    ensures answered { IsAnswered (rules_with keys B.limits) (command_with number pass.old.caller (Load name.now body.now)) pass.old (reply_of result) pass.new.seen }
 {
-    match make_table(alloc, name, body) {
+    match make_table(alloc, keys, name, body) {
         Ok(Loadable { table, segment }) => load(rt, lake, pass, number, table, segment),
         Err(reply) => reply,
     }
@@ -42,6 +45,7 @@ pub(crate) fn load_block<B: Bounds, R: Wait>(
 pub(crate) fn load_file<B: Bounds, R: Wait>(
     rt: &R,
     alloc: Global,
+    keys: Keys,
     lake: &Lake<B>,
     pass: &mut Pass<B>,
     number: u64,
@@ -51,9 +55,9 @@ pub(crate) fn load_file<B: Bounds, R: Wait>(
     requires lock { pass.old.lock ≡ lake.now }
     requires free { pass.old.holds ≡ false }
     ensures pass { pass.new ≡ after_seeing pass.old pass.new.seen false }
-    ensures answered { IsAnswered B.limits (command_with number pass.old.caller (LoadFile name.now (file_of file.now))) pass.old (reply_of result) pass.new.seen }
+    ensures answered { IsAnswered (rules_with keys B.limits) (command_with number pass.old.caller (LoadFile name.now (file_of file.now))) pass.old (reply_of result) pass.new.seen }
 {
-    match make_table_of_file(alloc, name, file) {
+    match make_table_of_file(alloc, keys, name, file) {
         Ok(Loadable { table, segment }) => load(rt, lake, pass, number, table, segment),
         Err(reply) => reply,
     }
@@ -63,6 +67,7 @@ pub(crate) fn load_file<B: Bounds, R: Wait>(
 pub(crate) fn replace_by_block<B: Bounds, R: Wait>(
     rt: &R,
     alloc: Global,
+    keys: Keys,
     lake: &Lake<B>,
     pass: &mut Pass<B>,
     number: u64,
@@ -72,9 +77,9 @@ pub(crate) fn replace_by_block<B: Bounds, R: Wait>(
     requires lock { pass.old.lock ≡ lake.now }
     requires free { pass.old.holds ≡ false }
     ensures pass { pass.new ≡ after_seeing pass.old pass.new.seen false }
-    ensures answered { IsAnswered B.limits (command_with number pass.old.caller (Replace name.now body.now)) pass.old (reply_of result) pass.new.seen }
+    ensures answered { IsAnswered (rules_with keys B.limits) (command_with number pass.old.caller (Replace name.now body.now)) pass.old (reply_of result) pass.new.seen }
 {
-    match make_table(alloc, name, body) {
+    match make_table(alloc, keys, name, body) {
         Ok(Loadable { table, segment }) => replace(rt, lake, pass, number, table, segment),
         Err(reply) => reply,
     }
@@ -91,7 +96,7 @@ pub(crate) fn drop_named<B: Bounds, R: Wait>(
     requires lock { pass.old.lock ≡ lake.now }
     requires free { pass.old.holds ≡ false }
     ensures pass { pass.new ≡ after_seeing pass.old pass.new.seen false }
-    ensures answered { IsAnswered B.limits (command_with number pass.old.caller (DropTable name.now)) pass.old (reply_of result) pass.new.seen }
+    ensures answered { (keys : Keys) → IsAnswered (rules_with keys B.limits) (command_with number pass.old.caller (DropTable name.now)) pass.old (reply_of result) pass.new.seen }
 {
     drop_table(rt, lake, pass, number, name)
 }
@@ -100,6 +105,7 @@ pub(crate) fn drop_named<B: Bounds, R: Wait>(
 pub(crate) fn ask<B: Bounds, R: Wait, G: Gate>(
     rt: &R,
     alloc: Global,
+    keys: Keys,
     lake: &Lake<B>,
     pass: &mut Pass<B>,
     number: u64,
@@ -112,12 +118,12 @@ pub(crate) fn ask<B: Bounds, R: Wait, G: Gate>(
     requires merges { merge_policy (task_of task.now) ≡ None }
     requires in_range { IsTaskInRange task.now }
     ensures pass { pass.new ≡ after_seeing pass.old pass.new.seen false }
-    ensures answered { IsAnswered B.limits (command_with number pass.old.caller (task_of task.now)) pass.old (reply_of result) pass.new.seen }
+    ensures answered { IsAnswered (rules_with keys B.limits) (command_with number pass.old.caller (task_of task.now)) pass.old (reply_of result) pass.new.seen }
 {
     let pinned = lake.pin(rt, pass);
     let Ok(pin) = pinned else {
         return Reply::NoMemory;
     };
     gate.at(pass.caller(), number, Point::Pinned);
-    finish(alloc, pin, task)
+    finish(alloc, keys, pin, task)
 }

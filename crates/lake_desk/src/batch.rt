@@ -4,6 +4,7 @@ ghost use Rattle.lake_model.specs.Journal.{Entry as EntryOf};
 ghost use Rattle.turn_lock.specs.History.{IsOfGiven};
 ghost use Rattle.lake.specs.Lawful.{caller_of, IsLawful};
 ghost use Rattle.script_model.specs.Lanes.{IsOfLanes};
+ghost use Rattle.record_model.specs.Rules.{rules_with}
 ghost use Rattle.record_model.specs.Play.{merges_of};
 ghost use Rattle.script_model.specs.Commands.{updates};
 ghost use Rattle.lake_desk.specs.Gathered.{AllMeet, AreApart};
@@ -104,7 +105,7 @@ pub fn answer_batch<'a, B: Bounds + Send + Sync, R: Threads + Wait + Sync, G: Ga
     requires lanes { IsOfLanes out.old.made.options.lanes batch.now }
     requires numbers { MatchOption merger ⊤ (λ first. first + updates batch.now < 2 ^ 64) }
     ensures together { OnOk result (AreTogether out.new.made.options.lanes out.new.made.journal desks.new.items) }
-    ensures batch { OnOk result (IsOneBatchMore B.limits out.old.made.options.lanes (batch.now ++ merges_of merger batch.now) out.old.made out.new.made) }
+    ensures batch { OnOk result (IsOneBatchMore (rules_with B.keys B.limits) out.old.made.options.lanes (batch.now ++ merges_of merger batch.now) out.old.made out.new.made) }
     ensures err { OnErr result (out.new.made ≡ out.old.made) }
 {
     let answers = run_batch(rt, alloc, desks, batch, merger, gate)?;

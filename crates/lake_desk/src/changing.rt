@@ -5,7 +5,8 @@ ghost use Rattle.record_model.specs.Replies.{drop_reply, load_reply, replace_rep
 ghost use Rattle.run_record.specs.Replies.{reply_of};
 ghost use Rattle.lake_core.specs.Loads.{loaded_by};
 ghost use Rattle.lake_core.specs.Replaces.{replaced_by};
-ghost use Rattle.lake_desk.specs.Answering.{dropped_by, IsMade};
+ghost use Rattle.lake_core.specs.Drops.{dropped_by};
+ghost use Rattle.lake_desk.specs.Answering.{IsMade};
 
 use column_set::{Name, SharedTable};
 use lake::{Bounds, Lake, Pass};

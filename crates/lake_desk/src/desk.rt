@@ -1,7 +1,7 @@
 //! The desk of one caller of a lake.
 ghost use Rattle.std.specs.Prelude.{◌≡◌, ◌≤◌, ◌⊎◌, ℕ, drop, false, length, IfOk, Some};
 ghost use mathlib.Core.List.{IsPrefix};
-ghost use Rattle.lake_model.specs.Journal.{standard_limits};
+ghost use Rattle.record_model.specs.Rules.{rules_with, wide_limits};
 ghost use Rattle.turn_lock.specs.History.{longer, Grows, IsOfGiven};
 ghost use Rattle.turn_lock.specs.Passes.{after_seeing, callers_of, noted};
 ghost use Rattle.lake.specs.Lawful.{caller_of, IsLawful};
@@ -14,6 +14,7 @@ ghost use Rattle.lake_desk.specs.Answering.{IsAnswered, IsStep};
 use crate::asking::{ask, drop_named, load_block, load_file, replace_by_block};
 use crate::merging::merge_parts;
 use catalogue::Entry;
+use column_set::Keys;
 use commands::Task;
 use lake::{Bounds, Lake, Note, Pass};
 use lake_io::{Gate, Point};
@@ -25,10 +26,12 @@ use std::marker::Model;
 use std::sync::Wait;
 use std::thread::Threads;
 
-/// A desk at which one caller of a lake answers commands. Contracts see it as the caller's pass, which holds no turn.
+/// A desk at which one caller of a lake answers commands, and compares values by the match that holds for the whole lake. Contracts see it
+/// as the caller's pass, which holds no turn.
 #[derive(Drop)]
 pub struct LakeDesk<'a, B: Bounds> {
     alloc: Global,
+    keys: Keys,
     lake: &'a Lake<B>,
     pass: Pass<B>,
 }
@@ -36,25 +39,32 @@ pub struct LakeDesk<'a, B: Bounds> {
 impl<'a, B: Bounds> Model for LakeDesk<'a, B> {
     ghost use Rattle.std.specs.Prelude.{◌≡◌, false};
     ghost use Rattle.turn_lock.specs.Passes.{Known};
-    ghost use Rattle.lake_model.specs.Journal.{Entry, standard_limits};
+    ghost use Rattle.lake_model.specs.Journal.{Entry};
+    ghost use Rattle.record_model.specs.Rules.{wide_limits};
     ghost use Rattle.catalogue.specs.Kept.{IsWithin};
 
     ghost Value = { Known Entry };
 
     ghost view = { λ d. d.pass };
 
-    ghost invariant = { λ d. (d.pass.lock ≡ d.lake.now) × (d.pass.holds ≡ false) × IsWithin standard_limits B.limits };
+    ghost invariant = { λ d. (d.pass.lock ≡ d.lake.now) × (d.pass.holds ≡ false) × (d.keys ≡ B.keys) × IsWithin wide_limits B.limits };
 }
 
 impl<'a, B: Bounds> LakeDesk<'a, B> {
-    /// The desk of this pass of the lake.
-    pub fn new(alloc: Global, lake: &'a Lake<B>, pass: Pass<B>) -> LakeDesk<'a, B>
+    /// The desk of this pass of the lake, whose values are compared by this match.
+    pub fn new(alloc: Global, keys: Keys, lake: &'a Lake<B>, pass: Pass<B>) -> LakeDesk<'a, B>
+        requires keys { keys ≡ B.keys }
         requires lock { pass.lock ≡ lake.now }
         requires free { pass.holds ≡ false }
-        requires standard { IsWithin standard_limits B.limits }
+        requires wide { IsWithin wide_limits B.limits }
         ensures { result ≡ pass }
     {
-        LakeDesk { alloc, lake, pass }
+        LakeDesk {
+            alloc,
+            keys,
+            lake,
+            pass,
+        }
     }
 
     /// The pass of the desk, with all that it has seen.
@@ -110,13 +120,14 @@ impl<'a, B: Bounds> LakeDesk<'a, B> {
         requires { IsTaskInRange task.now }
         ensures free { self.old.holds ≡ false }
         ensures pass { self.new ≡ after_seeing self.old self.new.seen false }
-        ensures answered { IsAnswered B.limits (command_with number self.old.caller (task_of task.now)) self.old (reply_of result) self.new.seen }
+        ensures answered { IsAnswered (rules_with B.keys B.limits) (command_with number self.old.caller (task_of task.now)) self.old (reply_of result) self.new.seen }
     {
-        let (alloc, lake) = (self.alloc, self.lake);
+        let (alloc, keys, lake) = (self.alloc, self.keys, self.lake);
         match task {
             Task::Load { name, body } => load_block(
                 rt,
                 alloc,
+                keys,
                 lake,
                 &mut self.pass,
                 number,
@@ -126,6 +137,7 @@ impl<'a, B: Bounds> LakeDesk<'a, B> {
             Task::LoadFile { name, file } => load_file(
                 rt,
                 alloc,
+                keys,
                 lake,
                 &mut self.pass,
                 number,
@@ -136,6 +148,7 @@ impl<'a, B: Bounds> LakeDesk<'a, B> {
             Task::Replace { name, body } => replace_by_block(
                 rt,
                 alloc,
+                keys,
                 lake,
                 &mut self.pass,
                 number,
@@ -145,6 +158,7 @@ impl<'a, B: Bounds> LakeDesk<'a, B> {
             Task::Tables | Task::Search { .. } | Task::Like { .. } | Task::Contain { .. } => ask(
                 rt,
                 alloc,
+                keys,
                 lake,
                 &mut self.pass,
                 number,
@@ -157,9 +171,10 @@ impl<'a, B: Bounds> LakeDesk<'a, B> {
 }
 
 impl<'a, B: Bounds> Desk for LakeDesk<'a, B> {
+    ghost use Rattle.record_model.specs.Rules.{rules_with};
     ghost use Rattle.lake_desk.specs.Answering.{IsStep};
 
-    ghost step = { IsStep B.limits };
+    ghost step = { IsStep (rules_with B.keys B.limits) };
 
     fn answer<R: Threads + Wait + Sync, G: Gate + Sync>(
         &mut self,

@@ -11,7 +11,7 @@ mod opening;
 
 pub use batch::answer_batch;
 pub use desk::LakeDesk;
-pub use opening::{Standard, open_desks};
+pub use opening::{Standard, Wide, open_desks};
 
 #[cfg(test)]
 mod meter_tests;

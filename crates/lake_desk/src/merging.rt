@@ -1,6 +1,7 @@
 //! Merges at a lake: the plan at a pin, and the swap.
 ghost use Rattle.std.specs.Prelude.{◌≡◌, false, length, if◌then◌else◌, IfOk};
-ghost use Rattle.lake_model.specs.Journal.{standard_limits};
+ghost use Rattle.lake_model.specs.declared.Keys.{Keys};
+ghost use Rattle.record_model.specs.Rules.{rules_with, wide_limits}
 ghost use Rattle.turn_lock.specs.History.{Grows};
 ghost use Rattle.turn_lock.specs.Passes.{after_seeing, callers_of};
 ghost use Rattle.catalogue.specs.Kept.{IsWithin};
@@ -31,7 +32,7 @@ fn plan_newest<B: Bounds, R: Wait>(
 ) -> Result<Planned, NoMemory>
     requires lock { pass.old.lock ≡ lake.now }
     requires free { pass.old.holds ≡ false }
-    requires standard { IsWithin standard_limits B.limits }
+    requires wide { IsWithin wide_limits B.limits }
     ensures pass { pass.new ≡ after_seeing pass.old pass.new.seen false }
     ensures grows { Grows caller_of (callers_of pass.old) pass.old.seen pass.new.seen }
     ensures planned { IfOk result (λ planned. IsPlanned policy pass.new.seen planned) }
@@ -92,9 +93,9 @@ pub(crate) fn merge_parts<B: Bounds, R: Wait, G: Gate>(
 ) -> Reply
     requires lock { pass.old.lock ≡ lake.now }
     requires free { pass.old.holds ≡ false }
-    requires standard { IsWithin standard_limits B.limits }
+    requires wide { IsWithin wide_limits B.limits }
     ensures pass { pass.new ≡ after_seeing pass.old pass.new.seen false }
-    ensures answered { IsAnswered B.limits (command_with number pass.old.caller (Merge all)) pass.old (reply_of result) pass.new.seen }
+    ensures answered { (keys : Keys) → IsAnswered (rules_with keys B.limits) (command_with number pass.old.caller (Merge all)) pass.old (reply_of result) pass.new.seen }
 {
     let planned = plan_newest(rt, alloc, lake, pass, policy_of(all));
     let Ok(planned) = planned else {

@@ -4,6 +4,7 @@ ghost use Rattle.std.specs.Prelude.{◌≡◌, ◌≤◌, IfOk};
 use crate::tests::{body, command, name};
 use crate::{LakeDesk, Standard};
 use catalogue::Limits;
+use column_set::Keys;
 use commands::{Command, Task};
 use lake::{Lake, Pass};
 use lake_io::NoGate;
@@ -102,7 +103,7 @@ fn metered<R: Threads + Wait + Sync>(
     commands: &[Command],
 ) -> Result<(u64, (u64, u64)), Fail> {
     let (lake, opening) = Lake::<Standard>::new(alloc, Limits::standard(), 1)?;
-    let mut desk = LakeDesk::new(alloc, &lake, opening);
+    let mut desk = LakeDesk::new(alloc, Keys::Canonical, &lake, opening);
     let mut told = (0, 0);
     for command in commands {
         let by = By::Command {

@@ -2,12 +2,13 @@
 ghost use Rattle.std.specs.Prelude.{◌≡◌, ◌≤◌, false, true, IfOk, None};
 ghost use Rattle.script_model.specs.Lanes.{IsOfLanes};
 ghost use Rattle.record_model.specs.Record.{empty};
+ghost use Rattle.lake_model.specs.declared.Keys.TheVariants.{Canonical};
 ghost use Rattle.script_model.specs.Options.{options_with};
 ghost use Rattle.commands.specs.Tasks.{IsTaskInRange};
 
 use crate::{Standard, answer_batch, open_desks};
 use catalogue::Limits;
-use column_set::Name;
+use column_set::{Keys, Name};
 use commands::{Batch, Body, Command, FileBody, Options, Task};
 use lake::Lake;
 use lake_io::{Gate, NoGate, Point};
@@ -126,7 +127,7 @@ fn one_of_each(alloc: Global) -> Result<Batch, Fail>
 
 // The record of a run with two lanes and a merger that has done nothing.
 fn record_of_two_lanes(alloc: Global) -> RunRecord
-    ensures { result.made ≡ empty (options_with 2 None true false) }
+    ensures { result.made ≡ empty (options_with 2 None true false Canonical) }
 {
     let mut record = RunRecord::new(alloc);
     record.set_options(Options {
@@ -134,6 +135,7 @@ fn record_of_two_lanes(alloc: Global) -> RunRecord
         order: None,
         merge: true,
         trace: false,
+        keys: Keys::Canonical,
     });
     record
 }
@@ -153,7 +155,7 @@ fn answered_twice<R: Threads + Wait + Sync, G: Gate + Sync>(
     }
     let mut record = record_of_two_lanes(alloc);
     let (lake, opening) = Lake::<Standard>::new(alloc, Limits::standard(), 3)?;
-    let mut desks = open_desks(alloc, &lake, opening, 2)?;
+    let mut desks = open_desks(alloc, Keys::Canonical, &lake, opening, 2)?;
     answer_batch(rt, alloc, &mut desks, batch, Some(1), gate, &mut record)?;
     answer_batch(
         rt,

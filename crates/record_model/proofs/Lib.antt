@@ -8,3 +8,4 @@ pub mod LegalLemmas
 pub mod PlayedLemmas
 mod WorkedRuns
 mod WorkedOrders
+mod WorkedWatches

@@ -11,7 +11,8 @@ use Rattle.lake_model.specs.Texts.{lines_of}
 use Rattle.lake_model.specs.Records.{rows_fault, text_fault}
 use Rattle.lake_model.specs.Queries.{line_fault}
 use Rattle.lake_model.specs.Sorting.{in_order, put_in_order}
-use Rattle.lake_model.specs.Journal.{standard_limits}
+use Rattle.lake_model.specs.declared.Keys.TheVariants.{Canonical}
+use Rattle.record_model.specs.Rules.{standard_rules}
 use Rattle.search_model.specs.Looks.{log, looks_of, run, run_within}
 use Rattle.search_model.specs.Contain.{contain_log}
 use Rattle.search_model.specs.Segment.{segment, tokens_of}

@@ -9,3 +9,4 @@ pub mod InTurn
 pub mod PlayLaws
 pub mod Texts
 pub mod Statuses
+pub mod Watched

@@ -8,6 +8,21 @@ mod laws;
 pub use laws::{batches_law, in_turn_law, played_is_right_law, right_lanes_law};
 use script_model::Reason;
 
+/// Why a file that the words of the command line name gives no query.
+#[derive(Clone, Copy, Debug, PartialEq, Eq)]
+pub enum GivenWhy {
+    /// It could not be read.
+    Failed,
+    /// There is no such file.
+    Missing,
+    /// It has more than 67,108,864 bytes.
+    TooLong,
+    /// The line, counted from 1, is the first that is not UTF-8.
+    NotUtf8 { line: u64 },
+    /// Its lines have more than 4,194,304 distinct keys.
+    TooManyValues,
+}
+
 /// How a run ended.
 #[derive(Clone, Copy, Debug, PartialEq, Eq)]
 pub enum Status {
@@ -17,6 +32,9 @@ pub enum Status {
     Script { line: u64, reason: Reason },
     /// The words of the command line are refused, and nothing was read or written.
     Usage,
+    /// The path of this number among the words, counted from 1, is the first that gives no query, for this reason. The source was not read,
+    /// and nothing was written.
+    Given { path: u32, why: GivenWhy },
     /// The source failed.
     ReadFault,
     /// The sink failed.

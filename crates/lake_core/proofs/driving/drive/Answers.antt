@@ -1,5 +1,6 @@
 use Rattle.std.proofs.Common.{◌≡◌, ◌++◌, ap, sym, subst, ◌∙◌, length, arith}
 use Rattle.script_model.specs.Commands.{Batch}
+use Rattle.record_model.specs.Rules.{rules_with}
 use Rattle.record_model.specs.Play.{merges_of}
 use Rattle.lake_core.specs.Lanes.{AreShared}
 use Rattle.batch_work.specs.Works.{works_of}
@@ -23,7 +24,7 @@ returns-clause-played c =
     let all : works_of works ≡ c.args.batch.now ++ merges_of c.args.merger c.args.batch.now = ap works_of c.deref-2.ensures.value ∙ c.in_ok-works.ensures in
     let shared = subst (λ (commands : Batch). AreShared c.args.lanes commands c.in_ok-all.all.items) (ap works_of (c.deref.ensures.value ∙ sym c.deref-2.ensures.value)) c.in_ok-all.ensures in (
       denials,
-      batch_played c.args.catalogue.now.limits c.args.lanes (length works) c.args.batch.now (works_of works) c.args.piece.now c.args.merger denials c.args.out.now.made c.room.new.self.made c.play.new.out.made
+      batch_played (rules_with c.args.keys c.args.catalogue.now.limits) c.args.lanes (length works) c.args.batch.now (works_of works) c.args.piece.now c.args.merger denials c.args.out.now.made c.room.new.self.made c.play.new.out.made
           c.args.catalogue.now.journal c.deref_mut.result.now c.in_ok-all.all.items
           c.requires.lanes (sym (works_long works)) c.requires.journal c.in_ok-room.ensures.made all c.deref_mut.ensures.value shared.lanes_are is,
     )

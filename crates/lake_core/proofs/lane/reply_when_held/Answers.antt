@@ -1,4 +1,5 @@
 use Rattle.std.proofs.Common.{◌≡◌, ap, sym, subst, ◌∙◌, take}
+use Rattle.record_model.specs.Rules.{rules_with}
 use Rattle.record_model.specs.Answered.{adds, answer_to}
 use Rattle.run_record.specs.Replies.{reply_of}
 use Rattle.lake_core.specs.Lanes.{IsHeldAt, position_of}
@@ -11,21 +12,21 @@ use Rattle.lake_core.proofs.lane.reply_when_held.Goals as goal
 
 pub returns-in-At-clause-answered : goal.returns-in-At-clause-answered
 returns-in-At-clause-answered c =
-    let limits = c.args.catalogue.now.limits in
+    let rules = rules_with c.args.keys c.args.catalogue.now.limits in
     let journal = c.args.catalogue.now.journal in
     let task = (work_of c.args.work.now).task in
     let reply = reply_of c.reply_at_pin.result in
-    subst (λ held. Answers reply (answer_to limits task (take (position_of held) journal) journal)) (sym c.in-At.is)
-    (held_answer limits task journal c.in-At.pin reply c.requires.pins (subst (IsHeldAt journal (merge_policy task)) c.in-At.is c.requires.held) (c.reply_at_pin.ensures limits))
+    subst (λ held. Answers reply (answer_to rules task (take (position_of held) journal) journal)) (sym c.in-At.is)
+    (held_answer rules task journal c.in-At.pin reply c.requires.pins (subst (IsHeldAt journal (merge_policy task)) c.in-At.is c.requires.held) (c.reply_at_pin.ensures rules.limits))
 
 pub returns-in-Swap-clause-answered : goal.returns-in-Swap-clause-answered
 returns-in-Swap-clause-answered c =
-    let limits = c.args.catalogue.now.limits in
+    let rules = rules_with c.args.keys c.args.catalogue.now.limits in
     let journal = c.args.catalogue.now.journal in
     let task = (work_of c.args.work.now).task in
     let reply = reply_of c.swap.result in
-    subst (λ held. Answers reply (answer_to limits task (take (position_of held) journal) journal)) (sym c.in-Swap.is)
-    (held_swap limits task journal c.in-Swap.planned reply (subst (IsHeldAt journal (merge_policy task)) c.in-Swap.is c.requires.held) c.swap.ensures.answered)
+    subst (λ held. Answers reply (answer_to rules task (take (position_of held) journal) journal)) (sym c.in-Swap.is)
+    (held_swap rules task journal c.in-Swap.planned reply (subst (IsHeldAt journal (merge_policy task)) c.in-Swap.is c.requires.held) c.swap.ensures.answered)
 
 pub returns-in-Swap-clause-adds : goal.returns-in-Swap-clause-adds
 returns-in-Swap-clause-adds c =
@@ -34,9 +35,9 @@ returns-in-Swap-clause-adds c =
     let task = (work_of c.args.work.now).task in
     let planned = c.in-Swap.planned in
     let reply = reply_of c.swap.result in
-    let same : swapped_by planned.merged reply ≡ adds task (take (position_of c.args.held) made.journal) reply =
-    held_adds task journal made.journal planned reply (subst (IsHeldAt journal (merge_policy task)) c.in-Swap.is c.requires.held) c.requires.journal
-    ∙ ap (λ held. adds task (take (position_of held) made.journal) reply) (sym c.in-Swap.is) in
+    let same : swapped_by planned.merged reply ≡ adds (rules_with c.args.keys c.args.catalogue.now.limits) task (take (position_of c.args.held) made.journal) reply =
+    held_adds (rules_with c.args.keys c.args.catalogue.now.limits) task journal made.journal planned reply (subst (IsHeldAt journal (merge_policy task)) c.in-Swap.is c.requires.held) c.requires.journal
+    ∙ ap (λ held. adds (rules_with c.args.keys c.args.catalogue.now.limits) task (take (position_of held) made.journal) reply) (sym c.in-Swap.is) in
     let adds = c.swap.ensures.adds in
     record {
       made = adds.made ∙ (λ i. with_added (c.who.ensures i) (same i) made);

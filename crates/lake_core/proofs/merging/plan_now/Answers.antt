@@ -1,5 +1,5 @@
 use Rattle.std.proofs.Common.{ap, sym, subst, ◌∙◌}
-use Rattle.lake_model.specs.Journal.{standard_limits}
+use Rattle.record_model.specs.Rules.{wide_limits}
 use Rattle.segment_merge.specs.Planned.{plan_at}
 use Rattle.catalogue.specs.Kept.{IsWithin}
 use Rattle.lake_core.proofs.MergeLemmas.{plan_small, plans_on_ok}
@@ -7,12 +7,12 @@ use Rattle.lake_core.proofs.merging.plan_now.Goals as goal
 
 pub plan_pinned-requires-clause-few : goal.plan_pinned-requires-clause-few
 plan_pinned-requires-clause-few c = λ plan is.
-    (plan_small c.args.policy standard_limits c.args.catalogue.now.limits c.args.catalogue.now.journal plan c.journal-legal.ensures.legal c.requires (subst (IsWithin c.args.catalogue.now.limits) c.counts-within.ensures.value c.counts-within.ensures.within)
+    (plan_small c.args.policy wide_limits c.args.catalogue.now.limits c.args.catalogue.now.journal plan c.journal-legal.ensures.legal c.requires (subst (IsWithin c.args.catalogue.now.limits) c.counts-within.ensures.value c.counts-within.ensures.within)
     (sym (ap (plan_at c.args.policy) c.in_ok-pin.ensures.version) ∙ is)).0
 
 pub plan_pinned-requires-clause-light : goal.plan_pinned-requires-clause-light
 plan_pinned-requires-clause-light c = λ plan is.
-    (plan_small c.args.policy standard_limits c.args.catalogue.now.limits c.args.catalogue.now.journal plan c.journal-legal.ensures.legal c.requires (subst (IsWithin c.args.catalogue.now.limits) c.counts-within.ensures.value c.counts-within.ensures.within)
+    (plan_small c.args.policy wide_limits c.args.catalogue.now.limits c.args.catalogue.now.journal plan c.journal-legal.ensures.legal c.requires (subst (IsWithin c.args.catalogue.now.limits) c.counts-within.ensures.value c.counts-within.ensures.within)
     (sym (ap (plan_at c.args.policy) c.in_ok-pin.ensures.version) ∙ is)).1
 
 pub returns : goal.returns

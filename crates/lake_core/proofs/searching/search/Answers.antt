@@ -10,9 +10,9 @@ pub returns-in-Err : goal.returns-in-Err
 returns-in-Err c journal is =
     let k = c.args.k in
     let refused = c.in-Err.refused in
-    let here : Answers (query_reply refused) (search_answer k (query_read c.bytes.result.now) journal) = query_refused (λ read. search_answer k read journal) (λ fault. refl) c.bytes.result.now refused c.in-Err.ensures.refused in
-    subst (λ reply. Answers reply (search_answer k (query_read c.args.body.now) journal)) (sym c.reply_to_query.ensures)
-    (subst (λ bytes. Answers (query_reply refused) (search_answer k (query_read bytes) journal)) c.bytes.ensures.value here)
+    let here : Answers (query_reply refused) (search_answer k (query_read c.args.keys c.bytes.result.now) journal) = query_refused c.args.keys (λ read. search_answer k read journal) (λ fault. refl) c.bytes.result.now refused c.in-Err.ensures.refused in
+    subst (λ reply. Answers reply (search_answer k (query_read c.args.keys c.args.body.now) journal)) (sym c.reply_to_query.ensures)
+    (subst (λ bytes. Answers (query_reply refused) (search_answer k (query_read c.args.keys bytes) journal)) c.bytes.ensures.value here)
 
 pub returns-in-Ok-find : goal.returns-in-Ok-find
 returns-in-Ok-find c journal is =
@@ -20,6 +20,6 @@ returns-in-Ok-find c journal is =
     let query = c.in-Ok.query in (
       false,
       c.in-Ok-find.ensures ∙ found_now c.args.pin.now journal (query_with k query None) is
-          ∙ query_found (λ read. search_answer k read journal) c.bytes.result.now query c.in-Ok.ensures.sound c.in-Ok.ensures.keys
-          ∙ ap (λ bytes. search_answer k (query_read bytes) journal) c.bytes.ensures.value,
+          ∙ query_found c.args.keys (λ read. search_answer k read journal) c.bytes.result.now query c.in-Ok.ensures.sound c.in-Ok.ensures.keys
+          ∙ ap (λ bytes. search_answer k (query_read c.args.keys bytes) journal) c.bytes.ensures.value,
     )

@@ -1,3 +1,4 @@
+use Rattle.record_model.specs.Rules.{rules_with}
 use Rattle.lake_core.specs.Searches.{IsPinOf}
 use Rattle.commands.specs.Tasks.{task_of}
 use Rattle.run_record.specs.Replies.{reply_of}
@@ -8,4 +9,4 @@ pub returns-clause-answered : goal.returns-clause-answered
 returns-clause-answered g c =
     let seen = c.pin-pinned.new.pass.seen in
     let is : IsPinOf seen c.in-Ok.pin = record { current = c.in-Ok.ensures.version; searched = c.in-Ok.ensures.live } in
-    asked g.B.Bounds.limits c.args.number (task_of c.args.task.now) c.args.pass.now (reply_of c.finish.result) seen c.requires.asks c.requires.merges c.pin-pinned.ensures.grows (c.finish.ensures g.B.Bounds.limits seen is)
+    asked (rules_with c.args.keys g.B.Bounds.limits) c.args.number (task_of c.args.task.now) c.args.pass.now (reply_of c.finish.result) seen c.requires.asks c.requires.merges c.pin-pinned.ensures.grows (c.finish.ensures g.B.Bounds.limits seen is)

@@ -1,3 +1,4 @@
+use Rattle.record_model.specs.Rules.{rules_with}
 use Rattle.std.proofs.Common.{◌≡◌, ◌++◌, ap, refl, sym, subst, ◌∙◌, ℕ, List, length, take, drop, arith}
 use Rattle.std.specs.Prelude.{OnOk}
 use Rattle.std.proofs.Math.Seq.{take-append_seam}
@@ -15,35 +16,35 @@ run_batch-requires-clause-desks g c κs within = commands_within c.args.out.now.
 
 pub settle-requires : goal.settle-requires
 settle-requires g c =
-    let limits = g.B.Bounds.limits in
+    let rules = rules_with g.B.Bounds.keys g.B.Bounds.limits in
     let commands = c.args.batch.now ++ merges_of c.args.merger c.args.batch.now in
     let before = c.args.desks.now.items in
     let answers = c.in_ok-answers.answers.items in
-    let ran = subst (λ (ds : List (Known Entry)). AreServed (IsStep limits) before commands answers ds) (sym c.deref_mut.ensures.value) c.in_ok-answers.ensures.ok in
-    served_apart limits c.args.out.now.made.options.lanes c.args.out.now.made.journal commands answers before c.deref_mut.result.now c.requires.together ran
+    let ran = subst (λ (ds : List (Known Entry)). AreServed (IsStep rules) before commands answers ds) (sym c.deref_mut.ensures.value) c.in_ok-answers.ensures.ok in
+    served_apart rules c.args.out.now.made.options.lanes c.args.out.now.made.journal commands answers before c.deref_mut.result.now c.requires.together ran
 
 pub returns-clause-together : goal.returns-clause-together
 returns-clause-together g c =
-    let limits = g.B.Bounds.limits in
+    let rules = rules_with g.B.Bounds.keys g.B.Bounds.limits in
     let lanes = c.args.out.now.made.options.lanes in
     let commands = c.args.batch.now ++ merges_of c.args.merger c.args.batch.now in
     let before = c.args.desks.now.items in
     let after = c.settle.new.desks in
     let made = c.settle.new.out.made in
     let answers = c.in_ok-answers.answers.items in
-    let ran = subst (λ (ds : List (Known Entry)). AreServed (IsStep limits) before commands answers ds) (sym c.deref_mut.ensures.value) c.in_ok-answers.ensures.ok in
+    let ran = subst (λ (ds : List (Known Entry)). AreServed (IsStep rules) before commands answers ds) (sym c.deref_mut.ensures.value) c.in_ok-answers.ensures.ok in
     let size : c.run_batch.new.desks.len ≡ length after = omega (arith, c.deref_mut.ensures.len, c.settle.auto.desks) in
     let back : take c.run_batch.new.desks.len (after ++ drop (length after) c.run_batch.new.desks.items) ≡ after =
     ap (λ (n : ℕ). take n (after ++ drop (length after) c.run_batch.new.desks.items)) size ∙ take-append_seam after (drop (length after) c.run_batch.new.desks.items) in
     subst (λ (ds : List (Known Entry)). OnOk c.settle.result (AreTogether made.options.lanes made.journal ds)) (sym back)
-    (together_on_ok limits lanes commands c.args.out.now.made made answers before c.deref_mut.result.now after c.settle.result refl c.requires.together ran c.settle.ensures.made c.settle.ensures.meet)
+    (together_on_ok rules lanes commands c.args.out.now.made made answers before c.deref_mut.result.now after c.settle.result refl c.requires.together ran c.settle.ensures.made c.settle.ensures.meet)
 
 pub returns-clause-batch : goal.returns-clause-batch
 returns-clause-batch g c =
-    let limits = g.B.Bounds.limits in
+    let rules = rules_with g.B.Bounds.keys g.B.Bounds.limits in
     let commands = c.args.batch.now ++ merges_of c.args.merger c.args.batch.now in
     let before = c.args.desks.now.items in
     let answers = c.in_ok-answers.answers.items in
-    let ran = subst (λ (ds : List (Known Entry)). AreServed (IsStep limits) before commands answers ds) (sym c.deref_mut.ensures.value) c.in_ok-answers.ensures.ok in
-    one_more_on_ok limits c.args.out.now.made.options.lanes commands c.args.out.now.made c.settle.new.out.made answers before c.deref_mut.result.now c.settle.new.desks c.settle.result c.requires.together ran
+    let ran = subst (λ (ds : List (Known Entry)). AreServed (IsStep rules) before commands answers ds) (sym c.deref_mut.ensures.value) c.in_ok-answers.ensures.ok in
+    one_more_on_ok rules c.args.out.now.made.options.lanes commands c.args.out.now.made c.settle.new.out.made answers before c.deref_mut.result.now c.settle.new.desks c.settle.result c.requires.together ran
     c.settle.ensures.made c.settle.ensures.meet c.settle.ensures.lawful c.settle.ensures.callers

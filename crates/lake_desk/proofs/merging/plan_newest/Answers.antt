@@ -1,5 +1,5 @@
 use Rattle.std.proofs.Common.{sym, ap, ◌∙◌}
-use Rattle.lake_model.specs.Journal.{standard_limits}
+use Rattle.record_model.specs.Rules.{wide_limits}
 use Rattle.segment_merge.specs.Planned.{plan_at}
 use Rattle.lake_core.proofs.MergeLemmas.{plan_small}
 use Rattle.lake_desk.proofs.Answering.{plans_on_ok}
@@ -7,11 +7,11 @@ use Rattle.lake_desk.proofs.merging.plan_newest.Goals as goal
 
 pub plan_pinned-requires-clause-few : goal.plan_pinned-requires-clause-few
 plan_pinned-requires-clause-few g c = λ plan is.
-    (plan_small c.args.policy standard_limits g.B.Bounds.limits c.pin.new.pass.seen plan c.pin.ensures.lawful.legal c.requires.standard c.pin.ensures.lawful.within (sym (ap (plan_at c.args.policy) c.in_ok-pin.ensures.version) ∙ is)).0
+    (plan_small c.args.policy wide_limits g.B.Bounds.limits c.pin.new.pass.seen plan c.pin.ensures.lawful.legal c.requires.wide c.pin.ensures.lawful.within (sym (ap (plan_at c.args.policy) c.in_ok-pin.ensures.version) ∙ is)).0
 
 pub plan_pinned-requires-clause-light : goal.plan_pinned-requires-clause-light
 plan_pinned-requires-clause-light g c = λ plan is.
-    (plan_small c.args.policy standard_limits g.B.Bounds.limits c.pin.new.pass.seen plan c.pin.ensures.lawful.legal c.requires.standard c.pin.ensures.lawful.within (sym (ap (plan_at c.args.policy) c.in_ok-pin.ensures.version) ∙ is)).1
+    (plan_small c.args.policy wide_limits g.B.Bounds.limits c.pin.new.pass.seen plan c.pin.ensures.lawful.legal c.requires.wide c.pin.ensures.lawful.within (sym (ap (plan_at c.args.policy) c.in_ok-pin.ensures.version) ∙ is)).1
 
 pub returns-clause-planned : goal.returns-clause-planned
 returns-clause-planned g c = plans_on_ok c.args.policy c.pin.new.pass.seen c.in_ok-pin.pin c.plan_pinned.result c.pin.ensures.lawful.legal c.in_ok-pin.ensures.version c.plan_pinned.ensures.layout c.plan_pinned.ensures.merged

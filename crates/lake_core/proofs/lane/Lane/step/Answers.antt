@@ -1,5 +1,6 @@
 use Rattle.std.proofs.Common.{rules, arith, ap, sym, subst, ◌∙◌, ◌≡◌, ◌∷◌, ◌++◌, [], drop, false, true, Some, None, map, take, List}
 use Rattle.lake_model.specs.Journal.{Entry, entry_with}
+use Rattle.record_model.specs.Rules.{rules_with}
 use Rattle.record_model.specs.Answered.{adds, has_pin}
 use Rattle.record_model.specs.Play.{Done, done_with, entries_of, who_of}
 use Rattle.record_model.specs.Record.{RunRecord}
@@ -16,11 +17,11 @@ returns-then-not-has_pin-clause-steps c =
     let reply = reply_of c.reply_now-reply.result in
     let (denied, said) = c.reply_now-reply.ensures.answered in
     let kind : has_pin command.task ≡ false = sym c.has_pin.ensures ∙ c.if-not-has_pin.true in
-    let goes : c.reply_now-reply.new.catalogue.journal ≡ c.args.catalogue.now.journal ++ entries_of c.args.catalogue.now.journal command reply =
+    let goes : c.reply_now-reply.new.catalogue.journal ≡ c.args.catalogue.now.journal ++ entries_of (rules_with c.args.keys c.args.catalogue.now.limits) c.args.catalogue.now.journal command reply =
     sym c.reply_now-reply.ensures.adds.journal ∙ ap (λ (m : RunRecord). m.journal) c.reply_now-reply.ensures.adds.made
-    ∙ ap (λ (j : List Entry). j ++ map (entry_with (who_of command)) (adds command.task j reply)) c.requires.journal in (
+    ∙ ap (λ (j : List Entry). j ++ map (entry_with (who_of command)) (adds (rules_with c.args.keys c.args.catalogue.now.limits) command.task j reply)) c.requires.journal in (
       denied,
-      answered_now c.args.catalogue.now.limits denied c.args.catalogue.now.journal c.reply_now-reply.new.catalogue.journal command todo reply c.args.self.now c.answer.new.self c.in-Some.ensures kind said goes
+      answered_now (rules_with c.args.keys c.args.catalogue.now.limits) denied c.args.catalogue.now.journal c.reply_now-reply.new.catalogue.journal command todo reply c.args.self.now c.answer.new.self c.in-Some.ensures kind said goes
           (c.answer.ensures command todo c.in-Some.ensures),
     )
 
@@ -50,11 +51,11 @@ returns-in-Some-take-clause-steps c =
     let kind : has_pin command.task ≡ true = sym c.has_pin.ensures ∙ c.if-not-has_pin.false in
     let holds : c.args.self.now.held ≡ Some held = search rules in
     let (denied, said) = c.reply_when_held.ensures.answered in
-    let goes : c.reply_when_held.new.catalogue.journal ≡ journal ++ entries_of (take (position_of held) journal) command reply =
+    let goes : c.reply_when_held.new.catalogue.journal ≡ journal ++ entries_of (rules_with c.args.keys c.args.catalogue.now.limits) (take (position_of held) journal) command reply =
     sym c.reply_when_held.ensures.adds.journal ∙ ap (λ (m : RunRecord). m.journal) c.reply_when_held.ensures.adds.made
-    ∙ ap (λ (j : List Entry). j ++ map (entry_with (who_of command)) (adds command.task (take (position_of held) j) reply)) c.requires.journal in (
+    ∙ ap (λ (j : List Entry). j ++ map (entry_with (who_of command)) (adds (rules_with c.args.keys c.args.catalogue.now.limits) command.task (take (position_of held) j) reply)) c.requires.journal in (
       denied,
-      answered_then c.args.catalogue.now.limits denied journal c.reply_when_held.new.catalogue.journal command todo held reply c.args.self.now c.answer-in-Some-take.new.self c.in-Some.ensures kind holds said goes
+      answered_then (rules_with c.args.keys c.args.catalogue.now.limits) denied journal c.reply_when_held.new.catalogue.journal command todo held reply c.args.self.now c.answer-in-Some-take.new.self c.in-Some.ensures kind holds said goes
           (c.answer-in-Some-take.ensures command todo (same ∙ c.in-Some.ensures)
           ∙ ap (λ (done : List Done). lane_from todo None (done ++ done_with command reply ∷ [])) kept),
     )
