@@ -1,13 +1,14 @@
 -- The files of the queries that are watched: one more of them, and the first at fault.
-use Rattle.std.proofs.Common.{◌≡◌, refl, ap, sym, ◌∙◌, subst, ℕ, ◌+◌, ◌≤◌, ◌<◌, List, [], ◌∷◌, ◌++◌, map, map-append, length, length-append, length-take, take, arith}
+use Rattle.std.proofs.Common.{◌≡◌, refl, ap, sym, ◌∙◌, subst, ℕ, ◌+◌, ◌≤◌, ◌<◌, ◌⊎◌, inl, inr, List, [], ◌∷◌, ◌++◌, map, length, length-append, length-take, take, arith}
 use Rattle.std.specs.Prelude.{Option, Some, None}
+use Rattle.std.proofs.lemmas.List.{map-append}
 use Rattle.lake_io.specs.Causes.{Rose}
 use Rattle.lake_io.specs.Files as shelf
 use Rattle.lake_model.specs.Texts.{Text}
 use Rattle.lake_model.specs.declared.Keys.TheVariants.{Canonical}
 use Rattle.lake_model.specs.declared.QueryRefused.{QueryRefused}
 use Rattle.lake_model.specs.declared.QueryRefused.TheVariants as query
-use Rattle.lake_model.specs.Queries.{query_fault}
+use Rattle.lake_model.specs.Queries.{query_fault, query_of}
 use Rattle.script_model.specs.Commands.{File, Bytes, Failed, Missing, TooLong}
 use Rattle.record_model.specs.declared.GivenWhy.{GivenWhy}
 use Rattle.record_model.specs.declared.GivenWhy.TheVariants as given
@@ -27,15 +28,17 @@ unfolding queries_from
 queries_more n [] file queries keys are read =
     let none : [] ≡ queries = cc in
     ap (λ (r : GivenRead). read_before n r (AreQueries [])) read ∙ ap (λ (qs : List (List Text)). AreQueries (qs ++ keys ∷ [])) none
-queries_more n (first ∷ files) file queries keys are read = by (given_read first) (queries_from (n + 1) files) refl are
+queries_more n (first ∷ files) file queries keys are read =
+    by (given_read first) (queries_from (n + 1) files) refl are (λ others is. queries_more (n + 1) files file others keys is read)
   where
     by : (r : GivenRead) (rest : QueriesRead) → queries_from (n + 1) files ≡ rest → read_before n r rest ≡ AreQueries queries
+        → ((others : List (List Text)) → queries_from (n + 1) files ≡ AreQueries others → queries_from (n + 1) (files ++ file ∷ []) ≡ AreQueries (others ++ keys ∷ []))
         → read_before n r (queries_from (n + 1) (files ++ file ∷ [])) ≡ AreQueries (queries ++ keys ∷ [])
-    by (NotGiven why) rest is e = cc e
-    by (IsGiven own) (FaultIn path why) is e = cc e
-    by (IsGiven own) (AreQueries others) is e =
+    by (NotGiven why) rest is e more = cc e
+    by (IsGiven own) (FaultIn path why) is e more = cc e
+    by (IsGiven own) (AreQueries others) is e more =
         let same : own ∷ others ≡ queries = cc in
-        ap (with_query own) (queries_more (n + 1) files file others keys is read) ∙ ap (λ (qs : List (List Text)). AreQueries (qs ++ keys ∷ [])) same
+        ap (with_query own) (more others is) ∙ ap (λ (qs : List (List Text)). AreQueries (qs ++ keys ∷ [])) same
 
 -- one file more that is at fault
 fault_more : (n : ℕ) (files : List File) (file : File) (queries : List (List Text)) (why : GivenWhy) → queries_from n files ≡ AreQueries queries → given_read file ≡ NotGiven why
@@ -45,16 +48,18 @@ fault_more n [] file queries why are read =
     let none : [] ≡ queries = cc in
     let here : n ≡ n + length queries = (let e : length queries ≡ 0 = ap (λ (qs : List (List Text)). length qs) (sym none) in omega (arith, e)) in
     ap (λ (r : GivenRead). read_before n r (AreQueries [])) read ∙ ap (λ (m : ℕ). FaultIn m why) here
-fault_more n (first ∷ files) file queries why are read = by (given_read first) (queries_from (n + 1) files) refl are
+fault_more n (first ∷ files) file queries why are read =
+    by (given_read first) (queries_from (n + 1) files) refl are (λ others is. fault_more (n + 1) files file others why is read)
   where
     by : (r : GivenRead) (rest : QueriesRead) → queries_from (n + 1) files ≡ rest → read_before n r rest ≡ AreQueries queries
+        → ((others : List (List Text)) → queries_from (n + 1) files ≡ AreQueries others → queries_from (n + 1) (files ++ file ∷ []) ≡ FaultIn (n + 1 + length others) why)
         → read_before n r (queries_from (n + 1) (files ++ file ∷ [])) ≡ FaultIn (n + length queries) why
-    by (NotGiven other) rest is e = cc e
-    by (IsGiven own) (FaultIn path other) is e = cc e
-    by (IsGiven own) (AreQueries others) is e =
+    by (NotGiven other) rest is e more = cc e
+    by (IsGiven own) (FaultIn path other) is e more = cc e
+    by (IsGiven own) (AreQueries others) is e more =
         let same : own ∷ others ≡ queries = cc in
         let far : n + 1 + length others ≡ n + length queries = (let l : length (own ∷ others) ≡ length queries = ap (λ (qs : List (List Text)). length qs) same in omega (arith, l)) in
-        ap (with_query own) (fault_more (n + 1) files file others why is read) ∙ ap (λ (m : ℕ). FaultIn m why) far
+        ap (with_query own) (more others is) ∙ ap (λ (m : ℕ). FaultIn m why) far
 
 fetched_more : (told : Option (List shelf.File)) (before mid now : ℕ) (paths : List Text) (files : List File) (path : Text) (file : File) → AreFetched told before mid paths files → CameOf told mid now path file
     → AreFetched told before now (paths ++ path ∷ []) (files ++ file ∷ [])
@@ -93,6 +98,32 @@ first_fault told before mid now k n paths all path watched why taken fault cut l
 
 -- ---- a file that could not be read
 
+-- ---- one file
+
+pub failed_given : given_read Failed ≡ NotGiven given.Failed
+unfolding given_read
+failed_given = refl
+
+pub missing_given : given_read Missing ≡ NotGiven given.Missing
+unfolding given_read
+missing_given = refl
+
+pub long_given : given_read TooLong ≡ NotGiven given.TooLong
+unfolding given_read
+long_given = refl
+
+-- the bytes of a file are a query,
+pub bytes_given : (bytes : List ℕ) (keys : List Text) → query_fault Canonical bytes ≡ None → keys ≡ query_of Canonical bytes → given_read (Bytes bytes) ≡ IsGiven keys
+unfolding given_read
+bytes_given bytes keys sound same = ap (keys_given bytes) sound ∙ ap IsGiven (sym same)
+
+-- or at fault
+pub bytes_refused : (bytes : List ℕ) (refused : QueryRefused) (why : GivenWhy) → (refused ≡ query.NoMemory) ⊎ (query_fault Canonical bytes ≡ Some refused) → (refused ≡ query.NoMemory → ⊥)
+    → keys_given bytes (Some refused) ≡ NotGiven why → given_read (Bytes bytes) ≡ NotGiven why
+unfolding given_read
+bytes_refused bytes refused why (inl memory) other said = absurd (other memory)
+bytes_refused bytes refused why (inr fault) other said = ap (keys_given bytes) fault ∙ said
+
 -- a file that came is not at fault for its reading
 bytes_came : (bytes : List ℕ) → given_read (Bytes bytes) ≡ NotGiven given.Failed → ⊥
 unfolding given_read
@@ -108,14 +139,15 @@ bytes_came bytes = by (query_fault Canonical bytes)
 fault_within : (n : ℕ) (files : List File) (path : ℕ) (why : GivenWhy) → queries_from n files ≡ FaultIn path why → path < n + length files
 unfolding queries_from
 fault_within n [] path why e = cc e
-fault_within n (file ∷ files) path why e = by (given_read file) (queries_from (n + 1) files) refl e
+fault_within n (file ∷ files) path why e = by (given_read file) (queries_from (n + 1) files) refl e (λ there other is. fault_within (n + 1) files there other is)
   where
-    by : (r : GivenRead) (rest : QueriesRead) → queries_from (n + 1) files ≡ rest → read_before n r rest ≡ FaultIn path why → path < n + length (file ∷ files)
-    by (NotGiven other) rest is e = let same : n ≡ path = cc in omega (arith, same)
-    by (IsGiven own) (AreQueries others) is e = cc e
-    by (IsGiven own) (FaultIn there other) is e =
+    by : (r : GivenRead) (rest : QueriesRead) → queries_from (n + 1) files ≡ rest → read_before n r rest ≡ FaultIn path why
+        → ((there : ℕ) (other : GivenWhy) → queries_from (n + 1) files ≡ FaultIn there other → there < n + 1 + length files) → path < n + length (file ∷ files)
+    by (NotGiven other) rest is e later = let same : n ≡ path = cc in omega (arith, same)
+    by (IsGiven own) (AreQueries others) is e later = cc e
+    by (IsGiven own) (FaultIn there other) is e later =
         let same : there ≡ path = cc in
-        omega (arith, same, fault_within (n + 1) files there other is)
+        omega (arith, same, later there other is)
 
 fetched_size : (told : Option (List shelf.File)) (before now : ℕ) (paths : List Text) (files : List File) → AreFetched told before now paths files → length files ≡ length paths
 fetched_size told before now [] [] fetched = refl
@@ -143,14 +175,15 @@ module _ (told : Option (List shelf.File)) (path now : ℕ) where
       subst (Rose before) (sym (fetched_none told between now paths files rest last)) came
   failed_rose n before (p ∷ paths) (Missing ∷ files) (between, came, rest) e many = cc e
   failed_rose n before (p ∷ paths) (TooLong ∷ files) (between, came, rest) e many = cc e
-  failed_rose n before (p ∷ paths) (Bytes bytes ∷ files) (between, came, rest) e many = by (given_read (Bytes bytes)) (queries_from (n + 1) files) refl refl e
+  failed_rose n before (p ∷ paths) (Bytes bytes ∷ files) (between, came, rest) e many =
+      by (given_read (Bytes bytes)) (queries_from (n + 1) files) refl refl e
+      (λ fault. rose_since before between now came.2 (failed_rose (n + 1) between paths files rest fault (let m : n + 1 + length files ≡ path + 1 = omega (arith, many) in m)))
     where
-      by : (r : GivenRead) (others : QueriesRead) → given_read (Bytes bytes) ≡ r → queries_from (n + 1) files ≡ others → read_before n r others ≡ FaultIn path given.Failed → Rose before now
-      by (NotGiven why) others is are same = let no : why ≡ given.Failed = cc in absurd (bytes_came bytes (is ∙ ap NotGiven no))
-      by (IsGiven own) (AreQueries queries) is are same = cc same
-      by (IsGiven own) (FaultIn there why) is are same =
-          let at : FaultIn there why ≡ FaultIn path given.Failed = same in
-          rose_since before between now came.2 (failed_rose (n + 1) between paths files rest (are ∙ at) (let m : n + 1 + length files ≡ path + 1 = omega (arith, many) in m))
+      by : (r : GivenRead) (others : QueriesRead) → given_read (Bytes bytes) ≡ r → queries_from (n + 1) files ≡ others → read_before n r others ≡ FaultIn path given.Failed
+          → (queries_from (n + 1) files ≡ FaultIn path given.Failed → Rose before now) → Rose before now
+      by (NotGiven why) others is are same later = let failed : why ≡ given.Failed = cc in absurd (bytes_came bytes (is ∙ ap NotGiven failed))
+      by (IsGiven own) (AreQueries queries) is are same later = cc same
+      by (IsGiven own) (FaultIn there why) is are same later = later (are ∙ same)
 
 -- the first path at fault could not be read
 pub given_failed : (path : ℕ) (paths : List Text) (before now : World) (files : List File) → AreFetched before.files before.fetch_faults now.fetch_faults (take path paths) files → queries_from 1 files ≡ FaultIn path given.Failed

@@ -8,6 +8,7 @@ use Rattle.std.proofs.lemmas.List.{append-nil}
 use Rattle.std.proofs.lemmas.List.Sums.{count_by-le-length, sum_by_push}
 use Rattle.lake_io.specs.Causes.{Rose}
 use Rattle.record_model.specs.Rules.{Rules, standard_rules}
+use Rattle.lake_model.specs.declared.Keys.TheVariants.{Canonical}
 use Rattle.lake_model.specs.Texts.{Text}
 use Rattle.catalogue.specs.Kept.{IsWithin}
 use Rattle.script_model.specs.declared.Reason.{Reason}
@@ -16,7 +17,7 @@ use Rattle.record_model.specs.declared.Status.{Status}
 use Rattle.record_model.specs.declared.Status.TheVariants as status
 use Rattle.script_model.specs.Commands.{File, Batch, is_update_task, updates, fetches}
 use Rattle.script_model.specs.Reading.{read}
-use Rattle.option_model.specs.Plain.{Mode, Run, Make}
+use Rattle.option_model.specs.Plain.{Mode, Run, Make, Watch}
 use Rattle.script_model.specs.Script.{Commands, Whole, FaultAt, commands, commands_with, standard, start, left_of}
 use Rattle.script_model.specs.Options.{Options, plain}
 use Rattle.record_model.specs.Record.{Answered, RunRecord, empty, with_end}
@@ -35,7 +36,8 @@ use Rattle.josie_top.specs.declared.writing.WriteStop.{WriteStop}
 use Rattle.josie_top.specs.declared.writing.WriteStop.TheVariants as stop
 use Rattle.josie_top.specs.Ends.{IsWritten, status_of_end, status_of_refused, status_of_stop}
 use Rattle.script_text.proofs.BatchLemmas.{ReadsLate}
-use Rattle.josie_top.specs.Meets.{EndsModeWell, EndsWell, HasNoFault, IsReadLate, IsSaid, Meets, MeetsMode}
+use Rattle.josie_top.specs.Meets.{EndsWell, HasNoFault, IsReadLate, Meets}
+use Rattle.josie_top.specs.Modes.{EndsModeWell, IsSaid, MeetsMode}
 use Rattle.josie_top.specs.Progress.{AddsAnswers, AreCounted, HasOneMore, IsAnswered, IsBegun, AreWritten, IsGoingOn, IsLateSoFar, IsMade, IsUnderWay}
 use Rattle.josie_top.specs.World.{HasMoved, Moves, World, with_sink}
 use Rattle.script_laws.proofs.FetchFacts.{reads_fetches, script_fetches}
@@ -152,6 +154,7 @@ finished rules options status.NoMemory before mid written faults given outcomes 
       late = tt;
     })
 finished rules options status.Usage before mid written faults given outcomes asked batches made now gave at_end fetched script is writ closed none = absurd none
+finished rules options (status.Given path why) before mid written faults given outcomes asked batches made now gave at_end fetched script is writ closed none = absurd none
 finished rules options status.ReadFault before mid written faults given outcomes asked batches made now gave at_end fetched script is writ closed none = absurd none
 finished rules options (status.Script line why) before mid written faults given outcomes asked batches made now gave at_end fetched script is writ closed none = absurd none
 
@@ -545,6 +548,7 @@ nothing_asked rules options world made is = record { given = []; taken = []; out
 pub nothing_made : (mode : Mode) (world : World) (made : RunRecord) → made ≡ empty plain → MeetsMode mode status.NoMemory world world made
 nothing_made (Run options) world made is = nothing_done (standard_rules options.keys) options world made is
 nothing_made (Make seed tables rows) world made is = record { taken = []; took = Appends-nil world.written; row = inl (refl, is) }
+nothing_made (Watch k paths) world made is = inl (record { unread = refl; unwritten_is = refl; empty_is = is })
 
 -- The mode that the words say; any, where they say none.
 record Said (said : Option Mode) (result : Status) (world : World) (made : RunRecord) : Type 0 where
@@ -588,6 +592,7 @@ pub ends_well : (rules : Rules) (options : Options) (result : Status) (before no
 ends_well rules options status.Done before now made met moves = λ script told whole quiet still. inl refl
 ends_well rules options status.NoMemory before now made met moves = λ script told whole quiet still. inr refl
 ends_well rules options status.Usage before now made met moves = λ script told whole quiet still. absurd (moves.usage refl)
+ends_well rules options (status.Given path why) before now made met moves = λ script told whole quiet still. absurd met.row
 ends_well rules options status.ReadFault before now made met moves = λ script told whole quiet still. absurd (quiet (moves.read_fault refl))
 ends_well rules options status.WriteFault before now made met moves = λ script told whole quiet still. absurd (still (moves.write_fault refl))
 ends_well rules options (status.Script line why) before now made met moves = λ script told whole quiet still. absurd (not_refused rules options line why before now made script met told whole)
@@ -599,6 +604,7 @@ refused_ends_well said words.NoMemory world why result same mode says = subst (�
     memory_ends_well : (mode : Mode) → EndsModeWell mode status.NoMemory world world
     memory_ends_well (Run options) = λ script told whole quiet still. inr refl
     memory_ends_well (Make seed tables rows) = λ still. inr refl
+    memory_ends_well (Watch k paths) = λ reads writes fetches. tt
 refused_ends_well said words.Usage world (inl same_word) result same mode says = absurd (let e : words.Usage ≡ words.NoMemory = same_word in cc)
 refused_ends_well said words.Usage world (inr none) result same mode says = absurd (let no : None ≡ Some mode = sym none ∙ says in cc)
 

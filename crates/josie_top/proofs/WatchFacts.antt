@@ -1,5 +1,5 @@
 -- A run that watches queries: what it tells, and how it ends.
-use Rattle.std.proofs.Common.{◌≡◌, refl, ap, sym, ◌∙◌, subst, ℕ, ◌+◌, ◌≤◌, inl, inr, List, [], ◌∷◌, ◌++◌, append_assoc, Bool, true, false, length, take, drop, arith, map}
+use Rattle.std.proofs.Common.{◌≡◌, refl, ap, sym, ◌∙◌, subst, ℕ, ◌+◌, ◌≤◌, inl, inr, List, [], ◌∷◌, ◌++◌, append_assoc, Bool, true, false, length, length-append, take, drop, arith, map}
 use Rattle.std.specs.Prelude.{Option, Some, None, if◌then◌else◌}
 use Rattle.std.specs.Io.KnownBytes.{Appends}
 use Rattle.std.proofs.KnownBytes.{Appends-nil, Appends-trans}
@@ -74,16 +74,16 @@ module _ (k : ℕ) (queries : List (List Text)) (before now : World) (made : Run
 
   -- the script ended, but not at the end of the source
   pub watched_unended : (ended : Status) → is_done ended ≡ false → RanAs ended → (ended ≡ status.Usage → ⊥) → IsToldSoFar k queries before now made → IsWatched k queries ended before now made
-  watched_unended status.Done no ran usage told = absurd (let f : true ≡ false = no in cc)
-  watched_unended (status.Script line reason) no ran usage told =
+  watched_unended status.Done undone ran usage told = absurd (let f : true ≡ false = undone in cc)
+  watched_unended (status.Script line reason) undone ran usage told =
       record { beneath = status.Script line reason; ends = refl; ran = ran; taken = told.taken; took = told.took; told = told_whole k queries before now made told ran.row.ended }
-  watched_unended status.Usage no ran usage told = absurd (usage refl)
-  watched_unended (status.Given path why) no ran usage told = absurd ran.row
-  watched_unended status.ReadFault no ran usage told =
+  watched_unended status.Usage undone ran usage told = absurd (usage refl)
+  watched_unended (status.Given path why) undone ran usage told = absurd ran.row
+  watched_unended status.ReadFault undone ran usage told =
       record { beneath = status.ReadFault; ends = refl; ran = ran; taken = told.taken; took = told.took; told = told_whole k queries before now made told ran.row.ended }
-  watched_unended status.WriteFault no ran usage told =
+  watched_unended status.WriteFault undone ran usage told =
       record { beneath = status.WriteFault; ends = inr refl; ran = ran; taken = told.taken; took = told.took; told = told_begins k queries before now made told }
-  watched_unended status.NoMemory no ran usage told = watched_memory ran told
+  watched_unended status.NoMemory undone ran usage told = watched_memory ran told
 
 -- the part of what a batch changed that was written where the text was not written whole
 pub watched_stopped : (k : ℕ) (queries : List (List Text)) (before mid now : World) (made later : RunRecord) (why : WriteStop) (part : List ℕ) → IsToldSoFar k queries before mid made
@@ -115,6 +115,15 @@ watched_stopped k queries before mid now made later why part told begins (rest, 
     by stop.NoMemory r = record { beneath = status.NoMemory; ends = inr refl; ran = r; taken = told.taken ++ part; took = all; told = beginning }
 
 -- ---- the last line
+
+pub done_status : (ended : Status) → is_done ended ≡ true → ended ≡ status.Done
+done_status status.Done done = refl
+done_status (status.Script line reason) done = absurd (let f : false ≡ true = done in cc)
+done_status status.Usage done = absurd (let f : false ≡ true = done in cc)
+done_status (status.Given path why) done = absurd (let f : false ≡ true = done in cc)
+done_status status.ReadFault done = absurd (let f : false ≡ true = done in cc)
+done_status status.WriteFault done = absurd (let f : false ≡ true = done in cc)
+done_status status.NoMemory done = absurd (let f : false ≡ true = done in cc)
 
 module _ (k : ℕ) (queries : List (List Text)) (before mid now : World) (made : RunRecord) (same : unwritten now ≡ unwritten mid)
     (ran : Meets (standard_rules Canonical) made_options status.Done (unwritten before) (unwritten mid) made) (told : IsToldSoFar k queries before mid made) where
@@ -156,14 +165,19 @@ module _ (k : ℕ) (queries : List (List Text)) (before mid now : World) (made :
 -- ---- the journal
 
 -- what is played goes on from the journal before it
-pub batch_grows : (rules : Rules) (lanes : ℕ) (merger : Option ℕ) (batch : Batch) (piece : List ℕ) (turns : List Bool) (before now : RunRecord) → IsOfLanes lanes batch
+played_grows : (rules : Rules) (lanes : ℕ) (merger : Option ℕ) (batch : Batch) (piece : List ℕ) (turns : List Bool) (before now : RunRecord) → IsOfLanes lanes batch
     → now ≡ batch_after rules lanes batch (merges_of merger batch) piece turns before → (more : List Entry) × (now.journal ≡ before.journal ++ more)
-batch_grows rules lanes None batch piece turns before now of_lanes is =
+played_grows rules lanes None batch piece turns before now of_lanes is =
     let (more, grows, each, whos) = played_batch_right rules lanes batch [] piece turns before.journal of_lanes tt in
     (more, ap (λ (m : RunRecord). m.journal) is ∙ grows)
-batch_grows rules lanes (Some next) batch piece turns before now of_lanes is =
+played_grows rules lanes (Some next) batch piece turns before now of_lanes is =
     let (more, grows, each, whos) = played_batch_right rules lanes batch (merger_commands true next batch) piece turns before.journal of_lanes (merges_are true next batch) in
     (more, ap (λ (m : RunRecord). m.journal) is ∙ grows)
+
+pub batch_grows : (rules : Rules) (lanes : ℕ) (merger : Option ℕ) (batch : Batch) (piece : List ℕ) (before now : RunRecord) → IsOfLanes before.options.lanes batch → lanes ≡ before.options.lanes
+    → (turns : List Bool) × (now ≡ batch_after rules lanes batch (merges_of merger batch) piece turns before) → (more : List Entry) × (now.journal ≡ before.journal ++ more)
+batch_grows rules lanes merger batch piece before now of_lanes same (turns, is) =
+    played_grows rules lanes merger batch piece turns before now (subst (λ (n : ℕ). IsOfLanes n batch) (sym same) of_lanes) is
 
 -- what goes on from a journal begins with it
 pub journal_begins : (before after more : List Entry) → after ≡ before ++ more → (length before ≤ length after) × (take (length before) after ≡ before)
@@ -174,10 +188,10 @@ journal_begins before after more is = (
 
 -- ---- the sink behind a run whose replies are not written
 
-module _ {refused : Type 0} {before now : World} where
-  rose_never : Rose 0 0 → ⊥
-  rose_never rose = absurd (omega (arith, rose))
+rose_never : Rose 0 0 → ⊥
+rose_never rose = omega (arith, rose)
 
+module _ {refused : Type 0} {before now : World} where
   -- What a run moves whose replies are not written, where nothing else was written.
   pub written_moves : (result : Status) → before.write_faults ≡ now.write_faults → Moves refused result (unwritten before) (unwritten now) → Moves refused result before now
   written_moves result still moves = record {

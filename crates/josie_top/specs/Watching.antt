@@ -1,5 +1,5 @@
 -- What a run that watches queries comes to.
-use Rattle.std.specs.Prelude.{ℕ, ◌≡◌, ◌⊎◌, ⊤, List, [], ◌++◌, take, if◌then◌else◌, None}
+use Rattle.std.specs.Prelude.{ℕ, ◌≡◌, ◌≤◌, ◌⊎◌, ⊤, List, [], ◌++◌, take, if◌then◌else◌, None}
 use Rattle.std.specs.Io.KnownBytes.{Appends}
 use Rattle.lake_model.specs.declared.Keys.TheVariants.{Canonical}
 use Rattle.lake_model.specs.Texts.{Text}
@@ -15,7 +15,11 @@ use Rattle.record_model.specs.Statuses.{IsPrefix}
 use Rattle.record_model.specs.Watched.{AreQueries, FaultIn, end_text, queries_from, watch_text}
 use Rattle.option_model.specs.Generator.{made_options}
 use Rattle.script_text.specs.Outcomes.{AreFetched}
+use Rattle.script_text.specs.Gathering.{Gathering}
+use Rattle.column_watch.specs.Watching.{WatchesOf, watches_with}
+use Rattle.josie_top.specs.Given.{all_watched}
 use Rattle.josie_top.specs.Meets.{Meets}
+use Rattle.josie_top.specs.Progress.{IsUnderWay}
 use Rattle.josie_top.specs.World.{World, with_sink}
 
 -- ---- the queries
@@ -77,6 +81,14 @@ pub record IsToldSoFar (k : ℕ) (queries : List (List Text)) (before now : Worl
   pub taken : List ℕ
   pub took : Appends before.written now.written taken
   pub text_is : taken ≡ watch_text k queries made.journal
+
+-- A run between two batches that watches queries: as a run whose replies are not written, and all that its journal changed was told.
+pub record IsWatchingOn (first now : World) (gathering : Gathering) (made : RunRecord) (number : ℕ) (watches before : WatchesOf) : Type 0 where
+  pub next : ℕ
+  pub way : IsUnderWay (standard_rules Canonical) made_options (unwritten first) (unwritten now) gathering made number next
+  pub writes : first.write_faults ≤ now.write_faults
+  pub taken : watches ≡ watches_with made.journal before.queries
+  pub told : (k : ℕ) (queries : List (List Text)) → before.queries ≡ all_watched k queries → IsToldSoFar k queries first now made
 
 -- ---- the whole
 

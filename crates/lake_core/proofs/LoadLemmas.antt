@@ -71,25 +71,29 @@ added_at catalogue limits journal entry at is h = h ∙ ap (λ (c : CatalogueOf)
 
 -- ---- what is read of a block
 
-pub csv_refusal : (keys : Keys) (name : Text) (bytes : List ℕ) (e : CsvRefused) → (e ≡ csv.NoMemory) ⊎ (csv_fault (most_columns keys) bytes ≡ Some e) → IsRefusal (table_read keys name bytes) (csv_reply e)
-unfolding table_read
-csv_refusal keys name bytes e (inl none) = inl (ap csv_reply none)
-csv_refusal keys name bytes e (inr h) = inr (OfCsv e, ap (records_read keys name (records_of bytes)) h, refl)
+module _ (keys : Keys) (name : Text) (bytes : List ℕ) (most : ℕ) (most_is : most ≡ most_columns keys) where
+  -- as many columns as these keys allow
+  allowed : csv_fault most bytes ≡ csv_fault (most_columns keys) bytes
+  allowed = ap (λ (n : ℕ). csv_fault n bytes) most_is
 
-sets_of : (keys : Keys) (name : Text) (bytes : List ℕ) → csv_fault (most_columns keys) bytes ≡ None → table_read keys name bytes ≡ sets_read keys name (records_of bytes) (sets_fault keys (records_of bytes))
-unfolding table_read
-sets_of keys name bytes none = ap (records_read keys name (records_of bytes)) none
+  pub csv_refusal : (e : CsvRefused) → (e ≡ csv.NoMemory) ⊎ (csv_fault most bytes ≡ Some e) → IsRefusal (table_read keys name bytes) (csv_reply e)
+  unfolding table_read
+  csv_refusal e (inl none) = inl (ap csv_reply none)
+  csv_refusal e (inr h) = inr (OfCsv e, ap (records_read keys name (records_of bytes)) (sym allowed ∙ h), refl)
 
-pub sets_refusal : (keys : Keys) (name : Text) (bytes : List ℕ) (rows : List Record) (e : SetRefused) → csv_fault (most_columns keys) bytes ≡ None → rows ≡ records_of bytes
-    → (e ≡ sets.NoMemory) ⊎ (sets_fault keys rows ≡ Some e) → IsRefusal (table_read keys name bytes) (sets_reply e)
-sets_refusal keys name bytes rows e none same (inl memory) = inl (ap sets_reply memory)
-sets_refusal keys name bytes rows e none same (inr h) =
-    inr (OfSets e, sets_of keys name bytes none ∙ ap (sets_read keys name (records_of bytes)) (ap (sets_fault keys) (sym same) ∙ h), refl)
+  sets_of : csv_fault most bytes ≡ None → table_read keys name bytes ≡ sets_read keys name (records_of bytes) (sets_fault keys (records_of bytes))
+  unfolding table_read
+  sets_of none = ap (records_read keys name (records_of bytes)) (sym allowed ∙ none)
 
-pub table_made : (keys : Keys) (name : Text) (bytes : List ℕ) (rows : List Record) → csv_fault (most_columns keys) bytes ≡ None → rows ≡ records_of bytes → sets_fault keys rows ≡ None
-    → table_read keys name bytes ≡ IsTable (table_of keys name rows)
-table_made keys name bytes rows none same small =
-    sets_of keys name bytes none ∙ ap (sets_read keys name (records_of bytes)) (ap (sets_fault keys) (sym same) ∙ small) ∙ ap (λ r. IsTable (table_of keys name r)) (sym same)
+  pub sets_refusal : (rows : List Record) (e : SetRefused) → csv_fault most bytes ≡ None → rows ≡ records_of bytes
+      → (e ≡ sets.NoMemory) ⊎ (sets_fault keys rows ≡ Some e) → IsRefusal (table_read keys name bytes) (sets_reply e)
+  sets_refusal rows e none same (inl memory) = inl (ap sets_reply memory)
+  sets_refusal rows e none same (inr h) =
+      inr (OfSets e, sets_of none ∙ ap (sets_read keys name (records_of bytes)) (ap (sets_fault keys) (sym same) ∙ h), refl)
+
+  pub table_made : (rows : List Record) → csv_fault most bytes ≡ None → rows ≡ records_of bytes → sets_fault keys rows ≡ None → table_read keys name bytes ≡ IsTable (table_of keys name rows)
+  table_made rows none same small =
+      sets_of none ∙ ap (sets_read keys name (records_of bytes)) (ap (sets_fault keys) (sym same) ∙ small) ∙ ap (λ r. IsTable (table_of keys name r)) (sym same)
 
 -- ---- a load that its bytes refuse
 

@@ -3,7 +3,7 @@ use Rattle.std.specs.Prelude.{Some}
 use Rattle.option_model.specs.Plain as said
 use Rattle.command_line.specs.Words.{mode_of}
 use Rattle.command_line.proofs.ModeLemmas.{plain_is_read}
-use Rattle.josie_top.specs.Meets.{EndsModeWell}
+use Rattle.josie_top.specs.Modes.{EndsModeWell}
 use Rattle.josie_top.specs.World.{World, world_of}
 use Rattle.josie_top.proofs.RunFacts.{words_refused, refused_moves, refused_ends_well, moves_said}
 use Rattle.josie_top.proofs.run.Goals as goal

@@ -1,7 +1,7 @@
 use Rattle.std.proofs.Common.{ap, subst, sym}
 use Rattle.option_model.specs.Plain as said
 use Rattle.command_line.specs.Words.{mode_of}
-use Rattle.josie_top.specs.Meets.{EndsModeWell, MeetsMode}
+use Rattle.josie_top.specs.Modes.{EndsModeWell, MeetsMode}
 use Rattle.josie_top.specs.World.{World, with_sink, world_of}
 use Rattle.josie_top.proofs.RunFacts.{make_ends_well}
 use Rattle.josie_top.proofs.run_mode.Goals as goal

@@ -26,7 +26,7 @@ pub begin_batch-requires : goal.begin_batch-requires
 begin_batch-requires g c = let (way, on, desks) = c.loop-number.invariant in on
 
 pub returns-in-Err-clause-table : goal.returns-in-Err-clause-table
-returns-in-Err-clause-table g c = let (way, on, desks) = c.loop-number.invariant in c.in-Err.ensures.ends _ _ _ _ way
+returns-in-Err-clause-table g c = let (way, on, desks) = c.loop-number.invariant in c.in-Err.ensures.ends _ _ _ _ _ way
 
 pub returns-in-Err-clause-moves : goal.returns-in-Err-clause-moves
 returns-in-Err-clause-moves g c = let (way, on, desks) = c.loop-number.invariant in moves_since c.in-Err.status way.moved c.in-Err.ensures.moves
@@ -55,7 +55,7 @@ returns-in-Some-clause-table g c =
     c.options.result.now.merge c.merger_from-merger.result still c.in-Ok.ensures.begun (ap (λ (a : List Answered). length a) c.answers-first.ensures) (ap (λ (o : Options). o.merge) c.options.ensures) c.merger_from-merger.ensures
     (lanes_more (rules_with g.B.Bounds.keys g.B.Bounds.limits) c.loop-number.number c.merger_from-merger.result c.in-Ok.batch c.begin_batch.new.out.made c.answer_batch.new.out.made free of_lanes batch) (lanes_answers (rules_with g.B.Bounds.keys g.B.Bounds.limits) _ _ _ _ batch) in
     let outside : World = world_of (g.S.Source.left c.begin_batch.new.source) (g.S.Source.faults c.begin_batch.new.source) (g.K.Sink.written c.begin_batch.new.sink) (g.K.Sink.faults c.begin_batch.new.sink) (g.F.Shelf.files c.begin_batch.new.shelf) (g.F.Shelf.faults c.begin_batch.new.shelf) in
-    c.in-Some.ensures.answered _ _ outside _ _ answered
+    c.in-Some.ensures.answered _ _ _ outside _ _ answered
 
 pub returns-in-Some-clause-moves : goal.returns-in-Some-clause-moves
 returns-in-Some-clause-moves g c =
@@ -77,7 +77,7 @@ loop-number-preserved g c =
     let first : World = world_of (g.S.Source.left c.args.source.now) (g.S.Source.faults c.args.source.now) (g.K.Sink.written c.args.sink.now) (g.K.Sink.faults c.args.sink.now) (g.F.Shelf.files c.args.shelf.now) (g.F.Shelf.faults c.args.shelf.now) in
     let outside : World = world_of (g.S.Source.left c.begin_batch.new.source) (g.S.Source.faults c.begin_batch.new.source) (g.K.Sink.written c.begin_batch.new.sink) (g.K.Sink.faults c.begin_batch.new.sink) (g.F.Shelf.files c.begin_batch.new.shelf) (g.F.Shelf.faults c.begin_batch.new.shelf) in
     let went = c.end_batch.ensures.goes c.in_default.is in
-    let now = c.in_default.ensures.answered _ _ outside _ _ answered in (
+    let now = c.in_default.ensures.answered _ _ _ outside _ _ answered in (
       subst (λ (n : ℕ). IsUnderWay (rules_with g.B.Bounds.keys g.B.Bounds.limits) c.args.out.now.made.options first (with_sink (g.K.Sink.written c.end_batch.new.sink) (g.K.Sink.faults c.end_batch.new.sink) outside) c.begin_batch.new.gather c.end_batch.new.out.made (c.loop-number.number + 1) (c.loop-number.next + n)) (sym c.updates-next.ensures) now,
       went.1,
       subst (λ (m : RunRecord). AreTogether m.options.lanes m.journal c.answer_batch.new.desks.items) (sym went.0) (on_ok c.answer_batch.result _ fine c.answer_batch.ensures.together),

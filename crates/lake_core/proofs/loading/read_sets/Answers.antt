@@ -10,7 +10,7 @@ pub returns-in-Err-clause-refused : goal.returns-in-Err-clause-refused
 returns-in-Err-clause-refused c =
     let name = c.args.name.now in
     let refused = c.in-Err.refused in
-    let here : IsRefusal (table_read c.args.keys name c.bytes.result.now) (csv_reply refused) = csv_refusal c.args.keys name c.bytes.result.now refused c.in-Err.ensures.refused in
+    let here : IsRefusal (table_read c.args.keys name c.bytes.result.now) (csv_reply refused) = csv_refusal c.args.keys name c.bytes.result.now c.most_columns.result c.most_columns.ensures.value refused c.in-Err.ensures.refused in
     subst (IsRefusal (table_read c.args.keys name c.args.body.now)) (sym c.reply_to_csv.ensures) (subst (λ bytes. IsRefusal (table_read c.args.keys name bytes) (csv_reply refused)) c.bytes.ensures.value here)
 
 pub returns-in-Err-build-clause-refused : goal.returns-in-Err-build-clause-refused
@@ -18,13 +18,13 @@ returns-in-Err-build-clause-refused c =
     let name = c.args.name.now in
     let refused = c.in-Err-build.refused in
     let here : IsRefusal (table_read c.args.keys name c.bytes.result.now) (sets_reply refused) =
-    sets_refusal c.args.keys name c.bytes.result.now c.in-Ok.raw refused c.in-Ok.ensures.sound c.in-Ok.ensures.table c.in-Err-build.ensures.refused in
+    sets_refusal c.args.keys name c.bytes.result.now c.most_columns.result c.most_columns.ensures.value c.in-Ok.raw refused c.in-Ok.ensures.sound c.in-Ok.ensures.table c.in-Err-build.ensures.refused in
     subst (IsRefusal (table_read c.args.keys name c.args.body.now)) (sym c.reply_to_sets.ensures) (subst (λ bytes. IsRefusal (table_read c.args.keys name bytes) (sets_reply refused)) c.bytes.ensures.value here)
 
 pub returns-in-Ok-new-clause-table : goal.returns-in-Ok-new-clause-table
 returns-in-Ok-new-clause-table c =
     let name = c.args.name.now in
     let raw = c.in-Ok.raw in
-    let made : table_read c.args.keys name c.bytes.result.now ≡ IsTable (table_of c.args.keys name raw) = table_made c.args.keys name c.bytes.result.now raw c.in-Ok.ensures.sound c.in-Ok.ensures.table c.in-Ok-build.ensures.sound in
+    let made : table_read c.args.keys name c.bytes.result.now ≡ IsTable (table_of c.args.keys name raw) = table_made c.args.keys name c.bytes.result.now c.most_columns.result c.most_columns.ensures.value raw c.in-Ok.ensures.sound c.in-Ok.ensures.table c.in-Ok-build.ensures.sound in
     ap (table_read c.args.keys name) (sym c.bytes.ensures.value) ∙ made
     ∙ ap (λ n. IsTable (table_of c.args.keys n raw)) (sym c.copy.ensures) ∙ ap IsTable (sym (c.in-Ok-new.ensures ∙ c.in-Ok-build.ensures.table))
