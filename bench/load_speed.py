@@ -7,7 +7,7 @@ The table is generated, always the same, and of 16 MiB with its two command line
 Two tables are measured: one whose values are ASCII, and one in which every fourth value has accents or full-width letters,
 whose keys take more work. A time is the least of N whole runs of the program, with its start, which is
 shown by itself. The plain pass is `wc -w` over the same bytes, in the C locale: it looks at each byte once and keeps
-nothing. The third number is Python's csv and unicodedata doing the same work as josie: records, keys, distinct values.
+nothing. josie is measured with each of its two profiles. The last number is Python's csv and unicodedata doing the same work as josie: records, keys, distinct values.
 """
 import csv
 import io
@@ -83,11 +83,13 @@ def main():
     for name, other_words in (("ASCII values", False), ("one value in four beyond ASCII", True)):
         data = table(other_words)
         whole = least_time(given.times, [given.josie, "run"], data)
+        second = least_time(given.times, [given.josie, "run", "--profile", "2"], data)
         plain = least_time(given.times, ["wc", "-w"], data)
         python = python_time(given.times, data)
         size = len(data) / 1e6
         print(f"{name}: {size:.2f} MB")
         print(f"  josie       {size / whole:8.1f} MB/s   {whole * 1000:8.1f} ms")
+        print(f"  profile 2   {size / second:8.1f} MB/s   {second * 1000:8.1f} ms")
         print(f"  plain pass  {size / plain:8.1f} MB/s   {plain * 1000:8.1f} ms")
         print(f"  Python csv  {size / python:8.1f} MB/s   {python * 1000:8.1f} ms")
 

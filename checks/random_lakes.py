@@ -7,12 +7,14 @@ The seeds are fixed, so the scripts are always the same. They load from blocks a
 columns over a few names and values, in batches: names that are taken or unknown, files and places that do not exist, tables with two columns of one name, fields
 without a value, values that differ only by case and by the white space around them, quoted fields, lines with a carriage return or a further dot, tables without a
 header or with a record of another length, fields and lines that are not UTF-8, words of lanes, and further spaces between words. The model is
-`plain_lake.py`; what josie writes, every second script with a trace, is compared with it byte for byte.
+`plain_lake.py`; what josie writes, every second script with a trace, is compared with it byte for byte. Where a contain is asked beside a search for 10,000 columns,
+josie's rows of the contain are also compared with those of its search that have enough of the values.
 
 It prints one line, and ends with 0 if josie writes what the model says, or else with 1.
 """
 import os
 import random
+import re
 import subprocess
 import tempfile
 
@@ -21,7 +23,7 @@ import plain_lake
 from plain_lake import NOT_UTF8
 SCRIPTS = 6
 COMMANDS = 450
-MERGE_SCRIPTS = 2  # these have twenty searches before and after each merge
+MERGE_SCRIPTS = 2  # these have ten searches and ten contains before and after each merge
 MERGE_COMMANDS = 2000
 NAMES = ["a", "b", "B", "ab", "t-1", "t1", "t10", "t2", "~", "!x", "\"q\"", "\\"]
 COLUMNS = ["c", "C", "c", "d", "", " c", "two words", "a,b", "\"", "\\", "x\ny", "tab\there"]
@@ -42,6 +44,7 @@ class Script:
         self.journal = []
         self.files = {}
         self.commands = 0
+        self.besides = []  # the number of a search for all columns, and the fraction that the next command asks of them
 
     def command(self, line, replies, block=None):
         self.commands += 1
@@ -148,28 +151,33 @@ class Script:
         block = [self.value() for _ in range(chance.randint(0, 7))]
         self.command(f"search {most}", plain_lake.search(self.lake, most, block), block)
 
+    def fraction(self):
+        whole = self.chance.choice([1, 2, 3, 10, 10000])
+        return self.chance.randint(1, whole), whole
+
     def contain(self):
-        chance = self.chance
-        whole = chance.choice([1, 2, 3, 10, 10000])
-        part = chance.randint(1, whole)
-        block = [self.value() for _ in range(chance.randint(0, 7))]
+        part, whole = self.fraction()
+        block = [self.value() for _ in range(self.chance.randint(0, 7))]
         self.command(f"contain {part} {whole}", plain_lake.contain(self.lake, part, whole, block), block)
 
-    def ask(self, searches):
-        """These searches, one after another."""
-        for most, block in searches:
+    def ask(self, questions):
+        """These searches, each with a contain of the same values, one after another."""
+        for most, (part, whole), block in questions:
             self.command(f"search {most}", plain_lake.search(self.lake, most, block), block)
+            if most == 10000:
+                self.besides.append((self.commands, part, whole))
+            self.command(f"contain {part} {whole}", plain_lake.contain(self.lake, part, whole, block), block)
 
     def merge(self):
-        """A merge, with the same twenty searches before and after it if that is asked for: their rows stay, since the model's do not depend on parts."""
+        """A merge, with the same questions before and after it if that is asked for: their rows stay, since the model's do not depend on parts."""
         chance = self.chance
         whole = chance.random() < 0.3
-        searches = []
+        questions = []
         if self.asked_merges:
-            searches = [(chance.choice([1, 2, 5, 10000]), [self.value() for _ in range(chance.randint(1, 7))]) for _ in range(20)]
-        self.ask(searches)
+            questions = [(chance.choice([1, 5, 10000, 10000]), self.fraction(), [self.value() for _ in range(chance.randint(1, 7))]) for _ in range(10)]
+        self.ask(questions)
         self.update("merge all" if whole else "merge", plain_lake.merge(self.lake, self.lake, whole))
-        self.ask(searches)
+        self.ask(questions)
 
     def skipped(self):
         self.lines.append(self.chance.choice(["", "   ", "# a remark", "#load a"]))
@@ -221,7 +229,8 @@ def difference(seed, script, josie, folder):
         return f"script {seed}: status {ended.returncode}: {ended.stderr.decode(errors='replace').strip()}"
     wanted = "".join(line + "\n" for line in script.wanted(trace)).encode()
     if ended.stdout == wanted:
-        return None
+        wrong = uneven(script, ended.stdout.decode())
+        return wrong and f"script {seed}: contain {wrong} has other rows than the search before it"
     want_lines, got_lines = wanted.split(b"\n"), ended.stdout.split(b"\n")
     for number, (want, got) in enumerate(zip(want_lines, got_lines), 1):
         if want != got:
@@ -229,16 +238,44 @@ def difference(seed, script, josie, folder):
     return f"script {seed}: {len(want_lines) - 1} lines of replies wanted, got {len(got_lines) - 1}"
 
 
+def replies_of(text):
+    """The lines of each reply that a run wrote, by its number."""
+    replies, number = {}, None
+    for line in text.split("\n"):
+        if line and not line.startswith(" "):
+            number = line.split(" ")[0]
+        replies.setdefault(number, []).append(line)
+    return replies
+
+
+def enough_rows(reply, part, whole):
+    """The rows of a reply with at least this fraction of the query's values."""
+    values = int(reply[0].split(" of ")[1].split(" ")[0])
+    rows = [line for line in reply[1:] if re.match("  [0-9]+ ", line)]
+    return [line for line in rows if whole * int(line.split()[0]) >= part * values]
+
+
+def uneven(script, text):
+    """The number of the first contain of which the rows are not those of the search before it that have enough, or None."""
+    replies = replies_of(text)
+    for number, part, whole in script.besides:
+        all_rows, rows = replies[str(number)], replies[str(number + 1)]
+        if " refused " not in all_rows[0] and enough_rows(all_rows, part, whole) != enough_rows(rows, 0, 1):
+            return number + 1
+    return None
+
+
 def check(josie, _words):
-    commands = 0
+    commands = besides = 0
     for seed in range(1, SCRIPTS + MERGE_SCRIPTS + 1):
         script = script_of(seed)
         commands += script.commands
+        besides += len(script.besides)
         with tempfile.TemporaryDirectory() as folder:
             found = difference(seed, script, josie, folder)
         if found:
             raise Wrong(found)
-    return f"{SCRIPTS + MERGE_SCRIPTS} scripts, {commands} commands, as the model says"
+    return f"{SCRIPTS + MERGE_SCRIPTS} scripts, {commands} commands, as the model says, {besides} contains beside searches"
 
 
 if __name__ == "__main__":

@@ -33,6 +33,9 @@ class Lake:
     With `profiles`, each table that is loaded is read by Python too, for the marks on its columns and for warnings (`profile`); otherwise only its header
     is read, which makes long loads shorter.
 
+    With `compatibility`, values are compared by Unicode's compatibility caseless matching: full-width letters, ligatures, circled digits and superscripts are the
+    same as their plain forms.
+
     >>> with Lake() as lake:
     ...     _ = lake.load("stations", b"id,city\\n1,Oslo\\n2,Lima\\n")
     ...     _ = lake.load("rivers", b"river,mouth\\nTiber,Rome\\nRimac,LIMA\\n")
@@ -40,8 +43,8 @@ class Lake:
     (Match(overlap=1, table='rivers', place=2, column='mouth'),)
     """
 
-    def __init__(self, program: str | None = None, *, profiles: bool = True) -> None:
-        self._program = Program(program)
+    def __init__(self, program: str | None = None, *, profiles: bool = True, compatibility: bool = False) -> None:
+        self._program = Program(program, ["--profile", "2"] if compatibility else [])
         self._reads_tables = profiles
         self._profiles: dict[str, Profile | None] = {}
         self._sizes: dict[tuple[str, int], int] = {}

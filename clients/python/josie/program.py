@@ -51,10 +51,10 @@ def block(data: bytes) -> bytes:
 class Program:
     """A josie that runs until `close`, or until it ends by itself."""
 
-    def __init__(self, path: str | None = None) -> None:
+    def __init__(self, path: str | None = None, options: Sequence[str] = ()) -> None:
         pipe = subprocess.PIPE
         try:
-            self._child = subprocess.Popen([path or find_program(), "run"], stdin=pipe, stdout=pipe, stderr=pipe)
+            self._child = subprocess.Popen([path or find_program(), "run", *options], stdin=pipe, stdout=pipe, stderr=pipe)
         except OSError as error:
             raise LakeEnded(None, str(error)) from error
         self._between_batches = True

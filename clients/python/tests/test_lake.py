@@ -104,6 +104,16 @@ class Calls(InALake):
         self.assertEqual(list(frame.itertuples(index=False, name=None)), [(1, 1.0, "frame", 1, "city")])
 
 
+class Compatibility(InALake):
+    def test_full_width_letters_are_letters(self):
+        wide = "ＯＳＬＯ"
+        self.lake.load("stations", STATIONS)
+        self.assertEqual(self.lake.search([wide]).matches, ())
+        with Lake(compatibility=True) as lake:
+            lake.load("stations", STATIONS)
+            self.assertEqual(lake.search([wide]).matches, (Match(1, "stations", 2, "city"),))
+
+
 class Refusals(InALake):
     def test_each_is_of_its_class_and_changes_nothing(self):
         self.lake.load("stations", STATIONS)

@@ -98,6 +98,13 @@ impl Watches {
         }
     }
 
+    /// How many queries are watched.
+    pub fn queries(&self) -> u32
+        ensures { result ≡ length self.now.queries }
+    {
+        self.queries.len() as u32
+    }
+
     /// How many entries were taken.
     pub fn at(&self) -> u64
         ensures { result ≡ length self.now.journal }

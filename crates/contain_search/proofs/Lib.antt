@@ -1,3 +1,4 @@
+pub mod EnoughLemmas
 pub mod HoldLemmas
 pub mod SettleLemmas
 pub mod ReadLemmas

@@ -1,3 +1,4 @@
 pub mod Contained
+pub mod Enough
 pub mod Met
 pub mod Ready

@@ -1,6 +1,7 @@
 //! The columns of a part that may hold enough, and what they hold.
 ghost use Rattle.std.specs.Prelude.{◌≡◌, ◌<◌, ◌≤◌, ◌+◌, ◌-◌, ◌++◌, ◌∷◌, ◌^◌, if◌then◌else◌, ℕ, List, [], filter, flat_map, get_or, length, take, vec_capacity, vec_len};
 ghost use Rattle.std.specs.List.{All};
+ghost use Rattle.contain_search.specs.Enough.{IsExactFrom};
 ghost use Rattle.contain_search.specs.Met.{may_columns, may_still, met, probes_of, probes_with, rows_of};
 ghost use Rattle.lake_model.specs.Texts.{Text};
 ghost use Rattle.part_columns.specs.Columns.{IsListed};
@@ -9,8 +10,9 @@ ghost use Rattle.part_columns.specs.Tallies.{AreTallies, tally_at, tally_of};
 ghost use Rattle.search_model.specs.Looks.{hits};
 ghost use Rattle.segment_core.specs.Versions.{part_at, segment_at};
 
+use crate::probing::probe_from;
 use column_set::Row;
-use part_columns::{Columns, Tally, most_of, probe, push_within, row_of_column};
+use part_columns::{Columns, Tally, most_of, push_within, row_of_column};
 use segment_core::Looks;
 
 // Whether a column that was seen may hold so many of the tokens, with so many lists left, and its table is unmarked.
@@ -105,14 +107,16 @@ pub(crate) fn find_columns(
     found.sort_unstable();
 }
 
-// How many of the tokens a column has, of which the first were read. It is probed where its tally does not tell.
-fn overlap_of(
+// How many of the tokens a column has, of which the first were read, where these are at least `least`, and a lesser number where they are
+// fewer. It is probed where its tally does not tell.
+fn overlap_from(
     looks: &mut Looks<'_>,
     part: u32,
     tokens: &[u32],
     read: u32,
     column: u32,
     tally: Tally,
+    least: u32,
 ) -> u32
     requires part { part < length looks.old.version.parts }
     requires column { column < length (segment_at looks.old.version.parts part).sets }
@@ -122,14 +126,14 @@ fn overlap_of(
     requires seen { 0 < tally.count }
     requires tally { tally ≡ tally_of (get_or (segment_at looks.old.version.parts part).sets column []) (hits (get_or (segment_at looks.old.version.parts part).sets column []) (take read tokens.now)) }
     requires tokens { (keys : List Text) × (tokens.now ≡ asked_in keys (part_at looks.old.version.parts part)) }
-    ensures overlap { result ≡ length (hits (get_or (segment_at looks.old.version.parts part).sets column []) tokens.now) }
+    ensures overlap { IsExactFrom least (length (hits (get_or (segment_at looks.old.version.parts part).sets column []) tokens.now)) result }
     ensures version { looks.new.version ≡ looks.old.version }
     ensures log { looks.new.log ≡ looks.old.log ++ probes_with (part_at looks.old.version.parts part).number tally (length tokens.now - read) column }
     ensures spare { looks.old.spare ≤ looks.new.spare + 1 }
 {
     let left = tokens.len() as u32 - read;
     if tally.count < most_of(tally, left) {
-        probe(looks, part, tokens, read, column, tally)
+        probe_from(looks, part, tokens, read, column, tally, least)
     } else {
         tally.count
     }
@@ -163,7 +167,8 @@ fn settle<'a>(
     ensures len { vec_len rows.new ≤ vec_len rows.old + 1 }
     ensures rows_room { vec_capacity rows.old ≤ vec_capacity rows.new }
 {
-    let overlap = overlap_of(looks, part, tokens, read, column, columns.tally(column));
+    let tally = columns.tally(column);
+    let overlap = overlap_from(looks, part, tokens, read, column, tally, least);
     if overlap >= least {
         push_within(rows, row_of_column(looks, part, column, overlap));
     }

@@ -6,6 +6,7 @@ mod column;
 mod contain;
 mod fraction;
 mod part;
+mod probing;
 
 pub use contain::{PreparedContain, prepare_contain};
 pub use part_columns::Answer;

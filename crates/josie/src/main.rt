@@ -1,19 +1,20 @@
 //! The program: it reads a script from standard input, writes the replies to standard output, and ends with the status of the run.
 #![tactic(auto)]
 
-use josie_top::{Reason, RunRecord, Status, run};
+use josie_top::{GivenWhy, Reason, RunRecord, Status, run};
 use lake_io::{FileShelf, NoGate, StdSink, StdSource};
 use std::env;
 use std::env::Env;
+use std::io;
 use std::io::ErrorKind;
 use std::process::ExitCode;
 
 /// How the program is called.
-const USAGE: &str =
-    "josie run [--lanes N] [--order LIST] [--merge] [--trace] or josie make SEED TABLES ROWS";
+const USAGE: &str = "josie run [--lanes N] [--order LIST] [--merge] [--trace] [--profile P] \
+    or josie make SEED TABLES ROWS or josie watch K PATH...";
 
 /// What `--help` alone prints.
-const HELP: &str = "josie run [--lanes N] [--order LIST] [--merge] [--trace]
+const HELP: &str = "josie run [--lanes N] [--order LIST] [--merge] [--trace] [--profile P]
     Reads a script from standard input and writes its replies to standard output, batch by batch.
     load NAME           loads the CSV table on the lines that follow, up to a line `.`
     loadfile NAME PATH  loads the CSV table in the file at PATH
@@ -41,9 +42,16 @@ const HELP: &str = "josie run [--lanes N] [--order LIST] [--merge] [--trace]
                         drop and replace of a batch
     --trace             also writes what each search read, the layout of the lake after each answer
                         and merge, and the journal at the end
+    --profile P         how values are compared: 1 (the default) without regard to case and to how
+                        accents are written; 2 also without regard to compatibility forms, as
+                        full-width letters, ligatures and circled digits are. Tables have at most
+                        1024 columns with 1, and 4096 with 2
 josie make SEED TABLES ROWS
     Makes a lake of pseudo-random tables from a seed, asks fifty searches of it, and writes a
     summary.
+josie watch K PATH...
+    Reads a query from each file, 1 to 16 of them, one value a line; then runs the script on standard
+    input, and writes no replies, but the first K rows (1 to 10000) of a query whenever they change.
 josie --help     prints this text
 josie --version  prints the version
 See README.md, docs/FORMATS.md and the manual page docs/josie.1.";
@@ -79,6 +87,7 @@ fn code(status: Status) -> u8 {
         Status::ReadFault => 3,
         Status::WriteFault => 4,
         Status::NoMemory => 5,
+        Status::Given { .. } => 6,
     }
 }
 
@@ -97,6 +106,19 @@ fn reason_text(reason: Reason) -> &'static str {
     }
 }
 
+/// Prints why the file of a path gives no query.
+fn explain_given<R: Eprint>(rt: &R, path: u32, why: GivenWhy) -> io::Result<()> {
+    match why {
+        GivenWhy::Failed => eprintln!(rt; "josie: given file {path}: failed"),
+        GivenWhy::Missing => eprintln!(rt; "josie: given file {path}: missing"),
+        GivenWhy::TooLong => eprintln!(rt; "josie: given file {path}: longer"),
+        GivenWhy::NotUtf8 { line } => {
+            eprintln!(rt; "josie: given file {path}: line {line} not UTF-8")
+        }
+        GivenWhy::TooManyValues => eprintln!(rt; "josie: given file {path}: too many values"),
+    }
+}
+
 /// Prints one line on standard error where the status is not 0. Where it can't be printed, the exit code still tells.
 fn explain<R: Eprint>(rt: &R, status: Status) {
     let _printed = match status {
@@ -109,6 +131,7 @@ fn explain<R: Eprint>(rt: &R, status: Status) {
         Status::ReadFault => eprintln!(rt; "josie: read failed"),
         Status::WriteFault => eprintln!(rt; "josie: write failed"),
         Status::NoMemory => eprintln!(rt; "josie: no memory"),
+        Status::Given { path, why } => explain_given(rt, path, why),
     };
 }
 

@@ -6,3 +6,5 @@ mod TextFacts
 mod RowFacts
 mod RunFacts
 pub mod MakingFacts
+mod GivenFacts
+mod WatchFacts

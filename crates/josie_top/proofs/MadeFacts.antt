@@ -79,12 +79,12 @@ made_more rules options batches before now batch merges piece turns stated is af
     })
 
 -- One batch more was played in the stated order, whatever came before.
-pub ordered_more : (rules at : Counts) (lanes number : ℕ) (merger : Option ℕ) (batch : Batch) (piece : List ℕ) (before now : RunRecord) → IsStated before.options → IsOfLanes before.options.lanes batch
-    → at ≡ rules → lanes ≡ before.options.lanes → piece ≡ get_or (pieces_of before.options.order) number []
-    → (turns : List Bool) × (now ≡ batch_after at lanes batch (merges_of merger batch) piece turns before) → HasOneMore rules number merger batch before now
-ordered_more rules at lanes number merger batch piece before now stated of_lanes at_is lanes_are piece_is (turns, after) = λ batches count merges is.
+pub ordered_more : (rules : Rules) (lanes number : ℕ) (merger : Option ℕ) (batch : Batch) (piece : List ℕ) (before now : RunRecord) → IsStated before.options → IsOfLanes before.options.lanes batch
+    → lanes ≡ before.options.lanes → piece ≡ get_or (pieces_of before.options.order) number []
+    → (turns : List Bool) × (now ≡ batch_after rules lanes batch (merges_of merger batch) piece turns before) → HasOneMore rules number merger batch before now
+ordered_more rules lanes number merger batch piece before now stated of_lanes lanes_are piece_is (turns, after) = λ batches count merges is.
     made_more rules before.options batches before now batch (merges_of merger batch) piece turns stated is
-    (after ∙ ap (λ (l : Counts). batch_after l lanes batch (merges_of merger batch) piece turns before) at_is ∙ ap (λ (n : ℕ). batch_after rules n batch (merges_of merger batch) piece turns before) lanes_are)
+    (after ∙ ap (λ (n : ℕ). batch_after rules n batch (merges_of merger batch) piece turns before) lanes_are)
     merges (piece_is ∙ ap (λ (n : ℕ). get_or (pieces_of before.options.order) n []) (sym count)) of_lanes
 
 -- ---- the record is right

@@ -7,9 +7,8 @@ use Rattle.std.proofs.KnownBytes.{Consumes-nil, Consumes-trans, Appends-nil, App
 use Rattle.std.proofs.lemmas.List.{append-nil}
 use Rattle.std.proofs.lemmas.List.Sums.{count_by-le-length, sum_by_push}
 use Rattle.lake_io.specs.Causes.{Rose}
-use Rattle.record_model.specs.Rules.{Rules}
+use Rattle.record_model.specs.Rules.{Rules, standard_rules}
 use Rattle.lake_model.specs.Texts.{Text}
-use Rattle.lake_model.specs.Journal.{standard_limits}
 use Rattle.catalogue.specs.Kept.{IsWithin}
 use Rattle.script_model.specs.declared.Reason.{Reason}
 use Rattle.script_model.specs.declared.ScriptLimits.{ScriptLimits}
@@ -232,9 +231,9 @@ counted_more batches batch used0 used number next counted grows =
     }
 
 -- the merger's numbers in a batch: each stands for a byte that was read
-pub next_fits : (batches : List Batch) (batch : Batch) (used0 used number next : ℕ) (rules : ScriptLimits) → AreCounted batches used0 number next → used0 + length batch ≤ used → used ≤ rules.input → rules ≡ standard
+pub next_fits : (batches : List Batch) (batch : Batch) (used0 used number next : ℕ) (limits : ScriptLimits) → AreCounted batches used0 number next → used0 + length batch ≤ used → used ≤ limits.input → limits ≡ standard
     → next + updates batch < 2 ^ 64
-next_fits batches batch used0 used number next rules counted grows within is =
+next_fits batches batch used0 used number next limits counted grows within is =
     let low : used ≤ standard.input = subst (λ (l : ScriptLimits). used ≤ l.input) is within in
     omega (arith, counted.next_is, counted.few, grows, low, few_updates batch)
 
@@ -242,9 +241,6 @@ pub merger_fits : (merge : Bool) (merger : Option ℕ) (next : ℕ) (batch : Bat
     → MatchOption merger ⊤ (λ first. first + updates batch < 2 ^ 64)
 merger_fits true merger next batch is fits = subst (λ (m : Option ℕ). MatchOption m ⊤ (λ first. first + updates batch < 2 ^ 64)) (sym is) fits
 merger_fits false merger next batch is fits = subst (λ (m : Option ℕ). MatchOption m ⊤ (λ first. first + updates batch < 2 ^ 64)) (sym is) tt
-
-pub standard_within : (rules : Rules) → rules ≡ standard_limits → IsWithin standard_limits rules
-standard_within rules is = subst (IsWithin standard_limits) (sym is) (record { live = omega arith; updates = omega arith; members = omega arith; key_bytes = omega arith })
 
 -- the source was read late, or not at all
 once : {Nothing Late : Type 0} → Nothing ⊎ Late → (⊤ × Nothing) ⊎ Late
@@ -546,29 +542,29 @@ nothing_asked rules options world made is = record { given = []; taken = []; out
 -- ---- the words
 
 -- Memory ran out before anything was read, whatever the mode.
-pub nothing_made : (rules : Rules) (mode : Mode) (world : World) (made : RunRecord) → made ≡ empty plain → MeetsMode rules mode status.NoMemory world world made
-nothing_made rules (Run options) world made is = nothing_done rules options world made is
-nothing_made rules (Make seed tables rows) world made is = record { taken = []; took = Appends-nil world.written; row = inl (refl, is) }
+pub nothing_made : (mode : Mode) (world : World) (made : RunRecord) → made ≡ empty plain → MeetsMode mode status.NoMemory world world made
+nothing_made (Run options) world made is = nothing_done (standard_rules options.keys) options world made is
+nothing_made (Make seed tables rows) world made is = record { taken = []; took = Appends-nil world.written; row = inl (refl, is) }
 
 -- The mode that the words say; any, where they say none.
-record Said (rules : Rules) (said : Option Mode) (result : Status) (world : World) (made : RunRecord) : Type 0 where
+record Said (said : Option Mode) (result : Status) (world : World) (made : RunRecord) : Type 0 where
   pub mode : Mode
   pub is : IsSaid said mode
-  pub met : MeetsMode rules mode result world world made
+  pub met : MeetsMode mode result world world made
 
-said_by : (rules : Rules) (said : Option Mode) (world : World) (made : RunRecord) → made ≡ empty plain → Said rules said status.NoMemory world made
-said_by rules None world made is = record { mode = Run plain; is = tt; met = nothing_done rules plain world made is }
-said_by rules (Some mode) world made is = record { mode = mode; is = refl; met = nothing_made rules mode world made is }
+said_by : (said : Option Mode) (world : World) (made : RunRecord) → made ≡ empty plain → Said said status.NoMemory world made
+said_by None world made is = record { mode = Run plain; is = tt; met = nothing_done (standard_rules Canonical) plain world made is }
+said_by (Some mode) world made is = record { mode = mode; is = refl; met = nothing_made mode world made is }
 
 -- The words are refused, or memory ran out for them.
-pub words_refused : (rules : Rules) (said : Option Mode) (why : WordsRefused) (world : World) (made : RunRecord) → made ≡ empty plain
-    → (why ≡ words.NoMemory) ⊎ (said ≡ None) → (result : Status) → result ≡ status_of_refused why → (mode : Mode) × IsSaid said mode × MeetsMode rules mode result world world made
-words_refused rules said words.NoMemory world made is why result same =
-    let by = said_by rules said world made is in
-    (by.mode, by.is, subst (λ (s : Status). MeetsMode rules by.mode s world world made) (sym same) by.met)
-words_refused rules said words.Usage world made is (inl same_word) result same = absurd (let e : words.Usage ≡ words.NoMemory = same_word in cc)
-words_refused rules said words.Usage world made is (inr none) result same =
-    (Run plain, subst (λ (s : Option Mode). IsSaid s (Run plain)) (sym none) tt, subst (λ (s : Status). Meets rules plain s world world made) (sym same) (nothing_asked rules plain world made is))
+pub words_refused : (said : Option Mode) (why : WordsRefused) (world : World) (made : RunRecord) → made ≡ empty plain
+    → (why ≡ words.NoMemory) ⊎ (said ≡ None) → (result : Status) → result ≡ status_of_refused why → (mode : Mode) × IsSaid said mode × MeetsMode mode result world world made
+words_refused said words.NoMemory world made is why result same =
+    let by = said_by said world made is in
+    (by.mode, by.is, subst (λ (s : Status). MeetsMode by.mode s world world made) (sym same) by.met)
+words_refused said words.Usage world made is (inl same_word) result same = absurd (let e : words.Usage ≡ words.NoMemory = same_word in cc)
+words_refused said words.Usage world made is (inr none) result same =
+    (Run plain, subst (λ (s : Option Mode). IsSaid s (Run plain)) (sym none) tt, subst (λ (s : Status). Meets (standard_rules Canonical) plain s world world made) (sym same) (nothing_asked (standard_rules Canonical) plain world made is))
 
 -- And nothing moved.
 pub refused_moves : (said : Option Mode) (why : WordsRefused) (world : World) → (why ≡ words.NoMemory) ⊎ (said ≡ None) → (result : Status) → result ≡ status_of_refused why → Moves (said ≡ None) result world world

@@ -1,5 +1,5 @@
 -- The status of a run whose words are refused, whose gatherer gives no batch, or whose text is not written whole.
-use Rattle.std.specs.Prelude.{ℕ, List, Option}
+use Rattle.std.specs.Prelude.{ℕ, Bool, true, false, List, Option}
 use Rattle.std.specs.Io.KnownBytes.{Appends}
 use Rattle.record_model.specs.Statuses.{IsPrefix}
 use Rattle.record_model.specs.declared.Status.{Status}
@@ -33,3 +33,13 @@ IsWritten (status.Given path why) before now text = ⊥
 IsWritten status.ReadFault before now text = ⊥
 IsWritten status.WriteFault before now text = (part : List ℕ) × IsPrefix part text × Appends before now part
 IsWritten status.NoMemory before now text = (part : List ℕ) × IsPrefix part text × Appends before now part
+
+-- whether the script was read to its end and answered
+abbrev pub is_done : Status → Bool
+is_done status.Done = true
+is_done (status.Script line reason) = false
+is_done status.Usage = false
+is_done (status.Given path why) = false
+is_done status.ReadFault = false
+is_done status.WriteFault = false
+is_done status.NoMemory = false

@@ -1,18 +1,16 @@
 -- What a run comes to: what moved, and the row of its status.
-use Rattle.std.specs.Prelude.{ℕ, ◌≡◌, ◌<◌, ◌≤◌, ◌⊎◌, ⊤, false, List, ◌++◌, length, Option, Some, None}
+use Rattle.std.specs.Prelude.{ℕ, ◌≡◌, ◌<◌, ◌≤◌, ◌⊎◌, ⊤, false, List, ◌++◌, length, Option, Some}
 use Rattle.std.specs.Io.KnownBytes.{Consumes, Appends}
 use Rattle.lake_io.specs.Causes.{Rose}
-use Rattle.record_model.specs.Rules.{Rules, standard_rules}
-use Rattle.lake_model.specs.declared.Keys.TheVariants.{Canonical}
+use Rattle.record_model.specs.Rules.{Rules}
 use Rattle.lake_model.specs.Texts.{Text}
 use Rattle.record_model.specs.declared.Status.{Status}
 use Rattle.record_model.specs.declared.Status.TheVariants.{Done, Script, Usage, Given, ReadFault, WriteFault, NoMemory}
 use Rattle.script_model.specs.Commands.{File}
-use Rattle.option_model.specs.Plain.{Mode, Run, Make}
 use Rattle.script_model.specs.Script.{Commands, Whole, commands, standard}
 use Rattle.script_model.specs.Options.{Options}
 use Rattle.record_model.specs.Record.{RunRecord}
-use Rattle.record_model.specs.Statuses.{IsStated, Row, begun}
+use Rattle.record_model.specs.Statuses.{Row, begun}
 use Rattle.option_model.specs.Makes.{MakeRow}
 use Rattle.script_text.specs.Outcomes.{AreFetched, AreFetchedSoFar}
 use Rattle.josie_top.specs.World.{World}
@@ -63,16 +61,6 @@ pub record Makes (rules : Rules) (seed tables rows : ℕ) (status : Status) (bef
   pub took : Appends before.written now.written taken
   pub row : MakeRow rules seed tables rows status taken made
 
--- what a run of this mode comes to
-abbrev pub MeetsMode : Mode → Status → World → World → RunRecord → Type 0
-MeetsMode (Run options) status before now made = Meets (standard_rules options.keys) options status before now made
-MeetsMode (Make seed tables rows) status before now made = Makes (standard_rules Canonical) seed tables rows status before now made
-
--- this mode is the one that the words say, where they say any
-abbrev pub IsSaid : Option Mode → Mode → Type 0
-IsSaid None mode = ⊤
-IsSaid (Some said) mode = mode ≡ said
-
 -- whatever may come of the fetches of a script between these two moments, it has no line at fault
 abbrev pub HasNoFault : Options → List ℕ → World → World → Type 0
 HasNoFault options script before now = (outcomes : List File) → let made : Commands = commands standard options.lanes script outcomes in
@@ -82,18 +70,3 @@ HasNoFault options script before now = (outcomes : List File) → let made : Com
 abbrev pub EndsWell : Options → Status → World → World → Type 0
 EndsWell options status before now = (script : List ℕ) → before.left ≡ Some script → HasNoFault options script before now
     → (Rose before.read_faults now.read_faults → ⊥) → (Rose before.write_faults now.write_faults → ⊥) → (status ≡ Done) ⊎ (status ≡ NoMemory)
-
--- what a run of this mode comes to where nothing fails: a script has to be told, and a lake that is made asks for the sink alone
-abbrev pub EndsModeWell : Mode → Status → World → World → Type 0
-EndsModeWell (Run options) status before now = EndsWell options status before now
-EndsModeWell (Make seed tables rows) status before now = (Rose before.write_faults now.write_faults → ⊥) → (status ≡ Done) ⊎ (status ≡ NoMemory)
-
--- a lake is made
-abbrev pub IsMaking : Mode → Type 0
-IsMaking (Run options) = ⊥
-IsMaking (Make seed tables rows) = ⊤
-
--- a script is run in a stated order, or a lake is made
-abbrev pub IsOrdered : Mode → Type 0
-IsOrdered (Run options) = IsStated options
-IsOrdered (Make seed tables rows) = ⊤

@@ -87,6 +87,7 @@ fn run_over<B: Bounds + Send + Sync, R: Threads + Wait + Sync, S: Source, K: Sin
     requires lanes { 1 ≤ options.lanes }
     requires few { options.lanes ≤ 16 }
     requires limits { limits ≡ B.limits }
+    requires narrow { limits.updates < 2 ^ 32 }
     requires keys { options.keys ≡ B.keys }
     requires wide { IsWithin wide_limits B.limits }
     requires order { IsStated options → ⊥ }

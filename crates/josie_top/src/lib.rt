@@ -8,7 +8,7 @@ ghost use Rattle.record_model.specs.Record.{empty};
 ghost use Rattle.script_model.specs.Options.{plain};
 ghost use Rattle.command_line.specs.Words.{mode_of, mode_read, IsModeInRange};
 ghost use Rattle.josie_top.specs.Ends.{status_of_refused};
-ghost use Rattle.josie_top.specs.Meets.{EndsModeWell, IsMaking, IsOrdered, IsSaid, MeetsMode};
+ghost use Rattle.josie_top.specs.Modes.{EndsModeWell, IsMaking, IsOrdered, IsSaid, MeetsMode};
 ghost use Rattle.josie_top.specs.World.{Moves, world_of};
 
 use command_line::{Mode, WordsRefused, read_words};
@@ -16,23 +16,26 @@ pub use lake_desk::LakeDesk;
 use lake_io::{Gate, Shelf, Sink, Source};
 use making::make_lake;
 use ordered::run_in_order;
-pub use record_model::Status;
+pub use record_model::{GivenWhy, Status};
 pub use run_record::RunRecord;
 use script::run_script;
 pub use script_model::Reason;
 use std::alloc::Global;
 use std::sync::Wait;
 use std::thread::Threads;
+use watching::watch;
 
 mod batches;
+mod given;
 mod lanes;
 mod limits;
 mod making;
 mod ordered;
 mod script;
+mod watching;
 mod writing;
 
-/// Runs a script whose lanes take turns in a stated order, or makes a lake, as the mode says, on one thread. Of a script it reads batch
+/// Runs a script whose lanes take turns in a stated order, makes a lake, or watches queries, as the mode says, on one thread. Of a script it reads batch
 /// by batch from the source, answers the commands of each in the record, and writes the replies to the sink before the next batch is
 /// read; of a lake that is made it writes the summary. The statuses and what follows from each are the table of statuses, for the
 /// bytes that the source gave, the results of the fetches, and the bytes that the sink took.
@@ -65,10 +68,11 @@ pub fn run_ordered<S: Source, K: Sink, F: Shelf>(
     match mode {
         Mode::Run(options) => run_in_order(alloc, options, source, sink, shelf, out),
         Mode::Make { seed, tables, rows } => make_lake(alloc, seed, tables, rows, sink, out),
+        Mode::Watch { k, paths } => watch(alloc, k, &paths, source, sink, shelf, out),
     }
 }
 
-/// Runs a script, or makes a lake, as the mode says; a script without a stated order on threads.
+/// Runs a script, makes a lake, or watches queries, as the mode says; a script without a stated order on threads.
 fn run_mode<R: Threads + Wait + Sync, S: Source, K: Sink, F: Shelf, G: Gate + Sync>(
     rt: &R,
     alloc: Global,
@@ -99,6 +103,7 @@ fn run_mode<R: Threads + Wait + Sync, S: Source, K: Sink, F: Shelf, G: Gate + Sy
     match mode {
         Mode::Run(options) => run_script(rt, alloc, options, source, sink, shelf, gate, out),
         Mode::Make { seed, tables, rows } => make_lake(alloc, seed, tables, rows, sink, out),
+        Mode::Watch { k, paths } => watch(alloc, k, &paths, source, sink, shelf, out),
     }
 }
 

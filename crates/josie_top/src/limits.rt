@@ -1,6 +1,7 @@
 //! The limits of a lake, by the match that holds for a run.
 ghost use Rattle.std.specs.Prelude.{◌≡◌, ◌<◌, ◌^◌};
-ghost use Rattle.record_model.specs.Rules.{limits_of};
+ghost use Rattle.record_model.specs.Rules.{limits_of, wide_limits};
+ghost use Rattle.catalogue.specs.Kept.{IsWithin};
 
 use catalogue::Limits;
 use lake_model::Keys;
@@ -10,6 +11,7 @@ use lake_model::Keys;
 pub(crate) fn limits_of(keys: Keys) -> Limits
     ensures value { result ≡ limits_of keys }
     ensures narrow { result.updates < 2 ^ 32 }
+    ensures wide { IsWithin wide_limits result }
 {
     let mut limits = Limits::standard();
     match keys {

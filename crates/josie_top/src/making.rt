@@ -26,7 +26,7 @@ use run_record::RunRecord;
 use std::alloc::Global;
 
 /// One lane, and an order of two empty pieces.
-fn made_options(alloc: Global) -> Result<Options, NoMemory>
+pub(crate) fn made_options(alloc: Global) -> Result<Options, NoMemory>
     ensures { IfOk result (λ options. options ≡ the_options) }
 {
     let first = Piece::new(Vec::new(alloc));

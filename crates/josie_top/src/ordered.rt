@@ -1,7 +1,8 @@
 //! The run of a script whose lanes take turns in a stated order, on one thread.
-ghost use Rattle.std.specs.Prelude.{◌≡◌, ◌≤◌, ◌<◌, ◌+◌, ◌^◌, ◌⊎◌, ⊤, ℕ, [], false, get_or, List, IfOk, MatchOption, OnErr, OnOk, Some};
-ghost use Rattle.record_model.specs.Rules.{limits_of, standard_rules};
-ghost use Rattle.catalogue.specs.Kept.{catalogue_with};
+ghost use Rattle.std.specs.Prelude.{◌≡◌, ◌≤◌, ◌<◌, ◌+◌, ◌++◌, ◌^◌, ◌⊎◌, ⊤, ℕ, [], false, get_or, List, IfOk, MatchOption, OnErr, OnOk, Some};
+ghost use Rattle.lake_model.specs.Journal.{Entry};
+ghost use Rattle.record_model.specs.Rules.{rules_with, standard_rules, wide_limits};
+ghost use Rattle.catalogue.specs.Kept.{IsWithin};
 ghost use Rattle.script_model.specs.Lanes.{IsOfLanes};
 ghost use Rattle.record_model.specs.Play.{pieces_of};
 ghost use Rattle.script_model.specs.Commands.{updates};
@@ -20,6 +21,7 @@ use catalogue::Catalogue;
 use commands::{Batch, Options};
 use lake_core::drive;
 use lake_io::{Shelf, Sink, Source};
+use lake_model::Keys;
 use no_memory::NoMemory;
 use record_model::Status;
 use run_record::RunRecord;
@@ -40,29 +42,30 @@ fn piece_of(alloc: Global, options: &Options, number: u64) -> Result<Vec<u32>, N
     Ok(piece.list().to_vec(alloc)?)
 }
 
-/// Answers a batch, whose number counts from 0, in the order that is stated for it.
-fn answer_in_order(
+/// Answers a batch, whose number counts from 0, in the order that is stated for it. Values are compared by this match.
+pub(crate) fn answer_in_order(
     alloc: Global,
     catalogue: &mut Catalogue,
+    keys: Keys,
     batch: &Batch,
     number: u64,
     merger: Option<u64>,
     out: &mut RunRecord,
 ) -> Result<(), NoMemory>
     requires journal { out.old.made.journal ≡ catalogue.old.journal }
-    requires limits { catalogue.old.limits ≡ limits_of out.old.made.options.keys }
+    requires wide { IsWithin wide_limits catalogue.old.limits }
     requires order { IsStated out.old.made.options }
     requires lanes { IsOfLanes out.old.made.options.lanes batch.now }
     requires numbers { MatchOption merger ⊤ (λ first. first + updates batch.now < 2 ^ 64) }
     ensures journal { OnOk result (out.new.made.journal ≡ catalogue.new.journal) }
     ensures limits { catalogue.new.limits ≡ catalogue.old.limits }
-    ensures more { OnOk result (HasOneMore (standard_rules out.old.made.options.keys) number merger batch.now out.old.made out.new.made) }
+    ensures more { OnOk result (HasOneMore (rules_with keys catalogue.old.limits) number merger batch.now out.old.made out.new.made) }
     ensures answers { OnOk result (AddsAnswers out.old.made out.new.made) }
+    ensures grows { OnOk result ((more : List Entry) × (out.new.made.journal ≡ out.old.made.journal ++ more)) }
     ensures err { OnErr result (out.new.made ≡ out.old.made) }
 {
     let lanes = out.options().lanes;
     let piece = piece_of(alloc, out.options(), number)?;
-    let keys = out.options().keys;
     drive(
         alloc, catalogue, keys, batch, &piece, lanes, merger, out,
     )
@@ -74,18 +77,20 @@ fn run_batches<S: Source, K: Sink, F: Shelf>(
     alloc: Global,
     gather: &mut Gather,
     catalogue: &mut Catalogue,
+    keys: Keys,
     source: &mut S,
     sink: &mut K,
     shelf: &mut F,
     out: &mut RunRecord,
 ) -> Status
     requires start { gather.old ≡ gathering_with (start []) [] false standard out.old.made.options.lanes }
-    requires lake { catalogue.old ≡ catalogue_with (limits_of out.old.made.options.keys) [] }
+    requires lake { catalogue.old.journal ≡ [] }
+    requires wide { IsWithin wide_limits catalogue.old.limits }
     requires empty { out.old.made ≡ empty out.old.made.options }
     requires order { IsStated out.old.made.options }
     ensures table { let before = world_of (S.left source.old) (S.faults source.old) (K.written sink.old) (K.faults sink.old) (F.files shelf.old) (F.faults shelf.old) in
         let now = world_of (S.left source.new) (S.faults source.new) (K.written sink.new) (K.faults sink.new) (F.files shelf.new) (F.faults shelf.new) in
-        Meets (standard_rules out.old.made.options.keys) out.old.made.options result before now out.new.made }
+        Meets (rules_with keys catalogue.old.limits) out.old.made.options result before now out.new.made }
     ensures moves { let before = world_of (S.left source.old) (S.faults source.old) (K.written sink.old) (K.faults sink.old) (F.files shelf.old) (F.faults shelf.old) in
         let now = world_of (S.left source.new) (S.faults source.new) (K.written sink.new) (K.faults sink.new) (F.files shelf.new) (F.faults shelf.new) in
         Moves ⊥ result before now }
@@ -98,7 +103,7 @@ fn run_batches<S: Source, K: Sink, F: Shelf>(
         };
         let first = out.answers().len();
         let merger = merger_from(out.options(), next);
-        if answer_in_order(alloc, catalogue, &batch, number, merger, out).is_err() {
+        if answer_in_order(alloc, catalogue, keys, &batch, number, merger, out).is_err() {
             return Status::NoMemory;
         }
         next += batch.updates();
@@ -134,9 +139,19 @@ pub(crate) fn run_in_order<S: Source, K: Sink, F: Shelf>(
     let Ok(mut gather) = Gather::new(alloc, options.lanes, ScriptLimits::standard()) else {
         return Status::NoMemory;
     };
-    let Ok(mut catalogue) = Catalogue::new(alloc, limits_of(options.keys)) else {
+    let keys = options.keys;
+    let Ok(mut catalogue) = Catalogue::new(alloc, limits_of(keys)) else {
         return Status::NoMemory;
     };
     out.set_options(options);
-    run_batches(alloc, &mut gather, &mut catalogue, source, sink, shelf, out)
+    run_batches(
+        alloc,
+        &mut gather,
+        &mut catalogue,
+        keys,
+        source,
+        sink,
+        shelf,
+        out,
+    )
 }

@@ -3,7 +3,7 @@ ghost use Rattle.std.specs.Prelude.{◌≡◌, false, None};
 ghost use Rattle.turn_lock.specs.Passes.{after_seeing};
 ghost use Rattle.script_model.specs.Commands.{is_update_task, command_with, Load, LoadFile, DropTable, Replace};
 ghost use Rattle.lake_model.specs.declared.Keys.{Keys};
-ghost use Rattle.record_model.specs.Rules.{rules_with}
+ghost use Rattle.record_model.specs.Rules.{rules_with};
 ghost use Rattle.run_record.specs.Replies.{reply_of};
 ghost use Rattle.commands.specs.Tasks.{file_of, task_of, IsTaskInRange};
 ghost use Rattle.batch_work.specs.Works.{merge_policy};

@@ -4,7 +4,7 @@ ghost use Rattle.lake_model.specs.Journal.{Entry as EntryOf};
 ghost use Rattle.turn_lock.specs.History.{IsOfGiven};
 ghost use Rattle.lake.specs.Lawful.{caller_of, IsLawful};
 ghost use Rattle.script_model.specs.Lanes.{IsOfLanes};
-ghost use Rattle.record_model.specs.Rules.{rules_with}
+ghost use Rattle.record_model.specs.Rules.{rules_with};
 ghost use Rattle.record_model.specs.Play.{merges_of};
 ghost use Rattle.script_model.specs.Commands.{updates};
 ghost use Rattle.lake_desk.specs.Gathered.{AllMeet, AreApart};

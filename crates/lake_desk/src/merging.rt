@@ -1,7 +1,7 @@
 //! Merges at a lake: the plan at a pin, and the swap.
 ghost use Rattle.std.specs.Prelude.{◌≡◌, false, length, if◌then◌else◌, IfOk};
 ghost use Rattle.lake_model.specs.declared.Keys.{Keys};
-ghost use Rattle.record_model.specs.Rules.{rules_with, wide_limits}
+ghost use Rattle.record_model.specs.Rules.{rules_with, wide_limits};
 ghost use Rattle.turn_lock.specs.History.{Grows};
 ghost use Rattle.turn_lock.specs.Passes.{after_seeing, callers_of};
 ghost use Rattle.catalogue.specs.Kept.{IsWithin};

@@ -1,6 +1,6 @@
 //! The desks of a run over a new lake.
 ghost use Rattle.std.specs.Prelude.{◌≡◌, [], false, IfOk, Some};
-ghost use Rattle.record_model.specs.Rules.{wide_limits}
+ghost use Rattle.record_model.specs.Rules.{wide_limits};
 ghost use Rattle.turn_lock.specs.Passes.{known};
 ghost use Rattle.catalogue.specs.Kept.{IsWithin};
 ghost use Rattle.lake_desk.specs.Together.{AreTogether};

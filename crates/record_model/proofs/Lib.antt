@@ -6,6 +6,7 @@ pub mod GatherLemmas
 pub mod ProgressLemmas
 pub mod LegalLemmas
 pub mod PlayedLemmas
+pub mod WatchLemmas
 mod WorkedRuns
 mod WorkedOrders
 mod WorkedWatches

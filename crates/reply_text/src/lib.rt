@@ -10,8 +10,8 @@ mod text;
 mod words;
 
 pub use run_record::{Answered, By, Reply, RunRecord};
-pub use text::write_replies;
-pub use words::{push_bytes, push_number};
+pub use text::{push_rows, write_replies};
+pub use words::{Word, push_bytes, push_line, push_number};
 
 #[cfg(test)]
 mod tests;

@@ -30,8 +30,9 @@ fn push_row(row: &KeptRow, into: &mut Vec<u8>) -> Result<(), NoMemory>
     push_line("  ", u64::from(row.overlap()), &words, into)
 }
 
-// The lines of rows.
-fn push_rows(rows: &[KeptRow], into: &mut Vec<u8>) -> Result<(), NoMemory>
+/// Appends the lines of rows: for each, its overlap, the name of its table, the place of its column in the table, counted from 1, and the
+/// column's name in quotes.
+pub fn push_rows(rows: &[KeptRow], into: &mut Vec<u8>) -> Result<(), NoMemory>
     ensures ok { OnOk result (into.new.items ≡ into.old.items ++ flat_map line_text (map row_line rows.now)) }
     ensures kept { Keeps into.old.items into.new.items }
 {

@@ -11,8 +11,10 @@ use std::alloc::Global;
 /// How many bytes a file has at most: 64 MiB.
 const MOST_FILE_BYTES: usize = 67108864;
 
-// What comes of the fetch of the path.
-pub(crate) fn fetch_file<F: Shelf>(
+/// What comes of the fetch of the file at the path, of at most 67,108,864 bytes: its bytes, or why there are none.
+///
+/// It is refused only for want of memory.
+pub fn fetch_file<F: Shelf>(
     alloc: Global,
     shelf: &mut F,
     path: &str,

@@ -15,6 +15,7 @@ mod spaces;
 
 pub use command_line::{Mode, WordsRefused, read_words};
 pub use commands::{Batch, Body, Command, FileBody, Options, Order, Piece, Task};
+pub use fetch::fetch_file;
 pub use gather::Gather;
 pub use refused::ScriptEnd;
 pub use script_model::{Reason, ScriptLimits};

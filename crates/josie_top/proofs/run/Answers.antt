@@ -1,6 +1,5 @@
 use Rattle.std.proofs.Common.{◌≡◌, ◌∙◌, map, string_bytes, subst, sym}
 use Rattle.std.specs.Prelude.{Some}
-use Rattle.lake_model.specs.Journal.{standard_limits}
 use Rattle.option_model.specs.Plain as said
 use Rattle.command_line.specs.Words.{mode_of}
 use Rattle.command_line.proofs.ModeLemmas.{plain_is_read}
@@ -10,7 +9,7 @@ use Rattle.josie_top.proofs.RunFacts.{words_refused, refused_moves, refused_ends
 use Rattle.josie_top.proofs.run.Goals as goal
 
 pub returns-in-Err-clause-table : goal.returns-in-Err-clause-table
-returns-in-Err-clause-table g c = words_refused standard_limits _ c.in-Err.refused _ c.args.out.now.made c.requires.empty c.in-Err.ensures.refused c.status_of_refused.result c.status_of_refused.ensures
+returns-in-Err-clause-table g c = words_refused _ c.in-Err.refused _ c.args.out.now.made c.requires.empty c.in-Err.ensures.refused c.status_of_refused.result c.status_of_refused.ensures
 
 pub returns-in-Err-clause-moves : goal.returns-in-Err-clause-moves
 returns-in-Err-clause-moves g c = refused_moves _ c.in-Err.refused _ c.in-Err.ensures.refused c.status_of_refused.result c.status_of_refused.ensures

@@ -1,5 +1,4 @@
 use Rattle.std.proofs.Common.{ap, subst, sym}
-use Rattle.lake_model.specs.Journal.{standard_limits}
 use Rattle.option_model.specs.Plain as said
 use Rattle.command_line.specs.Words.{mode_of}
 use Rattle.josie_top.specs.Meets.{EndsModeWell, MeetsMode}
@@ -16,7 +15,7 @@ returns-in-Run-clause-complete g c =
 pub returns-in-Make-clause-table : goal.returns-in-Make-clause-table
 returns-in-Make-clause-table g c =
     let outside : World = world_of (g.S.Source.left c.args.source.now) (g.S.Source.faults c.args.source.now) (g.K.Sink.written c.args.sink.now) (g.K.Sink.faults c.args.sink.now) (g.F.Shelf.files c.args.shelf.now) (g.F.Shelf.faults c.args.shelf.now) in
-    subst (λ (m : said.Mode). MeetsMode standard_limits m c.make_lake.result outside (with_sink (g.K.Sink.written c.make_lake.new.sink) (g.K.Sink.faults c.make_lake.new.sink) outside) c.make_lake.new.out.made) (sym (ap mode_of c.in-Make.is)) (c.make_lake.ensures.table outside)
+    subst (λ (m : said.Mode). MeetsMode m c.make_lake.result outside (with_sink (g.K.Sink.written c.make_lake.new.sink) (g.K.Sink.faults c.make_lake.new.sink) outside) c.make_lake.new.out.made) (sym (ap mode_of c.in-Make.is)) (c.make_lake.ensures.table outside)
 
 pub returns-in-Make-clause-moves : goal.returns-in-Make-clause-moves
 returns-in-Make-clause-moves g c =

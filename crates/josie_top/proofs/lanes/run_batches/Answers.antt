@@ -1,7 +1,7 @@
 use Rattle.std.proofs.Common.{rules, ◌≡◌, refl, ap, sym, ◌∙◌, subst, ℕ, ◌+◌, List, [], ◌++◌, true, false, length, arith}
 use Rattle.std.specs.Prelude.{is_err}
 use Rattle.std.proofs.KnownBytes.{Consumes-nil}
-use Rattle.lake_model.specs.Journal.{standard_limits}
+use Rattle.record_model.specs.Rules.{rules_with}
 use Rattle.script_model.specs.Lanes.{IsOfLanes}
 use Rattle.record_model.specs.Play.{merges_of}
 use Rattle.record_model.specs.Statuses.{IsStated}
@@ -17,7 +17,7 @@ use Rattle.josie_top.proofs.lanes.run_batches.Goals as goal
 
 pub loop-number-init : goal.loop-number-init
 loop-number-init g c = (
-  starts standard_limits c.args.out.now.made.options _ c.args.gather.now c.args.out.now.made c.args.out.now.made.options.lanes c.requires.start refl c.requires.empty,
+  starts (rules_with g.B.Bounds.keys g.B.Bounds.limits) c.args.out.now.made.options _ c.args.gather.now c.args.out.now.made c.args.out.now.made.options.lanes c.requires.start refl c.requires.empty,
   search rules,
   search rules,
 )
@@ -37,8 +37,8 @@ returns-then-is_err-clause-table g c =
     let begun = c.in-Ok.ensures.begun in
     let failed : is_err c.answer_batch.result ≡ true = search rules in
     let same : c.answer_batch.new.out.made ≡ c.begin_batch.new.out.made = on_err c.answer_batch.result _ failed c.answer_batch.ensures.err in
-    let still = stands_still standard_limits c.args.out.now.made.options _ _ c.loop-number.gather c.loop-number.out.made c.answer_batch.new.out.made (same ∙ c.in-Ok.ensures.stands) way in
-    ends_between standard_limits c.args.out.now.made.options _ _ _ c.loop-number.gather c.answer_batch.new.out.made begun.taken.given still begun.taken.gave begun.moved.fetches begun.unwritten
+    let still = stands_still (rules_with g.B.Bounds.keys g.B.Bounds.limits) c.args.out.now.made.options _ _ c.loop-number.gather c.loop-number.out.made c.answer_batch.new.out.made (same ∙ c.in-Ok.ensures.stands) way in
+    ends_between (rules_with g.B.Bounds.keys g.B.Bounds.limits) c.args.out.now.made.options _ _ _ c.loop-number.gather c.answer_batch.new.out.made begun.taken.given still begun.taken.gave begun.moved.fetches begun.unwritten
 
 pub returns-then-is_err-clause-moves : goal.returns-then-is_err-clause-moves
 returns-then-is_err-clause-moves g c = let (way, on, desks) = c.loop-number.invariant in memory_moves (moved_on way.moved c.in-Ok.ensures.begun.moved)
@@ -47,13 +47,13 @@ pub returns-in-Some-clause-table : goal.returns-in-Some-clause-table
 returns-in-Some-clause-table g c =
     let (way, on, desks) = c.loop-number.invariant in
     let fine : is_err c.answer_batch.result ≡ false = search rules in
-    let still = stands_still standard_limits c.args.out.now.made.options _ _ c.loop-number.gather c.loop-number.out.made c.begin_batch.new.out.made c.in-Ok.ensures.stands way in
+    let still = stands_still (rules_with g.B.Bounds.keys g.B.Bounds.limits) c.args.out.now.made.options _ _ c.loop-number.gather c.loop-number.out.made c.begin_batch.new.out.made c.in-Ok.ensures.stands way in
     let free : IsStated c.begin_batch.new.out.made.options → ⊥ = λ stated. c.requires.order (subst IsStated still.is_made.options_are stated) in
     let of_lanes : IsOfLanes c.begin_batch.new.out.made.options.lanes c.in-Ok.batch = search rules in
-    let batch : IsOneBatchMore standard_limits c.begin_batch.new.out.made.options.lanes (c.in-Ok.batch ++ merges_of c.merger_from-merger.result c.in-Ok.batch) c.begin_batch.new.out.made c.answer_batch.new.out.made = on_ok c.answer_batch.result _ fine c.answer_batch.ensures.batch in
-    let answered = is_answered standard_limits c.args.out.now.made.options _ _ _ c.loop-number.gather c.begin_batch.new.gather c.begin_batch.new.out.made c.answer_batch.new.out.made (length c.answers-first.result.now) c.in-Ok.batch
+    let batch : IsOneBatchMore (rules_with g.B.Bounds.keys g.B.Bounds.limits) c.begin_batch.new.out.made.options.lanes (c.in-Ok.batch ++ merges_of c.merger_from-merger.result c.in-Ok.batch) c.begin_batch.new.out.made c.answer_batch.new.out.made = on_ok c.answer_batch.result _ fine c.answer_batch.ensures.batch in
+    let answered = is_answered (rules_with g.B.Bounds.keys g.B.Bounds.limits) c.args.out.now.made.options _ _ _ c.loop-number.gather c.begin_batch.new.gather c.begin_batch.new.out.made c.answer_batch.new.out.made (length c.answers-first.result.now) c.in-Ok.batch
     c.options.result.now.merge c.merger_from-merger.result still c.in-Ok.ensures.begun (ap (λ (a : List Answered). length a) c.answers-first.ensures) (ap (λ (o : Options). o.merge) c.options.ensures) c.merger_from-merger.ensures
-    (lanes_more standard_limits c.loop-number.number c.merger_from-merger.result c.in-Ok.batch c.begin_batch.new.out.made c.answer_batch.new.out.made free of_lanes batch) (lanes_answers standard_limits _ _ _ _ batch) in
+    (lanes_more (rules_with g.B.Bounds.keys g.B.Bounds.limits) c.loop-number.number c.merger_from-merger.result c.in-Ok.batch c.begin_batch.new.out.made c.answer_batch.new.out.made free of_lanes batch) (lanes_answers (rules_with g.B.Bounds.keys g.B.Bounds.limits) _ _ _ _ batch) in
     let outside : World = world_of (g.S.Source.left c.begin_batch.new.source) (g.S.Source.faults c.begin_batch.new.source) (g.K.Sink.written c.begin_batch.new.sink) (g.K.Sink.faults c.begin_batch.new.sink) (g.F.Shelf.files c.begin_batch.new.shelf) (g.F.Shelf.faults c.begin_batch.new.shelf) in
     c.in-Some.ensures.answered _ _ outside _ _ answered
 
@@ -67,18 +67,18 @@ pub loop-number-preserved : goal.loop-number-preserved
 loop-number-preserved g c =
     let (way, on, desks) = c.loop-number.invariant in
     let fine : is_err c.answer_batch.result ≡ false = search rules in
-    let still = stands_still standard_limits c.args.out.now.made.options _ _ c.loop-number.gather c.loop-number.out.made c.begin_batch.new.out.made c.in-Ok.ensures.stands way in
+    let still = stands_still (rules_with g.B.Bounds.keys g.B.Bounds.limits) c.args.out.now.made.options _ _ c.loop-number.gather c.loop-number.out.made c.begin_batch.new.out.made c.in-Ok.ensures.stands way in
     let free : IsStated c.begin_batch.new.out.made.options → ⊥ = λ stated. c.requires.order (subst IsStated still.is_made.options_are stated) in
     let of_lanes : IsOfLanes c.begin_batch.new.out.made.options.lanes c.in-Ok.batch = search rules in
-    let batch : IsOneBatchMore standard_limits c.begin_batch.new.out.made.options.lanes (c.in-Ok.batch ++ merges_of c.merger_from-merger.result c.in-Ok.batch) c.begin_batch.new.out.made c.answer_batch.new.out.made = on_ok c.answer_batch.result _ fine c.answer_batch.ensures.batch in
-    let answered = is_answered standard_limits c.args.out.now.made.options _ _ _ c.loop-number.gather c.begin_batch.new.gather c.begin_batch.new.out.made c.answer_batch.new.out.made (length c.answers-first.result.now) c.in-Ok.batch
+    let batch : IsOneBatchMore (rules_with g.B.Bounds.keys g.B.Bounds.limits) c.begin_batch.new.out.made.options.lanes (c.in-Ok.batch ++ merges_of c.merger_from-merger.result c.in-Ok.batch) c.begin_batch.new.out.made c.answer_batch.new.out.made = on_ok c.answer_batch.result _ fine c.answer_batch.ensures.batch in
+    let answered = is_answered (rules_with g.B.Bounds.keys g.B.Bounds.limits) c.args.out.now.made.options _ _ _ c.loop-number.gather c.begin_batch.new.gather c.begin_batch.new.out.made c.answer_batch.new.out.made (length c.answers-first.result.now) c.in-Ok.batch
     c.options.result.now.merge c.merger_from-merger.result still c.in-Ok.ensures.begun (ap (λ (a : List Answered). length a) c.answers-first.ensures) (ap (λ (o : Options). o.merge) c.options.ensures) c.merger_from-merger.ensures
-    (lanes_more standard_limits c.loop-number.number c.merger_from-merger.result c.in-Ok.batch c.begin_batch.new.out.made c.answer_batch.new.out.made free of_lanes batch) (lanes_answers standard_limits _ _ _ _ batch) in
+    (lanes_more (rules_with g.B.Bounds.keys g.B.Bounds.limits) c.loop-number.number c.merger_from-merger.result c.in-Ok.batch c.begin_batch.new.out.made c.answer_batch.new.out.made free of_lanes batch) (lanes_answers (rules_with g.B.Bounds.keys g.B.Bounds.limits) _ _ _ _ batch) in
     let first : World = world_of (g.S.Source.left c.args.source.now) (g.S.Source.faults c.args.source.now) (g.K.Sink.written c.args.sink.now) (g.K.Sink.faults c.args.sink.now) (g.F.Shelf.files c.args.shelf.now) (g.F.Shelf.faults c.args.shelf.now) in
     let outside : World = world_of (g.S.Source.left c.begin_batch.new.source) (g.S.Source.faults c.begin_batch.new.source) (g.K.Sink.written c.begin_batch.new.sink) (g.K.Sink.faults c.begin_batch.new.sink) (g.F.Shelf.files c.begin_batch.new.shelf) (g.F.Shelf.faults c.begin_batch.new.shelf) in
     let went = c.end_batch.ensures.goes c.in_default.is in
     let now = c.in_default.ensures.answered _ _ outside _ _ answered in (
-      subst (λ (n : ℕ). IsUnderWay standard_limits c.args.out.now.made.options first (with_sink (g.K.Sink.written c.end_batch.new.sink) (g.K.Sink.faults c.end_batch.new.sink) outside) c.begin_batch.new.gather c.end_batch.new.out.made (c.loop-number.number + 1) (c.loop-number.next + n)) (sym c.updates-next.ensures) now,
+      subst (λ (n : ℕ). IsUnderWay (rules_with g.B.Bounds.keys g.B.Bounds.limits) c.args.out.now.made.options first (with_sink (g.K.Sink.written c.end_batch.new.sink) (g.K.Sink.faults c.end_batch.new.sink) outside) c.begin_batch.new.gather c.end_batch.new.out.made (c.loop-number.number + 1) (c.loop-number.next + n)) (sym c.updates-next.ensures) now,
       went.1,
       subst (λ (m : RunRecord). AreTogether m.options.lanes m.journal c.answer_batch.new.desks.items) (sym went.0) (on_ok c.answer_batch.result _ fine c.answer_batch.ensures.together),
     )
@@ -86,7 +86,7 @@ loop-number-preserved g c =
 pub returns-clause-table : goal.returns-clause-table
 returns-clause-table g c =
     let (way, on, desks) = c.loop-number.invariant in
-    ends_between standard_limits c.args.out.now.made.options _ _ _ c.loop-number.gather c.loop-number.out.made [] way (Consumes-nil _) (omega arith) refl
+    ends_between (rules_with g.B.Bounds.keys g.B.Bounds.limits) c.args.out.now.made.options _ _ _ c.loop-number.gather c.loop-number.out.made [] way (Consumes-nil _) (omega arith) refl
 
 pub returns-clause-moves : goal.returns-clause-moves
 returns-clause-moves g c = let (way, on, desks) = c.loop-number.invariant in memory_moves way.moved

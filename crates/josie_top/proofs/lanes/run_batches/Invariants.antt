@@ -1,5 +1,5 @@
 use Rattle.std.proofs.Common.{◌≡◌, false}
-use Rattle.lake_model.specs.Journal.{standard_limits}
+use Rattle.record_model.specs.Rules.{rules_with}
 use Rattle.lake_desk.specs.Together.{AreTogether}
 use Rattle.josie_top.specs.Progress.{IsUnderWay}
 use Rattle.josie_top.specs.World.{world_of}
@@ -7,7 +7,7 @@ use Rattle.josie_top.proofs.lanes.run_batches.Given as goal
 
 abbrev pub invariant-loop-number : goal.invariant-loop-number
 invariant-loop-number g l =
-    IsUnderWay standard_limits l.initial.out.made.options
+    IsUnderWay (rules_with g.B.Bounds.keys g.B.Bounds.limits) l.initial.out.made.options
     (world_of (g.S.Source.left l.initial.source) (g.S.Source.faults l.initial.source) (g.K.Sink.written l.initial.sink) (g.K.Sink.faults l.initial.sink) (g.F.Shelf.files l.initial.shelf) (g.F.Shelf.faults l.initial.shelf))
     (world_of (g.S.Source.left l.source) (g.S.Source.faults l.source) (g.K.Sink.written l.sink) (g.K.Sink.faults l.sink) (g.F.Shelf.files l.shelf) (g.F.Shelf.faults l.shelf))
     l.gather l.out.made l.number l.next

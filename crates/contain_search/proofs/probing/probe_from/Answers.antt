@@ -1,0 +1,40 @@
+use Rattle.std.proofs.Common.{[], ◌+◌, sym, subst, refl, drop, get_or, arith}
+use Rattle.std.specs.List.Sorted.{IsStrictlyIncreasing}
+use Rattle.contain_search.proofs.EnoughLemmas.{probed_from}
+use Rattle.part_columns.proofs.ProbeLemmas.{hits_few, position_within, probe_counts, rest_is, rises_strictly, rising_drop}
+use Rattle.part_columns.proofs.SetLemmas.{query_rises, set_rises}
+use Rattle.segment_core.specs.Versions.{part_at, segment_at, tables_of}
+use Rattle.contain_search.proofs.probing.probe_from.Goals as goal
+
+pub tail-tail-requires-clause-after : goal.tail-tail-requires-clause-after
+tail-tail-requires-clause-after c =
+    let set = get_or (segment_at c.args.looks.now.version.parts c.args.part).sets c.args.column [] in
+    position_within set c.args.tokens.now c.args.read c.args.tally c.requires.seen c.requires.tally
+
+pub shared_from-requires-clause-others : goal.shared_from-requires-clause-others
+shared_from-requires-clause-others c =
+    let up = query_rises (segment_at c.args.looks.now.version.parts c.args.part).tokens c.args.tokens.now c.requires.tokens in
+    subst IsStrictlyIncreasing (sym (rest_is c.args.read c.args.tokens.now)) (rises_strictly (drop c.args.read c.args.tokens.now) (rising_drop c.args.read c.args.tokens.now up))
+
+pub shared_from-requires-clause-tokens : goal.shared_from-requires-clause-tokens
+shared_from-requires-clause-tokens c =
+    let parts = c.args.looks.now.version.parts in
+    let over = set_rises (tables_of (part_at parts c.args.part)) c.args.column c.requires.column in
+    subst IsStrictlyIncreasing (sym c.tail-tail.ensures.tail) (rises_strictly _ (rising_drop (c.args.tally.position + 1) (get_or (segment_at parts c.args.part).sets c.args.column []) over))
+
+pub overflow_add-result : goal.overflow_add-result
+overflow_add-result c =
+    let parts = c.args.looks.now.version.parts in
+    let set = get_or (segment_at parts c.args.part).sets c.args.column [] in
+    let up = query_rises (segment_at parts c.args.part).tokens c.args.tokens.now c.requires.tokens in
+    let over = set_rises (tables_of (part_at parts c.args.part)) c.args.column c.requires.column in
+    let all = probe_counts set c.args.tokens.now c.args.read _ _ _ c.args.tally over up c.requires.seen c.requires.tally (rest_is c.args.read c.args.tokens.now) c.tail-tail.ensures.tail refl in
+    record { fits = omega (arith, all, c.shared_from.ensures.most, hits_few set c.args.tokens.now, c.requires.few) }
+
+pub returns-clause-overlap : goal.returns-clause-overlap
+returns-clause-overlap c =
+    let parts = c.args.looks.now.version.parts in
+    let set = get_or (segment_at parts c.args.part).sets c.args.column [] in
+    let up = query_rises (segment_at parts c.args.part).tokens c.args.tokens.now c.requires.tokens in
+    let over = set_rises (tables_of (part_at parts c.args.part)) c.args.column c.requires.column in
+    probed_from set c.args.tokens.now c.args.read c.args.least _ c.shared_from.result _ _ c.args.tally over up c.requires.seen c.requires.tally (rest_is c.args.read c.args.tokens.now) c.tail-tail.ensures.tail c.saturating_sub-wanted.ensures c.shared_from.ensures.count
