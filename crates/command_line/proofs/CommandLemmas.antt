@@ -1,25 +1,28 @@
--- What clap's calls give, of the commands of the two modes.
-use Rattle.std.proofs.Common.{◌≡◌, ◌⊎◌, ◌≤◌, ◌∙◌, ap, ap₂, refl, sym, subst, inl, inr, ℕ, List, [], ◌∷◌, Bool, true, false, codes, Option, Some, None, option_map, Result, Ok, Err, IfOk, arith}
-use Rattle.std.specs.Prelude.{⊤, IfErr, MatchOption, ok_or, unwrap_or}
+-- What clap's calls give, of the commands of the modes.
+use Rattle.std.proofs.Common.{◌≡◌, ◌⊎◌, ◌≤◌, ◌∙◌, ap, ap₂, refl, sym, subst, inl, inr, ℕ, List, [], ◌∷◌, Bool, true, false, ◌&&◌, cond, codes, length, map, Option, Some, None, option_map, Result, Ok, Err, IfOk, arith}
+use Rattle.std.specs.Prelude.{⊤, IfErr, MatchOption, nat_le, ok_or, unwrap_or}
+use Rattle.std.specs.Borrow.{Bor}
 use Rattle.std.specs.List.{AllByRecursion}
-use Rattle.std.proofs.lemmas.Bool.{and_parts}
+use Rattle.std.proofs.lemmas.Bool.{and_parts, leb-true}
+use Rattle.std.proofs.lemmas.List.{length-map}
 use Rattle.clap.specs.Built.{AddsArg, IsParsedFrom}
 use Rattle.clap.specs.Faults.{fault_of, is_free_app, is_simple_and_free}
 use Rattle.clap.specs.Kinds.{IsAmong, Kinds}
 use Rattle.clap.specs.Matches.{found_of}
 use Rattle.clap.specs.Simple.{App, app_of, built, is_simple, matches_of, with_rule}
-use Rattle.clap.specs.Walk.{Row, Rule, Text, first_of, rows_of, rule_of}
+use Rattle.clap.specs.Walk.{Row, Rule, Text, all_of, first_of, rows_of, rule_of}
 use Rattle.clap.specs.declared.builder.arg.Arg.{Arg}
 use Rattle.clap.specs.declared.builder.command.Command.{Command}
 use Rattle.clap.specs.declared.error.kind.ErrorKind.{ErrorKind}
 use Rattle.clap.specs.declared.error.kind.ErrorKind.TheVariants as kind
 use Rattle.clap.specs.declared.parser.matches.ArgMatches.{ArgMatches}
 use Rattle.clap.proofs.OnLiterals.{clap_on_literals}
+use Rattle.lake_model.specs.declared.Keys.{Keys}
 use Rattle.script_model.specs.Options.{Options, options_with}
 use Rattle.option_model.specs.Plain as model
 use Rattle.option_model.specs.Plain.{order_of}
 use Rattle.option_model.specs.Ranges.{AreInRange, IsPieceOf}
-use Rattle.command_line.specs.Words.{between, flag_of, held_without, lanes_option, IsModeInRange, make_command, make_held, mode_of, number_held, number_word, options_held, order_stated, refusal_by, run_command}
+use Rattle.command_line.specs.Words.{between, flag_of, held_without, lanes_option, IsModeInRange, make_command, make_held, mode_of, number_held, number_word, options_held, order_stated, paths_held, refusal_by, run_command, watch_command, watch_held, watch_of}
 use Rattle.command_line.specs.declared.words.Mode.{Mode}
 use Rattle.command_line.specs.declared.words.WordsRefused.{WordsRefused}
 use Rattle.command_line.specs.declared.words.WordsRefused.TheVariants as refused
@@ -40,6 +43,10 @@ run_is_free = refl
 pub make_is_free : is_simple_and_free make_command ≡ true
 unfolding clap_on_literals
 make_is_free = refl
+
+pub watch_is_free : is_simple_and_free watch_command ≡ true
+unfolding clap_on_literals
+watch_is_free = refl
 
 -- ---- what a parse gives
 
@@ -68,21 +75,28 @@ refused_for command app held words what free is given = refused_by (fault_of com
 
 -- ---- the options of matches
 
-pub options_are : (matches : List Row) (lanes : ℕ) (merge trace : Bool) (text : Option Text) → lanes ≡ unwrap_or (number_held (codes "lanes") matches) 1
-    → merge ≡ flag_of (codes "merge") matches → trace ≡ flag_of (codes "trace") matches → text ≡ first_of (codes "order") matches
-    → option_map (λ order. options_with lanes order merge trace) (order_stated lanes merge text) ≡ options_held matches
-options_are matches lanes merge trace text lanes_is merge_is trace_is text_is =
-    let f = λ (l : ℕ) (m t : Bool) (o : Option Text). option_map (λ order. options_with l order m t) (order_stated l m o) in
-    ap₂ (λ (l : ℕ) (m : Bool). f l m trace text) lanes_is merge_is
-    ∙ ap₂ (λ (t : Bool) (o : Option Text). f (unwrap_or (number_held (codes "lanes") matches) 1) (flag_of (codes "merge") matches) t o) trace_is text_is
+-- the kind of keys that the matches hold
+abbrev pub keys_held : List Row → Keys
+keys_held matches = model.keys_of_profile (unwrap_or (number_held (codes "profile") matches) 1)
+
+pub options_are : (matches : List Row) (lanes : ℕ) (merge trace : Bool) (keys : Keys) (text : Option Text) → lanes ≡ unwrap_or (number_held (codes "lanes") matches) 1
+    → merge ≡ flag_of (codes "merge") matches → trace ≡ flag_of (codes "trace") matches → keys ≡ keys_held matches → text ≡ first_of (codes "order") matches
+    → option_map (λ order. options_with lanes order merge trace keys) (order_stated lanes merge text) ≡ options_held matches
+options_are matches lanes merge trace keys text lanes_is merge_is trace_is keys_are text_is =
+    let f = λ (l : ℕ) (m t : Bool) (k : Keys) (o : Option Text). option_map (λ order. options_with l order m t k) (order_stated l m o) in
+    ap₂ (λ (l : ℕ) (m : Bool). f l m trace keys text) lanes_is merge_is
+    ∙ ap₂ (λ (t : Bool) (k : Keys). f (unwrap_or (number_held (codes "lanes") matches) 1) (flag_of (codes "merge") matches) t k text) trace_is keys_are
+    ∙ ap (λ (o : Option Text). f (unwrap_or (number_held (codes "lanes") matches) 1) (flag_of (codes "merge") matches) (flag_of (codes "trace") matches) (keys_held matches) o) text_is
 
 -- where the order breaks its rule there are none
-pub no_options : (matches : List Row) (lanes : ℕ) (merge trace : Bool) (text : Option Text) (e : WordsRefused) → lanes ≡ unwrap_or (number_held (codes "lanes") matches) 1
-    → merge ≡ flag_of (codes "merge") matches → trace ≡ flag_of (codes "trace") matches → text ≡ first_of (codes "order") matches
+pub no_options : (matches : List Row) (lanes : ℕ) (merge : Bool) (text : Option Text) (e : WordsRefused) → lanes ≡ unwrap_or (number_held (codes "lanes") matches) 1
+    → merge ≡ flag_of (codes "merge") matches → text ≡ first_of (codes "order") matches
     → (e ≡ refused.NoMemory) ⊎ (order_stated lanes merge text ≡ None) → (e ≡ refused.NoMemory) ⊎ (options_held matches ≡ None)
-no_options matches lanes merge trace text e lanes_is merge_is trace_is text_is (inl memory) = inl memory
-no_options matches lanes merge trace text e lanes_is merge_is trace_is text_is (inr none) =
-    inr (sym (options_are matches lanes merge trace text lanes_is merge_is trace_is text_is) ∙ ap (option_map (λ order. options_with lanes order merge trace)) none)
+no_options matches lanes merge text e lanes_is merge_is text_is (inl memory) = inl memory
+no_options matches lanes merge text e lanes_is merge_is text_is (inr none) =
+    let trace = flag_of (codes "trace") matches in
+    inr (sym (options_are matches lanes merge trace (keys_held matches) text lanes_is merge_is refl refl text_is)
+    ∙ ap (option_map (λ order. options_with lanes order merge trace (keys_held matches))) none)
 
 -- ---- ranges
 
@@ -98,14 +112,14 @@ order_keeps lanes merge (Some text) (Some pieces) e = by (order_of lanes merge t
         let same : found ≡ pieces = cc e in
         subst (AllByRecursion (IsPieceOf lanes merge)) same (order_in_range lanes merge text found is)
 
-options_keep : (lanes : ℕ) (merge trace : Bool) (text : Option Text) (options : Options) → (1 ≤ lanes) × (lanes ≤ 16)
-    → option_map (λ order. options_with lanes order merge trace) (order_stated lanes merge text) ≡ Some options → AreInRange options
-options_keep lanes merge trace text options bounds e = by (order_stated lanes merge text) refl e
+options_keep : (lanes : ℕ) (merge trace : Bool) (keys : Keys) (text : Option Text) (options : Options) → (1 ≤ lanes) × (lanes ≤ 16)
+    → option_map (λ order. options_with lanes order merge trace keys) (order_stated lanes merge text) ≡ Some options → AreInRange options
+options_keep lanes merge trace keys text options bounds e = by (order_stated lanes merge text) refl e
   where
-    by : (o : Option (Option (List (List ℕ)))) → order_stated lanes merge text ≡ o → option_map (λ order. options_with lanes order merge trace) o ≡ Some options → AreInRange options
+    by : (o : Option (Option (List (List ℕ)))) → order_stated lanes merge text ≡ o → option_map (λ order. options_with lanes order merge trace keys) o ≡ Some options → AreInRange options
     by None is e = cc e
     by (Some order) is e =
-        let same : options_with lanes order merge trace ≡ options = cc e in
+        let same : options_with lanes order merge trace keys ≡ options = cc e in
         subst AreInRange same (record { low = bounds.0; high = bounds.1; order = order_keeps lanes merge text order is })
 
 one_or_more : (number : Option ℕ) → ((n : ℕ) → number ≡ Some n → (1 ≤ n) × (n ≤ 16)) → (1 ≤ unwrap_or number 1) × (unwrap_or number 1 ≤ 16)
@@ -118,7 +132,7 @@ pub options_in_range : (cmd : Command) (m : ArgMatches) → IsParsedFrom cmd m �
 options_in_range cmd m p is options e =
     let matches = rows_of (found_of m) in
     let lanes = one_or_more (number_held (codes "lanes") matches) (number_in_range cmd m p run_command is refl 0 lanes_option refl refl refl 1 16 refl (omega arith)) in
-    options_keep (unwrap_or (number_held (codes "lanes") matches) 1) (flag_of (codes "merge") matches) (flag_of (codes "trace") matches) (first_of (codes "order") matches) options lanes e
+    options_keep (unwrap_or (number_held (codes "lanes") matches) 1) (flag_of (codes "merge") matches) (flag_of (codes "trace") matches) (keys_held matches) (first_of (codes "order") matches) options lanes e
 
 pub ok_more : {X E : Type 0} (r : Result X E) (P Q : X → Type 0) → ((x : X) → P x → Q x) → IfOk r P → IfOk r Q
 ok_more (Ok x) P Q more p = more x p
@@ -157,3 +171,45 @@ pub made_in_range : (cmd : Command) (m : ArgMatches) → IsParsedFrom cmd m → 
     → option_map mode_of made ≡ make_held (rows_of (found_of m)) → IfOk (ok_or made refused.Usage) (λ mode. IsModeInRange (mode_of mode))
 made_in_range cmd m p is None held = tt
 made_in_range cmd m p is (Some mode) held = make_in_range cmd m p is (mode_of mode) (sym held)
+
+-- ---- the mode of `watch`
+
+-- the texts of an argument, or none
+pub texts_or_none : (texts : Option (Bor (List (Bor Text)))) (none : Bor (List (Bor Text))) → none.now ≡ []
+    → map (λ text. text.now) (unwrap_or texts none).now ≡ unwrap_or (option_map (λ s. map (λ text. text.now) s.now) texts) []
+texts_or_none None none e = ap (map (λ text. text.now)) e
+texts_or_none (Some texts) none e = refl
+
+-- the paths, by the test of how many there are
+pub paths_by : (matches : List Row) (texts : List (Bor Text)) (fits : Bool) → map (λ text. text.now) texts ≡ unwrap_or (all_of (codes "path") matches) []
+    → (nat_le 1 (length texts) && nat_le (length texts) 16) ≡ fits → paths_held matches ≡ cond fits (Some (map (λ text. text.now) texts)) None
+paths_by matches texts fits are test =
+    let paths = map (λ (text : Bor Text). text.now) texts in
+    ap (λ (ts : List Text). cond (nat_le 1 (length ts) && nat_le (length ts) 16) (Some ts) None) (sym are)
+    ∙ ap (λ (n : ℕ). cond (nat_le 1 n && nat_le n 16) (Some paths) None) (length-map texts (λ text. text.now))
+    ∙ ap (λ (b : Bool). cond b (Some paths) None) test
+
+no_path : (o : Option ℕ) → watch_of o None ≡ None
+no_path None = refl
+no_path (Some k) = refl
+
+-- where there are not 1 to 16 paths there is no mode
+pub no_paths : (matches : List Row) (e : WordsRefused) → (e ≡ refused.NoMemory) ⊎ (paths_held matches ≡ None) → (e ≡ refused.NoMemory) ⊎ (watch_held matches ≡ None)
+no_paths matches e (inl memory) = inl memory
+no_paths matches e (inr none) = inr (ap (watch_of (number_held (codes "k") matches)) none ∙ no_path (number_held (codes "k") matches))
+
+watch_keeps : (number : Option ℕ) (paths : List Text) (fits : Bool) (mode : model.Mode) → (nat_le 1 (length paths) && nat_le (length paths) 16) ≡ fits
+    → ((n : ℕ) → number ≡ Some n → (1 ≤ n) × (n ≤ 10000)) → watch_of number (cond fits (Some paths) None) ≡ Some mode → IsModeInRange mode
+watch_keeps None paths fits mode test bounds e = cc e
+watch_keeps (Some k) paths false mode test bounds e = cc e
+watch_keeps (Some k) paths true mode test bounds e =
+    let same : model.Watch k paths ≡ mode = cc e in
+    let parts = and_parts (nat_le 1 (length paths)) (nat_le (length paths) 16) test in
+    subst IsModeInRange same ((bounds k refl).0, (bounds k refl).1, leb-true 1 (length paths) parts.0, leb-true (length paths) 16 parts.1)
+
+-- the mode that a parse gives is in range
+pub watch_in_range : (cmd : Command) (m : ArgMatches) → IsParsedFrom cmd m → app_of cmd ≡ watch_command → (mode : model.Mode) → watch_held (rows_of (found_of m)) ≡ Some mode → IsModeInRange mode
+watch_in_range cmd m p is mode e =
+    let matches = rows_of (found_of m) in
+    watch_keeps (number_held (codes "k") matches) (unwrap_or (all_of (codes "path") matches) []) _ mode refl
+    (number_in_range cmd m p watch_command is refl 0 (number_word (codes "k") (between 1 10000)) refl refl refl 1 10000 refl (omega arith)) e

@@ -4,6 +4,7 @@ pub mod RunWordLemmas
 pub mod PlainLemmas
 pub mod OptionLemmas
 pub mod MakeLemmas
+pub mod WatchLemmas
 pub mod CommandLemmas
 pub mod OrderLemmas
 pub mod ParsedLemmas

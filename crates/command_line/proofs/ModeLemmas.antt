@@ -1,28 +1,30 @@
 -- Clap reads in plain words what they say.
-use Rattle.std.proofs.Common.{◌≡◌, refl, inl, inr, ◌⊎◌, ap, ap₂, sym, ◌∙◌, ◌&&◌, ◌^◌, ℕ, length, Result, Ok, Err, List, [], ◌∷◌, Bool, true, false, cond, codes, Option, Some, None, option_map, true≢false}
+use Rattle.std.proofs.Common.{◌≡◌, ◌≤◌, ◌-◌, refl, inl, inr, ◌⊎◌, ap, ap₂, sym, ◌∙◌, ◌&&◌, ◌^◌, ℕ, arith, drop, length, map, take, Result, Ok, Err, List, [], ◌∷◌, Bool, true, false, cond, codes, Option, Some, None, option_map, true≢false}
 use Rattle.std.specs.Prelude.{⊤, IfErr, IfOk, IsErr, MatchResult, bytes_eq, nat_lt, option_and_then, unwrap_or}
-use Rattle.std.specs.List.{list_all}
+use Rattle.std.specs.List.{list_all, slice_index_or}
 use Rattle.std.specs.Option.{option_map_or}
 use Rattle.std.specs.Str.Parse.{AllDigits, ParsesBool, ParsesUnsigned, digits_value, without_leading_plus}
 use Rattle.std.proofs.lemmas.Bool.{and_parts, false_from_ne_true, lt-ltb, ltb-true}
+use Rattle.std.proofs.lemmas.List.{take_rest}
 use Rattle.std.proofs.lemmas.Slice.Eq.{bytes_eq-Decides}
 use Rattle.clap.specs.Matches.{ReadsOne}
 use Rattle.clap.specs.ValueTests.{is_numeral}
 use Rattle.std.specs.Char.{digit_value}
 use Rattle.lake_model.specs.Texts.{Text}
 use Rattle.script_model.specs.Options.{Options}
-use Rattle.option_model.specs.Plain.{Mode, NoValue, Run, Taken, make_mode, nothing_given, plain_mode, run_mode, run_options, take_words}
-use Rattle.command_line.specs.Words.{make_words, mode_of, mode_read, number_read, run_words}
+use Rattle.option_model.specs.Plain.{Mode, NoValue, Run, Taken, make_mode, nothing_given, plain_mode, run_mode, run_options, take_words, watch_mode}
+use Rattle.command_line.specs.Words.{make_words, mode_of, mode_read, number_read, run_words, watch_words}
 use Rattle.command_line.specs.declared.words.Mode.{Mode as Given}
 use Rattle.command_line.specs.declared.words.WordsRefused.{WordsRefused}
 use Rattle.command_line.specs.declared.words.WordsRefused.TheVariants as refused
 use Rattle.command_line.proofs.MakeLemmas.{make_is_read}
 use Rattle.command_line.proofs.OptionLemmas.{run_is_read}
+use Rattle.command_line.proofs.WatchLemmas.{watch_is_read}
 
 -- The mode that plain words say is the one that is read in them
 pub plain_is_read : (words : List Text) (mode : Mode) → plain_mode words ≡ Some mode → mode_read words ≡ Some mode
 plain_is_read [] mode e = cc e
-plain_is_read (word ∷ words) mode e = by (bytes_eq word (codes "run")) (bytes_eq word (codes "make")) e
+plain_is_read (word ∷ words) mode e = by (bytes_eq word (codes "run")) (bytes_eq word (codes "make")) (bytes_eq word (codes "watch")) e
   where
     taken : Taken
     taken = take_words nothing_given NoValue words
@@ -31,11 +33,12 @@ plain_is_read (word ∷ words) mode e = by (bytes_eq word (codes "run")) (bytes_
     run None is e = cc e
     run (Some options) is e = ap (option_map Run) (run_is_read words options is) ∙ e
 
-    by : (b c : Bool) → cond b (run_mode (take_words nothing_given NoValue words)) (cond c (make_mode words) None) ≡ Some mode
-        → cond b (option_map Run (run_words words)) (cond c (make_words words) None) ≡ Some mode
-    by true c e = run (run_options taken.given taken.awaited) refl e
-    by false true e = make_is_read words mode e
-    by false false e = cc e
+    by : (b c d : Bool) → cond b (run_mode (take_words nothing_given NoValue words)) (cond c (make_mode words) (cond d (watch_mode words) None)) ≡ Some mode
+        → cond b (option_map Run (run_words words)) (cond c (make_words words) (cond d (watch_words words) None)) ≡ Some mode
+    by true c d e = run (run_options taken.given taken.awaited) refl e
+    by false true d e = make_is_read words mode e
+    by false false true e = watch_is_read words mode e
+    by false false false e = cc e
 
 -- what `get_one` reads of the text of a flag
 pub flag_read : (E : Type 0) (text : Option Text) (value : Option Bool) → (text ≡ None → value ≡ None) → ((t : Text) → text ≡ Some t → ReadsOne {E = E} ParsesBool t value)
@@ -107,3 +110,32 @@ pub run_refused : (e : WordsRefused) (options : Option Options) (mode : Option M
     → (e ≡ refused.NoMemory) ⊎ (mode ≡ None)
 run_refused e options mode same (inl memory) = inl memory
 run_refused e options mode same (inr none) = inr (same ∙ ap (option_map Run) none)
+
+-- ---- the first word
+
+-- a list that has a first element is that one and the rest
+pub parted : {X : Type 0} (f : X → Text) (words : List X) (first : X) → 1 ≤ length words → first ≡ slice_index_or words 0 first
+    → map f words ≡ f first ∷ map f (take (length words - 1) (drop 1 words))
+parted f [] first some is = absurd (omega (arith, some))
+parted {X} f (word ∷ words) first some is = ap₂ (λ (a : X) (b : List X). f a ∷ map f b) (sym is) (sym (take_rest (word ∷ words) 1))
+
+module _ (words : List Text) (word : Text) (rest : List Text) (parts : words ≡ word ∷ rest) where
+  pub run_named : word ≡ codes "run" → mode_read words ≡ option_map Run (run_words rest)
+  run_named named = ap mode_read parts ∙ ap (λ (w : Text). mode_read (w ∷ rest)) named
+
+  pub make_named : word ≡ codes "make" → mode_read words ≡ make_words rest
+  make_named named = ap mode_read parts ∙ ap (λ (w : Text). mode_read (w ∷ rest)) named
+
+  pub watch_named : word ≡ codes "watch" → mode_read words ≡ watch_words rest
+  watch_named named = ap mode_read parts ∙ ap (λ (w : Text). mode_read (w ∷ rest)) named
+
+  is_not : (name : Text) → (word ≡ name → ⊥) → bytes_eq word name ≡ false
+  is_not name other = false_from_ne_true (bytes_eq word name) (λ same. other ((bytes_eq-Decides word name).0 same))
+
+  -- another first word is no plain mode
+  pub no_mode : (word ≡ codes "run" → ⊥) → (word ≡ codes "make" → ⊥) → (word ≡ codes "watch" → ⊥) → plain_mode words ≡ None
+  no_mode not_run not_make not_watch =
+      ap plain_mode parts
+      ∙ ap (λ (b : Bool). cond b (run_mode (take_words nothing_given NoValue rest)) (cond (bytes_eq word (codes "make")) (make_mode rest) (cond (bytes_eq word (codes "watch")) (watch_mode rest) None)))
+      (is_not (codes "run") not_run)
+      ∙ ap₂ (λ (b d : Bool). cond b (make_mode rest) (cond d (watch_mode rest) None)) (is_not (codes "make") not_make) (is_not (codes "watch") not_watch)

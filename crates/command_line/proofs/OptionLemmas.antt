@@ -10,14 +10,20 @@ use Rattle.clap.specs.declared.builder.value_parser.Reading.TheVariants as readi
 use Rattle.clap.specs.declared.parser.matches.ValueSource.TheVariants.{DefaultValue}
 use Rattle.clap.proofs.FaultLemmas.{leaf_fault}
 use Rattle.script_model.specs.Options.{Options, options_with}
-use Rattle.option_model.specs.Plain.{Awaited, Given, LanesNext, NoValue, OrderNext, Refused, lanes_said, nothing_given, options_of, order_said, run_options, take_words}
-use Rattle.command_line.specs.Words.{flag_of, flag_option, held_without, lanes_option, number_held, number_read, options_held, order_option, order_stated, run_command, run_words}
+use Rattle.option_model.specs.Plain.{Awaited, Given, LanesNext, NoValue, OrderNext, ProfileNext, Refused, keys_of_profile, lanes_said, nothing_given, options_of, order_said, profile_said, run_options, take_words}
+use Rattle.command_line.specs.Words.{flag_of, flag_option, held_without, lanes_option, number_held, number_read, options_held, order_option, order_stated, profile_option, run_command, run_words}
 use Rattle.command_line.proofs.NumberLemmas.{number_is_read}
 use Rattle.command_line.proofs.RowLemmas.{default_kept, default_row, no_default, row_at, row_with}
-use Rattle.command_line.proofs.RunWordLemmas.{Agrees, between, flag_if, held, lanes_row, order_row, rules, top}
+use Rattle.command_line.proofs.RunWordLemmas.{Agrees, between, flag_if, held, lanes_row, order_row, profile_row, rules, top}
 use Rattle.command_line.proofs.PlainLemmas.{Walks, no_value, plain_walks}
 
 -- ---- the default values
+
+abbrev with_merge : List Row → List Row
+with_merge rows = with_default rows (filled (flag_option (codes "merge")))
+
+abbrev all_rows : List Row → List Row
+all_rows rows = with_default (with_merge rows) (filled (flag_option (codes "trace")))
 
 pub no_default_fault : (rows : List Row) (a : Rule) → given_default_fault a a.defaults ≡ [] → default_fault rows a ≡ []
 no_default_fault rows a fine = ap (λ (k : Kinds). cond (has_row a.id rows || is_empty a.defaults) [] k) fine ∙ by (has_row a.id rows || is_empty a.defaults)
@@ -32,21 +38,17 @@ no_defaults_fault rows =
     ap₂ or_else (no_default_fault rows (filled lanes_option) refl)
     (ap₂ or_else (no_default_fault (with_default rows (filled lanes_option)) (filled order_option) refl)
     (ap₂ or_else (no_default_fault (with_default (with_default rows (filled lanes_option)) (filled order_option)) (filled (flag_option (codes "merge"))) refl)
-    (ap (λ (k : Kinds). or_else k []) (no_default_fault (with_default (with_default (with_default rows (filled lanes_option)) (filled order_option)) (filled (flag_option (codes "merge")))) (filled (flag_option (codes "trace"))) refl))))
+    (ap₂ or_else (no_default_fault (with_default (with_default (with_default rows (filled lanes_option)) (filled order_option)) (filled (flag_option (codes "merge")))) (filled (flag_option (codes "trace"))) refl)
+    (ap (λ (k : Kinds). or_else k []) (no_default_fault (all_rows (with_default (with_default rows (filled lanes_option)) (filled order_option))) (filled profile_option) refl)))))
 
 -- ---- the rows at the end
 
-abbrev with_merge : List Row → List Row
-with_merge rows = with_default rows (filled (flag_option (codes "merge")))
-
-abbrev all_rows : List Row → List Row
-all_rows rows = with_default (with_merge rows) (filled (flag_option (codes "trace")))
-
 rows_are : (rows : List Row) (h : Held) → (settled rules h).rows ≡ rows → finished rules h ≡ all_rows rows
 rows_are rows h same =
-    ap (λ (r : List Row). all_rows (with_default (with_default r (filled lanes_option)) (filled order_option))) same
-    ∙ ap (λ (r : List Row). all_rows (with_default r (filled order_option))) (no_default (filled lanes_option) rows refl)
-    ∙ ap all_rows (no_default (filled order_option) rows refl)
+    ap (λ (r : List Row). with_default (all_rows (with_default (with_default r (filled lanes_option)) (filled order_option))) (filled profile_option)) same
+    ∙ ap (λ (r : List Row). with_default (all_rows (with_default r (filled order_option))) (filled profile_option)) (no_default (filled lanes_option) rows refl)
+    ∙ ap (λ (r : List Row). with_default (all_rows r) (filled profile_option)) (no_default (filled order_option) rows refl)
+    ∙ no_default (filled profile_option) (all_rows rows) refl
 
 module _ (given : Given) (rows : List Row) (agrees : Agrees given rows) where
   lanes_at : row_at (codes "lanes") (all_rows rows) ≡ option_map lanes_row given.lanes
@@ -56,6 +58,10 @@ module _ (given : Given) (rows : List Row) (agrees : Agrees given rows) where
   order_at : row_at (codes "order") (all_rows rows) ≡ option_map order_row given.order
   order_at = default_kept (codes "order") (filled (flag_option (codes "trace"))) (with_merge rows) refl
       ∙ default_kept (codes "order") (filled (flag_option (codes "merge"))) rows refl ∙ agrees.order
+
+  profile_at : row_at (codes "profile") (all_rows rows) ≡ option_map profile_row given.profile
+  profile_at = default_kept (codes "profile") (filled (flag_option (codes "trace"))) (with_merge rows) refl
+      ∙ default_kept (codes "profile") (filled (flag_option (codes "merge"))) rows refl ∙ agrees.profile
 
   merge_at : row_at (codes "merge") (all_rows rows) ≡ Some (unwrap_or (flag_if (codes "merge") given.merge) (row_with (codes "merge") reading.AsWritten DefaultValue (codes "false" ∷ [])))
   merge_at = default_kept (codes "merge") (filled (flag_option (codes "trace"))) (with_merge rows) refl
@@ -82,6 +88,11 @@ module _ (given : Given) (rows : List Row) (agrees : Agrees given rows) where
   lanes_are None lanes e = cc e
   lanes_are (Some text) lanes e = ap (λ (o : Option ℕ). unwrap_or o 1) (number_is_read 1 16 text lanes (omega arith) (omega arith) e).read
 
+  profile_is : (said : Option Text) (profile : ℕ) → profile_said said ≡ Some profile
+      → unwrap_or (option_and_then number_read (option_and_then row_text (option_map profile_row said))) 1 ≡ profile
+  profile_is None profile e = cc e
+  profile_is (Some text) profile e = ap (λ (o : Option ℕ). unwrap_or o 1) (number_is_read 1 2 text profile (omega arith) (omega arith) e).read
+
   order_text : (said : Option Text) → option_and_then (λ (r : Row). slice_get r.values 0) (option_map order_row said) ≡ said
   order_text None = refl
   order_text (Some text) = refl
@@ -95,23 +106,28 @@ module _ (given : Given) (rows : List Row) (agrees : Agrees given rows) where
   same_order f lanes merge (Some []) options e = no_value options e
   same_order f lanes merge (Some (byte ∷ bytes)) options e = e
 
-  with_lanes : (said : Option ℕ) (options : Options) → lanes_said given.lanes ≡ said → options_of given said ≡ Some options → options_held (all_rows rows) ≡ Some options
-  with_lanes None options is e = no_value options e
-  with_lanes (Some lanes) options is e =
+  with_numbers : (said profile_is_said : Option ℕ) (options : Options) → lanes_said given.lanes ≡ said → profile_said given.profile ≡ profile_is_said
+      → options_of given said profile_is_said ≡ Some options → options_held (all_rows rows) ≡ Some options
+  with_numbers None profile options is profile_was e = no_value options e
+  with_numbers (Some lanes) None options is profile_was e = no_value options e
+  with_numbers (Some lanes) (Some profile) options is profile_was e =
       let lanes_same : unwrap_or (number_held (codes "lanes") (all_rows rows)) 1 ≡ lanes =
       ap (λ (o : Option Row). unwrap_or (option_and_then number_read (option_and_then row_text o)) 1) lanes_at ∙ lanes_are given.lanes lanes is in
-      let f = λ (l : ℕ) (m t : Bool) (o : Option Text). option_map (λ order. options_with l order m t) (order_stated l m o) in
-      ap (λ (l : ℕ). f l (flag_of (codes "merge") (all_rows rows)) (flag_of (codes "trace") (all_rows rows)) (first_of (codes "order") (all_rows rows))) lanes_same
-      ∙ ap (λ (m : Bool). f lanes m (flag_of (codes "trace") (all_rows rows)) (first_of (codes "order") (all_rows rows))) merge_is
-      ∙ ap₂ (λ (t : Bool) (o : Option Text). f lanes given.merge t o) trace_is order_is
-      ∙ same_order (λ order. options_with lanes order given.merge given.trace) lanes given.merge given.order options e
+      let profile_same : unwrap_or (number_held (codes "profile") (all_rows rows)) 1 ≡ profile =
+      ap (λ (o : Option Row). unwrap_or (option_and_then number_read (option_and_then row_text o)) 1) profile_at ∙ profile_is given.profile profile profile_was in
+      let f = λ (l p : ℕ) (m t : Bool) (o : Option Text). option_map (λ order. options_with l order m t (keys_of_profile p)) (order_stated l m o) in
+      ap₂ (λ (l p : ℕ). f l p (flag_of (codes "merge") (all_rows rows)) (flag_of (codes "trace") (all_rows rows)) (first_of (codes "order") (all_rows rows))) lanes_same profile_same
+      ∙ ap (λ (m : Bool). f lanes profile m (flag_of (codes "trace") (all_rows rows)) (first_of (codes "order") (all_rows rows))) merge_is
+      ∙ ap₂ (λ (t : Bool) (o : Option Text). f lanes profile given.merge t o) trace_is order_is
+      ∙ same_order (λ order. options_with lanes order given.merge given.trace (keys_of_profile profile)) lanes given.merge given.order options e
 
 options_are : (given : Given) (rows : List Row) → Agrees given rows → (awaited : Awaited) (options : Options) → run_options given awaited ≡ Some options
     → options_held (all_rows rows) ≡ Some options
 options_are given rows agrees LanesNext options e = no_value options e
 options_are given rows agrees OrderNext options e = no_value options e
+options_are given rows agrees ProfileNext options e = no_value options e
 options_are given rows agrees Refused options e = no_value options e
-options_are given rows agrees NoValue options e = with_lanes given rows agrees (lanes_said given.lanes) options refl e
+options_are given rows agrees NoValue options e = with_numbers given rows agrees (lanes_said given.lanes) (profile_said given.profile) options refl refl e
 
 -- ---- the words
 

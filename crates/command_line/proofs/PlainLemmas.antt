@@ -10,10 +10,10 @@ use Rattle.clap.specs.Simple.{filled}
 use Rattle.clap.specs.Walk.{Row, Text, Walk, idle, settled_rows, used, walked}
 use Rattle.script_model.specs.Words.{number}
 use Rattle.script_model.specs.Options.{Options, options_with}
-use Rattle.option_model.specs.Plain.{Argument, Awaited, Given, LanesNext, LanesValue, MergeFlag, NoArgument, NoValue, OrderNext, OrderValue, Refused, Taken, TraceFlag, all_there, argument_of, lane_number, lanes_said, nothing_given, options_of, order_of, order_said, piece_of, run_options, take_argument, take_word, take_words}
+use Rattle.option_model.specs.Plain.{Argument, Awaited, Given, LanesNext, LanesValue, MergeFlag, NoArgument, NoValue, OrderNext, OrderValue, ProfileNext, ProfileValue, Refused, Taken, TraceFlag, all_there, argument_of, keys_of_profile, lane_number, lanes_said, nothing_given, options_of, order_of, order_said, piece_of, profile_said, run_options, take_argument, take_word, take_words}
 use Rattle.command_line.specs.Words.{flag_option}
 use Rattle.command_line.proofs.NumberLemmas.{IsValue, number_is_read}
-use Rattle.command_line.proofs.RunWordLemmas.{Agrees, Pending, Stands, between, held, lanes_settle, lanes_turn, lanes_used, lanes_value, lanes_value_turn, lanes_walk, merge_turn, merge_used, merge_walk, more_lanes, more_merge, more_order, more_trace, no_lanes, no_merge, no_order, no_trace, order_settle, order_turn, order_used, order_value, order_value_turn, order_walk, rules, stands_first, top, trace_turn, trace_used, trace_walk}
+use Rattle.command_line.proofs.RunWordLemmas.{Agrees, Pending, Stands, between, held, lanes_settle, lanes_turn, lanes_used, lanes_value, lanes_value_turn, lanes_walk, merge_turn, merge_used, merge_walk, more_lanes, more_merge, more_order, more_profile, more_trace, no_lanes, no_merge, no_order, no_profile, no_trace, order_settle, order_turn, order_used, order_value, order_value_turn, order_walk, profile_settle, profile_turn, profile_used, profile_value, profile_value_turn, profile_walk, rules, stands_first, top, trace_turn, trace_used, trace_walk}
 
 -- ---- the values that plain words have
 
@@ -36,19 +36,38 @@ abbrev is_order_value : Argument → Bool
 is_order_value OrderValue = true
 is_order_value _ = false
 
-lanes_chosen : (b c d e : Bool) → is_lanes_value (cond b LanesValue (cond c OrderValue (cond d MergeFlag (cond e TraceFlag NoArgument)))) ≡ b
-lanes_chosen true c d e = refl
-lanes_chosen false true d e = refl
-lanes_chosen false false true e = refl
-lanes_chosen false false false true = refl
-lanes_chosen false false false false = refl
+abbrev is_profile_value : Argument → Bool
+is_profile_value ProfileValue = true
+is_profile_value _ = false
 
-order_chosen : (b c d e : Bool) → c ≡ false → is_order_value (cond b LanesValue (cond c OrderValue (cond d MergeFlag (cond e TraceFlag NoArgument)))) ≡ false
-order_chosen true c d e off = refl
-order_chosen false true d e off = absurd (true≢false off)
-order_chosen false false true e off = refl
-order_chosen false false false true off = refl
-order_chosen false false false false off = refl
+-- the argument that the word is, by the tests of its names
+abbrev chosen : (lanes order merge trace profile : Bool) → Argument
+chosen lanes order merge trace profile =
+    cond lanes LanesValue (cond order OrderValue (cond merge MergeFlag (cond trace TraceFlag (cond profile ProfileValue NoArgument))))
+
+lanes_chosen : (b c d e f : Bool) → is_lanes_value (chosen b c d e f) ≡ b
+lanes_chosen true c d e f = refl
+lanes_chosen false true d e f = refl
+lanes_chosen false false true e f = refl
+lanes_chosen false false false true f = refl
+lanes_chosen false false false false true = refl
+lanes_chosen false false false false false = refl
+
+order_chosen : (b c d e f : Bool) → c ≡ false → is_order_value (chosen b c d e f) ≡ false
+order_chosen true c d e f off = refl
+order_chosen false true d e f off = absurd (true≢false off)
+order_chosen false false true e f off = refl
+order_chosen false false false true f off = refl
+order_chosen false false false false true off = refl
+order_chosen false false false false false off = refl
+
+profile_chosen : (b c d e f : Bool) → f ≡ false → is_profile_value (chosen b c d e f) ≡ false
+profile_chosen true c d e f off = refl
+profile_chosen false true d e f off = refl
+profile_chosen false false true e f off = refl
+profile_chosen false false false true f off = refl
+profile_chosen false false false false true off = absurd (true≢false off)
+profile_chosen false false false false false off = refl
 
 and_false : (b : Bool) → (b && false) ≡ false
 and_false true = refl
@@ -62,6 +81,10 @@ abbrev awaits_order : Awaited → Bool
 awaits_order OrderNext = true
 awaits_order _ = false
 
+abbrev awaits_profile : Awaited → Bool
+awaits_profile ProfileNext = true
+awaits_profile _ = false
+
 -- a value that was given stays
 lanes_kept : (given : Given) (argument : Argument) → is_lanes_value argument ≡ false
     → ((take_argument given argument).given.lanes ≡ given.lanes) × (awaits_lanes (take_argument given argument).awaited ≡ false)
@@ -69,6 +92,7 @@ lanes_kept given LanesValue e = absurd (true≢false e)
 lanes_kept given OrderValue e = (refl, refl)
 lanes_kept given MergeFlag e = (refl, refl)
 lanes_kept given TraceFlag e = (refl, refl)
+lanes_kept given ProfileValue e = (refl, refl)
 lanes_kept given NoArgument e = (refl, refl)
 
 order_kept : (given : Given) (argument : Argument) → is_order_value argument ≡ false
@@ -77,45 +101,73 @@ order_kept given LanesValue e = (refl, refl)
 order_kept given OrderValue e = absurd (true≢false e)
 order_kept given MergeFlag e = (refl, refl)
 order_kept given TraceFlag e = (refl, refl)
+order_kept given ProfileValue e = (refl, refl)
 order_kept given NoArgument e = (refl, refl)
 
-lanes_by_word : (given : Given) (awaited : Awaited) (word text : Text) → given.lanes ≡ Some text → awaits_lanes awaited ≡ false
-    → ((take_word given awaited word).given.lanes ≡ Some text) × (awaits_lanes (take_word given awaited word).awaited ≡ false)
+profile_kept : (given : Given) (argument : Argument) → is_profile_value argument ≡ false
+    → ((take_argument given argument).given.profile ≡ given.profile) × (awaits_profile (take_argument given argument).awaited ≡ false)
+profile_kept given LanesValue e = (refl, refl)
+profile_kept given OrderValue e = (refl, refl)
+profile_kept given MergeFlag e = (refl, refl)
+profile_kept given TraceFlag e = (refl, refl)
+profile_kept given ProfileValue e = absurd (true≢false e)
+profile_kept given NoArgument e = (refl, refl)
+
+-- one word keeps the value of an argument that has it, where the next word is not awaited as that value
+abbrev KeepsByWord : (Given → Option Text) → (Awaited → Bool) → Type 0
+KeepsByWord value awaits = (given : Given) (awaited : Awaited) (word text : Text) → value given ≡ Some text → awaits awaited ≡ false
+    → (value (take_word given awaited word).given ≡ Some text) × (awaits (take_word given awaited word).awaited ≡ false)
+
+-- the name of an argument that has its value is no argument
+named_again : (word name text : Text) (value : Option Text) → value ≡ Some text → (bytes_eq word name && not (is_some value)) ≡ false
+named_again word name text value has = ap (λ (o : Option Text). bytes_eq word name && not (is_some o)) has ∙ and_false (bytes_eq word name)
+
+lanes_by_word : KeepsByWord (λ given. given.lanes) awaits_lanes
 lanes_by_word given NoValue word text has other =
-    let twice : (bytes_eq word (codes "--lanes") && not (is_some given.lanes)) ≡ false =
-    ap (λ (o : Option Text). bytes_eq word (codes "--lanes") && not (is_some o)) has ∙ and_false (bytes_eq word (codes "--lanes")) in
-    let kept = lanes_kept given (argument_of given word) (lanes_chosen (bytes_eq word (codes "--lanes") && not (is_some given.lanes)) _ _ _ ∙ twice) in
+    let kept = lanes_kept given (argument_of given word)
+    (lanes_chosen (bytes_eq word (codes "--lanes") && not (is_some given.lanes)) _ _ _ _ ∙ named_again word (codes "--lanes") text given.lanes has) in
     (kept.0 ∙ has, kept.1)
 lanes_by_word given LanesNext word text has other = absurd (true≢false other)
 lanes_by_word given OrderNext word text has other = (has, refl)
+lanes_by_word given ProfileNext word text has other = (has, refl)
 lanes_by_word given Refused word text has other = (has, refl)
 
-order_by_word : (given : Given) (awaited : Awaited) (word text : Text) → given.order ≡ Some text → awaits_order awaited ≡ false
-    → ((take_word given awaited word).given.order ≡ Some text) × (awaits_order (take_word given awaited word).awaited ≡ false)
+order_by_word : KeepsByWord (λ given. given.order) awaits_order
 order_by_word given NoValue word text has other =
-    let twice : (bytes_eq word (codes "--order") && not (is_some given.order)) ≡ false =
-    ap (λ (o : Option Text). bytes_eq word (codes "--order") && not (is_some o)) has ∙ and_false (bytes_eq word (codes "--order")) in
-    let kept = order_kept given (argument_of given word) (order_chosen _ (bytes_eq word (codes "--order") && not (is_some given.order)) _ _ twice) in
+    let kept = order_kept given (argument_of given word)
+    (order_chosen _ (bytes_eq word (codes "--order") && not (is_some given.order)) _ _ _ (named_again word (codes "--order") text given.order has)) in
     (kept.0 ∙ has, kept.1)
 order_by_word given LanesNext word text has other = (has, refl)
 order_by_word given OrderNext word text has other = absurd (true≢false other)
+order_by_word given ProfileNext word text has other = (has, refl)
 order_by_word given Refused word text has other = (has, refl)
 
-lanes_stay : (words : List Text) (given : Given) (awaited : Awaited) (text : Text) → given.lanes ≡ Some text → awaits_lanes awaited ≡ false
-    → (take_words given awaited words).given.lanes ≡ Some text
-lanes_stay [] given awaited text has other = has
-lanes_stay (word ∷ words) given awaited text has other =
-    let next = take_word given awaited word in
-    let kept = lanes_by_word given awaited word text has other in
-    lanes_stay words next.given next.awaited text kept.0 kept.1
+profile_by_word : KeepsByWord (λ given. given.profile) awaits_profile
+profile_by_word given NoValue word text has other =
+    let kept = profile_kept given (argument_of given word)
+    (profile_chosen _ _ _ _ (bytes_eq word (codes "--profile") && not (is_some given.profile)) (named_again word (codes "--profile") text given.profile has)) in
+    (kept.0 ∙ has, kept.1)
+profile_by_word given LanesNext word text has other = (has, refl)
+profile_by_word given OrderNext word text has other = (has, refl)
+profile_by_word given ProfileNext word text has other = absurd (true≢false other)
+profile_by_word given Refused word text has other = (has, refl)
 
-order_stays : (words : List Text) (given : Given) (awaited : Awaited) (text : Text) → given.order ≡ Some text → awaits_order awaited ≡ false
-    → (take_words given awaited words).given.order ≡ Some text
-order_stays [] given awaited text has other = has
-order_stays (word ∷ words) given awaited text has other =
+value_stays : (value : Given → Option Text) (awaits : Awaited → Bool) → KeepsByWord value awaits → (words : List Text) (given : Given) (awaited : Awaited) (text : Text)
+    → value given ≡ Some text → awaits awaited ≡ false → value (take_words given awaited words).given ≡ Some text
+value_stays value awaits keeps [] given awaited text has other = has
+value_stays value awaits keeps (word ∷ words) given awaited text has other =
     let next = take_word given awaited word in
-    let kept = order_by_word given awaited word text has other in
-    order_stays words next.given next.awaited text kept.0 kept.1
+    let kept = keeps given awaited word text has other in
+    value_stays value awaits keeps words next.given next.awaited text kept.0 kept.1
+
+lanes_stay : (words : List Text) (given : Given) (text : Text) → given.lanes ≡ Some text → (take_words given NoValue words).given.lanes ≡ Some text
+lanes_stay words given text has = value_stays (λ given. given.lanes) awaits_lanes lanes_by_word words given NoValue text has refl
+
+order_stays : (words : List Text) (given : Given) (text : Text) → given.order ≡ Some text → (take_words given NoValue words).given.order ≡ Some text
+order_stays words given text has = value_stays (λ given. given.order) awaits_order order_by_word words given NoValue text has refl
+
+profile_stays : (words : List Text) (given : Given) (text : Text) → given.profile ≡ Some text → (take_words given NoValue words).given.profile ≡ Some text
+profile_stays words given text has = value_stays (λ given. given.profile) awaits_profile profile_by_word words given NoValue text has refl
 
 -- ---- a value of plain words is no flag
 
@@ -123,12 +175,27 @@ lanes_fit : (given : Given) (awaited : Awaited) (text : Text) (options : Options
     → (n : ℕ) × (number 16 text ≡ Some n)
 lanes_fit given LanesNext text options has e = no_value options e
 lanes_fit given OrderNext text options has e = no_value options e
+lanes_fit given ProfileNext text options has e = no_value options e
 lanes_fit given Refused text options has e = no_value options e
-lanes_fit given NoValue text options has e = by (number 16 text) (ap (λ (o : Option Text). options_of given (lanes_said o)) (sym has) ∙ e)
+lanes_fit given NoValue text options has e = by (number 16 text) (ap (λ (o : Option Text). options_of given (lanes_said o) (profile_said given.profile)) (sym has) ∙ e)
   where
-    by : (o : Option ℕ) → options_of given o ≡ Some options → (n : ℕ) × (o ≡ Some n)
+    by : (o : Option ℕ) → options_of given o (profile_said given.profile) ≡ Some options → (n : ℕ) × (o ≡ Some n)
     by None e = no_value options e
     by (Some n) e = (n, refl)
+
+profile_fits : (given : Given) (awaited : Awaited) (text : Text) (options : Options) → given.profile ≡ Some text → run_options given awaited ≡ Some options
+    → (n : ℕ) × (number 2 text ≡ Some n)
+profile_fits given LanesNext text options has e = no_value options e
+profile_fits given OrderNext text options has e = no_value options e
+profile_fits given ProfileNext text options has e = no_value options e
+profile_fits given Refused text options has e = no_value options e
+profile_fits given NoValue text options has e =
+    by (lanes_said given.lanes) (number 2 text) (ap (λ (o : Option Text). options_of given (lanes_said given.lanes) (profile_said o)) (sym has) ∙ e)
+  where
+    by : (lanes o : Option ℕ) → options_of given lanes o ≡ Some options → (n : ℕ) × (o ≡ Some n)
+    by None o e = no_value options e
+    by (Some lanes) None e = no_value options e
+    by (Some lanes) (Some n) e = (n, refl)
 
 no_lane : (lanes : ℕ) (merge : Bool) (rest : Text) → lane_number lanes merge (45 ∷ rest) ≡ None
 no_lane lanes true rest = refl
@@ -152,8 +219,9 @@ no_order_from lanes merge byte rest is =
 order_fits : (given : Given) (awaited : Awaited) (text : Text) (options : Options) → given.order ≡ Some text → run_options given awaited ≡ Some options → IsValue text
 order_fits given LanesNext text options has e = no_value options e
 order_fits given OrderNext text options has e = no_value options e
+order_fits given ProfileNext text options has e = no_value options e
 order_fits given Refused text options has e = no_value options e
-order_fits given NoValue text options has e = by (lanes_said given.lanes) e
+order_fits given NoValue text options has e = by (lanes_said given.lanes) (profile_said given.profile) e
   where
     said : (lanes : ℕ) (merge : Bool) (t : Text) (f : Option (List (List ℕ)) → Options) → option_map f (order_said lanes merge (Some t)) ≡ Some options → IsValue t
     said lanes merge [] f e = no_value options e
@@ -164,10 +232,11 @@ order_fits given NoValue text options has e = by (lanes_said given.lanes) e
         at_first true is =
             no_value options (ap (λ (o : Option (List (List ℕ))). option_map f (option_map Some o)) (sym (no_order_from lanes merge byte bytes (eqb-true byte 45 is))) ∙ e)
 
-    by : (o : Option ℕ) → options_of given o ≡ Some options → IsValue text
-    by None e = no_value options e
-    by (Some lanes) e =
-        let with_order = λ (order : Option (List (List ℕ))). options_with lanes order given.merge given.trace in
+    by : (o p : Option ℕ) → options_of given o p ≡ Some options → IsValue text
+    by None p e = no_value options e
+    by (Some lanes) None e = no_value options e
+    by (Some lanes) (Some profile) e =
+        let with_order = λ (order : Option (List (List ℕ))). options_with lanes order given.merge given.trace (keys_of_profile profile) in
         said lanes given.merge text with_order (ap (λ (o : Option Text). option_map with_order (order_said lanes given.merge o)) (sym has) ∙ e)
 
 -- ---- the walk over plain words
@@ -208,7 +277,7 @@ lanes_step (text ∷ words) more given rows pending options stands none e =
     let now = settled_rows rules pending rows in
     let with_text : Given = record given { lanes = Some text } in
     let taken = take_words with_text NoValue words in
-    let fits = lanes_fit taken.given taken.awaited text options (lanes_stay words with_text NoValue text refl refl) e in
+    let fits = lanes_fit taken.given taken.awaited text options (lanes_stay words with_text text refl) e in
     let is = number_is_read 1 16 text fits.0 (omega arith) (omega arith) fits.1 in
     let new = no_lanes given now stands.agrees none in
     let later : Stands with_text now (Some (codes "lanes", text ∷ [])) = record {
@@ -225,7 +294,7 @@ order_step (text ∷ words) more given rows pending options stands none e =
     let now = settled_rows rules pending rows in
     let with_text : Given = record given { order = Some text } in
     let taken = take_words with_text NoValue words in
-    let word = order_fits taken.given taken.awaited text options (order_stays words with_text NoValue text refl refl) e in
+    let word = order_fits taken.given taken.awaited text options (order_stays words with_text text refl) e in
     let new = no_order given now stands.agrees none in
     let later : Stands with_text now (Some (codes "order", text ∷ [])) = record {
       settles = order_settle now text new;
@@ -233,6 +302,23 @@ order_step (text ∷ words) more given rows pending options stands none e =
     } in
     more_walked (codes "--order") (text ∷ words) _ _ _ (order_turn rows pending stands.settles) (order_walk rows pending)
     (more_walked text words _ _ _ (order_value_turn now text word) (order_value now text word) (more with_text now (Some (codes "order", text ∷ [])) options later e))
+
+profile_step : (words : List Text) → WalksBehind words → (given : Given) (rows : List Row) (pending : Pending) (options : Options) → Stands given rows pending → given.profile ≡ None
+    → GivesOptions options (take_words given ProfileNext words) → Walks (codes "--profile" ∷ words) (between rows pending idle) (take_words given ProfileNext words).given
+profile_step [] more given rows pending options stands none e = no_value options e
+profile_step (text ∷ words) more given rows pending options stands none e =
+    let now = settled_rows rules pending rows in
+    let with_text : Given = record given { profile = Some text } in
+    let taken = take_words with_text NoValue words in
+    let fits = profile_fits taken.given taken.awaited text options (profile_stays words with_text text refl) e in
+    let is = number_is_read 1 2 text fits.0 (omega arith) (omega arith) fits.1 in
+    let new = no_profile given now stands.agrees none in
+    let later : Stands with_text now (Some (codes "profile", text ∷ [])) = record {
+      settles = profile_settle now text new is.accepted;
+      agrees = subst (Agrees with_text) (sym (profile_used now text new)) (more_profile given now stands.agrees text none);
+    } in
+    more_walked (codes "--profile") (text ∷ words) _ _ _ (profile_turn rows pending stands.settles) (profile_walk rows pending)
+    (more_walked text words _ _ _ (profile_value_turn now text is.word) (profile_value now text is.word) (more with_text now (Some (codes "profile", text ∷ [])) options later e))
 
 merge_step : (words : List Text) → WalksAll words → (given : Given) (rows : List Row) (pending : Pending) (options : Options) → Stands given rows pending → given.merge ≡ false
     → GivesOptions options (take_words (record given { merge = true }) NoValue words)
@@ -263,37 +349,43 @@ absent : (o : Option Text) → not (is_some o) ≡ true → o ≡ None
 absent None e = refl
 absent (Some text) e = absurd (true≢false (sym e))
 
--- what the words take where the first is one of the four arguments, or none
-abbrev taken_by : Given → List Text → Bool → Bool → Bool → Bool → Taken
-taken_by given words lanes order merge trace =
-    let next = take_argument given (cond lanes LanesValue (cond order OrderValue (cond merge MergeFlag (cond trace TraceFlag NoArgument)))) in
+-- what the words take where the first is one of the arguments, or none
+abbrev taken_by : Given → List Text → (lanes order merge trace profile : Bool) → Taken
+taken_by given words lanes order merge trace profile =
+    let next = take_argument given (chosen lanes order merge trace profile) in
     take_words next.given next.awaited words
 
 one_step : (word : Text) (words : List Text) → WalksAll words → WalksBehind words → WalksAll (word ∷ words)
 one_step word words more behind given rows pending options stands e =
     by (bytes_eq word (codes "--lanes") && not (is_some given.lanes)) refl (bytes_eq word (codes "--order") && not (is_some given.order)) refl
-    (bytes_eq word (codes "--merge") && not given.merge) refl (bytes_eq word (codes "--trace") && not given.trace) refl e
+    (bytes_eq word (codes "--merge") && not given.merge) refl (bytes_eq word (codes "--trace") && not given.trace) refl
+    (bytes_eq word (codes "--profile") && not (is_some given.profile)) refl e
   where
     by : (b : Bool) → (bytes_eq word (codes "--lanes") && not (is_some given.lanes)) ≡ b → (c : Bool) → (bytes_eq word (codes "--order") && not (is_some given.order)) ≡ c
         → (d : Bool) → (bytes_eq word (codes "--merge") && not given.merge) ≡ d → (f : Bool) → (bytes_eq word (codes "--trace") && not given.trace) ≡ f
-        → GivesOptions options (taken_by given words b c d f) → Walks (word ∷ words) (between rows pending idle) (taken_by given words b c d f).given
-    by true is c _ d _ f _ e =
+        → (p : Bool) → (bytes_eq word (codes "--profile") && not (is_some given.profile)) ≡ p
+        → GivesOptions options (taken_by given words b c d f p) → Walks (word ∷ words) (between rows pending idle) (taken_by given words b c d f p).given
+    by true is c _ d _ f _ p _ e =
         let at = named word (codes "--lanes") _ is in
         subst (λ (w : Text). Walks (w ∷ words) (between rows pending idle) (take_words given LanesNext words).given) at.0
         (lanes_step words behind given rows pending options stands (absent given.lanes at.1) e)
-    by false _ true is d _ f _ e =
+    by false _ true is d _ f _ p _ e =
         let at = named word (codes "--order") _ is in
         subst (λ (w : Text). Walks (w ∷ words) (between rows pending idle) (take_words given OrderNext words).given) at.0
         (order_step words behind given rows pending options stands (absent given.order at.1) e)
-    by false _ false _ true is f _ e =
+    by false _ false _ true is f _ p _ e =
         let at = named word (codes "--merge") _ is in
         subst (λ (w : Text). Walks (w ∷ words) (between rows pending idle) (take_words (record given { merge = true }) NoValue words).given) at.0
         (merge_step words more given rows pending options stands (not-true given.merge at.1) e)
-    by false _ false _ false _ true is e =
+    by false _ false _ false _ true is p _ e =
         let at = named word (codes "--trace") _ is in
         subst (λ (w : Text). Walks (w ∷ words) (between rows pending idle) (take_words (record given { trace = true }) NoValue words).given) at.0
         (trace_step words more given rows pending options stands (not-true given.trace at.1) e)
-    by false _ false _ false _ false _ e = no_value options (sym (refused_gives_none given words) ∙ e)
+    by false _ false _ false _ false _ true is e =
+        let at = named word (codes "--profile") _ is in
+        subst (λ (w : Text). Walks (w ∷ words) (between rows pending idle) (take_words given ProfileNext words).given) at.0
+        (profile_step words behind given rows pending options stands (absent given.profile at.1) e)
+    by false _ false _ false _ false _ false _ e = no_value options (sym (refused_gives_none given words) ∙ e)
 
 all_walked : (words : List Text) → WalksAll words
 unfolding walk_fault

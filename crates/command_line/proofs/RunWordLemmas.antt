@@ -39,6 +39,9 @@ lanes_row text = row_with (codes "lanes") reading.WithoutMinus CommandLine (text
 abbrev pub order_row : Text → Row
 order_row text = row_with (codes "order") reading.AsWritten CommandLine (text ∷ [])
 
+abbrev pub profile_row : Text → Row
+profile_row text = row_with (codes "profile") reading.WithoutMinus CommandLine (text ∷ [])
+
 abbrev pub flag_row : Text → Row
 flag_row id = row_with id reading.AsWritten CommandLine (codes "true" ∷ [])
 
@@ -50,6 +53,7 @@ pub record Agrees (given : Given) (rows : List Row) : Type 0 where
   pub order : row_at (codes "order") rows ≡ option_map order_row given.order
   pub merge : row_at (codes "merge") rows ≡ flag_if (codes "merge") given.merge
   pub trace : row_at (codes "trace") rows ≡ flag_if (codes "trace") given.trace
+  pub profile : row_at (codes "profile") rows ≡ option_map profile_row given.profile
 
 -- what is pending is no fault, and with it the rows are those of what was given
 pub record Stands (given : Given) (rows : List Row) (pending : Pending) : Type 0 where
@@ -57,7 +61,7 @@ pub record Stands (given : Given) (rows : List Row) (pending : Pending) : Type 0
   pub agrees : Agrees given (settled_rows rules pending rows)
 
 pub stands_first : Stands nothing_given [] None
-stands_first = record { settles = refl; agrees = record { lanes = refl; order = refl; merge = refl; trace = refl } }
+stands_first = record { settles = refl; agrees = record { lanes = refl; order = refl; merge = refl; trace = refl; profile = refl } }
 
 module _ (given : Given) (rows : List Row) (agrees : Agrees given rows) where
   pub no_lanes : given.lanes ≡ None → has_row (codes "lanes") rows ≡ false
@@ -72,12 +76,16 @@ module _ (given : Given) (rows : List Row) (agrees : Agrees given rows) where
   pub no_trace : given.trace ≡ false → has_row (codes "trace") rows ≡ false
   no_trace off = has_row_is (codes "trace") rows ∙ ap is_some (agrees.trace ∙ ap (flag_if (codes "trace")) off)
 
+  pub no_profile : given.profile ≡ None → has_row (codes "profile") rows ≡ false
+  no_profile none = has_row_is (codes "profile") rows ∙ ap is_some (agrees.profile ∙ ap (option_map profile_row) none)
+
   pub more_lanes : (text : Text) → given.lanes ≡ None → Agrees (record given { lanes = Some text }) (rows ++ lanes_row text ∷ [])
   more_lanes text none = record {
     lanes = found_behind (codes "lanes") rows (lanes_row text) (agrees.lanes ∙ ap (option_map lanes_row) none) refl;
     order = found_before (codes "order") rows (lanes_row text) refl ∙ agrees.order;
     merge = found_before (codes "merge") rows (lanes_row text) refl ∙ agrees.merge;
     trace = found_before (codes "trace") rows (lanes_row text) refl ∙ agrees.trace;
+    profile = found_before (codes "profile") rows (lanes_row text) refl ∙ agrees.profile;
   }
 
   pub more_order : (text : Text) → given.order ≡ None → Agrees (record given { order = Some text }) (rows ++ order_row text ∷ [])
@@ -86,6 +94,7 @@ module _ (given : Given) (rows : List Row) (agrees : Agrees given rows) where
     order = found_behind (codes "order") rows (order_row text) (agrees.order ∙ ap (option_map order_row) none) refl;
     merge = found_before (codes "merge") rows (order_row text) refl ∙ agrees.merge;
     trace = found_before (codes "trace") rows (order_row text) refl ∙ agrees.trace;
+    profile = found_before (codes "profile") rows (order_row text) refl ∙ agrees.profile;
   }
 
   pub more_merge : given.merge ≡ false → Agrees (record given { merge = true }) (rows ++ flag_row (codes "merge") ∷ [])
@@ -94,6 +103,7 @@ module _ (given : Given) (rows : List Row) (agrees : Agrees given rows) where
     order = found_before (codes "order") rows (flag_row (codes "merge")) refl ∙ agrees.order;
     merge = found_behind (codes "merge") rows (flag_row (codes "merge")) (agrees.merge ∙ ap (flag_if (codes "merge")) off) refl;
     trace = found_before (codes "trace") rows (flag_row (codes "merge")) refl ∙ agrees.trace;
+    profile = found_before (codes "profile") rows (flag_row (codes "merge")) refl ∙ agrees.profile;
   }
 
   pub more_trace : given.trace ≡ false → Agrees (record given { trace = true }) (rows ++ flag_row (codes "trace") ∷ [])
@@ -102,6 +112,16 @@ module _ (given : Given) (rows : List Row) (agrees : Agrees given rows) where
     order = found_before (codes "order") rows (flag_row (codes "trace")) refl ∙ agrees.order;
     merge = found_before (codes "merge") rows (flag_row (codes "trace")) refl ∙ agrees.merge;
     trace = found_behind (codes "trace") rows (flag_row (codes "trace")) (agrees.trace ∙ ap (flag_if (codes "trace")) off) refl;
+    profile = found_before (codes "profile") rows (flag_row (codes "trace")) refl ∙ agrees.profile;
+  }
+
+  pub more_profile : (text : Text) → given.profile ≡ None → Agrees (record given { profile = Some text }) (rows ++ profile_row text ∷ [])
+  more_profile text none = record {
+    lanes = found_before (codes "lanes") rows (profile_row text) refl ∙ agrees.lanes;
+    order = found_before (codes "order") rows (profile_row text) refl ∙ agrees.order;
+    merge = found_before (codes "merge") rows (profile_row text) refl ∙ agrees.merge;
+    trace = found_before (codes "trace") rows (profile_row text) refl ∙ agrees.trace;
+    profile = found_behind (codes "profile") rows (profile_row text) (agrees.profile ∙ ap (option_map profile_row) none) refl;
   }
 
 -- ---- one use of each argument
@@ -117,11 +137,18 @@ module _ (rows : List Row) where
   pub order_settle : (text : Text) → has_row (codes "order") rows ≡ false → settle_fault rules false (held rows (Some (codes "order", text ∷ []))) ≡ []
   order_settle text none = repeated _ _ none refl
 
+  pub profile_settle : (text : Text) → has_row (codes "profile") rows ≡ false → accepts false (range 1 2) text ≡ true
+      → settle_fault rules false (held rows (Some (codes "profile", text ∷ []))) ≡ []
+  profile_settle text none fits = repeated _ _ none (ap (λ (b : Bool). or_else (cond b [] (kind.ValueValidation ∷ [])) []) fits)
+
   pub lanes_used : (text : Text) → has_row (codes "lanes") rows ≡ false → settled_rows rules (Some (codes "lanes", text ∷ [])) rows ≡ rows ++ lanes_row text ∷ []
   lanes_used text none = used_once (codes "lanes") reading.WithoutMinus CommandLine (text ∷ []) rows none
 
   pub order_used : (text : Text) → has_row (codes "order") rows ≡ false → settled_rows rules (Some (codes "order", text ∷ [])) rows ≡ rows ++ order_row text ∷ []
   order_used text none = used_once (codes "order") reading.AsWritten CommandLine (text ∷ []) rows none
+
+  pub profile_used : (text : Text) → has_row (codes "profile") rows ≡ false → settled_rows rules (Some (codes "profile", text ∷ [])) rows ≡ rows ++ profile_row text ∷ []
+  profile_used text none = used_once (codes "profile") reading.WithoutMinus CommandLine (text ∷ []) rows none
 
   pub merge_used : has_row (codes "merge") rows ≡ false → used (filled (flag_option (codes "merge"))) [] rows ≡ rows ++ flag_row (codes "merge") ∷ []
   merge_used none = used_once (codes "merge") reading.AsWritten CommandLine (codes "true" ∷ []) rows none
@@ -143,6 +170,10 @@ module _ (rows : List Row) (pending : Pending) where
   unfolding clap_on_literals
   order_walk = refl
 
+  pub profile_walk : walked rules [] (between rows pending idle) (codes "--profile") ≡ between after (Some (codes "profile", [])) (option (codes "profile"))
+  unfolding clap_on_literals
+  profile_walk = refl
+
   pub merge_walk : walked rules [] (between rows pending idle) (codes "--merge") ≡ between (used (filled (flag_option (codes "merge"))) [] after) None idle
   unfolding clap_on_literals
   merge_walk = refl
@@ -159,6 +190,10 @@ module _ (rows : List Row) (pending : Pending) where
     pub order_turn : turn_fault top [] (between rows pending idle) (codes "--order") ≡ []
     unfolding clap_on_literals
     order_turn = ap (λ (k : Kinds). or_else k []) settles
+
+    pub profile_turn : turn_fault top [] (between rows pending idle) (codes "--profile") ≡ []
+    unfolding clap_on_literals
+    profile_turn = ap (λ (k : Kinds). or_else k []) settles
 
     pub merge_turn : has_row (codes "merge") after ≡ false → turn_fault top [] (between rows pending idle) (codes "--merge") ≡ []
     unfolding clap_on_literals
@@ -180,6 +215,11 @@ module _ (rows : List Row) where
   order_value [] value = absurd value
   order_value (byte ∷ bytes) value = rw (value, not_short byte bytes value) refl
 
+  pub profile_value : (text : Text) → IsValue text → walked rules [] (between rows (Some (codes "profile", [])) (option (codes "profile"))) text ≡ between rows (Some (codes "profile", text ∷ [])) idle
+  unfolding clap_on_literals
+  profile_value [] value = absurd value
+  profile_value (byte ∷ bytes) value = rw (value, not_short byte bytes value) refl
+
   pub lanes_value_turn : (text : Text) → IsValue text → turn_fault top [] (between rows (Some (codes "lanes", [])) (option (codes "lanes"))) text ≡ []
   unfolding clap_on_literals
   lanes_value_turn [] value = absurd value
@@ -189,3 +229,8 @@ module _ (rows : List Row) where
   unfolding clap_on_literals
   order_value_turn [] value = absurd value
   order_value_turn (byte ∷ bytes) value = rw (value, not_short byte bytes value) refl
+
+  pub profile_value_turn : (text : Text) → IsValue text → turn_fault top [] (between rows (Some (codes "profile", [])) (option (codes "profile"))) text ≡ []
+  unfolding clap_on_literals
+  profile_value_turn [] value = absurd value
+  profile_value_turn (byte ∷ bytes) value = rw (value, not_short byte bytes value) refl

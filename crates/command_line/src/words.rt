@@ -1,15 +1,16 @@
 //! The words of a command line, behind the program's name.
-ghost use Rattle.std.specs.Prelude.{ℕ, ◌≡◌, ◌≤◌, ◌⊎◌, false, Some, None, Err, map, pos, string_bytes, IfOk, IfErr, MatchResult, option_map};
+ghost use Rattle.std.specs.Prelude.{ℕ, ◌≡◌, ◌≤◌, ◌⊎◌, ◌&&◌, false, Some, None, Err, map, nat_le, pos, string_bytes, IfOk, IfErr, MatchResult, option_map};
 ghost use Rattle.clap.specs.Walk.{rule_of};
 ghost use Rattle.clap.specs.Words.{app_of, found_of, rows_of};
-ghost use Rattle.option_model.specs.Plain.{Mode as ModeOf, plain_mode};
+ghost use Rattle.option_model.specs.Plain.{Mode as ModeOf, keys_of_profile, plain_mode};
 ghost use Rattle.option_model.specs.Ranges.{AreInRange};
-ghost use Rattle.command_line.specs.Words.{IsModeInRange, bare, flag_of, flag_option, lanes_option, order_option, make_command as make_app, make_held, make_words, mode_of, mode_read, names_mode, number_held, number_word, options_held, order_stated, run_command as run_app, run_words};
+ghost use Rattle.command_line.specs.Words.{IsModeInRange, bare, flag_of, flag_option, lanes_option, order_option, profile_option, make_command as make_app, make_held, make_words, mode_of, mode_read, names_mode, number_held, number_word, options_held, order_stated, path_words, paths_held, run_command as run_app, run_words, watch_command as watch_app, watch_held, watch_words};
 
 use clap::builder::ValueParser;
 use clap::error::ErrorKind;
 use clap::{Arg, ArgAction, ArgMatches, Command, Error, value_parser};
 use commands::{Options, Order};
+use lake_model::Keys;
 use no_memory::NoMemory;
 use std::alloc::Global;
 
@@ -24,6 +25,9 @@ pub enum Mode {
     Run(Options),
     /// A script is written that loads this many tables of this many rows, made from the seed.
     Make { seed: u32, tables: u32, rows: u32 },
+    /// A script changes a lake, and the first `k` rows of the queries in the files at these paths are watched: 1 to 10,000 rows of each, and
+    /// 1 to 16 paths.
+    Watch { k: u32, paths: Vec<String> },
 }
 
 /// Why the words of a command line give no mode.
@@ -82,6 +86,17 @@ fn order_option<'a>(alloc: Global) -> Arg<'a>
         .action(ArgAction::Set)
 }
 
+// The profile.
+fn profile_option<'a>(alloc: Global) -> Arg<'a>
+    ensures rule { rule_of result ≡ profile_option }
+    ensures local { result.global ≡ false }
+{
+    Arg::new(alloc, "profile")
+        .long("profile")
+        .action(ArgAction::Set)
+        .value_parser(value_parser!(u32).range(1..=2))
+}
+
 // A flag, off where it does not stand among the words.
 fn flag_option<'a>(alloc: Global, name: &'a str) -> Arg<'a>
     ensures rule { rule_of result ≡ flag_option name.entry.now }
@@ -99,6 +114,16 @@ fn number_word<'a>(alloc: Global, name: &'a str, parser: ValueParser<'a>) -> Arg
         .required(true)
         .action(ArgAction::Set)
         .value_parser(parser)
+}
+
+// The words at the end, each of them a path.
+fn path_words<'a>(alloc: Global) -> Arg<'a>
+    ensures rule { rule_of result ≡ path_words }
+    ensures local { result.global ≡ false }
+{
+    Arg::new(alloc, "path")
+        .required(true)
+        .action(ArgAction::Append)
 }
 
 // A command whose words are all arguments of its own.
@@ -119,7 +144,8 @@ fn run_command<'a>(alloc: Global) -> Result<Command<'a>, NoMemory>
         .arg(lanes_option(alloc))?
         .arg(order_option(alloc))?
         .arg(flag_option(alloc, "merge"))?
-        .arg(flag_option(alloc, "trace"))?;
+        .arg(flag_option(alloc, "trace"))?
+        .arg(profile_option(alloc))?;
     Ok(command)
 }
 
@@ -131,6 +157,16 @@ fn make_command<'a>(alloc: Global) -> Result<Command<'a>, NoMemory>
         .arg(number_word(alloc, "seed", value_parser!(u32)))?
         .arg(number_word(alloc, "tables", value_parser!(u32).range(1..=1000)))?
         .arg(number_word(alloc, "rows", value_parser!(u32).range(1..=5000)))?;
+    Ok(command)
+}
+
+// The command that reads the words behind `watch`.
+fn watch_command<'a>(alloc: Global) -> Result<Command<'a>, NoMemory>
+    ensures { IfOk result (λ command. app_of command ≡ watch_app) }
+{
+    let command = bare(alloc, "watch")
+        .arg(number_word(alloc, "k", value_parser!(u32).range(1..=10_000)))?
+        .arg(path_words(alloc))?;
     Ok(command)
 }
 
@@ -168,6 +204,16 @@ fn order_stated(
     Ok(Some(order))
 }
 
+// The kind of keys of a profile.
+fn keys_of_profile(profile: u32) -> Keys
+    ensures { result ≡ keys_of_profile profile }
+{
+    match profile {
+        2 => Keys::Compatibility,
+        _ => Keys::Canonical,
+    }
+}
+
 // The options that the matches of `run` hold.
 fn options_held(alloc: Global, matches: &ArgMatches<'_>) -> Result<Options, WordsRefused>
     ensures read { IfOk result (λ options. options_held (rows_of (found_of matches.now)) ≡ Some options) }
@@ -175,12 +221,14 @@ fn options_held(alloc: Global, matches: &ArgMatches<'_>) -> Result<Options, Word
 {
     let lanes = number(matches, "lanes").unwrap_or(1);
     let merge = flag(matches, "merge");
+    let profile = number(matches, "profile").unwrap_or(1);
     let order = order_stated(alloc, lanes, merge, matches.get_str("order"))?;
     Ok(Options {
         lanes,
         order,
         merge,
         trace: flag(matches, "trace"),
+        keys: keys_of_profile(profile),
     })
 }
 
@@ -214,10 +262,63 @@ fn make_mode(alloc: Global, words: &[String]) -> Result<Mode, WordsRefused>
     make_held(&matches).ok_or(WordsRefused::Usage)
 }
 
+// Copies of the texts.
+fn copied(alloc: Global, texts: &[&str]) -> Result<Vec<String>, NoMemory>
+    ensures { IfOk result (λ copies. map string_bytes copies.items ≡ map (λ text. text.now) texts.now) }
+{
+    let mut copies = Vec::new(alloc);
+    for text in texts {
+        copies.push(String::from_str(alloc, text)?)?;
+    }
+    Ok(copies)
+}
+
+// The paths that the matches of `watch` hold, where there are 1 to 16.
+fn paths_held(alloc: Global, matches: &ArgMatches<'_>) -> Result<Vec<String>, WordsRefused>
+    ensures read { IfOk result (λ paths. paths_held (rows_of (found_of matches.now)) ≡ Some (map string_bytes paths.items)) }
+    ensures refused { IfErr result (λ e. (e ≡ WordsRefused.NoMemory) ⊎ (paths_held (rows_of (found_of matches.now)) ≡ None)) }
+{
+    let texts = matches.get_strs("path").unwrap_or(&[]);
+    if !is_path_count(texts.len()) {
+        return Err(WordsRefused::Usage);
+    }
+    Ok(copied(alloc, texts)?)
+}
+
+// Whether so many paths may be watched.
+fn is_path_count(count: usize) -> bool
+    ensures { result ≡ (nat_le 1 count && nat_le count 16) }
+{
+    (1..=16).contains(&count)
+}
+
+// The rows and paths that the matches of `watch` hold.
+fn watch_held(alloc: Global, matches: &ArgMatches<'_>) -> Result<Mode, WordsRefused>
+    ensures read { IfOk result (λ mode. watch_held (rows_of (found_of matches.now)) ≡ Some (mode_of mode)) }
+    ensures refused { IfErr result (λ e. (e ≡ WordsRefused.NoMemory) ⊎ (watch_held (rows_of (found_of matches.now)) ≡ None)) }
+{
+    let Some(k) = number(matches, "k") else {
+        return Err(WordsRefused::Usage);
+    };
+    let paths = paths_held(alloc, matches)?;
+    Ok(Mode::Watch { k, paths })
+}
+
+// The mode that the words behind `watch` say.
+fn watch_mode(alloc: Global, words: &[String]) -> Result<Mode, WordsRefused>
+    ensures read { IfOk result (λ mode. watch_words (map string_bytes words.now) ≡ Some (mode_of mode)) }
+    ensures in_range { IfOk result (λ mode. IsModeInRange (mode_of mode)) }
+    ensures refused { IfErr result (λ e. (e ≡ WordsRefused.NoMemory) ⊎ (watch_words (map string_bytes words.now) ≡ None)) }
+{
+    let matches = watch_command(alloc)?.try_get_matches_from(words)?;
+    watch_held(alloc, &matches)
+}
+
 /// The mode that the words behind the program's name say. The first word is the mode, byte for byte, and clap reads the words behind
-/// it. `run` takes `--lanes N`, `--order LIST`, `--merge` and `--trace`, each at most once and in any order: N is 1 to 16, and 1 where it
-/// is not said; LIST is pieces with `/` between, and a piece is empty, or numbers of lanes with `,` between, where 0 is the merger. `make`
-/// takes a seed below 4,294,967,296, 1 to 1,000 tables, and 1 to 5,000 rows.
+/// it. `run` takes `--lanes N`, `--order LIST`, `--merge`, `--trace` and `--profile P`, each at most once and in any order: N is 1 to 16,
+/// and 1 where it is not said; LIST is pieces with `/` between, and a piece is empty, or numbers of lanes with `,` between, where 0 is the
+/// merger; P is 1 or 2, and 1 where it is not said, and by profile 2 values are compared by their compatibility forms. `make` takes a seed
+/// below 4,294,967,296, 1 to 1,000 tables, and 1 to 5,000 rows. `watch` takes a number of rows, 1 to 10,000, and 1 to 16 paths.
 #[tactic(auto, using(crate::proofs::ModeLemmas::plain_is_read, std::proofs::lemmas::Grind::common_steps))]
 pub fn read_words(alloc: Global, words: &[String]) -> Result<Mode, WordsRefused>
     // plain words give what they say, or memory is wanting
@@ -236,6 +337,7 @@ pub fn read_words(alloc: Global, words: &[String]) -> Result<Mode, WordsRefused>
     match mode.as_str() {
         "run" => Ok(Mode::Run(run_options(alloc, arguments)?)),
         "make" => make_mode(alloc, arguments),
+        "watch" => watch_mode(alloc, arguments),
         _ => Err(WordsRefused::Usage),
     }
 }

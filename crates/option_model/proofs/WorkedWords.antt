@@ -1,6 +1,7 @@
 -- Worked words of a command line, and the mode that they say.
-use Rattle.std.proofs.Common.{◌≡◌, refl, [], ◌∷◌}
+use Rattle.std.proofs.Common.{◌≡◌, refl, List, [], ◌∷◌, replicate}
 use Rattle.std.specs.Prelude.{codes, true, false, Some, None}
+use Rattle.lake_model.specs.Texts.{Text}
 use Rattle.lake_model.specs.declared.Keys.TheVariants.{Canonical, Compatibility}
 use Rattle.script_model.specs.Options.{plain, options_with}
 use Rattle.option_model.specs.Plain.{Make, Run, Watch, plain_mode}
@@ -80,3 +81,18 @@ watch_no_rows = refl
 
 watch_an_option : plain_mode (codes "watch" ∷ codes "1" ∷ codes "--trace" ∷ []) ≡ None
 watch_an_option = refl
+
+profile_twice : plain_mode (codes "run" ∷ codes "--profile" ∷ codes "1" ∷ codes "--profile" ∷ codes "2" ∷ []) ≡ None
+profile_twice = refl
+
+watch_too_many_rows : plain_mode (codes "watch" ∷ codes "10001" ∷ codes "q" ∷ []) ≡ None
+watch_too_many_rows = refl
+
+abbrev sixteen : List Text
+sixteen = replicate 16 (codes "q")
+
+watch_16_paths : plain_mode (codes "watch" ∷ codes "1" ∷ sixteen) ≡ Some (Watch 1 sixteen)
+watch_16_paths = refl
+
+watch_17_paths : plain_mode (codes "watch" ∷ codes "1" ∷ codes "q" ∷ sixteen) ≡ None
+watch_17_paths = refl

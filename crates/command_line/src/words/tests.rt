@@ -1,25 +1,38 @@
 //! Words that are read and words that are refused.
 use super::{Mode, WordsRefused, read_words};
+use lake_model::Keys;
 use std::alloc::Global;
 use std::test::Fail;
 
-/// What the words, which single spaces part, say in small: of a run its lanes, whether an order is stated, and its flags; of a lake to
-/// make its three numbers. None where they are refused.
+/// What the words, which single spaces part, say in small: of a run its lanes, whether an order is stated, and its flags and profile; of a
+/// lake to make its three numbers; of watched queries how many rows, how many paths, and the length of the last path. None where they are
+/// refused.
 fn said(alloc: Global, line: &str) -> Result<Option<[u32; 4]>, Fail> {
+    let words = words_of(alloc, line)?;
+    said_by(alloc, words.as_slice())
+}
+
+fn words_of(alloc: Global, line: &str) -> Result<Vec<String>, Fail> {
     let mut words = Vec::new(alloc);
     for word in line.split(' ') {
         words.push(String::from_str(alloc, word)?)?;
     }
-    said_by(alloc, words.as_slice())
+    Ok(words)
 }
 
 fn said_by(alloc: Global, words: &[String]) -> Result<Option<[u32; 4]>, Fail> {
     match read_words(alloc, words) {
         Ok(Mode::Run(options)) => {
-            let flags = u32::from(options.merge) * 2 + u32::from(options.trace);
+            let second = u32::from(matches!(options.keys, Keys::Compatibility));
+            let flags = second * 4 + u32::from(options.merge) * 2 + u32::from(options.trace);
             Ok(Some([1, options.lanes, u32::from(options.order.is_some()), flags]))
         }
         Ok(Mode::Make { seed, tables, rows }) => Ok(Some([seed, tables, rows, 9])),
+        Ok(Mode::Watch { k, paths }) => {
+            let last = paths.last().map_or(0, |path| path.len());
+            let length = u32::try_from(last).unwrap_or(0);
+            Ok(Some([k, paths.len() as u32, length, 8]))
+        }
         Err(WordsRefused::Usage) => Ok(None),
         Err(WordsRefused::NoMemory) => Err(Fail::from("memory")),
     }
@@ -35,8 +48,17 @@ fn reads_plain_words(rt: HostRuntime) -> Result<(), Fail> {
         ("run --trace --order 1,2//2 --lanes 2", [1, 2, 1, 1]),
         ("run --lanes 3 --order / --merge --trace", [1, 3, 1, 3]),
         ("run --order 0,1,0/ --merge", [1, 1, 1, 2]),
+        ("run --profile 1", [1, 1, 0, 0]),
+        ("run --profile 2", [1, 1, 0, 4]),
+        (
+            "run --trace --profile 2 --order 3 --lanes 3 --merge",
+            [1, 3, 1, 7],
+        ),
         ("make 0 1 1", [0, 1, 1, 9]),
         ("make 4294967295 1000 5000", [4294967295, 1000, 5000, 9]),
+        ("watch 1 q", [1, 1, 1, 8]),
+        ("watch 10000 queries/a.csv b-c", [10000, 2, 3, 8]),
+        ("watch 3 a b c d e f g h i j k l m n o last", [3, 16, 4, 8]),
     ] {
         assert!(rt; said(alloc, line)? == Some(wanted));
     }
@@ -53,7 +75,12 @@ fn reads_other_words_as_clap_does(rt: HostRuntime) -> Result<(), Fail> {
         ("run --lanes 02", [1, 2, 0, 0]),
         ("run --lanes +2", [1, 2, 0, 0]),
         ("run --order ", [1, 1, 1, 0]),
+        ("run --profile=2", [1, 1, 0, 4]),
+        ("run --profile 02", [1, 1, 0, 4]),
         ("make -- 007 +2 3", [7, 2, 3, 9]),
+        ("watch -- +2 -q", [2, 1, 2, 8]),
+        ("watch 1 q -- --trace", [1, 2, 7, 8]),
+        ("watch 1 ", [1, 1, 0, 8]),
     ] {
         assert!(rt; said(alloc, line)? == Some(wanted));
     }
@@ -72,6 +99,8 @@ fn refuses_other_modes(rt: HostRuntime) -> Result<(), Fail> {
         "ru",
         "--trace run",
         "makes 0 1 1",
+        "Watch 1 q",
+        "watches 1 q",
         "--help",
         "run\u{a0}",
     ] {
@@ -104,6 +133,12 @@ fn refuses_other_words_of_run(rt: HostRuntime) -> Result<(), Fail> {
         "run --order 1,,1",
         "run --order 01",
         "run --order 1/ --order 1",
+        "run --profile",
+        "run --profile 0",
+        "run --profile 3",
+        "run --profile -1",
+        "run --profile 1 --profile 2",
+        "run --profile 2 --profile 2",
     ] {
         assert!(rt; said(alloc, line)?.is_none());
     }
@@ -127,6 +162,42 @@ fn refuses_other_words_of_make(rt: HostRuntime) -> Result<(), Fail> {
         "make --trace 0 1 1",
     ] {
         assert!(rt; said(alloc, line)?.is_none());
+    }
+    Ok(())
+}
+
+#[test]
+fn refuses_other_words_of_watch(rt: HostRuntime) -> Result<(), Fail> {
+    let alloc = rt.alloc();
+    for line in [
+        "watch",
+        "watch 1",
+        "watch 0 q",
+        "watch 10001 q",
+        "watch x q",
+        "watch -1 q",
+        "watch 1 -q",
+        "watch 1 q --trace",
+        "watch --trace 1 q",
+        "watch 1 --help",
+        "watch 3 a b c d e f g h i j k l m n o p q",
+        "watch 3 -- a b c d e f g h i j k l m n o p q",
+    ] {
+        assert!(rt; said(alloc, line)?.is_none());
+    }
+    Ok(())
+}
+
+#[test]
+fn paths_stand_in_the_order_of_the_words(rt: HostRuntime) -> Result<(), Fail> {
+    let alloc = rt.alloc();
+    let words = words_of(alloc, "watch 2 first second first")?;
+    let Ok(Mode::Watch { k: 2, paths }) = read_words(alloc, words.as_slice()) else {
+        return Err(Fail::from("refused"));
+    };
+    assert!(rt; paths.len() == 3);
+    for (path, wanted) in paths.iter().zip(["first", "second", "first"]) {
+        assert!(rt; path.as_str() == wanted);
     }
     Ok(())
 }

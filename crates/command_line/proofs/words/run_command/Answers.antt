@@ -4,9 +4,11 @@ use Rattle.command_line.proofs.words.run_command.Goals as goal
 pub returns : goal.returns
 returns c =
     with_arg _ _ _ _ _ c.in_ok-command.ensures
+    (with_arg _ _ _ _ _ c.in_ok-arg-4.ensures
     (with_arg _ _ _ _ _ c.in_ok-arg-3.ensures
     (with_arg _ _ _ _ _ c.in_ok-arg-2.ensures
     (with_arg _ _ _ _ _ c.in_ok-arg.ensures c.bare.ensures c.lanes_option.ensures.local c.lanes_option.ensures.rule)
     c.order_option.ensures.local c.order_option.ensures.rule)
     c.flag_option.ensures.local c.flag_option.ensures.rule)
-    c.flag_option-2.ensures.local c.flag_option-2.ensures.rule
+    c.flag_option-2.ensures.local c.flag_option-2.ensures.rule)
+    c.profile_option.ensures.local c.profile_option.ensures.rule
