@@ -43,7 +43,7 @@ pub(crate) fn probe_from(
 }
 
 // How many tokens two lists share, which rise, where these are at least `least`, and a lesser number where they are fewer. It walks the
-// shorter list, of which the fewest tokens may be missing in the other.
+// shorter list, since fewer of its tokens may be missing in the other.
 fn shared_from(others: &[u32], tokens: &[u32], least: usize) -> usize
     requires others { IsStrictlyIncreasing others.now }
     requires tokens { IsStrictlyIncreasing tokens.now }
