@@ -1,7 +1,8 @@
 -- The files of the queries that are watched: one more of them, and the first at fault.
-use Rattle.std.proofs.Common.{◌≡◌, refl, ap, sym, ◌∙◌, subst, ℕ, ◌+◌, ◌≤◌, ◌<◌, ◌⊎◌, inl, inr, List, [], ◌∷◌, ◌++◌, map, length, length-append, length-take, take, arith}
-use Rattle.std.specs.Prelude.{Option, Some, None}
-use Rattle.std.proofs.lemmas.List.{map-append}
+use Rattle.std.proofs.Common.{◌≡◌, refl, ap, sym, ◌∙◌, subst, ℕ, ◌+◌, ◌≤◌, ◌<◌, ◌⊎◌, inl, inr, List, [], ◌∷◌, ◌++◌, map, length, length-append, length-take, take, arith, get_or, string_bytes}
+use Rattle.std.specs.Prelude.{Option, Some, None, String}
+use Rattle.std.specs.Global.{Global}
+use Rattle.std.proofs.lemmas.List.{get_or-map, length-map, map-append, take_more}
 use Rattle.lake_io.specs.Causes.{Rose}
 use Rattle.lake_io.specs.Files as shelf
 use Rattle.lake_model.specs.Texts.{Text}
@@ -15,7 +16,9 @@ use Rattle.record_model.specs.declared.GivenWhy.TheVariants as given
 use Rattle.record_model.specs.Watched.{AreQueries, FaultIn, GivenRead, IsGiven, NotGiven, QueriesRead, given_read, keys_given, queries_from, read_before, with_query}
 use Rattle.script_text.specs.Outcomes.{AreFetched, CameOf}
 use Rattle.column_watch.specs.Watching.{WatchesOf, watch_with, watches_with}
-use Rattle.josie_top.specs.Given.{AreTaken, HasFirstFault, IsAtFault, IsTaken, all_watched}
+use Rattle.josie_top.specs.declared.given.GivenStop.{GivenStop}
+use Rattle.josie_top.specs.declared.given.GivenStop.TheVariants as stop
+use Rattle.josie_top.specs.Given.{AreTaken, HasFirstFault, IsAtFault, IsNotTaken, IsRefusedBy, IsTaken, all_watched, status_of_given}
 use Rattle.josie_top.specs.World.{World}
 use Rattle.josie_top.proofs.StreamFacts.{rose_since}
 
@@ -87,6 +90,16 @@ one_taken told before mid now k paths path watched after taken one = record {
       ∙ ap (watches_with []) (sym (map-append (λ (keys : List Text). watch_with keys k) taken.queries (one.keys ∷ [])));
 }
 
+-- the next of some paths, behind those before it
+pub paths_more : (paths : List (String Global)) (n : ℕ) (path : String Global) (text : Text) → path ≡ get_or paths n path → text ≡ string_bytes path → n < length paths
+    → (take n (map string_bytes paths) ++ text ∷ [] ≡ take (n + 1) (map string_bytes paths)) × (length (take n (map string_bytes paths)) ≡ n)
+paths_more paths n path text at is within =
+    let far : n < length (map string_bytes paths) = omega (arith, within, length-map paths string_bytes) in
+    let here : text ≡ get_or (map string_bytes paths) n text = is ∙ ap string_bytes at ∙ sym (get_or-map string_bytes paths n path text within) in (
+      ap (λ (t : Text). take n (map string_bytes paths) ++ t ∷ []) here ∙ sym (take_more (map string_bytes paths) n text far),
+      (let short : n ≤ length (map string_bytes paths) = omega (arith, far) in omega (arith, short, length-take n (map string_bytes paths))),
+    )
+
 -- the next path is at fault
 pub first_fault : (told : Option (List shelf.File)) (before mid now k n : ℕ) (paths all : List Text) (path : Text) (watched : WatchesOf) (why : GivenWhy) → AreTaken told before mid k paths watched
     → IsAtFault told mid now path why → paths ++ path ∷ [] ≡ take (n + 1) all → length paths ≡ n → HasFirstFault told before now all (n + 1) why
@@ -95,6 +108,12 @@ first_fault told before mid now k n paths all path watched why taken fault cut l
   fetched = subst (λ (ps : List Text). AreFetched told before now ps (taken.files ++ fault.file ∷ [])) cut (fetched_more told before mid now paths taken.files path fault.file taken.fetched fault.came);
   fault = fault_more 1 taken.files fault.file taken.queries why taken.read fault.read ∙ (let e : 1 + length taken.queries ≡ n + 1 = omega (arith, taken.many, long) in ap (λ (m : ℕ). FaultIn m why) e);
 }
+
+-- the status of the first path that gives no query
+pub refused_by : (told : Option (List shelf.File)) (before mid now k n : ℕ) (paths all : List Text) (path : Text) (watched : WatchesOf) (why : GivenStop) → AreTaken told before mid k paths watched
+    → IsNotTaken told mid now path why → paths ++ path ∷ [] ≡ take (n + 1) all → length paths ≡ n → IsRefusedBy told before now all (status_of_given (n + 1) why)
+refused_by told before mid now k n paths all path watched (stop.Fault why) taken fault cut long = first_fault told before mid now k n paths all path watched why taken fault cut long
+refused_by told before mid now k n paths all path watched stop.NoMemory taken fault cut long = tt
 
 -- ---- a file that could not be read
 

@@ -14,7 +14,8 @@ use Rattle.record_model.specs.declared.GivenWhy.TheVariants as given
 use Rattle.record_model.specs.declared.Status.{Status}
 use Rattle.record_model.specs.declared.Status.TheVariants as status
 use Rattle.record_model.specs.Play.{batch_after, merger_commands, merges_of}
-use Rattle.record_model.specs.Record.{RunRecord}
+use Rattle.record_model.specs.Record.{RunRecord, empty}
+use Rattle.script_model.specs.Options.{plain}
 use Rattle.record_model.specs.Rules.{Rules, standard_rules}
 use Rattle.record_model.specs.Statuses.{IsPrefix}
 use Rattle.record_model.specs.Watched.{AreQueries, end_text, queries_from, watch_text, watch_text_behind}
@@ -29,6 +30,7 @@ use Rattle.josie_top.specs.Meets.{Meets}
 use Rattle.josie_top.specs.Watching.{AreGiven, AreWatched, EndsQuietly, IsToldSoFar, IsWatched, Watches, unwritten, watched_text}
 use Rattle.josie_top.specs.World.{Moves, World}
 use Rattle.josie_top.proofs.GivenFacts.{given_failed}
+use Rattle.josie_top.proofs.RunFacts.{nothing_done}
 
 -- ---- what is told
 
@@ -48,6 +50,14 @@ told_more k queries before mid now made later told begins more =
       took = Appends-trans before.written mid.written now.written told.taken text told.took more;
       text_is = ap (λ (t : List ℕ). t ++ text) told.text_is ∙ sym (watch_text_on k queries [] made.journal (drop (length made.journal) later.journal)) ∙ ap (watch_text k queries) whole;
     }
+
+-- what was told stays so where the journal stays
+pub told_for : (k : ℕ) (queries : List (List Text)) (before now later : World) (made after : RunRecord) → later.written ≡ now.written → after.journal ≡ made.journal → IsToldSoFar k queries before now made → IsToldSoFar k queries before later after
+told_for k queries before now later made after same journal told = record {
+  taken = told.taken;
+  took = subst (λ (w : Option (List ℕ)). Appends before.written w told.taken) (sym same) told.took;
+  text_is = told.text_is ∙ ap (watch_text k queries) (sym journal);
+}
 
 -- the first bytes of a text, where a part of what follows was written
 behind_whole : (front text back part : List ℕ) → text ≡ front → IsPrefix part back → IsPrefix (text ++ part) (front ++ back)
@@ -84,6 +94,17 @@ module _ (k : ℕ) (queries : List (List Text)) (before now : World) (made : Run
   watched_unended status.WriteFault undone ran usage told =
       record { beneath = status.WriteFault; ends = inr refl; ran = ran; taken = told.taken; took = told.took; told = told_begins k queries before now made told }
   watched_unended status.NoMemory undone ran usage told = watched_memory ran told
+
+-- memory ran out before the script was read
+pub watched_nothing : (k : ℕ) (queries : List (List Text)) (world : World) (made : RunRecord) → made ≡ empty plain → IsWatched k queries status.NoMemory world world made
+watched_nothing k queries world made is = record {
+  beneath = status.NoMemory;
+  ends = inr refl;
+  ran = nothing_done (standard_rules Canonical) made_options (unwritten world) made is;
+  taken = [];
+  took = Appends-nil world.written;
+  told = (watched_text k queries made, refl);
+}
 
 -- the part of what a batch changed that was written where the text was not written whole
 pub watched_stopped : (k : ℕ) (queries : List (List Text)) (before mid now : World) (made later : RunRecord) (why : WriteStop) (part : List ℕ) → IsToldSoFar k queries before mid made
@@ -192,10 +213,10 @@ rose_never : Rose 0 0 → ⊥
 rose_never rose = omega (arith, rose)
 
 module _ {refused : Type 0} {before now : World} where
-  -- What a run moves whose replies are not written, where nothing else was written.
-  pub written_moves : (result : Status) → before.write_faults ≡ now.write_faults → Moves refused result (unwritten before) (unwritten now) → Moves refused result before now
+  -- What a run moves whose replies are not written.
+  pub written_moves : (result : Status) → before.write_faults ≤ now.write_faults → Moves refused result (unwritten before) (unwritten now) → Moves refused result before now
   written_moves result still moves = record {
-    moved = record { files = moves.moved.files; reads = moves.moved.reads; writes = omega (arith, still); fetches = moves.moved.fetches };
+    moved = record { files = moves.moved.files; reads = moves.moved.reads; writes = still; fetches = moves.moved.fetches };
     usage = moves.usage;
     read_fault = moves.read_fault;
     write_fault = λ is. absurd (rose_never (moves.write_fault is));

@@ -40,6 +40,11 @@ abbrev pub IsNotTaken : Option (List shelf.File) → ℕ → ℕ → Text → Gi
 IsNotTaken told before now path (stop.Fault why) = IsAtFault told before now path why
 IsNotTaken told before now path stop.NoMemory = ⊤
 
+-- the status of a run whose file of a path of this number gave no query
+abbrev pub status_of_given : ℕ → GivenStop → Status
+status_of_given path (stop.Fault why) = status.Given path why
+status_of_given path stop.NoMemory = status.NoMemory
+
 -- The files of all these paths gave queries, and these are watched.
 pub record AreTaken (told : Option (List shelf.File)) (before now : ℕ) (k : ℕ) (paths : List Text) (watched : WatchesOf) : Type 0 where
   pub files : List File

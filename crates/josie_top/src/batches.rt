@@ -76,6 +76,7 @@ pub(crate) fn begin_batch<S: Source, K: Sink, F: Shelf>(
         let now = world_of (S.left source.new) (S.faults source.new) (K.written sink.new) (K.faults sink.new) (F.files shelf.new) (F.faults shelf.new) in
         IfOk result (IsBegun before now gather.old gather.new) }
     ensures stands { OnOk result (out.new.made ≡ out.old.made) }
+    ensures journal { out.new.made.journal ≡ out.old.made.journal }
     ensures ends { let before = world_of (S.left source.old) (S.faults source.old) (K.written sink.old) (K.faults sink.old) (F.files shelf.old) (F.faults shelf.old) in
         let now = world_of (S.left source.new) (S.faults source.new) (K.written sink.new) (K.faults sink.new) (F.files shelf.new) (F.faults shelf.new) in
         IfErr result (λ status. (rules : Rules) (options : OptionsOf) (first : World) (number next : ℕ)

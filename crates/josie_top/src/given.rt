@@ -3,7 +3,7 @@ ghost use Rattle.std.specs.Prelude.{◌≡◌, ◌<◌, ◌≤◌, [], length, m
 ghost use Rattle.commands.specs.Tasks.{file_of};
 ghost use Rattle.record_model.specs.Watched.{IsGiven, given_read};
 ghost use Rattle.column_watch.specs.Watching.{watches_with};
-ghost use Rattle.josie_top.specs.Given.{AreTaken, IsNotTaken, IsRefusedBy, IsStopped, IsTaken};
+ghost use Rattle.josie_top.specs.Given.{AreTaken, IsNotTaken, IsRefusedBy, IsStopped, IsTaken, status_of_given};
 
 use column_set::{QueryRefused, QuerySet};
 use column_watch::Watches;
@@ -69,6 +69,16 @@ fn take_query<F: Shelf>(
     }
 }
 
+/// The status of a run whose file of a path of this number gives no query.
+fn status_of_given(path: u32, stop: GivenStop) -> Status
+    ensures { result ≡ status_of_given path stop }
+{
+    match stop {
+        GivenStop::Fault(why) => Status::Given { path, why },
+        GivenStop::NoMemory => Status::NoMemory,
+    }
+}
+
 /// Watches the first k rows of the query in the file of each path, one after another. The first that gives none ends it.
 pub(crate) fn take_queries<F: Shelf>(
     alloc: Global,
@@ -87,15 +97,8 @@ pub(crate) fn take_queries<F: Shelf>(
     ensures later { F.faults shelf.old ≤ F.faults shelf.new }
 {
     for (index, path) in paths.iter().enumerate() {
-        match take_query(alloc, k, path.as_str(), shelf, watches) {
-            Ok(()) => (),
-            Err(GivenStop::Fault(why)) => {
-                return Err(Status::Given {
-                    path: index as u32 + 1,
-                    why,
-                });
-            }
-            Err(GivenStop::NoMemory) => return Err(Status::NoMemory),
+        if let Err(stop) = take_query(alloc, k, path.as_str(), shelf, watches) {
+            return Err(status_of_given(index as u32 + 1, stop));
         }
     }
     Ok(())

@@ -4,6 +4,7 @@ use Rattle.command_line.specs.Words.{mode_of}
 use Rattle.josie_top.specs.Modes.{EndsModeWell, MeetsMode}
 use Rattle.josie_top.specs.World.{World, with_sink, world_of}
 use Rattle.josie_top.proofs.RunFacts.{make_ends_well}
+use Rattle.josie_top.proofs.WatchFacts.{watch_ends_well}
 use Rattle.josie_top.proofs.run_mode.Goals as goal
 
 pub returns-in-Run-clause-complete : goal.returns-in-Run-clause-complete
@@ -26,3 +27,10 @@ pub returns-in-Make-clause-complete : goal.returns-in-Make-clause-complete
 returns-in-Make-clause-complete g c =
     let outside : World = world_of (g.S.Source.left c.args.source.now) (g.S.Source.faults c.args.source.now) (g.K.Sink.written c.args.sink.now) (g.K.Sink.faults c.args.sink.now) (g.F.Shelf.files c.args.shelf.now) (g.F.Shelf.faults c.args.shelf.now) in
     subst (λ (m : said.Mode). EndsModeWell m c.make_lake.result outside (with_sink (g.K.Sink.written c.make_lake.new.sink) (g.K.Sink.faults c.make_lake.new.sink) outside)) (sym (ap mode_of c.in-Make.is)) (make_ends_well c.make_lake.result outside (with_sink (g.K.Sink.written c.make_lake.new.sink) (g.K.Sink.faults c.make_lake.new.sink) outside) c.make_lake.ensures.ends (c.make_lake.ensures.moves outside))
+
+pub returns-in-Watch-clause-complete : goal.returns-in-Watch-clause-complete
+returns-in-Watch-clause-complete g c =
+    let before : World = world_of (g.S.Source.left c.args.source.now) (g.S.Source.faults c.args.source.now) (g.K.Sink.written c.args.sink.now) (g.K.Sink.faults c.args.sink.now) (g.F.Shelf.files c.args.shelf.now) (g.F.Shelf.faults c.args.shelf.now) in
+    let now : World = world_of (g.S.Source.left c.watch.new.source) (g.S.Source.faults c.watch.new.source) (g.K.Sink.written c.watch.new.sink) (g.K.Sink.faults c.watch.new.sink) (g.F.Shelf.files c.watch.new.shelf) (g.F.Shelf.faults c.watch.new.shelf) in
+    subst (λ (m : said.Mode). EndsModeWell m c.watch.result before now) (sym (ap mode_of c.in-Watch.is))
+    (watch_ends_well c.in-Watch.k _ c.watch.result before now c.watch.new.out.made c.watch.ensures.table c.watch.ensures.moves)
