@@ -104,7 +104,7 @@ returns-then-ended-clause-watched g c = λ k queries same.
     (c.in_default.ensures.all k queries watched) in
     let told = told_more k queries first mid now c.loop-number.out.made c.answer_in_order.new.out.made (told_for k queries _ _ mid _ _ refl refl (on.told k queries same)) begins.1 took in
     let ran = answered_ends (standard_rules Canonical) made_options status.Done (unwritten first) (unwritten mid) None None 0 0 c.begin_batch.new.gather c.answer_in_order.new.out.made c.close.new.self.made answered over tt c.close.ensures.made tt in
-    c.end_telling-2.ensures.watched k queries first mid ran (λ usage. let bad : status.Done ≡ status.Usage = usage in cc)
+    c.end_telling-then-ended.ensures.watched k queries first mid ran (λ usage. let bad : status.Done ≡ status.Usage = usage in cc)
     (told_for k queries _ _ _ c.answer_in_order.new.out.made c.close.new.self.made refl (ap (λ (m : RunRecord). m.journal) c.close.ensures.made) told)
 
 pub returns-then-ended-clause-moves : goal.returns-then-ended-clause-moves
@@ -112,7 +112,7 @@ returns-then-ended-clause-moves g c =
     let (on, unended, journal, limits) = c.loop-number.invariant in
     let first : World = world_of (g.S.Source.left c.args.source.now) (g.S.Source.faults c.args.source.now) (g.K.Sink.written c.args.sink.now) (g.K.Sink.faults c.args.sink.now) (g.F.Shelf.files c.args.shelf.now) (g.F.Shelf.faults c.args.shelf.now) in
     let now : World = world_of (g.S.Source.left c.begin_batch.new.source) (g.S.Source.faults c.begin_batch.new.source) (g.K.Sink.written c.tell_batch.new.sink) (g.K.Sink.faults c.tell_batch.new.sink) (g.F.Shelf.files c.begin_batch.new.shelf) (g.F.Shelf.faults c.begin_batch.new.shelf) in
-    c.end_telling-2.ensures.moves first now (written_moves {before = first} {now = now} status.Done (omega (arith, on.writes, c.tell_batch.ensures.later)) (done_moves (moved_on on.way.moved c.in-Ok.ensures.begun.moved)))
+    c.end_telling-then-ended.ensures.moves first now (written_moves {before = first} {now = now} status.Done (omega (arith, on.writes, c.tell_batch.ensures.later)) (done_moves (moved_on on.way.moved c.in-Ok.ensures.begun.moved)))
 
 pub loop-number-preserved : goal.loop-number-preserved
 loop-number-preserved g c =
