@@ -1,0 +1,4 @@
+mod HistoryLemmas
+mod PutLemmas
+mod BlockLemmas
+mod TimelineLemmas

@@ -1,0 +1,125 @@
+//! The timeline of a lake.
+ghost use Rattle.std.specs.Prelude.{◌≡◌, ◌⊎◌, ◌≤◌, ◌<◌, ◌^◌, ◌∷◌, ◌++◌, [], ℕ, List, length, take, true, IfErr, IfOk, None, OnErr, OnOk, Option, Some};
+ghost use Rattle.lake_model.specs.Answer.{answer};
+ghost use Rattle.lake_model.specs.Journal.{counts, live, loads_of};
+ghost use Rattle.lake_model.specs.Layout.{is_legal};
+ghost use Rattle.lake_model.specs.Texts.{Text};
+ghost use Rattle.segment_core.specs.Versions.{live_of};
+ghost use Rattle.asof_search.specs.History.{PastStays};
+ghost use Rattle.asof_search.specs.Refusals.{past_refusal};
+
+use crate::blocks::past_parts;
+use crate::puts::{Puts, push_reserved};
+use crate::refusal::PastRefused;
+use catalogue::Entry;
+use no_memory::NoMemory;
+use segment_core::{Part, Pin, Segment, Version};
+use std::alloc::Global;
+use std::marker::Model;
+use std::sync::Arc;
+
+// How many loads and replaces a whole block has.
+const BLOCK: usize = 256;
+
+/// The entries of a journal, taken one after another, and for each earlier position a pin of the tables that were live there. A contract
+/// sees the entries that were taken.
+///
+/// Beside the entries it keeps what their loads and replaces put, with where each was taken away; and, once an earlier position is asked
+/// for, the segments of these tables in blocks of 256.
+#[derive(Drop)]
+pub struct Timeline {
+    alloc: Global,
+    journal: Vec<Entry>,
+    puts: Puts,
+    blocks: Vec<Arc<Segment>>,
+}
+
+impl Model for Timeline {
+    ghost use Rattle.std.specs.Prelude.{List, map};
+    ghost use Rattle.lake_model.specs.Journal.{Entry as EntryOf};
+    ghost use Rattle.asof_search.specs.History.{IsTimeline};
+
+    ghost Value = { List EntryOf };
+
+    ghost view = { λ t. t.journal.items };
+
+    ghost invariant = { λ t. IsTimeline t.journal.items t.puts (map (λ b. b.value) t.blocks.items) };
+}
+
+impl Timeline {
+    /// No entry is taken.
+    pub fn new(alloc: Global) -> Timeline
+        ensures { result ≡ [] }
+    {
+        Timeline {
+            alloc,
+            journal: Vec::new(alloc),
+            puts: Puts::new(alloc),
+            blocks: Vec::new(alloc),
+        }
+    }
+
+    /// How many entries were taken.
+    pub fn taken(&self) -> u64
+        ensures { result ≡ length self.now }
+    {
+        self.journal.len() as u64
+    }
+
+    /// Takes the next entry of the journal. It costs a share of the entry, and the logarithm of how many tables are live; no table is copied
+    /// and no segment is built.
+    ///
+    /// It is refused only where memory is wanting. Then nothing has changed.
+    pub fn take(&mut self, entry: &Entry) -> Result<(), NoMemory>
+        requires legal { is_legal (self.old ++ entry.now ∷ []) ≡ true }
+        requires few { length (loads_of (self.old ++ entry.now ∷ [])) < 2 ^ 32 }
+        requires light { (counts (self.old ++ entry.now ∷ [])).members < 2 ^ 32 }
+        ensures ok { OnOk result (self.new ≡ self.old ++ entry.now ∷ []) }
+        ensures err { OnErr result (self.new ≡ self.old) }
+    {
+        let taken = entry.share()?;
+        self.journal.reserve(1)?;
+        self.puts.take(self.journal.len() as u64 + 1, &entry.what)?;
+        push_reserved(&mut self.journal, taken);
+        Ok(())
+    }
+
+    /// Holds the tables that were live after the first `asked` entries, 0 to as many as were taken. No two unmarked tables of the pin have
+    /// one name, and no two positions of loads are the same. What is taken later changes nothing of the pin.
+    ///
+    /// A position within a block of 256 loads and replaces is searched in the whole block, of which what was not live is marked. The first
+    /// pin that needs a whole block builds its segment, which is kept; the segment of the last block, if it is not whole, is built for each
+    /// pin that needs it. Beside that a pin costs a walk over the loads and replaces of its blocks.
+    ///
+    /// It is refused where more entries are asked for than were taken, and else only where memory is wanting.
+    pub fn pin(&mut self, asked: u64) -> Result<Pin, PastRefused>
+        ensures same { self.new ≡ self.old }
+        ensures at { IfOk result (λ pin. pin.at ≡ asked) }
+        ensures live { IfOk result (λ pin. live_of pin.parts ≡ live (take asked self.old)) }
+        ensures answers { IfOk result (λ pin. (keys : List Text) (k : ℕ) (except : Option Text) → answer (live_of pin.parts) keys k except ≡ answer (live (take asked self.old)) keys k except) }
+        ensures sound { OnOk result (past_refusal asked self.old ≡ None) }
+        ensures refused { IfErr result (λ e. ((e ≡ PastRefused.NoMemory) × (past_refusal asked self.old ≡ None)) ⊎ (past_refusal asked self.old ≡ Some e)) }
+    {
+        let at = self.taken();
+        if asked > at {
+            return Err(PastRefused::Later { at });
+        }
+        Ok(self.pin_past(asked)?)
+    }
+
+    // Holds the tables that were live after the first `asked` entries, of those that were taken.
+    fn pin_past(&mut self, asked: u64) -> Result<Pin, NoMemory>
+        requires { asked ≤ length self.old }
+        ensures same { self.new ≡ self.old }
+        ensures at { IfOk result (λ pin. pin.at ≡ asked) }
+        ensures live { IfOk result (λ pin. live_of pin.parts ≡ live (take asked self.old)) }
+    {
+        let parts = past_parts(self.alloc, BLOCK, &mut self.blocks, self.puts.list(), asked)?;
+        Ok(Pin::new(Arc::new(self.alloc, Version::new(asked, parts))?))
+    }
+}
+
+/// What was live after the first so many entries of a journal stays so for each longer one.
+pub fn past_law()
+    ensures stays { PastStays }
+{}
