@@ -14,9 +14,11 @@ use std::test::Fail;
 struct Standard;
 
 impl Bounds for Standard {
+    ghost use Rattle.lake_model.specs.declared.Keys.TheVariants.{Canonical};
     ghost use Rattle.lake_model.specs.Journal.{standard_limits};
 
     ghost limits = { standard_limits };
+    ghost keys = { Canonical };
 }
 
 // The table of this name and these CSV bytes, and its segment.
