@@ -1,5 +1,5 @@
 //! The run of a script whose lanes run at the same time.
-ghost use Rattle.std.specs.Prelude.{◌≡◌, ◌≤◌, ◌⊎◌, ℕ, [], false, List, Some};
+ghost use Rattle.std.specs.Prelude.{◌≡◌, ◌<◌, ◌≤◌, ◌^◌, ◌⊎◌, ℕ, [], false, List, Some};
 ghost use Rattle.record_model.specs.Rules.{rules_with, standard_rules, wide_limits};
 ghost use Rattle.catalogue.specs.Kept.{IsWithin};
 ghost use Rattle.record_model.specs.Record.{empty};
