@@ -18,7 +18,7 @@ use Rattle.script_text.specs.Outcomes.{AreFetched, CameOf}
 use Rattle.column_watch.specs.Watching.{WatchesOf, watch_with, watches_with}
 use Rattle.josie_top.specs.declared.given.GivenStop.{GivenStop}
 use Rattle.josie_top.specs.declared.given.GivenStop.TheVariants as stop
-use Rattle.josie_top.specs.Given.{AreTaken, HasFirstFault, IsAtFault, IsNotTaken, IsRefusedBy, IsTaken, all_watched, status_of_given}
+use Rattle.josie_top.specs.Given.{AreTaken, HasFirstFault, IsAtFault, IsNotTaken, IsRefusedBy, IsTaken, status_of_given}
 use Rattle.josie_top.specs.World.{World}
 use Rattle.josie_top.proofs.StreamFacts.{rose_since}
 

@@ -1,6 +1,5 @@
 -- The record of a lake that is made, and the rows of its run.
 use Rattle.std.proofs.Common.{◌≡◌, refl, ap, sym, ◌∙◌, subst, ℕ, inl, inr, ◌⊎◌, List, [], ◌∷◌, Bool, true}
-use Rattle.std.specs.Prelude.{Option}
 use Rattle.std.specs.Io.KnownBytes.{Appends}
 use Rattle.std.proofs.KnownBytes.{Appends-nil}
 use Rattle.layout_laws.proofs.LawLemmas.{plans_stay}

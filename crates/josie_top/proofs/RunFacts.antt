@@ -10,7 +10,6 @@ use Rattle.lake_io.specs.Causes.{Rose}
 use Rattle.record_model.specs.Rules.{Rules, standard_rules}
 use Rattle.lake_model.specs.declared.Keys.TheVariants.{Canonical}
 use Rattle.lake_model.specs.Texts.{Text}
-use Rattle.catalogue.specs.Kept.{IsWithin}
 use Rattle.script_model.specs.declared.Reason.{Reason}
 use Rattle.script_model.specs.declared.ScriptLimits.{ScriptLimits}
 use Rattle.record_model.specs.declared.Status.{Status}
@@ -21,7 +20,7 @@ use Rattle.option_model.specs.Plain.{Mode, Run, Make, Watch}
 use Rattle.script_model.specs.Script.{Commands, Whole, FaultAt, commands, commands_with, standard, start, left_of}
 use Rattle.script_model.specs.Options.{Options, plain}
 use Rattle.record_model.specs.Record.{Answered, RunRecord, empty, with_end}
-use Rattle.record_model.specs.Play.{gathered, merger_commands, merges_of}
+use Rattle.record_model.specs.Play.{merger_commands, merges_of}
 use Rattle.script_model.specs.Lanes.{IsOfLanes}
 use Rattle.record_model.specs.Statuses.{script_of, IsPrefix, IsCutOff}
 use Rattle.record_model.specs.Texts.{text_behind}

@@ -1,5 +1,5 @@
 -- What a run comes to: what moved, and the row of its status.
-use Rattle.std.specs.Prelude.{ℕ, ◌≡◌, ◌<◌, ◌≤◌, ◌⊎◌, ⊤, false, List, ◌++◌, length, Option, Some}
+use Rattle.std.specs.Prelude.{ℕ, ◌≡◌, ◌<◌, ◌≤◌, ◌⊎◌, ⊤, false, List, ◌++◌, length, Some}
 use Rattle.std.specs.Io.KnownBytes.{Consumes, Appends}
 use Rattle.lake_io.specs.Causes.{Rose}
 use Rattle.record_model.specs.Rules.{Rules}

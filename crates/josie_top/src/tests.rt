@@ -1,5 +1,5 @@
 //! Runs over streams in memory, whole and failing.
-use super::{Reason, RunRecord, Status, run};
+use super::{GivenWhy, Reason, RunRecord, Status, run};
 use lake_io::{MemoryShelf, MemorySink, MemorySource, NoGate};
 use std::alloc::Global;
 use std::sync::Wait;
@@ -312,6 +312,64 @@ fn replaces_a_table_between_a_plan_and_its_swap(rt: HostRuntime) -> Result<(), F
     let words = ["run", "--lanes", "2", "--order", "1,1,1,2,1,1,1", "--trace"];
     let (status, same) = ends_with(&rt, rt.alloc(), &words, script, SOUND, written)?;
     assert!(rt; status == Status::Done && same);
+    Ok(())
+}
+
+// Circled one and the digit match by compatibility alone.
+#[test]
+fn compares_values_by_the_profile(rt: HostRuntime) -> Result<(), Fail> {
+    let script = "load a\nc\n①\n.\nsearch 1\n1\n.\n";
+    for (profile, written) in [
+        (
+            "1",
+            "1 loaded a columns 1 members 1 at 1\n2 answer 0 of 1 at 1\n",
+        ),
+        (
+            "2",
+            "1 loaded a columns 1 members 1 at 1\n2 answer 1 of 1 at 1\n  1 a 1 \"c\"\n",
+        ),
+    ] {
+        let words = ["run", "--profile", profile];
+        let (status, same) = ends_with(&rt, rt.alloc(), &words, script, SOUND, written)?;
+        assert!(rt; status == Status::Done && same);
+    }
+    Ok(())
+}
+
+// The one file holds the values `c` and `x`.
+#[test]
+fn tells_what_changes_for_a_watched_query(rt: HostRuntime) -> Result<(), Fail> {
+    let script = "load a\nd\nx\n.\nload b\nd\ny\n.\nsync\nload e\nd\nx\nc\n.\ndrop a\ndrop e\n";
+    let written =
+        "1 query 1 rows 1\n  1 a 1 \"d\"\n3 query 1 rows 1\n  2 e 1 \"d\"\n5 query 1 rows 0\nend 5\n";
+    let words = ["watch", "1", "here.csv"];
+    let streams = Streams { piece: 7, ..SOUND };
+    let (status, same) = ends_with(&rt, rt.alloc(), &words, script, streams, written)?;
+    assert!(rt; status == Status::Done && same);
+    Ok(())
+}
+
+// The first read and the first write would fail.
+#[test]
+fn names_the_path_that_gives_no_query(rt: HostRuntime) -> Result<(), Fail> {
+    let streams = Streams {
+        failing_read: 1,
+        failing_write: 1,
+        ..SOUND
+    };
+    for (second, failing_fetch, path, why) in [
+        ("missing.csv", 0u64, 2, GivenWhy::Missing),
+        ("here.csv", 1, 1, GivenWhy::Failed),
+        ("here.csv", 2, 2, GivenWhy::Failed),
+    ] {
+        let words = ["watch", "1", "here.csv", second];
+        let streams = Streams {
+            failing_fetch,
+            ..streams
+        };
+        let (status, same) = ends_with(&rt, rt.alloc(), &words, "", streams, "")?;
+        assert!(rt; status == Status::Given { path, why } && same);
+    }
     Ok(())
 }
 

@@ -427,7 +427,9 @@ fn options_are_those_that_were_set(rt: HostRuntime) {
         order: Some(Order::new(Vec::new(alloc))),
         merge: true,
         trace: true,
+        keys: Keys::Compatibility,
     });
     assert!(rt; record.options().lanes == 4 && record.options().order.is_some());
     assert!(rt; record.options().merge && record.options().trace && !record.ended());
+    assert!(rt; record.options().keys == Keys::Compatibility);
 }

@@ -1,4 +1,4 @@
-use Rattle.std.proofs.Common.{rules, ◌≡◌, ◌≤◌, subst, sym, true, false}
+use Rattle.std.proofs.Common.{rules, ◌≡◌, subst, sym, true, false}
 use Rattle.std.specs.Io.KnownBytes.{Appends}
 use Rattle.record_model.specs.declared.Status.{Status}
 use Rattle.record_model.specs.Texts.{text_behind}

@@ -1,4 +1,4 @@
-use Rattle.std.proofs.Common.{rules, ◌≡◌, inr, refl, subst, sym}
+use Rattle.std.proofs.Common.{rules, ◌≡◌, inr, refl, subst}
 use Rattle.record_model.specs.Rules.{standard_rules}
 use Rattle.script_model.specs.Options.{Options}
 use Rattle.josie_top.specs.Meets.{EndsWell}

@@ -1,10 +1,8 @@
-use Rattle.std.proofs.Common.{rules, ◌≡◌, ◌∙◌, List, [], ap, false, refl, subst, sym, true}
-use Rattle.std.specs.Prelude.{not}
+use Rattle.std.proofs.Common.{rules, ◌≡◌, refl, subst, sym, true}
 use Rattle.std.specs.Io.KnownBytes.{Appends}
 use Rattle.lake_model.specs.declared.Keys.TheVariants.{Canonical}
 use Rattle.option_model.specs.Generator.{made_options}
 use Rattle.record_model.specs.declared.Status.{Status}
-use Rattle.record_model.specs.declared.Status.TheVariants as status
 use Rattle.record_model.specs.Rules.{standard_rules}
 use Rattle.record_model.specs.Statuses.{IsPrefix}
 use Rattle.record_model.specs.Watched.{end_text}
@@ -12,7 +10,7 @@ use Rattle.josie_top.specs.Ends.{is_done}
 use Rattle.josie_top.specs.Meets.{Meets}
 use Rattle.josie_top.specs.Watching.{IsWatched, unwritten}
 use Rattle.josie_top.specs.World.{World, with_sink}
-use Rattle.josie_top.proofs.WatchFacts.{done_status, watched_cut, watched_done, watched_unended, watched_unwritten}
+use Rattle.josie_top.proofs.WatchFacts.{done_status, watched_cut, watched_done}
 use Rattle.josie_top.proofs.watching.end_telling.Goals as goal
 
 pub returns-in-Ok-clause-watched : goal.returns-in-Ok-clause-watched

@@ -1,4 +1,4 @@
-use Rattle.std.proofs.Common.{rules, ◌≡◌, ◌∙◌, ◌+◌, ◌≤◌, List, [], ◌++◌, ap, arith, drop, false, length, refl, subst, sym, take, true}
+use Rattle.std.proofs.Common.{rules, ◌≡◌, ◌∙◌, ◌+◌, List, [], ◌++◌, ap, arith, drop, false, length, refl, subst, sym, true}
 use Rattle.std.specs.Prelude.{None, is_err}
 use Rattle.std.specs.Io.KnownBytes.{Appends}
 use Rattle.std.proofs.KnownBytes.{Consumes-nil}
@@ -13,12 +13,11 @@ use Rattle.record_model.specs.declared.Status.TheVariants as status
 use Rattle.record_model.specs.Record.{RunRecord}
 use Rattle.record_model.specs.Rules.{rules_with, standard_rules}
 use Rattle.record_model.specs.Statuses.{IsPrefix}
-use Rattle.record_model.specs.Texts.{text_behind}
 use Rattle.record_model.specs.Watched.{watch_text_behind}
 use Rattle.column_watch.specs.Watching.{WatchesOf, watches_with}
 use Rattle.josie_top.specs.Given.{all_watched}
-use Rattle.josie_top.specs.Progress.{HasOneMore, IsAnswered}
-use Rattle.josie_top.specs.Watching.{IsWatched, IsWatchingOn, unwritten}
+use Rattle.josie_top.specs.Progress.{HasOneMore}
+use Rattle.josie_top.specs.Watching.{IsWatched, unwritten}
 use Rattle.josie_top.specs.World.{World, world_of}
 use Rattle.josie_top.proofs.RunFacts.{answered_ends, answered_goes, answered_stops, done_moves, ends_between, is_answered, moves_since, moved_on, stands_still, starts}
 use Rattle.josie_top.proofs.StreamFacts.{on_err, on_ok}
