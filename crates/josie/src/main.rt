@@ -3,11 +3,10 @@
 
 use josie_top::{GivenWhy, Reason, RunRecord, Status, run};
 use lake_io::{FileShelf, NoGate, StdSink, StdSource};
-use std::env;
 use std::env::Env;
-use std::io;
 use std::io::ErrorKind;
 use std::process::ExitCode;
+use std::{env, io};
 
 /// How the program is called.
 const USAGE: &str = "josie run [--lanes N] [--order LIST] [--merge] [--trace] [--profile P] \

@@ -137,6 +137,10 @@ watched_stopped k queries before mid now made later why part told begins (rest, 
 
 -- ---- the last line
 
+-- a run that is done was not refused
+pub done_unrefused : status.Done ≡ status.Usage → ⊥
+done_unrefused refused = let bad : status.Done ≡ status.Usage = refused in cc
+
 pub done_status : (ended : Status) → is_done ended ≡ true → ended ≡ status.Done
 done_status status.Done done = refl
 done_status (status.Script line reason) done = absurd (let f : false ≡ true = done in cc)

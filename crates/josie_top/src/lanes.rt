@@ -1,5 +1,5 @@
 //! The run of a script whose lanes run at the same time.
-ghost use Rattle.std.specs.Prelude.{◌≡◌, ◌≤◌, ◌⊎◌, ℕ, [], false, List, Some};
+ghost use Rattle.std.specs.Prelude.{◌≡◌, ◌<◌, ◌≤◌, ◌^◌, ◌⊎◌, ℕ, [], false, List, Some};
 ghost use Rattle.record_model.specs.Rules.{rules_with, standard_rules, wide_limits};
 ghost use Rattle.catalogue.specs.Kept.{IsWithin};
 ghost use Rattle.record_model.specs.Record.{empty};
@@ -12,9 +12,9 @@ ghost use Rattle.josie_top.specs.Meets.{EndsWell, Meets};
 ghost use Rattle.josie_top.specs.World.{Moves, world_of};
 
 use crate::batches::{begin_batch, end_batch, merger_from};
+use crate::limits::limits_of;
 use catalogue::Limits;
 use commands::Options;
-use crate::limits::limits_of;
 use lake::{Bounds, Lake};
 use lake_desk::{LakeDesk, Standard, Wide, answer_batch, open_desks};
 use lake_io::{Gate, Shelf, Sink, Source};
@@ -29,7 +29,15 @@ use std::thread::Threads;
 
 /// Runs the batches of a script, in an empty record with the run's options, until the script ends, is refused or breaks off, or the text
 /// cannot be written. The lanes of a batch run at the same time, and the merger beside them.
-fn run_batches<'a, B: Bounds + Send + Sync, R: Threads + Wait + Sync, S: Source, K: Sink, F: Shelf, G: Gate + Sync>(
+fn run_batches<
+    'a,
+    B: Bounds + Send + Sync,
+    R: Threads + Wait + Sync,
+    S: Source,
+    K: Sink,
+    F: Shelf,
+    G: Gate + Sync,
+>(
     rt: &R,
     alloc: Global,
     gather: &mut Gather,
@@ -72,7 +80,14 @@ fn run_batches<'a, B: Bounds + Send + Sync, R: Threads + Wait + Sync, S: Source,
 
 /// Runs a script over an empty lake of these limits, with these options, which state no order, into an empty record. The lanes of a batch
 /// run at the same time, and the merger beside them.
-fn run_over<B: Bounds + Send + Sync, R: Threads + Wait + Sync, S: Source, K: Sink, F: Shelf, G: Gate + Sync>(
+fn run_over<
+    B: Bounds + Send + Sync,
+    R: Threads + Wait + Sync,
+    S: Source,
+    K: Sink,
+    F: Shelf,
+    G: Gate + Sync,
+>(
     rt: &R,
     alloc: Global,
     limits: Limits,

@@ -18,8 +18,8 @@ use catalogue::{Catalogue, Limits};
 use commands::{Options, Order, Piece};
 use lake_core::drive;
 use lake_io::Sink;
-use lake_model::Keys;
 use lake_maker::{made_batch, write_summary};
+use lake_model::Keys;
 use no_memory::NoMemory;
 use record_model::Status;
 use run_record::RunRecord;
@@ -71,7 +71,8 @@ fn fill_record(
         None,
         out,
     )
-    .is_err() {
+    .is_err()
+    {
         return Err(NoMemory);
     }
     out.set_options(options);

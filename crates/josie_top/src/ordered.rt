@@ -66,9 +66,7 @@ pub(crate) fn answer_in_order(
 {
     let lanes = out.options().lanes;
     let piece = piece_of(alloc, out.options(), number)?;
-    drive(
-        alloc, catalogue, keys, batch, &piece, lanes, merger, out,
-    )
+    drive(alloc, catalogue, keys, batch, &piece, lanes, merger, out)
 }
 
 /// Runs the batches of a script, in an empty record with the run's options, until the script ends, is refused or breaks off, or the text

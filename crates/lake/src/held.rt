@@ -25,6 +25,7 @@ pub trait Bounds {
     ghost use Rattle.lake_model.specs.declared.Keys.{Keys};
 
     ghost limits: { Counts };
+
     ghost keys: { Keys };
 }
 

@@ -18,6 +18,7 @@ impl Bounds for Standard {
     ghost use Rattle.lake_model.specs.Journal.{standard_limits};
 
     ghost limits = { standard_limits };
+
     ghost keys = { Canonical };
 }
 

@@ -120,7 +120,15 @@ fn play_rest(
     ensures { Goes keys (flat_map (λ l. replicate (2 * works) l) (range_with_len 1 count ++ 0 ∷ [])) (state_with catalogue.old lanes.old out.old) (state_with catalogue.new lanes.new out.new) }
 {
     for before in 0..count {
-        play_lane(alloc, catalogue, keys, lanes, before as usize + 1, works, out);
+        play_lane(
+            alloc,
+            catalogue,
+            keys,
+            lanes,
+            before as usize + 1,
+            works,
+            out,
+        );
     }
     play_lane(alloc, catalogue, keys, lanes, 0, works, out);
 }

@@ -31,12 +31,7 @@ pub struct Loadable {
 
 /// The table of a block under a name with its segment, or the reply that refuses it: for the first fault of its records, or else of its
 /// sets, or for want of memory.
-pub fn make_table(
-    alloc: Global,
-    keys: Keys,
-    name: &Name,
-    body: &Body,
-) -> Result<Loadable, Reply>
+pub fn make_table(alloc: Global, keys: Keys, name: &Name, body: &Body) -> Result<Loadable, Reply>
     ensures table { IfOk result (λ made. table_read keys name.now body.now ≡ IsTable made.table) }
     ensures segment { IfOk result (λ made. made.segment.value ≡ made.table ∷ []) }
     ensures refused { IfErr result (λ reply. IsRefusal (table_read keys name.now body.now) (reply_of reply)) }
@@ -84,12 +79,7 @@ fn most_columns(keys: Keys) -> u32
 }
 
 // The table of a block under a name, or the reply that refuses it.
-fn read_sets(
-    alloc: Global,
-    keys: Keys,
-    name: &Name,
-    body: &Body,
-) -> Result<SharedTable, Reply>
+fn read_sets(alloc: Global, keys: Keys, name: &Name, body: &Body) -> Result<SharedTable, Reply>
     ensures table { IfOk result (λ table. table_read keys name.now body.now ≡ IsTable table) }
     ensures members { IfOk result (λ table. members table ≤ 67108864) }
     ensures refused { IfErr result (λ reply. IsRefusal (table_read keys name.now body.now) (reply_of reply)) }

@@ -106,7 +106,16 @@ fn metered(alloc: Global, batch: &Batch) -> Result<(u64, (u64, u64)), Fail>
 {
     let mut catalogue = Catalogue::new(alloc, Limits::standard())?;
     let mut record = RunRecord::new(alloc);
-    drive(alloc, &mut catalogue, Keys::Canonical, batch, &[], 1, None, &mut record)?;
+    drive(
+        alloc,
+        &mut catalogue,
+        Keys::Canonical,
+        batch,
+        &[],
+        1,
+        None,
+        &mut record,
+    )?;
     Ok((meters(&catalogue)?, told(&record)))
 }
 

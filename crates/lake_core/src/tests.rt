@@ -148,7 +148,16 @@ fn answers(
     let merger = if merge { Some(1) } else { None };
     let mut catalogue = Catalogue::new(alloc, Limits::standard())?;
     let mut record = RunRecord::new(alloc);
-    drive(alloc, &mut catalogue, Keys::Canonical, batch, piece, 2, merger, &mut record)?;
+    drive(
+        alloc,
+        &mut catalogue,
+        Keys::Canonical,
+        batch,
+        piece,
+        2,
+        merger,
+        &mut record,
+    )?;
     let mut kinds = Vec::new(alloc);
     for answered in record.answers().iter().skip(from) {
         kinds.push(kind_of(&answered.reply))?;

@@ -20,6 +20,7 @@ impl Bounds for Standard {
     ghost use Rattle.record_model.specs.Rules.{limits_of};
 
     ghost limits = { limits_of Canonical };
+
     ghost keys = { Canonical };
 }
 
@@ -31,6 +32,7 @@ impl Bounds for Wide {
     ghost use Rattle.record_model.specs.Rules.{limits_of};
 
     ghost limits = { limits_of Compatibility };
+
     ghost keys = { Compatibility };
 }
 

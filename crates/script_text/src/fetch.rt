@@ -14,11 +14,7 @@ const MOST_FILE_BYTES: usize = 67108864;
 /// What comes of the fetch of the file at the path, of at most 67,108,864 bytes: its bytes, or why there are none.
 ///
 /// It is refused only for want of memory.
-pub fn fetch_file<F: Shelf>(
-    alloc: Global,
-    shelf: &mut F,
-    path: &str,
-) -> Result<FileBody, ScriptEnd>
+pub fn fetch_file<F: Shelf>(alloc: Global, shelf: &mut F, path: &str) -> Result<FileBody, ScriptEnd>
     ensures came { IfOk result (λ file. CameOf (F.files shelf.old) (F.faults shelf.old) (F.faults shelf.new) path.now (file_of file)) }
     ensures refused { IfErr result (λ e. e ≡ ScriptEnd.NoMemory) }
     ensures later { F.faults shelf.old ≤ F.faults shelf.new }

@@ -28,10 +28,10 @@ returns-in-Err-NotUtf8-clause-stopped c =
     let refused = query.NotUtf8 c.in-Err-NotUtf8.line in
     ap (λ file. given_read (file_of file)) c.in-Bytes.is ∙ ap (λ bytes. given_read (Bytes bytes)) (sym c.bytes.ensures.value)
     ∙ bytes_refused c.bytes.result.now refused (given.NotUtf8 c.in-Err-NotUtf8.line) (subst (λ e. (e ≡ query.NoMemory) ⊎ (query_fault Canonical c.bytes.result.now ≡ Some e)) c.in-Err-NotUtf8.field-0-is c.in-Err-NotUtf8.ensures.refused)
-        (λ memory. let bad : refused ≡ query.NoMemory = memory in cc) refl
+    (λ memory. let bad : refused ≡ query.NoMemory = memory in cc) refl
 
 pub returns-in-Err-TooManyValues-clause-stopped : goal.returns-in-Err-TooManyValues-clause-stopped
 returns-in-Err-TooManyValues-clause-stopped c =
     ap (λ file. given_read (file_of file)) c.in-Bytes.is ∙ ap (λ bytes. given_read (Bytes bytes)) (sym c.bytes.ensures.value)
     ∙ bytes_refused c.bytes.result.now query.TooManyValues given.TooManyValues (subst (λ e. (e ≡ query.NoMemory) ⊎ (query_fault Canonical c.bytes.result.now ≡ Some e)) c.in-Err-TooManyValues.field-0-is c.in-Err-TooManyValues.ensures.refused)
-        (λ memory. let bad : query.TooManyValues ≡ query.NoMemory = memory in cc) refl
+    (λ memory. let bad : query.TooManyValues ≡ query.NoMemory = memory in cc) refl

@@ -30,7 +30,7 @@ loop-index-preserved g c =
     subst (λ (told : Option (List _)). IsTaken told (g.F.Shelf.faults c.loop-index.shelf) (g.F.Shelf.faults c.take_query.new.shelf) c.args.k c.as_str.result.now c.loop-index.watches c.take_query.new.watches) files c.in_default.ensures.taken in
     let (cut, long) = paths_more c.args.paths.now c.loop-index.index c.index-paths-index.result c.as_str.result.now c.index-paths-index.is c.as_str.ensures.value c.loop-index-test.true in (
       subst (λ paths. AreTaken (g.F.Shelf.files c.args.shelf.now) (g.F.Shelf.faults c.args.shelf.now) (g.F.Shelf.faults c.take_query.new.shelf) c.args.k paths c.take_query.new.watches) cut
-      (one_taken _ _ _ _ c.args.k _ c.as_str.result.now c.loop-index.watches c.take_query.new.watches taken one),
+          (one_taken _ _ _ _ c.args.k _ c.as_str.result.now c.loop-index.watches c.take_query.new.watches taken one),
       c.take_query.ensures.files ∙ files,
       omega (arith, later, c.take_query.ensures.later),
     )

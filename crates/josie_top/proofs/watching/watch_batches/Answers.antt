@@ -22,7 +22,7 @@ use Rattle.josie_top.specs.Watching.{IsWatched, IsWatchingOn, unwritten}
 use Rattle.josie_top.specs.World.{World, world_of}
 use Rattle.josie_top.proofs.RunFacts.{answered_ends, answered_goes, answered_stops, done_moves, ends_between, is_answered, moves_since, moved_on, stands_still, starts}
 use Rattle.josie_top.proofs.StreamFacts.{on_err, on_ok}
-use Rattle.josie_top.proofs.WatchFacts.{journal_begins, told_for, told_more, told_nothing, watched_memory, watched_stopped, written_moves}
+use Rattle.josie_top.proofs.WatchFacts.{done_unrefused, journal_begins, told_for, told_more, told_nothing, watched_memory, watched_stopped, written_moves}
 use Rattle.josie_top.proofs.watching.watch_batches.Goals as goal
 
 pub loop-number-init : goal.loop-number-init
@@ -104,7 +104,7 @@ returns-then-ended-clause-watched g c = λ k queries same.
     (c.in_default.ensures.all k queries watched) in
     let told = told_more k queries first mid now c.loop-number.out.made c.answer_in_order.new.out.made (told_for k queries _ _ mid _ _ refl refl (on.told k queries same)) begins.1 took in
     let ran = answered_ends (standard_rules Canonical) made_options status.Done (unwritten first) (unwritten mid) None None 0 0 c.begin_batch.new.gather c.answer_in_order.new.out.made c.close.new.self.made answered over tt c.close.ensures.made tt in
-    c.end_telling-then-ended.ensures.watched k queries first mid ran (λ usage. let bad : status.Done ≡ status.Usage = usage in cc)
+    c.end_telling-then-ended.ensures.watched k queries first mid ran done_unrefused
     (told_for k queries _ _ _ c.answer_in_order.new.out.made c.close.new.self.made refl (ap (λ (m : RunRecord). m.journal) c.close.ensures.made) told)
 
 pub returns-then-ended-clause-moves : goal.returns-then-ended-clause-moves
