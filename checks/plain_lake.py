@@ -5,6 +5,8 @@ the version itself. A table is a name and its columns, a column a title and an o
 place is the position of a load or a replace, its table, and whether that was dropped or replaced. All text is ASCII, so that `str.casefold` and `str.strip` make the
 key of a value.
 """
+import csv
+import io
 from typing import NamedTuple
 
 import plain_search
@@ -36,6 +38,11 @@ def set_of(values):
     """The distinct values of some fields, in order of first occurrence; a blank field has none."""
     keys = (value.strip().casefold() for value in values)
     return list(dict.fromkeys(key for key in keys if key))
+
+
+def records(lines):
+    """The records of the lines of a table, in CSV, without a byte order mark."""
+    return list(csv.reader(io.StringIO("".join(line + "\n" for line in lines).removeprefix("\ufeff"), newline="")))
 
 
 def csv_fault(records):

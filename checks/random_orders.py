@@ -71,11 +71,11 @@ def step(lane, play):
     pinned = pins.pop(lane, at)
     change = None
     if kind == "load":
-        reply, at, change = plain_lake.load(at, more[0], [[text] for text in block])
+        reply, at, change = plain_lake.load(at, more[0], plain_lake.records(block))
     elif kind == "drop":
         reply, at, change = plain_lake.drop(at, more[0])
     elif kind == "replace":
-        reply, at, change = plain_lake.replace(at, more[0], [[text] for text in block])
+        reply, at, change = plain_lake.replace(at, more[0], plain_lake.records(block))
     elif kind == "merge":
         reply, at, change = plain_lake.merge(pinned, at, more == ["all"])
     elif kind == "tables":

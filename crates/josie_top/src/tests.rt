@@ -1,9 +1,11 @@
 //! Runs over streams in memory, whole and failing.
 use super::{GivenWhy, Reason, RunRecord, Status, run};
-use lake_io::{MemoryShelf, MemorySink, MemorySource, NoGate};
+use lake_io::{Gate, MemoryShelf, MemorySink, MemorySource, NoGate, Point};
 use std::alloc::Global;
 use std::sync::Wait;
+use std::sync::atomic::{AtomicBool, Ordering};
 use std::test::*;
+use std::thread;
 use std::thread::Threads;
 
 const SCRIPT: &str =
@@ -32,10 +34,67 @@ const SOUND: Streams = Streams {
     failing_fetch: 0,
 };
 
-// How a run of the words ends, and whether it wrote this.
+// A gate that holds lane 1 at its pin until a command of lane 2 has ended, and lane 2 at the beginning of one until lane 1 has its pin. It
+// holds nobody for ever: then it is late.
+#[derive(Drop)]
+struct Crossing {
+    pinned: AtomicBool,
+    ended: AtomicBool,
+    late: AtomicBool,
+}
+
+impl Crossing {
+    fn new() -> Crossing {
+        Crossing {
+            pinned: AtomicBool::new(false),
+            ended: AtomicBool::new(false),
+            late: AtomicBool::new(false),
+        }
+    }
+
+    // Lets other threads run until the flag is set, or so many times.
+    fn wait_for(&self, flag: &AtomicBool) {
+        for _ in 0..10_000_000 {
+            if flag.load(Ordering::SeqCst) {
+                return;
+            }
+            thread::yield_now();
+        }
+        self.late.store(true, Ordering::SeqCst);
+    }
+}
+
+impl Gate for Crossing {
+    fn at(&self, lane: u32, _command: u64, point: Point) {
+        match (lane, point) {
+            (1, Point::Pinned) => {
+                self.pinned.store(true, Ordering::SeqCst);
+                self.wait_for(&self.ended);
+            }
+            (2, Point::Begin) => self.wait_for(&self.pinned),
+            (2, Point::Ended) => self.ended.store(true, Ordering::SeqCst),
+            _ => (),
+        }
+    }
+}
+
+// How a run of the words over no gate ends, and whether it wrote this.
 fn ends_with<R: Threads + Wait + Sync>(
     rt: &R,
     alloc: Global,
+    texts: &[&str],
+    script: &str,
+    streams: Streams,
+    written: &str,
+) -> Result<(Status, bool), Fail> {
+    ends_at(rt, alloc, &NoGate, texts, script, streams, written)
+}
+
+// How a run of the words over this gate ends, and whether it wrote this.
+fn ends_at<R: Threads + Wait + Sync, G: Gate + Sync>(
+    rt: &R,
+    alloc: Global,
+    gate: &G,
     texts: &[&str],
     script: &str,
     streams: Streams,
@@ -72,7 +131,7 @@ fn ends_with<R: Threads + Wait + Sync>(
         &mut source,
         &mut sink,
         &mut shelf,
-        &NoGate,
+        gate,
         &mut record,
     );
     Ok((status, sink.written() == written.as_bytes()))
@@ -369,6 +428,38 @@ fn names_the_path_that_gives_no_query(rt: HostRuntime) -> Result<(), Fail> {
         };
         let (status, same) = ends_with(&rt, rt.alloc(), &words, "", streams, "")?;
         assert!(rt; status == Status::Given { path, why } && same);
+    }
+    Ok(())
+}
+
+// Lane 1 searches the version that it pinned, although lane 2 has changed the lake meanwhile. In the last batch the gate holds nobody.
+#[test]
+fn a_search_at_its_pin_holds_up_no_other_lane(rt: HostRuntime) -> Result<(), Fail> {
+    let loads = "load a\nc\nx\ny\n.\nload b\nc\nx\n.\nsync\nsearch 1\nx\ny\n.\n";
+    let last = "sync\nsearch 1\nx\ny\n.\n";
+    let first =
+        "1 loaded a columns 1 members 2 at 1\n2 loaded b columns 1 members 1 at 2\n3 answer 1 of 2 at 2\n  2 a 1 \"c\"\n";
+    for (other, later) in [
+        (
+            "@2 load 1\nc\ny\nx\n.\n",
+            "4 loaded 1 columns 1 members 2 at 3\n5 answer 1 of 2 at 3\n  2 1 1 \"c\"\n",
+        ),
+        (
+            "@2 drop a\n",
+            "4 dropped a at 3\n5 answer 1 of 2 at 3\n  1 b 1 \"c\"\n",
+        ),
+        (
+            "@2 merge all\n",
+            "4 merged 2 parts into 2 tables at 3\n5 answer 1 of 2 at 3\n  2 a 1 \"c\"\n",
+        ),
+    ] {
+        let gate = Crossing::new();
+        let script = format!(in rt.alloc(); "{loads}{other}{last}")?;
+        let written = format!(in rt.alloc(); "{first}{later}")?;
+        let words = ["run", "--lanes", "2"];
+        let (status, same) = ends_at(&rt, rt.alloc(), &gate, &words, &script, SOUND, &written)?;
+        assert!(rt; status == Status::Done && same);
+        assert!(rt; !gate.late.load(Ordering::SeqCst));
     }
     Ok(())
 }

@@ -1,4 +1,4 @@
-//! Two lanes that must overlap, on threads of their own, and batches one after another. No clause says that a thread runs, nor that memory is there.
+//! Batches one after another, with a merger. No clause says that a thread runs, nor that memory is there.
 ghost use Rattle.std.specs.Prelude.{◌≡◌, ◌≤◌, false, true, IfOk, None};
 ghost use Rattle.script_model.specs.Lanes.{IsOfLanes};
 ghost use Rattle.record_model.specs.Record.{empty};
@@ -11,50 +11,12 @@ use catalogue::Limits;
 use column_set::{Keys, Name};
 use commands::{Batch, Body, Command, FileBody, Options, Task};
 use lake::Lake;
-use lake_io::{Gate, NoGate, Point};
+use lake_io::NoGate;
 use run_record::{Reply, RunRecord};
 use std::alloc::Global;
 use std::sync::Wait;
-use std::sync::atomic::{AtomicBool, Ordering};
 use std::test::Fail;
-use std::thread;
 use std::thread::Threads;
-
-// A gate that holds lane 1 at its pin until a command of lane 2 has ended, and lane 2 at the beginning of one until lane 1 has its pin. It
-// holds nobody for ever: then it is late.
-#[derive(Drop)]
-struct Crossing {
-    pinned: AtomicBool,
-    ended: AtomicBool,
-    late: AtomicBool,
-}
-
-impl Crossing {
-    // Lets other threads run until the flag is set, or so many times.
-    fn wait_for(&self, flag: &AtomicBool) {
-        for _ in 0..10_000_000 {
-            if flag.load(Ordering::SeqCst) {
-                return;
-            }
-            thread::yield_now();
-        }
-        self.late.store(true, Ordering::SeqCst);
-    }
-}
-
-impl Gate for Crossing {
-    fn at(&self, lane: u32, _command: u64, point: Point) {
-        match (lane, point) {
-            (1, Point::Pinned) => {
-                self.pinned.store(true, Ordering::SeqCst);
-                self.wait_for(&self.ended);
-            }
-            (2, Point::Begin) => self.wait_for(&self.pinned),
-            (2, Point::Ended) => self.ended.store(true, Ordering::SeqCst),
-            _ => (),
-        }
-    }
-}
 
 // The name that a text is.
 pub(crate) fn name(text: &str) -> Result<Name, Fail> {
@@ -85,18 +47,6 @@ fn load(alloc: Global, number: u64, lane: u32, table: &str) -> Result<Command, F
         body: body(alloc, "c\nx\n")?,
     };
     Ok(command(number, lane, task))
-}
-
-// Lane 1 searches for a key, and lane 2 loads a table that has it.
-fn search_and_load(alloc: Global) -> Result<Batch, Fail>
-    ensures { IfOk result (λ batch. IsOfLanes 2 batch) }
-{
-    let search = Task::Search {
-        k: 1,
-        body: body(alloc, "x\n")?,
-    };
-    let commands = [command(1, 1, search), load(alloc, 2, 2, "t")?];
-    Ok(Batch::new(Vec::from_array(alloc, commands)?))
 }
 
 // Lane 1 loads two tables, asks for the live ones and for columns like one of them, drops a table that there is not, loads a file that there is
@@ -141,14 +91,14 @@ fn record_of_two_lanes(alloc: Global) -> RunRecord
 }
 
 // The record of this batch answered twice over a new lake, with a merger.
-fn answered_twice<R: Threads + Wait + Sync, G: Gate + Sync>(
+fn answered_twice<R: Threads + Wait + Sync>(
     rt: &R,
     alloc: Global,
     batch: &Batch,
-    gate: &G,
 ) -> Result<RunRecord, Fail>
     requires { IsOfLanes 2 batch.now }
 {
+    let gate = NoGate;
     let updates = batch.updates();
     if updates > 100 {
         return Err("too many".into());
@@ -156,14 +106,14 @@ fn answered_twice<R: Threads + Wait + Sync, G: Gate + Sync>(
     let mut record = record_of_two_lanes(alloc);
     let (lake, opening) = Lake::<Standard>::new(alloc, Limits::standard(), 3)?;
     let mut desks = open_desks(alloc, Keys::Canonical, &lake, opening, 2)?;
-    answer_batch(rt, alloc, &mut desks, batch, Some(1), gate, &mut record)?;
+    answer_batch(rt, alloc, &mut desks, batch, Some(1), &gate, &mut record)?;
     answer_batch(
         rt,
         alloc,
         &mut desks,
         batch,
         Some(1 + updates),
-        gate,
+        &gate,
         &mut record,
     )?;
     Ok(record)
@@ -191,33 +141,11 @@ fn positions(alloc: Global, record: &RunRecord) -> Result<Vec<Option<u64>>, Fail
     Ok(positions)
 }
 
-// Lane 1 is answered at the empty lake that it pinned, although lane 2 has loaded a table meanwhile. In the second batch the gate holds nobody.
-#[test]
-fn a_search_at_its_pin_holds_up_no_load(rt: HostRuntime) -> Result<(), Fail> {
-    let gate = Crossing {
-        pinned: AtomicBool::new(false),
-        ended: AtomicBool::new(false),
-        late: AtomicBool::new(false),
-    };
-    let batch = search_and_load(rt.alloc())?;
-    let record = answered_twice(&rt, rt.alloc(), &batch, &gate)?;
-    assert!(rt; !gate.late.load(Ordering::SeqCst));
-    assert_eq!(rt; record.syncs(), [1, 1].as_slice());
-    assert_eq!(rt; record.journal().len(), 1);
-    let positions = positions(rt.alloc(), &record)?;
-    let [search, load, _merger, later @ ..] = positions.as_slice() else {
-        return Err("too few answers".into());
-    };
-    assert_eq!(rt; (*search, *load), (Some(0), Some(1)));
-    assert_eq!(rt; later, [Some(1), Some(1), Some(1)].as_slice());
-    Ok(())
-}
-
 // The merger has a merge for each load and drop, and finds nothing to merge. In the second batch the names are there already.
 #[test]
 fn one_lane_answers_in_its_order(rt: HostRuntime) -> Result<(), Fail> {
     let batch = one_of_each(rt.alloc())?;
-    let record = answered_twice(&rt, rt.alloc(), &batch, &NoGate)?;
+    let record = answered_twice(&rt, rt.alloc(), &batch)?;
     assert_eq!(rt; record.syncs(), [3, 3].as_slice());
     assert_eq!(rt; record.journal().len(), 3);
     let positions = positions(rt.alloc(), &record)?;

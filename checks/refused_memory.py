@@ -1,0 +1,119 @@
+#!/usr/bin/env python3
+"""Runs of josie in which one allocation is refused: the first, the second, and so on, until a run makes fewer.
+
+    checks/refused_memory.py [JOSIE]
+
+The scripts are worked runs and examples, on one lane or on several in a stated order, each run with a trace. A command that has no memory is answered `no memory`
+and changes nothing: every other reply, and the journal, have to be right by the model of `plain_lake.py`, as `random_lanes.py` compares them, with that
+command left out. A run that has no memory itself ends with status 5, and what it wrote has to be the right replies to its first batches. The library that
+refuses is made of `refuse_allocation.c` by the C compiler `cc`, and loaded before the C library. It prints one line, and ends with 0 if everything is
+right.
+"""
+import os
+import shlex
+import shutil
+import subprocess
+import tempfile
+from collections import Counter
+
+from check import HERE, Wrong, main
+from random_lanes import checked, numbered, parted, placed
+
+RUNS = ["runs/one_read_and_one_probe", "runs/drop_between_plan_and_swap", "runs/real_tables"]
+EXAMPLES = ["refresh", "race.2", "contain"]
+WITH_BLOCK = ("load", "replace", "search", "contain")
+
+
+def text_of(*names):
+    with open(os.path.join(HERE, *names), encoding="utf-8", newline="") as file:
+        return file.read()
+
+
+def cases():
+    """The name of each case, its words, and its script."""
+    for run in RUNS:
+        yield run, text_of(run, "args").split("\n")[:-1], text_of(run, "stdin")
+    for example in EXAMPLES:
+        folder = os.path.join("..", "examples")
+        yield example, shlex.split(text_of(folder, example + ".words")), text_of(folder, example.split(".")[0] + ".josie")
+
+
+def batches_of(script):
+    """The batches of a script, each command a lane, its words and its block."""
+    batches, lines = [[]], iter(script.split("\n"))
+    for line in lines:
+        if not line or line.startswith("#"):
+            continue
+        if line == "sync":
+            batches.append([])
+            continue
+        lane, words = (line[1:].split(" ", 1) if line.startswith("@") else ("1", line))
+        block = None
+        if words.split(" ")[0] in WITH_BLOCK:
+            block = [text[text.startswith("."):] for text in iter(lines.__next__, ".")]
+        batches[-1].append((int(lane), words, block))
+    return batches if batches[-1] else batches[:-1]
+
+
+def refused_run(josie, library, words, script, number):
+    """A run whose allocation of this number is refused, and whether it made so many."""
+    reads, writes = os.pipe()
+    with open(reads, "rb") as told:
+        try:
+            environment = {**os.environ, "LD_PRELOAD": library, "REFUSE_ALLOCATION": str(number), "REFUSE_TELLS": str(writes)}
+            ended = subprocess.run([josie, *words], input=script.encode(), capture_output=True, env=environment, pass_fds=[writes], timeout=60)
+        finally:
+            os.close(writes)
+        return ended, told.read() != b""
+
+
+def check_ended(ended, batches):
+    """Checks what a run wrote, and returns how many of its commands had no memory, and whether the run had none."""
+    if ended.returncode not in (0, 5) or ended.returncode == 5 and ended.stderr != b"josie: no memory\n":
+        raise Wrong(f"status {ended.returncode}")
+    lines, journal = parted(ended.stdout.decode())
+    if (journal is None) != (ended.returncode == 5):
+        raise Wrong("the journal is written at the end, and only there")
+    written = [batch for batch in batches if all(command.number in lines for command in batch)]
+    commands = [command for batch in written for command in batch]
+    if list(lines) != [command.number for command in commands] or journal is not None and len(written) != len(batches):
+        raise Wrong(f"replies to {list(lines)}")
+    refused = [command for command in commands if lines[command.number] == ["no memory"]]
+    checked([placed(command, lines[command.number]) for command in commands if command not in refused], journal, len(written))
+    return len(refused), ended.returncode == 5
+
+
+def check_case(josie, library, name, words, script):
+    """How many allocations were refused, how many commands had no memory, and how many runs had none."""
+    counts = Counter()
+    batches = numbered(batches_of(script), "--merge" in words)
+    words = words if "--trace" in words else [*words, "--trace"]
+    while True:
+        ended, was_refused = refused_run(josie, library, words, script, counts["allocations"] + 1)
+        try:
+            commands, run = check_ended(ended, batches)
+            if not was_refused and (commands or run):
+                raise Wrong("no allocation was refused")
+        except Wrong as wrong:
+            raise Wrong(f"{name}: allocation {counts['allocations'] + 1}: wrote\n{ended.stdout.decode()}{ended.stderr.decode()}{wrong}") from None
+        if not was_refused:
+            return counts
+        counts.update(allocations=1, commands=commands, runs=run)
+
+
+def check(josie, _words):
+    compiler = shutil.which("cc")
+    if compiler is None:
+        return "skipped, as there is no C compiler"
+    with tempfile.TemporaryDirectory() as folder:
+        library = os.path.join(folder, "refuse_allocation.so")
+        subprocess.run([compiler, "-O1", "-shared", "-fPIC", "-o", library, os.path.join(HERE, "refuse_allocation.c")], check=True)
+        counts = sum((check_case(josie, library, *case) for case in cases()), Counter())
+    return (
+        f"{counts['allocations']} allocations refused, of which {counts['commands']} were answered by a command and {counts['runs']} ended the run; "
+        "nothing else was lost"
+    )
+
+
+if __name__ == "__main__":
+    main("refused memory", check)
