@@ -2,7 +2,7 @@
 use Rattle.std.proofs.Common.{◌≡◌, refl, ap, sym, ◌∙◌, subst, ℕ, zero, suc, ◌+◌, ◌-◌, ◌*◌, ◌<◌, ◌≤◌, List, [], ◌∷◌, ◌++◌, Bool, true, false, not, ◌&&◌, length, get_or, arith, drop, take, map, min, append_assoc, append-nil, below_more, Result, Ok, Err, inl, inr}
 use Rattle.std.specs.Prelude.{flat_map, sum_by, ◌⊎◌, IfOk}
 use Rattle.std.specs.List.{AllByRecursion, filter}
-use Rattle.std.proofs.lemmas.List.{drop-append-le, drop-drop, drop-map, drop_min, get_or_append_left, get_or-append-add, length-append, length-drop, length-take, map-append, take-append-le, take-append-drop, take-map, take_min, take_more}
+use Rattle.std.proofs.lemmas.List.{drop-append-le, drop-drop, drop-map, drop_min, get_or_append_left, length-append, length-drop, length-take, map-append, take-append-le, take-append-drop, take-map, take_min, take_more}
 use Rattle.std.proofs.Math.ListN.{drop_of_length-le}
 use Rattle.std.proofs.Math.Nat.{le-mul_of_pos_right}
 use Rattle.std.proofs.Math.Seq.{get_or-append_seam}

@@ -1,10 +1,10 @@
 -- The tables that were live after any number of entries, when one more entry is taken.
-use Rattle.std.proofs.Common.{◌≡◌, refl, ap, sym, ◌∙◌, subst, ℕ, zero, suc, ◌+◌, ◌<◌, ◌≤◌, List, [], ◌∷◌, ◌++◌, Bool, true, false, not, ◌&&◌, length, arith, cond, take, map, append-nil, flat_map, below_more, Option, Some, None}
-use Rattle.std.specs.Prelude.{is_none, nat_le, sum_by}
+use Rattle.std.proofs.Common.{◌≡◌, refl, ap, sym, ◌∙◌, subst, ℕ, zero, suc, ◌+◌, ◌<◌, ◌≤◌, List, [], ◌∷◌, ◌++◌, Bool, true, false, not, ◌&&◌, length, arith, cond, take, map, append-nil, below_more, Option, Some, None}
+use Rattle.std.specs.Prelude.{is_none, nat_le}
 use Rattle.std.specs.List.{AllByRecursion, filter}
 use Rattle.std.proofs.lemmas.Bool.{le-leb, lt-leb, not-true}
 use Rattle.std.proofs.lemmas.List.{length-append, map-append, take-append-le}
-use Rattle.std.proofs.Math.Seq.{take-append_seam, take-length}
+use Rattle.std.proofs.Math.Seq.{take-length}
 use Rattle.std.proofs.lemmas.List.Concat.{flat_map-append}
 use Rattle.lake_model.specs.declared.Who.{Who}
 use Rattle.lake_model.specs.Texts.{Text}
@@ -14,7 +14,7 @@ use Rattle.lake_model.specs.Layout.{may_follow}
 use Rattle.lake_model.proofs.LayoutLemmas.{live_more}
 use Rattle.list_laws.specs.Distinct.{Rises}
 use Rattle.list_laws.proofs.ListLemmas.{all_append, all_map, all_weaker, filter-append, filter_agree, filter_all, map_filter, none_any, rises_push}
-use Rattle.asof_search.specs.Puts.{PutOf, end_put, has_ended, is_open, positions_put, put_with, puts_after, tables_put, was_live}
+use Rattle.asof_search.specs.Puts.{PutOf, end_put, has_ended, positions_put, put_with, puts_after, tables_put, was_live}
 use Rattle.asof_search.specs.History.{EndsBy, IsHistory, IsWithin, PastStays}
 
 -- ---- tests

@@ -2,3 +2,4 @@ mod HistoryLemmas
 mod PutLemmas
 mod BlockLemmas
 mod TimelineLemmas
+mod TestLemmas

@@ -1,5 +1,5 @@
 -- What is held beside a journal, so that the tables that were live after any number of its entries are found.
-use Rattle.std.specs.Prelude.{◌≡◌, ◌<◌, ◌≤◌, ◌^◌, ℕ, ⊤, true, List, ◌++◌, filter, length, map, sum_by, take, Option, Some, None}
+use Rattle.std.specs.Prelude.{◌≡◌, ◌<◌, ◌≤◌, ◌^◌, ℕ, ⊤, true, List, ◌++◌, filter, length, sum_by, take, Option, Some, None}
 use Rattle.std.specs.List.{AllByRecursion}
 use Rattle.lake_model.specs.Tables.{Table, members}
 use Rattle.lake_model.specs.Journal.{Entry, live, loads_of}

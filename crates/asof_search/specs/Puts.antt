@@ -1,5 +1,5 @@
 -- What a journal puts, by its loads and replaces, and until when each stays.
-use Rattle.std.specs.Prelude.{◌≡◌, ◌+◌, ◌*◌, ◌<◌, ◌≤◌, ℕ, Bool, true, false, not, ◌&&◌, List, [], ◌∷◌, ◌++◌, drop, filter, get_or, if◌then◌else◌, is_none, length, map, nat_eq, nat_le, slice_set, take, Option, Some, None}
+use Rattle.std.specs.Prelude.{◌≡◌, ◌+◌, ◌*◌, ◌<◌, ◌≤◌, ℕ, Bool, false, not, ◌&&◌, List, [], ◌∷◌, ◌++◌, drop, get_or, if◌then◌else◌, is_none, length, map, nat_eq, nat_le, slice_set, take, Option, Some, None}
 use Rattle.lake_model.specs.Texts.{Text}
 use Rattle.lake_model.specs.Tables.{Table, table_with}
 use Rattle.lake_model.specs.Journal.{What, Loaded, Dropped, Replaced, Swapped, has_name}

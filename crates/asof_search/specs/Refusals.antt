@@ -1,5 +1,5 @@
 -- What refuses a pin of the past.
-use Rattle.std.specs.Prelude.{◌≡◌, ℕ, List, if◌then◌else◌, length, nat_lt, Option, Some, None}
+use Rattle.std.specs.Prelude.{ℕ, List, if◌then◌else◌, length, nat_lt, Option, Some, None}
 use Rattle.lake_model.specs.Journal.{Entry}
 use Rattle.asof_search.specs.declared.refusal.PastRefused.{PastRefused}
 use Rattle.asof_search.specs.declared.refusal.PastRefused.TheVariants.{Later}

@@ -10,3 +10,6 @@ mod timeline;
 
 pub use refusal::PastRefused;
 pub use timeline::{Timeline, past_law};
+
+#[cfg(test)]
+mod tests;

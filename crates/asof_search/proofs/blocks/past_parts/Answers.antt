@@ -1,8 +1,8 @@
-use Rattle.std.proofs.Common.{◌≡◌, ◌*◌, ◌^◌, ◌<◌, ◌∙◌, ap, arith, drop, length, map, min, subst, sym, take, ℕ, List}
+use Rattle.std.proofs.Common.{◌≡◌, ◌*◌, ◌^◌, ◌<◌, ◌∙◌, ap, arith, drop, length, subst, sym, take, ℕ, List}
 use Rattle.std.proofs.lemmas.List.{length-map}
 use Rattle.std.specs.Prelude.{sum_by}
 use Rattle.lake_model.specs.Tables.{Table, members}
-use Rattle.asof_search.specs.Puts.{PutOf, tables_put}
+use Rattle.asof_search.specs.Puts.{tables_put}
 use Rattle.asof_search.proofs.BlockLemmas.{block_light, block_tables, blocks_after, none_left, past_live, past_positions, rest_rises, drop_rest, under_way_more}
 use Rattle.asof_search.proofs.blocks.past_parts.Goals as goal
 

@@ -1,4 +1,4 @@
-use Rattle.std.proofs.Common.{◌≡◌, refl, ◌∙◌, ◌++◌, ◌∷◌, [], ap, arith, cond, length, map, None, Option, Some, List, ℕ}
+use Rattle.std.proofs.Common.{◌≡◌, refl, ◌∙◌, ◌++◌, ◌∷◌, [], ap, arith, cond, length, map, None, Some, List, ℕ}
 use Rattle.std.specs.Prelude.{bytes_eq}
 use Rattle.std.specs.BTreeMap.{get_by_text}
 use Rattle.lake_model.specs.Tables.{Table}
