@@ -5,8 +5,8 @@
 
 Each block has 67,108,864 bytes or a few less: one record, one field, empty fields in 1,024 columns, one value in 1,024 columns, lines of two bytes, and values that
 grow threefold when they are folded. The replies follow from `docs/FORMATS.md`. A run may take twelve times the size of its block in memory. It needs a
-minute and half a gigabyte, so `.ci/run` does not run it. It prints a line for each case with its time and its peak memory, and one line in all, and ends with 0
-if everything is as stated.
+few minutes and two thirds of a gigabyte, so `.ci/run` does not run it. It prints a line for each case with its time and its peak memory, and one line in all,
+and ends with 0 if everything is as stated.
 """
 import os
 import subprocess
