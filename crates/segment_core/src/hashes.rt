@@ -130,8 +130,9 @@ fn tokens_of(alloc: Global, hashed: &[Hashed]) -> Result<Vec<u32>, NoMemory>
     Ok(numbers)
 }
 
-// How many of the hashes, which rise, lie below each part of the range of hashes.
-fn starts_of(alloc: Global, hashes: &[u32]) -> Result<Vec<u32>, NoMemory>
+/// How many of the hashes, which rise, lie below each part of the range of hashes, of which there are a quarter as many as hashes.
+/// It takes 4 bytes for each part.
+pub fn starts_of(alloc: Global, hashes: &[u32]) -> Result<Vec<u32>, NoMemory>
     requires { length hashes.now < 2 ^ 32 }
 {
     let parts = hashes.len() as u64 / 4;
@@ -145,7 +146,7 @@ fn starts_of(alloc: Global, hashes: &[u32]) -> Result<Vec<u32>, NoMemory>
 
 /// How many of the hashes, which rise, are below one. It compares those of its part of the range alone where `starts` says truly where
 /// these are, and all else.
-pub(crate) fn count_below(hashes: &[u32], starts: &[u32], hash: u32) -> usize
+pub fn count_below(hashes: &[u32], starts: &[u32], hash: u32) -> usize
     requires { IsNonDecreasingBy (λ n. n) hashes.now }
     ensures { IsPartitionPoint (λ n. nat_lt n hash ≡ true) (λ n. nat_lt n hash ≡ false) hashes.now result }
 {
@@ -201,7 +202,7 @@ pub(crate) fn key_at<'a>(
 }
 
 /// The hash of a key, by FNV-1a of 32 bits. Nothing but speed rests on how few keys share one.
-pub(crate) fn hash_key(key: &str) -> u32
+pub fn hash_key(key: &str) -> u32
     ensures { result ≡ hash_of key.now }
 {
     hash_bytes(0x811C_9DC5, key.as_bytes())

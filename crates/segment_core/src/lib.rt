@@ -15,7 +15,7 @@ mod swap;
 mod version;
 
 pub use column::ColumnRefused;
-pub use hashes::{HashOrder, order_by_hash};
+pub use hashes::{HashOrder, count_below, hash_key, order_by_hash, starts_of};
 pub use layout::{Layout, Places, TableLines};
 pub use looks::Looks;
 pub use numbers::{Marks, Numbers};
