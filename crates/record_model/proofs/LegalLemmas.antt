@@ -14,7 +14,7 @@ use Rattle.lake_model.specs.Layout.{Part, layout, may_follow, is_legal, is_legal
 use Rattle.lake_model.specs.Plan.{plan_of, planned_parts}
 use Rattle.layout_laws.specs.Steps.{has_part}
 use Rattle.layout_laws.specs.LayoutLaws.{PlansStay}
-use Rattle.script_model.specs.Commands.{Task, Load, LoadFile, DropTable, Replace, Tables, Search, Like, Contain, Merge, Command, Batch, updates}
+use Rattle.script_model.specs.Commands.{Task, Load, LoadFile, DropTable, Replace, Tables, Search, Like, Contain, AsOf, Merge, Command, Batch, updates}
 use Rattle.lake_model.specs.Limits.{Bounded, is_passed, load_bounds, drop_bounds, replace_bounds}
 use Rattle.record_model.specs.Replies.{Loaded, Dropped, Replaced, Repeated, Unknown, unless_lake_full, merge_planned, merge_gone, merge_reply}
 use Rattle.record_model.specs.Answered.{TableRead, IsTable, NoTable, table_read, file_read, load_answer, replace_answer, loads, replaces, swaps, policy_of, answer_to, adds, has_pin, is_accepted, standing}
@@ -101,6 +101,8 @@ task_follows stay rules who (Like k name place) pinned behind legal =
     ap (λ whats. is_legal_behind (pinned ++ behind) (map (entry_with who) whats)) (either_none (is_accepted (standing (answer_to rules (Like k name place) pinned (pinned ++ behind)))))
 task_follows stay rules who (Contain a b body) pinned behind legal =
     ap (λ whats. is_legal_behind (pinned ++ behind) (map (entry_with who) whats)) (either_none (is_accepted (standing (answer_to rules (Contain a b body) pinned (pinned ++ behind)))))
+task_follows stay rules who (AsOf asked k body) pinned behind legal =
+    ap (λ whats. is_legal_behind (pinned ++ behind) (map (entry_with who) whats)) (either_none (is_accepted (standing (answer_to rules (AsOf asked k body) pinned (pinned ++ behind)))))
 task_follows stay rules who (Merge all) pinned behind legal = merge_follows stay who (policy_of all) pinned behind legal
 
 reply_follows : PlansStay → (rules : Rules) (command : Command) (denied : Bool) (pinned behind now : List Entry) → pinned ++ behind ≡ now → is_legal now ≡ true

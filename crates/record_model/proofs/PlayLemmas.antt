@@ -1,6 +1,6 @@
 -- What is played is right.
 use Rattle.std.proofs.Common.{◌≡◌, refl, ap, sym, ◌∙◌, subst, ℕ, ◌+◌, ◌-◌, ◌≤◌, List, [], ◌∷◌, ◌++◌, append_assoc, map, Bool, true, false, length, take, cond, arith, length-append, ◌⊎◌, inl, inr}
-use Rattle.std.specs.Prelude.{◌==◌, Option, Some, None, find, slice_get, not}
+use Rattle.std.specs.Prelude.{◌==◌, nat_lt, Option, Some, None, find, slice_get, not}
 use Rattle.std.specs.List.{AllByRecursion}
 use Rattle.std.proofs.lemmas.List.{take-append-le, append-nil}
 use Rattle.std.proofs.Math.Seq.{take-append_seam}
@@ -18,14 +18,15 @@ use Rattle.list_laws.proofs.ListLemmas.{all_append}
 use Rattle.record_model.proofs.RightLemmas.{rises_on, all_placed_stay, accepted_stay, own_entries_more}
 use Rattle.lake_model.specs.Texts.{Text}
 use Rattle.lake_model.specs.Tables.{Table, Column, members}
-use Rattle.lake_model.specs.Journal.{What, Entry, is_live, live_table, counts, entry_with}
+use Rattle.lake_model.specs.Answer.{answer}
+use Rattle.lake_model.specs.Journal.{What, Entry, is_live, live, live_table, counts, entry_with}
 use Rattle.lake_model.specs.Limits.{Bounded, is_passed, load_bounds, drop_bounds, replace_bounds}
 use Rattle.lake_model.specs.Layout.{Part, layout, unmarked_of}
 use Rattle.lake_model.specs.Plan.{planned_parts, plan_of}
 use Rattle.layout_laws.specs.Steps.{has_part}
-use Rattle.script_model.specs.Commands.{Task, Load, LoadFile, DropTable, Replace, Tables, Search, Like, Contain, Merge, Command}
-use Rattle.record_model.specs.Replies.{Reply, NoMemory, Repeated, Unknown, Loaded, Dropped, Replaced, fault_reply, Fault, FileFault, OfCsv, OfSets, OfQuery, OfFile, FailedFault, MissingFault, TooLongFault, csv_reply, sets_reply, query_reply, file_reply, unless_lake_full, drop_reply, like_table, like_column, merge_planned, merge_gone}
-use Rattle.record_model.specs.Answered.{TableRead, IsTable, NoTable, QueryRead, IsQuery, NoQuery, file_read, load_answer, replace_answer, search_answer, contain_answer, policy_of, loads, replaces, swaps, table_read, query_read, answer_to, change_of, has_pin, Standing, Nowhere, Saw, Added, PlannedAndSaw, PlannedAndAdded, standing, is_accepted}
+use Rattle.script_model.specs.Commands.{Task, Load, LoadFile, DropTable, Replace, Tables, Search, Like, Contain, AsOf, Merge, Command}
+use Rattle.record_model.specs.Replies.{Reply, NoMemory, Past, Later, Repeated, Unknown, Loaded, Dropped, Replaced, fault_reply, Fault, FileFault, OfCsv, OfSets, OfQuery, OfFile, FailedFault, MissingFault, TooLongFault, csv_reply, sets_reply, query_reply, file_reply, unless_lake_full, drop_reply, like_table, like_column, merge_planned, merge_gone}
+use Rattle.record_model.specs.Answered.{TableRead, IsTable, NoTable, QueryRead, IsQuery, NoQuery, file_read, load_answer, replace_answer, search_answer, contain_answer, past_answer, policy_of, loads, replaces, swaps, table_read, query_read, answer_to, change_of, has_pin, Standing, Nowhere, Saw, Added, PlannedAndSaw, PlannedAndAdded, standing, is_accepted}
 use Rattle.record_model.specs.Play.{Done, done_with, who_of, entries_of, reply_or_denied}
 use Rattle.record_model.specs.Right.{Moment, moments, moments_by, Rises, IsPlaced, IsUnplaced, own_entries, entries_by, at_position, accepted, IsRight}
 
@@ -103,6 +104,15 @@ contain_shape : (rules : Rules) (a b : ℕ) (body : List ℕ) (pinned now : List
 contain_shape rules a b body pinned now (IsQuery keys) e = Sees refl (ap (λ r. contain_answer a b r pinned) (sym e))
 contain_shape rules a b body pinned now (NoQuery fault) e = Static (fault_nowhere fault) (ap (λ r. contain_answer a b r []) (sym e))
 
+past_shape : (rules : Rules) (asked k : ℕ) (body : List ℕ) (now : List Entry) (read : QueryRead) → query_read rules.keys body ≡ read → Shape rules (AsOf asked k body) now now (past_answer asked k read now)
+past_shape rules asked k body now (NoQuery fault) e = Static (fault_nowhere fault) (ap (λ r. past_answer asked k r []) (sym e))
+past_shape rules asked k body now (IsQuery keys) e = by (nat_lt (length now) asked) (ap (λ r. past_answer asked k r now) (sym e))
+  where
+    by : (b : Bool) → cond b (Later asked (length now)) (Past (length keys) (answer (live (take asked now)) keys k None) asked (length now)) ≡ answer_to rules (AsOf asked k body) now now
+        → Shape rules (AsOf asked k body) now now (cond b (Later asked (length now)) (Past (length keys) (answer (live (take asked now)) keys k None) asked (length now)))
+    by true f = Sees refl f
+    by false f = Sees refl f
+
 like_shape : (rules : Rules) (k : ℕ) (name : Text) (place : ℕ) (pinned now : List Entry) → Shape rules (Like k name place) pinned now (answer_to rules (Like k name place) pinned now)
 like_shape rules k name place pinned now = by (live_table pinned name) refl
   where
@@ -135,6 +145,7 @@ shape rules Tables pinned now same = subst (λ q. Shape rules Tables q now (answ
 shape rules (Search k body) pinned now same = search_shape rules k body pinned now (query_read rules.keys body) refl
 shape rules (Like k name place) pinned now same = like_shape rules k name place pinned now
 shape rules (Contain a b body) pinned now same = contain_shape rules a b body pinned now (query_read rules.keys body) refl
+shape rules (AsOf asked k body) pinned now same = subst (λ q. Shape rules (AsOf asked k body) q now (past_answer asked k (query_read rules.keys body) now)) (sym (same refl)) (past_shape rules asked k body now (query_read rules.keys body) refl)
 shape rules (Merge all) pinned now same = merge_shape rules all pinned now
 
 -- ---- a reply fits behind its pin

@@ -85,6 +85,11 @@ replaced : written (lines (codes "load t" ∷ codes "c" ∷ codes "a" ∷ codes 
 unfolding lines_of read next_record records_from strip_bom is_utf8 caseless trim_start trim_end chars encode digits in_order put_in_order rows_fault text_fault line_fault table_read query_read play played_from
 replaced = refl
 
+-- what was live after one entry, after two and before the first; and a position that is still to come
+past : written (lines (codes "load n" ∷ codes "c" ∷ codes "a" ∷ codes "." ∷ codes "drop n" ∷ codes "load n" ∷ codes "c" ∷ codes "b" ∷ codes "." ∷ codes "asof 1 1" ∷ codes "a" ∷ codes "." ∷ codes "asof 2 1" ∷ codes "a" ∷ codes "." ∷ codes "asof 0 1" ∷ codes "a" ∷ codes "." ∷ codes "asof 4 1" ∷ codes "a" ∷ codes "." ∷ [])) ≡ lines (codes "1 loaded n columns 1 members 1 at 1" ∷ codes "2 dropped n at 2" ∷ codes "3 loaded n columns 1 members 1 at 3" ∷ codes "4 answer 1 of 1 as of 1 at 3" ∷ codes "  1 n 1 \"c\"" ∷ codes "5 answer 0 of 1 as of 2 at 3" ∷ codes "6 answer 0 of 1 as of 0 at 3" ∷ codes "7 refused later 4 at 3" ∷ [])
+unfolding lines_of read next_record records_from strip_bom is_utf8 caseless trim_start trim_end chars encode digits in_order put_in_order rows_fault text_fault line_fault table_read query_read play played_from
+past = refl
+
 -- ---- traces
 
 abbrev traced : Options

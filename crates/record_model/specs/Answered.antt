@@ -15,8 +15,8 @@ use Rattle.lake_model.specs.Journal.{What, Entry}
 use Rattle.lake_model.specs.Journal as journal
 use Rattle.lake_model.specs.Answer.{Query}
 use Rattle.lake_model.specs.Plan.{plan}
-use Rattle.script_model.specs.Commands.{File, Bytes, Failed, Missing, TooLong, Task, Load, LoadFile, DropTable, Replace, Tables, Search, Like, Contain, Merge}
-use Rattle.record_model.specs.Replies.{Reply, Loaded, Dropped, Replaced, Listed, Found, Merged, Repeated, Unknown, NoColumn, Full, NothingToMerge, Stale, Fault, OfCsv, OfSets, OfQuery, OfFile, FailedFault, MissingFault, TooLongFault, fault_reply, load_reply, drop_reply, replace_reply, tables_reply, search_reply, like_reply, contain_reply, merge_reply}
+use Rattle.script_model.specs.Commands.{File, Bytes, Failed, Missing, TooLong, Task, Load, LoadFile, DropTable, Replace, Tables, Search, Like, Contain, AsOf, Merge}
+use Rattle.record_model.specs.Replies.{Reply, Loaded, Dropped, Replaced, Listed, Found, Past, Merged, Repeated, Unknown, NoColumn, Full, NothingToMerge, Later, Stale, Fault, OfCsv, OfSets, OfQuery, OfFile, FailedFault, MissingFault, TooLongFault, fault_reply, load_reply, drop_reply, replace_reply, tables_reply, search_reply, like_reply, contain_reply, past_reply, merge_reply}
 
 -- the table of bytes, or the refusal of these bytes
 pub data TableRead : Type 0 where
@@ -77,6 +77,10 @@ abbrev pub contain_answer : ℕ → ℕ → QueryRead → List Entry → Reply
 contain_answer a b (IsQuery keys) pinned = contain_reply keys a b pinned
 contain_answer a b (NoQuery fault) pinned = fault_reply fault
 
+abbrev pub past_answer : ℕ → ℕ → QueryRead → List Entry → Reply
+past_answer asked k (IsQuery keys) now = past_reply keys asked k now
+past_answer asked k (NoQuery fault) now = fault_reply fault
+
 -- the reply to a command that was pinned at one journal and is answered at another
 abbrev pub answer_to : Rules → Task → List Entry → List Entry → Reply
 answer_to rules (Load name body) pinned now = load_answer rules (table_read rules.keys name body) now
@@ -87,9 +91,10 @@ answer_to rules Tables pinned now = tables_reply now
 answer_to rules (Search k body) pinned now = search_answer k (query_read rules.keys body) pinned
 answer_to rules (Like k name place) pinned now = like_reply k name place pinned
 answer_to rules (Contain a b body) pinned now = contain_answer a b (query_read rules.keys body) pinned
+answer_to rules (AsOf asked k body) pinned now = past_answer asked k (query_read rules.keys body) now
 answer_to rules (Merge all) pinned now = merge_reply (policy_of all) pinned now
 
--- a search, a like, a contain and a merge have a pin of their own
+-- A search, a like, a contain and a merge have a pin of their own. One of the past sees the journal once, when it is answered.
 abbrev pub has_pin : Task → Bool
 has_pin (Load name body) = false
 has_pin (LoadFile name file) = false
@@ -99,6 +104,7 @@ has_pin Tables = false
 has_pin (Search k body) = true
 has_pin (Like k name place) = true
 has_pin (Contain a b body) = true
+has_pin (AsOf asked k body) = false
 has_pin (Merge all) = true
 
 -- what a command adds, where it is accepted
@@ -123,6 +129,7 @@ change_of rules Tables pinned = []
 change_of rules (Search k body) pinned = []
 change_of rules (Like k name place) pinned = []
 change_of rules (Contain a b body) pinned = []
+change_of rules (AsOf asked k body) pinned = []
 change_of rules (Merge all) pinned = swaps (plan (policy_of all) pinned)
 
 -- where a reply stands: at no position, at one it has seen, at its own entry; a merge has the position of its plan besides
@@ -139,12 +146,14 @@ standing (Dropped name at) = Added at
 standing (Replaced name columns members at) = Added at
 standing (Listed tables at) = Saw at
 standing (Found query rows reads probes layout) = Saw layout.at
+standing (Past query rows asked at) = Saw at
 standing (Merged layout parts tables at) = PlannedAndAdded layout.at at
 standing (Repeated name at) = Saw at
 standing (Unknown name at) = Saw at
 standing (NoColumn name place at) = Saw at
 standing (Full which count more at) = Saw at
 standing (NothingToMerge layout) = Saw layout.at
+standing (Later asked at) = Saw at
 standing (Stale layout gone at) = PlannedAndSaw layout.at at
 standing reply = Nowhere
 

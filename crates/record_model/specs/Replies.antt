@@ -1,5 +1,5 @@
 -- What each command is answered at a journal, where its bytes and its query are as they should be.
-use Rattle.std.specs.Prelude.{ℕ, ◌+◌, ◌-◌, not, List, [], ◌∷◌, length, map, find, slice_get, if◌then◌else◌, Option, Some, None}
+use Rattle.std.specs.Prelude.{ℕ, ◌+◌, ◌-◌, nat_lt, not, List, [], ◌∷◌, length, map, find, slice_get, take, if◌then◌else◌, Option, Some, None}
 use Rattle.lake_model.specs.declared.Which.{Which}
 use Rattle.lake_model.specs.declared.Policy.{Policy}
 use Rattle.lake_model.specs.declared.Counts.{Counts}
@@ -26,12 +26,14 @@ pub data Reply : Type 0 where
   Replaced : (name : Text) (columns members at : ℕ) → Reply
   Listed : (tables : List Line) (at : ℕ) → Reply
   Found : (query : ℕ) (rows : List Row) (reads probes : ℕ) (layout : Shown) → Reply
+  Past : (query : ℕ) (rows : List Row) (asked at : ℕ) → Reply
   Merged : (layout : Shown) (parts tables at : ℕ) → Reply
   Repeated : (name : Text) (at : ℕ) → Reply
   Unknown : (name : Text) (at : ℕ) → Reply
   NoColumn : (name : Text) (place at : ℕ) → Reply
   Full : (which : Which) (count more at : ℕ) → Reply
   NothingToMerge : (layout : Shown) → Reply
+  Later : (asked at : ℕ) → Reply
   Stale : (layout : Shown) (gone at : ℕ) → Reply
   NoHeader : Reply
   TooManyColumns : (got : ℕ) → Reply
@@ -115,6 +117,12 @@ abbrev pub contain_reply : List Text → ℕ → ℕ → List Entry → Reply
 contain_reply keys a b journal =
     let parts = layout journal in
     Found (length keys) (contain (live journal) keys a b) (contain_reads keys a b parts) (contain_probes keys a b parts) (shown_layout journal)
+
+-- the answer over the tables that were live after the first so many entries, of which there are not more than the journal has
+abbrev pub past_reply : List Text → ℕ → ℕ → List Entry → Reply
+past_reply keys asked k journal =
+    let at = length journal in
+    if nat_lt at asked then Later asked at else Past (length keys) (answer (live (take asked journal)) keys k None) asked at
 
 abbrev pub excepting : Text → ℕ → List Text → Query
 excepting name k keys = record { keys = keys; k = k; except = Some name }

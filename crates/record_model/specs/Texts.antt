@@ -11,7 +11,7 @@ use Rattle.lake_model.specs.Journal as journal
 use Rattle.lake_model.specs.Layout.{Shown}
 use Rattle.lake_model.specs.Tables.{Line}
 use Rattle.script_model.specs.Words.{line_text}
-use Rattle.record_model.specs.Replies.{Reply, Loaded, Dropped, Replaced, Listed, Found, Merged, Repeated, Unknown, NoColumn, Full, NothingToMerge, Stale, NoHeader, TooManyColumns, Unequal, NotUtf8, TooManyValues, FileFailed, FileMissing, FileTooLong, QueryNotUtf8, QueryTooLarge, NoMemory}
+use Rattle.record_model.specs.Replies.{Reply, Loaded, Dropped, Replaced, Listed, Found, Past, Merged, Repeated, Unknown, NoColumn, Full, NothingToMerge, Later, Stale, NoHeader, TooManyColumns, Unequal, NotUtf8, TooManyValues, FileFailed, FileMissing, FileTooLong, QueryNotUtf8, QueryTooLarge, NoMemory}
 use Rattle.record_model.specs.Record.{Answered, RunRecord}
 
 -- words with one space between
@@ -77,12 +77,14 @@ reply_words (Dropped name at) = codes "dropped" ∷ name ∷ at_words at
 reply_words (Replaced name columns members at) = codes "replaced" ∷ name ∷ codes "columns" ∷ decimal columns ∷ codes "members" ∷ decimal members ∷ at_words at
 reply_words (Listed tables at) = codes "tables" ∷ decimal (length tables) ∷ at_words at
 reply_words (Found query rows reads probes layout) = codes "answer" ∷ decimal (length rows) ∷ codes "of" ∷ decimal query ∷ at_words layout.at
+reply_words (Past query rows asked at) = codes "answer" ∷ decimal (length rows) ∷ codes "of" ∷ decimal query ∷ codes "as of" ∷ decimal asked ∷ at_words at
 reply_words (Merged layout parts tables at) = codes "merged" ∷ decimal parts ∷ codes "parts" ∷ codes "into" ∷ decimal tables ∷ codes "tables" ∷ at_words at
 reply_words (Repeated name at) = refused (codes "repeated" ∷ name ∷ at_words at)
 reply_words (Unknown name at) = refused (codes "unknown" ∷ name ∷ at_words at)
 reply_words (NoColumn name place at) = refused (codes "column" ∷ name ∷ decimal place ∷ at_words at)
 reply_words (Full which count more at) = refused (codes "full" ∷ which_text which ∷ decimal count ∷ codes "more" ∷ decimal more ∷ at_words at)
 reply_words (NothingToMerge layout) = refused (codes "nothing to merge" ∷ at_words layout.at)
+reply_words (Later asked at) = refused (codes "later" ∷ decimal asked ∷ at_words at)
 reply_words (Stale layout gone at) = refused (codes "stale part" ∷ decimal gone ∷ at_words at)
 reply_words NoHeader = refused (codes "csv no-header" ∷ [])
 reply_words (TooManyColumns got) = refused (codes "csv columns" ∷ decimal got ∷ [])
@@ -106,6 +108,7 @@ row_line row = codes "  " ++ spaced (decimal row.overlap ∷ row.table ∷ decim
 abbrev pub more_lines : Reply → List Text
 more_lines (Listed tables at) = map table_line tables
 more_lines (Found query rows reads probes layout) = map row_line rows
+more_lines (Past query rows asked at) = map row_line rows
 more_lines reply = []
 
 abbrev pub work_line : ℕ → ℕ → Text

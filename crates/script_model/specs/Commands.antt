@@ -18,6 +18,7 @@ pub data Task : Type 0 where
   Search : (k : ℕ) (body : List ℕ) → Task
   Like : (k : ℕ) (name : Text) (place : ℕ) → Task
   Contain : (a b : ℕ) (body : List ℕ) → Task
+  AsOf : (asked k : ℕ) (body : List ℕ) → Task
   Merge : (all : Bool) → Task
 
 pub record Command : Type 0 where
@@ -42,6 +43,7 @@ is_update_task Tables = false
 is_update_task (Search k body) = false
 is_update_task (Like k name place) = false
 is_update_task (Contain a b body) = false
+is_update_task (AsOf asked k body) = false
 is_update_task (Merge all) = false
 
 -- how many loads, drops and replaces a batch has
@@ -57,6 +59,7 @@ is_fetch Tables = false
 is_fetch (Search k body) = false
 is_fetch (Like k name place) = false
 is_fetch (Contain a b body) = false
+is_fetch (AsOf asked k body) = false
 is_fetch (Merge all) = false
 
 -- how many files a batch asks for

@@ -6,8 +6,8 @@ use Rattle.script_model.specs.declared.Reason.{Reason}
 use Rattle.script_model.specs.declared.Reason.TheVariants as reason
 use Rattle.lake_model.specs.Texts.{Text}
 use Rattle.lake_model.specs.Tables.{is_name}
-use Rattle.script_model.specs.Commands.{Task, Load, DropTable, Replace, Tables, Search, Like, Contain, Merge}
-use Rattle.script_model.specs.Words.{is_space, before_spaces, first_word, behind_word, words, number, number_of}
+use Rattle.script_model.specs.Commands.{Task, Load, DropTable, Replace, Tables, Search, Like, Contain, AsOf, Merge}
+use Rattle.script_model.specs.Words.{is_space, before_spaces, first_word, behind_word, words, number, number_of, number_or_zero}
 
 -- the front of a command that has a block
 pub data Front : Type 0 where
@@ -15,12 +15,14 @@ pub data Front : Type 0 where
   ReplaceBlock : (name : Text) → Front
   SearchBlock : (k : ℕ) → Front
   ContainBlock : (a b : ℕ) → Front
+  AsOfBlock : (asked k : ℕ) → Front
 
 abbrev pub closed : Front → List ℕ → Task
 closed (LoadBlock name) body = Load name body
 closed (ReplaceBlock name) body = Replace name body
 closed (SearchBlock k) body = Search k body
 closed (ContainBlock a b) body = Contain a b body
+closed (AsOfBlock asked k) body = AsOf asked k body
 
 pub data Said : Type 0 where
   Nothing : Said
@@ -41,12 +43,12 @@ said_if holds said = if holds then said else Wrong reason.Words
 -- ---- the forms of a command
 
 pub data Form : Type 0 where
-  LoadForm LoadFileForm DropForm ReplaceForm TablesForm SearchForm LikeForm ContainForm MergeForm SyncForm : Form
+  LoadForm LoadFileForm DropForm ReplaceForm TablesForm SearchForm LikeForm ContainForm AsOfForm MergeForm SyncForm : Form
 
 -- the command words
 abbrev pub forms : List (Text × Form)
 forms = (codes "load", LoadForm) ∷ (codes "loadfile", LoadFileForm) ∷ (codes "drop", DropForm) ∷ (codes "replace", ReplaceForm)
-    ∷ (codes "tables", TablesForm) ∷ (codes "search", SearchForm) ∷ (codes "like", LikeForm) ∷ (codes "contain", ContainForm) ∷ (codes "merge", MergeForm) ∷ (codes "sync", SyncForm) ∷ []
+    ∷ (codes "tables", TablesForm) ∷ (codes "search", SearchForm) ∷ (codes "like", LikeForm) ∷ (codes "contain", ContainForm) ∷ (codes "asof", AsOfForm) ∷ (codes "merge", MergeForm) ∷ (codes "sync", SyncForm) ∷ []
 
 -- a path is the text behind the name, without the spaces at its end, and is UTF-8
 abbrev pub fetch_said : ℕ → Text → Text → Said
@@ -59,6 +61,10 @@ like_said lane k name place = said_with (number 10000 k) (λ k. said_with (numbe
 abbrev pub contain_said : ℕ → Text → Text → Said
 contain_said lane a b = said_with (number 10000 a) (λ a. said_with (number 10000 b) (λ b. said_if (nat_le a b) (Opens lane (ContainBlock a b))))
 
+-- a position may be 0
+abbrev pub asof_said : ℕ → Text → Text → Said
+asof_said lane asked k = said_with (number_or_zero 4294967295 asked) (λ asked. said_with (number 10000 k) (λ k. Opens lane (AsOfBlock asked k)))
+
 -- a command of this form, where these words stand behind its command word; `text` is what they stand in
 abbrev pub says : Form → ℕ → List Text → Text → Said
 says LoadForm lane (name ∷ []) text = said_if (is_name name) (Opens lane (LoadBlock name))
@@ -69,6 +75,7 @@ says TablesForm lane [] text = Does lane Tables
 says SearchForm lane (k ∷ []) text = said_with (number 10000 k) (λ k. Opens lane (SearchBlock k))
 says LikeForm lane (k ∷ name ∷ place ∷ []) text = like_said lane k name place
 says ContainForm lane (a ∷ b ∷ []) text = contain_said lane a b
+says AsOfForm lane (asked ∷ k ∷ []) text = asof_said lane asked k
 says MergeForm lane [] text = Does lane (Merge false)
 says MergeForm lane (word ∷ []) text = said_if (bytes_eq word (codes "all")) (Does lane (Merge true))
 says SyncForm lane [] text = Sync
