@@ -54,6 +54,9 @@ pub enum Task {
     /// The columns that hold at least `a` of `b` parts of the lines of the body are searched for, all of them; `a` is 1 to `b`, and `b` at
     /// most 10,000.
     Contain { a: u32, b: u32, body: Body },
+    /// The tables that were live after the first `asked` entries of the journal, which may be 0, are searched for the `k` columns with the
+    /// greatest overlap with the lines of the body, `k` from 1 to 10,000.
+    AsOf { asked: u64, k: u32, body: Body },
     /// Parts of the layout are merged: the first four adjacent ones of one tier, or else the first of which half or more of the tables are
     /// dropped; or, where `all` says so, the whole layout.
     Merge { all: bool },
@@ -61,7 +64,7 @@ pub enum Task {
 
 /// A command of a script. A contract sees its number, its lane and its task. Commands are numbered from 1, in the order of the
 /// script, and lanes from 1. The `k` of a search is 1 to 10,000, and so is that of a like, whose place counts from 1; the fraction
-/// of a contain is above 0 and at most 1.
+/// of a contain is above 0 and at most 1. A search of the past asks for at most 4,294,967,295 entries, and its `k` is 1 to 10,000.
 #[derive(Drop)]
 pub struct Command {
     pub number: u64,
@@ -117,6 +120,7 @@ impl Command {
             | Task::Search { .. }
             | Task::Like { .. }
             | Task::Contain { .. }
+            | Task::AsOf { .. }
             | Task::Merge { .. } => false,
         }
     }
