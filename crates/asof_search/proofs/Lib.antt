@@ -2,4 +2,5 @@ mod HistoryLemmas
 mod PutLemmas
 mod BlockLemmas
 mod TimelineLemmas
+mod TakeLemmas
 mod TestLemmas

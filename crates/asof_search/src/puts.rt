@@ -77,7 +77,7 @@ impl Puts {
         let index = self.list.len();
         let before = point_to(self.alloc, &mut self.live, table.table().name(), index)?;
         end_one(&mut self.list, before, position);
-        push_reserved(&mut self.list, Put::new(position, share));
+        self.list.push_reserved(Put::new(position, share));
         Ok(())
     }
 
@@ -114,16 +114,5 @@ fn end_one(puts: &mut Vec<Put>, index: Option<usize>, position: u64)
 {
     if let Some(i) = index {
         puts[i].end_at(position);
-    }
-}
-
-/// Pushes where there is room.
-pub(crate) fn push_reserved<T: Drop>(items: &mut Vec<T>, item: T)
-    requires { vec_len items.old < vec_capacity items.old }
-    ensures { items.new.items ≡ items.old.items ++ item ∷ [] }
-{
-    match items.push(item) {
-        Ok(()) => (),
-        Err(_) => unreachable!(),
     }
 }

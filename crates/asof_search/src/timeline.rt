@@ -1,5 +1,6 @@
 //! The timeline of a lake.
 ghost use Rattle.std.specs.Prelude.{◌≡◌, ◌⊎◌, ◌≤◌, ◌<◌, ◌^◌, ◌∷◌, ◌++◌, [], ℕ, List, length, take, true, IfErr, IfOk, None, OnErr, OnOk, Option, Some};
+ghost use mathlib.Core.List.{IsPrefix};
 ghost use Rattle.lake_model.specs.Answer.{answer};
 ghost use Rattle.lake_model.specs.Journal.{counts, live, loads_of};
 ghost use Rattle.lake_model.specs.Layout.{is_legal};
@@ -9,7 +10,7 @@ ghost use Rattle.asof_search.specs.History.{PastStays};
 ghost use Rattle.asof_search.specs.Refusals.{past_refusal};
 
 use crate::blocks::past_parts;
-use crate::puts::{Puts, push_reserved};
+use crate::puts::Puts;
 use crate::refusal::PastRefused;
 use catalogue::Entry;
 use no_memory::NoMemory;
@@ -80,7 +81,23 @@ impl Timeline {
         let taken = entry.share()?;
         self.journal.reserve(1)?;
         self.puts.take(self.journal.len() as u64 + 1, &entry.what)?;
-        push_reserved(&mut self.journal, taken);
+        self.journal.push_reserved(taken);
+        Ok(())
+    }
+
+    /// Takes the next entries of the journal, one after another, each at the cost of [`Timeline::take`].
+    ///
+    /// It is refused only where memory is wanting. Then the first of them are taken, or none.
+    pub fn take_all(&mut self, entries: &[Entry]) -> Result<(), NoMemory>
+        requires legal { is_legal (self.old ++ entries.now) ≡ true }
+        requires few { length (loads_of (self.old ++ entries.now)) < 2 ^ 32 }
+        requires light { (counts (self.old ++ entries.now)).members < 2 ^ 32 }
+        ensures ok { OnOk result (self.new ≡ self.old ++ entries.now) }
+        ensures begins { IsPrefix self.new (self.old ++ entries.now) }
+    {
+        for entry in entries {
+            self.take(entry)?;
+        }
         Ok(())
     }
 

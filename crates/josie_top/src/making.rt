@@ -14,6 +14,7 @@ ghost use Rattle.josie_top.specs.World.{Moves, World, with_sink};
 
 use crate::batches::status_of_stop;
 use crate::writing::{WriteStop, write_all};
+use asof_search::Timeline;
 use catalogue::{Catalogue, Limits};
 use commands::{Options, Order, Piece};
 use lake_core::drive;
@@ -65,6 +66,7 @@ fn fill_record(
         alloc,
         &mut catalogue,
         Keys::Canonical,
+        &mut Timeline::new(alloc),
         &batch,
         &[],
         1,

@@ -1,5 +1,6 @@
 //! The run of a script whose lanes take turns in a stated order, on one thread.
 ghost use Rattle.std.specs.Prelude.{◌≡◌, ◌≤◌, ◌<◌, ◌+◌, ◌++◌, ◌^◌, ◌⊎◌, ⊤, ℕ, [], false, get_or, List, IfOk, MatchOption, OnErr, OnOk, Some};
+ghost use mathlib.Core.List.{IsPrefix};
 ghost use Rattle.lake_model.specs.Journal.{Entry};
 ghost use Rattle.record_model.specs.Rules.{rules_with, standard_rules, wide_limits};
 ghost use Rattle.catalogue.specs.Kept.{IsWithin};
@@ -17,6 +18,7 @@ ghost use Rattle.josie_top.specs.World.{Moves, world_of};
 
 use crate::batches::{begin_batch, end_batch, merger_from};
 use crate::limits::limits_of;
+use asof_search::Timeline;
 use catalogue::Catalogue;
 use commands::{Batch, Options};
 use lake_core::drive;
@@ -42,11 +44,13 @@ fn piece_of(alloc: Global, options: &Options, number: u64) -> Result<Vec<u32>, N
     Ok(piece.list().to_vec(alloc)?)
 }
 
-/// Answers a batch, whose number counts from 0, in the order that is stated for it. Values are compared by this match.
+/// Answers a batch, whose number counts from 0, in the order that is stated for it. Values are compared by this match. The timeline takes
+/// more of the journal where an earlier position is asked for.
 pub(crate) fn answer_in_order(
     alloc: Global,
     catalogue: &mut Catalogue,
     keys: Keys,
+    past: &mut Timeline,
     batch: &Batch,
     number: u64,
     merger: Option<u64>,
@@ -54,6 +58,7 @@ pub(crate) fn answer_in_order(
 ) -> Result<(), NoMemory>
     requires journal { out.old.made.journal ≡ catalogue.old.journal }
     requires wide { IsWithin wide_limits catalogue.old.limits }
+    requires past { IsPrefix past.old catalogue.old.journal }
     requires order { IsStated out.old.made.options }
     requires lanes { IsOfLanes out.old.made.options.lanes batch.now }
     requires numbers { MatchOption merger ⊤ (λ first. first + updates batch.now < 2 ^ 64) }
@@ -62,11 +67,14 @@ pub(crate) fn answer_in_order(
     ensures more { OnOk result (HasOneMore (rules_with keys catalogue.old.limits) number merger batch.now out.old.made out.new.made) }
     ensures answers { OnOk result (AddsAnswers out.old.made out.new.made) }
     ensures grows { OnOk result ((more : List Entry) × (out.new.made.journal ≡ out.old.made.journal ++ more)) }
+    ensures past { IsPrefix past.new catalogue.new.journal }
     ensures err { OnErr result (out.new.made ≡ out.old.made) }
 {
     let lanes = out.options().lanes;
     let piece = piece_of(alloc, out.options(), number)?;
-    drive(alloc, catalogue, keys, batch, &piece, lanes, merger, out)
+    drive(
+        alloc, catalogue, keys, past, batch, &piece, lanes, merger, out,
+    )
 }
 
 /// Runs the batches of a script, in an empty record with the run's options, until the script ends, is refused or breaks off, or the text
@@ -93,6 +101,7 @@ fn run_batches<S: Source, K: Sink, F: Shelf>(
         let now = world_of (S.left source.new) (S.faults source.new) (K.written sink.new) (K.faults sink.new) (F.files shelf.new) (F.faults shelf.new) in
         Moves ⊥ result before now }
 {
+    let mut past = Timeline::new(alloc);
     let mut next = 1;
     for number in 0..u64::MAX {
         let batch = match begin_batch(alloc, gather, source, sink, shelf, out) {
@@ -101,7 +110,10 @@ fn run_batches<S: Source, K: Sink, F: Shelf>(
         };
         let first = out.answers().len();
         let merger = merger_from(out.options(), next);
-        if answer_in_order(alloc, catalogue, keys, &batch, number, merger, out).is_err() {
+        if answer_in_order(
+            alloc, catalogue, keys, &mut past, &batch, number, merger, out,
+        )
+        .is_err() {
             return Status::NoMemory;
         }
         next += batch.updates();

@@ -26,6 +26,7 @@ use crate::given::take_queries;
 use crate::making::made_options;
 use crate::ordered::answer_in_order;
 use crate::writing::{WriteStop, write_all};
+use asof_search::Timeline;
 use catalogue::{Catalogue, Limits};
 use column_watch::Watches;
 use lake_io::{Failed, Shelf, Sink, Source};
@@ -145,13 +146,17 @@ fn watch_batches<S: Source, K: Sink, F: Shelf>(
         Moves ⊥ result before now }
 {
     let mut nowhere = Nowhere;
+    let mut past = Timeline::new(alloc);
     for number in 0..u64::MAX {
         let batch = match begin_batch(alloc, gather, source, &mut nowhere, shelf, out) {
             Ok(batch) => batch,
             Err(status) => return end_telling(alloc, status, out, sink),
         };
         let keys = Keys::Canonical;
-        if answer_in_order(alloc, catalogue, keys, &batch, number, None, out).is_err() {
+        if answer_in_order(
+            alloc, catalogue, keys, &mut past, &batch, number, None, out,
+        )
+        .is_err() {
             return Status::NoMemory;
         }
         if let Err(stop) = tell_batch(alloc, watches, out, sink) {

@@ -4,6 +4,7 @@ use Rattle.std.specs.List.{flat_map, range_with_len}
 use Rattle.std.proofs.lemmas.Simd.{map-map}
 use Rattle.std.proofs.lemmas.List.{replicate-append-replicate}
 use Rattle.std.proofs.lemmas.Grind.{flat_map-append, replicate_next}
+use mathlib.Core.List.{IsPrefix}
 use Rattle.lake_model.specs.declared.Keys.{Keys}
 use Rattle.lake_model.specs.Journal.{Entry}
 use Rattle.record_model.specs.Rules.{Rules, rules_with, wide_limits}
@@ -68,21 +69,22 @@ new_held journal [] are = are
 new_held journal (lane ∷ lanes) are = (subst (λ (held : Option Held). IsHeld journal lane.todo held) (sym are.0.0) tt, new_held journal lanes are.1)
 
 -- lanes that have not begun
-ready_new : (catalogue : CatalogueOf) (lanes : List LaneOf) (out : RecordOf) (before : RunRecord) (commands : ℕ) → before.journal ≡ catalogue.journal → out.made ≡ before → AreNew lanes
-    → left lanes ≡ commands → commands ≤ out.entries_room → IsWithin wide_limits catalogue.limits → IsReady (state_with catalogue lanes out)
-ready_new catalogue lanes out before commands same made are all room within = record {
+ready_new : (catalogue : CatalogueOf) (past : List Entry) (lanes : List LaneOf) (out : RecordOf) (before : RunRecord) (commands : ℕ) → before.journal ≡ catalogue.journal → out.made ≡ before → AreNew lanes
+    → left lanes ≡ commands → commands ≤ out.entries_room → IsWithin wide_limits catalogue.limits → IsPrefix past catalogue.journal → IsReady (state_with catalogue past lanes out)
+ready_new catalogue past lanes out before commands same made are all room within taken = record {
   journal = ap (λ (m : RunRecord). m.journal) made ∙ same;
   held = new_held catalogue.journal lanes are;
   entries = omega (arith, all, room);
   limits = within;
+  past = taken;
 }
 
 -- lanes to which the work was shared out
-pub ready_shared : (catalogue : CatalogueOf) (lanes all : List LaneOf) (out : RecordOf) (before : RunRecord) (count many : ℕ) (works : Batch) → before.journal ≡ catalogue.journal → out.made ≡ before → lanes ≡ all
-    → AreShared count works all → many ≡ length works → many ≤ out.entries_room → IsWithin wide_limits catalogue.limits → IsReady (state_with catalogue lanes out)
-ready_shared catalogue lanes all out before count many works same made lent shared full room within =
+pub ready_shared : (catalogue : CatalogueOf) (past : List Entry) (lanes all : List LaneOf) (out : RecordOf) (before : RunRecord) (count many : ℕ) (works : Batch) → before.journal ≡ catalogue.journal → out.made ≡ before → lanes ≡ all
+    → AreShared count works all → many ≡ length works → many ≤ out.entries_room → IsWithin wide_limits catalogue.limits → IsPrefix past catalogue.journal → IsReady (state_with catalogue past lanes out)
+ready_shared catalogue past lanes all out before count many works same made lent shared full room within taken =
     let here : AreShared count works lanes = subst (AreShared count works) (sym lent) shared in
-    ready_new catalogue lanes out before many same made here.fresh (here.all ∙ sym full) room within
+    ready_new catalogue past lanes out before many same made here.fresh (here.all ∙ sym full) room within taken
 
 -- ---- the end
 
@@ -90,13 +92,13 @@ abbrev pub synced : RunRecord → RunRecord
 synced made = record made { syncs = made.syncs ++ length made.journal ∷ [] }
 
 -- The record of lanes that were played, gathered and synced.
-pub batch_made : (keys : Keys) (count many : ℕ) (commands : List Command) (piece : List ℕ) (made final : RunRecord) (catalogue mid after : CatalogueOf) (lanes some rest : List LaneOf) (out out' out'' : RecordOf)
-    → Goes keys piece (state_with catalogue lanes out) (state_with mid some out')
-    → Goes keys (turns_each (2 * many) (range_with_len 1 count ++ 0 ∷ [])) (state_with mid some out') (state_with after rest out'')
+pub batch_made : (keys : Keys) (count many : ℕ) (commands : List Command) (piece : List ℕ) (made final : RunRecord) (catalogue mid after : CatalogueOf) (past past' past'' : List Entry) (lanes some rest : List LaneOf) (out out' out'' : RecordOf)
+    → Goes keys piece (state_with catalogue past lanes out) (state_with mid past' some out')
+    → Goes keys (turns_each (2 * many) (range_with_len 1 count ++ 0 ∷ [])) (state_with mid past' some out') (state_with after past'' rest out'')
     → made ≡ with_answers (answers_of (gathered commands (lists_of rest))) out''.made → final ≡ synced made
     → (denials : List Bool) × (final ≡ record_after out.made commands (play (rules_with keys catalogue.limits) (whole_order piece count (2 * many)) denials (play_of catalogue.journal lanes)))
-batch_made keys count many commands piece made final catalogue mid after lanes some rest out out' out'' first second gathers syncs =
-    let goes = goes_on piece (turns_each (2 * many) (range_with_len 1 count ++ 0 ∷ [])) (state_with catalogue lanes out) (state_with mid some out') (state_with after rest out'') first second in
+batch_made keys count many commands piece made final catalogue mid after past past' past'' lanes some rest out out' out'' first second gathers syncs =
+    let goes = goes_on piece (turns_each (2 * many) (range_with_len 1 count ++ 0 ∷ [])) (state_with catalogue past lanes out) (state_with mid past' some out') (state_with after rest out'') first second in
     let lists : map (λ (lane : Lane). lane.done) (map played rest) ≡ lists_of rest = map-map (λ (lane : Lane). lane.done) played rest in (
       goes.leads.0,
       syncs

@@ -6,7 +6,7 @@ use Rattle.record_model.specs.Rules.{Rules}
 use Rattle.lake_model.specs.declared.Policy.{Policy}
 use Rattle.lake_model.specs.declared.Who.{Who}
 use Rattle.lake_model.specs.Journal.{What, Entry}
-use Rattle.script_model.specs.Commands.{Command, Task, Load, LoadFile, DropTable, Replace, Tables, Search, Like, Contain, Merge}
+use Rattle.script_model.specs.Commands.{Command, Task, Load, LoadFile, DropTable, Replace, Tables, Search, Like, Contain, AsOf, Merge}
 use Rattle.record_model.specs.Replies.{Reply, NoMemory}
 use Rattle.record_model.specs.Answered.{answer_to, adds, change_of, has_pin, is_accepted, policy_of, standing}
 use Rattle.record_model.specs.Play.{done_with, lane_with, play_with, reply_or_denied, entries_of, lane_step, step_of, step}
@@ -59,6 +59,7 @@ no_change rules Tables pinned kind plain = absurd (let f : false ≡ true = kind
 no_change rules (Search k body) pinned kind plain = refl
 no_change rules (Like k name place) pinned kind plain = refl
 no_change rules (Contain a b body) pinned kind plain = refl
+no_change rules (AsOf asked k body) pinned kind plain = absurd (let f : false ≡ true = kind in cc)
 no_change rules (Merge all) pinned kind plain = absurd (let f : Some (policy_of all) ≡ None = plain in cc)
 
 none_added : (rules : Rules) (task : Task) (pinned : List Entry) (reply : Reply) → has_pin task ≡ true → merge_policy task ≡ None → adds rules task pinned reply ≡ []
@@ -99,6 +100,7 @@ pinned_alone rules Tables pinned now kind plain = absurd (let f : false ≡ true
 pinned_alone rules (Search k body) pinned now kind plain = refl
 pinned_alone rules (Like k name place) pinned now kind plain = refl
 pinned_alone rules (Contain a b body) pinned now kind plain = refl
+pinned_alone rules (AsOf asked k body) pinned now kind plain = absurd (let f : false ≡ true = kind in cc)
 pinned_alone rules (Merge all) pinned now kind plain = absurd (let f : Some (policy_of all) ≡ None = plain in cc)
 
 held_at_grows : (journal more : List Entry) (policy : Option Policy) (held : Held) → IsHeldAt journal policy held → IsHeldAt (journal ++ more) policy held
@@ -156,6 +158,7 @@ held_swap rules Tables journal planned reply is answers = absurd is
 held_swap rules (Search k body) journal planned reply is answers = absurd is
 held_swap rules (Like k name place) journal planned reply is answers = absurd is
 held_swap rules (Contain a b body) journal planned reply is answers = absurd is
+held_swap rules (AsOf asked k body) journal planned reply is answers = absurd is
 
 -- and what it adds
 pub held_adds : (rules : Rules) (task : Task) (journal made : List Entry) (planned : Planned) (reply : Reply) → IsHeldAt journal (merge_policy task) (Swap planned) → made ≡ journal
@@ -171,6 +174,7 @@ held_adds rules Tables journal made planned reply is same = absurd is
 held_adds rules (Search k body) journal made planned reply is same = absurd is
 held_adds rules (Like k name place) journal made planned reply is same = absurd is
 held_adds rules (Contain a b body) journal made planned reply is same = absurd is
+held_adds rules (AsOf asked k body) journal made planned reply is same = absurd is
 
 -- ---- what a step leaves to do
 

@@ -1,5 +1,6 @@
 pub mod LoadLemmas
 pub mod ReplaceLemmas
+pub mod PastLemmas
 mod SearchLemmas
 pub mod MergeLemmas
 mod WorkLemmas

@@ -5,6 +5,7 @@ use Rattle.std.specs.List.{fold}
 use Rattle.std.proofs.lemmas.List.{map-set, get_or_past}
 use Rattle.std.proofs.lemmas.List.Sums.{fold-append, sum_by-set}
 use Rattle.std.proofs.lemmas.Option.{slice_get-map, slice_get_read}
+use mathlib.Core.List.{IsPrefix}
 use Rattle.lake_model.specs.declared.Counts.{Counts}
 use Rattle.lake_model.specs.declared.Keys.{Keys}
 use Rattle.lake_model.specs.Journal.{Entry}
@@ -116,6 +117,7 @@ goes_none {keys} state ready = record {
   made = λ i. record state.out.made { journal = ready.journal i };
   limits = refl;
   within = ready.limits;
+  past = ready.past;
   answers_room = refl;
   syncs_room = refl;
 }
@@ -129,12 +131,13 @@ goes_on {keys} order later before mid after first second = record {
   made = second.made ∙ ap (λ (m : RunRecord). record m { journal = after.catalogue.journal }) first.made;
   limits = second.limits ∙ first.limits;
   within = second.within;
+  past = second.past;
   answers_room = second.answers_room ∙ first.answers_room;
   syncs_room = second.syncs_room ∙ first.syncs_room;
 }
 
 pub ready_after : {keys : Keys} (order : List ℕ) (before after : StateOf) → Goes keys order before after → IsReady after
-ready_after {keys} order before after goes = record { journal = ap (λ (m : RunRecord). m.journal) goes.made; held = goes.held; entries = goes.entries; limits = goes.within }
+ready_after {keys} order before after goes = record { journal = ap (λ (m : RunRecord). m.journal) goes.made; held = goes.held; entries = goes.entries; limits = goes.within; past = goes.past }
 
 -- a lane that has nothing left stays, however often it has its turn
 pub goes_idle : {keys : Keys} (state : StateOf) (l k : ℕ) → IsReady state → length (get_or state.lanes l (lane_from [] None [])).todo ≡ 0 → Goes keys (replicate k l) state state
@@ -145,6 +148,7 @@ goes_idle {keys} state l k ready none = record {
   made = λ i. record state.out.made { journal = ready.journal i };
   limits = refl;
   within = ready.limits;
+  past = ready.past;
   answers_room = refl;
   syncs_room = refl;
 }
@@ -166,14 +170,14 @@ held_here journal (x ∷ lanes) zero lane are within is = subst (λ (y : LaneOf)
 held_here journal (x ∷ lanes) (suc l) lane are within is = held_here journal lanes l lane are.1 (omega (arith, within)) is
 
 -- what a step of one lane leaves of all
-pub goes_one : {keys : Keys} (catalogue catalogue' : CatalogueOf) (lanes : List LaneOf) (out out' : RecordOf) (l : ℕ) (lane new : LaneOf) (more : List Entry) (denied : Bool)
-    → IsReady (state_with catalogue lanes out) → l < length lanes → lane ≡ get_or lanes l lane
+pub goes_one : {keys : Keys} (catalogue catalogue' : CatalogueOf) (past past' : List Entry) (lanes : List LaneOf) (out out' : RecordOf) (l : ℕ) (lane new : LaneOf) (more : List Entry) (denied : Bool)
+    → IsReady (state_with catalogue past lanes out) → IsPrefix past' catalogue'.journal → l < length lanes → lane ≡ get_or lanes l lane
     → alone catalogue'.journal new ≡ step (rules_with keys catalogue.limits) (alone catalogue.journal lane) (0, denied)
     → IsHeld catalogue'.journal new.todo new.held → catalogue'.journal ≡ catalogue.journal ++ more
     → out'.made ≡ record out.made { journal = catalogue'.journal } → catalogue'.limits ≡ catalogue.limits
     → out.entries_room + length new.todo ≤ out'.entries_room + length lane.todo → out'.answers_room ≡ out.answers_room → out'.syncs_room ≡ out.syncs_room
-    → Goes keys (l ∷ []) (state_with catalogue lanes out) (state_with catalogue' (slice_set lanes l new) out')
-goes_one {keys} catalogue catalogue' lanes out out' l lane new more denied ready within is steps held grows made limits entries answers syncs =
+    → Goes keys (l ∷ []) (state_with catalogue past lanes out) (state_with catalogue' past' (slice_set lanes l new) out')
+goes_one {keys} catalogue catalogue' past past' lanes out out' l lane new more denied ready taken within is steps held grows made limits entries answers syncs =
     let here : left_in (get_or lanes l lane) ≡ left_in lane = ap left_in (sym is) in
     let sum : left (slice_set lanes l new) + left_in (get_or lanes l lane) ≡ left lanes + left_in new = sum_by-set left_in lanes l new lane within in
     record {
@@ -184,6 +188,7 @@ goes_one {keys} catalogue catalogue' lanes out out' l lane new more denied ready
       made = made;
       limits = limits;
       within = subst (λ (l : Counts). IsWithin wide_limits l) (sym limits) ready.limits;
+      past = taken;
       answers_room = answers;
       syncs_room = syncs;
     }

@@ -3,5 +3,6 @@ pub mod Loads
 pub mod Drops
 pub mod Replaces
 pub mod Searches
+pub mod Pasts
 pub mod Lanes
 pub mod Plays

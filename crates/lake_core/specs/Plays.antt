@@ -1,31 +1,35 @@
 -- A play as the code holds it, and where a stated order of turns leads it.
 use Rattle.std.specs.Prelude.{◌≡◌, ◌≤◌, ℕ, Bool, List, length}
+use mathlib.Core.List.{IsPrefix}
 use Rattle.lake_model.specs.declared.Keys.{Keys}
+use Rattle.lake_model.specs.Journal.{Entry}
 use Rattle.catalogue.specs.Kept.{CatalogueOf, IsWithin}
 use Rattle.run_record.specs.Rooms.{RecordOf}
 use Rattle.record_model.specs.Rules.{Rules, rules_with, wide_limits}
 use Rattle.record_model.specs.Play.{Play, play}
 use Rattle.lake_core.specs.Lanes.{LaneOf, AreHeld, left, play_of}
 
--- the lake, the lanes, and the record that is made
+-- the lake, what the timeline took of its journal, the lanes, and the record that is made
 pub record StateOf : Type 0 where
   pub catalogue : CatalogueOf
+  pub past : List Entry
   pub lanes : List LaneOf
   pub out : RecordOf
 
-abbrev pub state_with : CatalogueOf → List LaneOf → RecordOf → StateOf
-state_with catalogue lanes out = record { catalogue = catalogue; lanes = lanes; out = out }
+abbrev pub state_with : CatalogueOf → List Entry → List LaneOf → RecordOf → StateOf
+state_with catalogue past lanes out = record { catalogue = catalogue; past = past; lanes = lanes; out = out }
 
 abbrev pub play_at : StateOf → Play
 play_at state = play_of state.catalogue.journal state.lanes
 
--- The record has the journal of the lake, what is held is of that journal, there is room for an entry of each command left, and the
+-- The record has the journal of the lake, what is held and what the timeline took is of that journal, there is room for an entry of each command left, and the
 -- limits are at most those of a lake as it is shipped.
 pub record IsReady (state : StateOf) : Type 0 where
   pub journal : state.out.made.journal ≡ state.catalogue.journal
   pub held : AreHeld state.catalogue.journal state.lanes
   pub entries : left state.lanes ≤ state.out.entries_room
   pub limits : IsWithin wide_limits state.catalogue.limits
+  pub past : IsPrefix state.past state.catalogue.journal
 
 -- the turns of this order lead from one play to another, with memory wanting at some of them or at none
 abbrev pub Leads : Rules → List ℕ → Play → Play → Type 0
@@ -39,5 +43,6 @@ pub record Goes (keys : Keys) (order : List ℕ) (before after : StateOf) : Type
   pub made : after.out.made ≡ record before.out.made { journal = after.catalogue.journal }
   pub limits : after.catalogue.limits ≡ before.catalogue.limits
   pub within : IsWithin wide_limits after.catalogue.limits
+  pub past : IsPrefix after.past after.catalogue.journal
   pub answers_room : after.out.answers_room ≡ before.out.answers_room
   pub syncs_room : after.out.syncs_room ≡ before.out.syncs_room

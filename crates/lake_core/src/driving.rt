@@ -1,6 +1,7 @@
 //! The commands of a batch on one thread, with the steps of its lanes in a stated order.
 ghost use Rattle.std.specs.Prelude.{◌≡◌, ◌<◌, ◌≤◌, ◌+◌, ◌*◌, ◌++◌, ◌^◌, [], ◌∷◌, ⊤, Bool, List, length, map, replicate, flat_map, drop, get_or, slice_set, take, true, None, OnOk, OnErr, IfOk, MatchOption, option_to_list};
 ghost use Rattle.std.specs.List.{range_with_len};
+ghost use mathlib.Core.List.{IsPrefix};
 ghost use Rattle.script_model.specs.Lanes.{IsOfLanes};
 ghost use Rattle.record_model.specs.Play.{answers_of, batch_after, gathered, merges_of, play, record_after, whole_order};
 ghost use Rattle.script_model.specs.Commands.{updates};
@@ -11,6 +12,7 @@ ghost use Rattle.record_model.specs.Rules.{rules_with, wide_limits};
 ghost use Rattle.catalogue.specs.Kept.{IsWithin};
 
 use crate::lane::Lane;
+use asof_search::Timeline;
 use batch_work::{Work, works_of};
 use catalogue::Catalogue;
 use commands::Batch;
@@ -48,15 +50,16 @@ fn step(
     alloc: Global,
     catalogue: &mut Catalogue,
     keys: Keys,
+    past: &mut Timeline,
     lanes: &mut [Lane<'_>],
     lane: usize,
     out: &mut RunRecord,
 )
-    requires { IsReady (state_with catalogue.old lanes.old out.old) }
-    ensures { Goes keys (lane ∷ []) (state_with catalogue.old lanes.old out.old) (state_with catalogue.new lanes.new out.new) }
+    requires { IsReady (state_with catalogue.old past.old lanes.old out.old) }
+    ensures { Goes keys (lane ∷ []) (state_with catalogue.old past.old lanes.old out.old) (state_with catalogue.new past.new lanes.new out.new) }
 {
     if lane < lanes.len() {
-        lanes[lane].step(alloc, catalogue, keys, out);
+        lanes[lane].step(alloc, catalogue, keys, past, out);
     }
 }
 
@@ -65,15 +68,16 @@ fn play_piece(
     alloc: Global,
     catalogue: &mut Catalogue,
     keys: Keys,
+    past: &mut Timeline,
     lanes: &mut [Lane<'_>],
     piece: &[u32],
     out: &mut RunRecord,
 )
-    requires { IsReady (state_with catalogue.old lanes.old out.old) }
-    ensures { Goes keys piece.now (state_with catalogue.old lanes.old out.old) (state_with catalogue.new lanes.new out.new) }
+    requires { IsReady (state_with catalogue.old past.old lanes.old out.old) }
+    ensures { Goes keys piece.now (state_with catalogue.old past.old lanes.old out.old) (state_with catalogue.new past.new lanes.new out.new) }
 {
     for lane in piece {
-        step(alloc, catalogue, keys, lanes, *lane as usize, out);
+        step(alloc, catalogue, keys, past, lanes, *lane as usize, out);
     }
 }
 
@@ -89,20 +93,21 @@ fn play_lane(
     alloc: Global,
     catalogue: &mut Catalogue,
     keys: Keys,
+    past: &mut Timeline,
     lanes: &mut [Lane<'_>],
     lane: usize,
     works: usize,
     out: &mut RunRecord,
 )
-    requires { IsReady (state_with catalogue.old lanes.old out.old) }
-    ensures { Goes keys (replicate (2 * works) lane) (state_with catalogue.old lanes.old out.old) (state_with catalogue.new lanes.new out.new) }
+    requires { IsReady (state_with catalogue.old past.old lanes.old out.old) }
+    ensures { Goes keys (replicate (2 * works) lane) (state_with catalogue.old past.old lanes.old out.old) (state_with catalogue.new past.new lanes.new out.new) }
 {
     for _taken in 0..works {
         if is_idle(lanes, lane) {
             return;
         }
-        step(alloc, catalogue, keys, lanes, lane, out);
-        step(alloc, catalogue, keys, lanes, lane, out);
+        step(alloc, catalogue, keys, past, lanes, lane, out);
+        step(alloc, catalogue, keys, past, lanes, lane, out);
     }
 }
 
@@ -111,26 +116,28 @@ fn play_rest(
     alloc: Global,
     catalogue: &mut Catalogue,
     keys: Keys,
+    past: &mut Timeline,
     lanes: &mut [Lane<'_>],
     count: u32,
     works: usize,
     out: &mut RunRecord,
 )
-    requires { IsReady (state_with catalogue.old lanes.old out.old) }
-    ensures { Goes keys (flat_map (λ l. replicate (2 * works) l) (range_with_len 1 count ++ 0 ∷ [])) (state_with catalogue.old lanes.old out.old) (state_with catalogue.new lanes.new out.new) }
+    requires { IsReady (state_with catalogue.old past.old lanes.old out.old) }
+    ensures { Goes keys (flat_map (λ l. replicate (2 * works) l) (range_with_len 1 count ++ 0 ∷ [])) (state_with catalogue.old past.old lanes.old out.old) (state_with catalogue.new past.new lanes.new out.new) }
 {
     for before in 0..count {
         play_lane(
             alloc,
             catalogue,
             keys,
+            past,
             lanes,
             before as usize + 1,
             works,
             out,
         );
     }
-    play_lane(alloc, catalogue, keys, lanes, 0, works, out);
+    play_lane(alloc, catalogue, keys, past, lanes, 0, works, out);
 }
 
 // The first answer of those that a lane has done, taken out.
@@ -164,35 +171,40 @@ fn play(
     alloc: Global,
     catalogue: &mut Catalogue,
     keys: Keys,
+    past: &mut Timeline,
     works: &[Work<'_>],
     lanes: &mut [Lane<'_>],
     piece: &[u32],
     count: u32,
     out: &mut RunRecord,
 )
-    requires ready { IsReady (state_with catalogue.old lanes.old out.old) }
+    requires ready { IsReady (state_with catalogue.old past.old lanes.old out.old) }
     requires answers { length works.now ≤ out.old.answers_room }
     requires syncs { 0 < out.old.syncs_room }
     ensures played { (denials : List Bool) × (out.new.made ≡ record_after out.old.made (works_of works.now) (play (rules_with keys catalogue.old.limits) (whole_order piece.now count (2 * length works.now)) denials (play_of catalogue.old.journal lanes.old))) }
     ensures journal { out.new.made.journal ≡ catalogue.new.journal }
     ensures limits { catalogue.new.limits ≡ catalogue.old.limits }
+    ensures past { IsPrefix past.new catalogue.new.journal }
 {
-    play_piece(alloc, catalogue, keys, lanes, piece, out);
-    play_rest(alloc, catalogue, keys, lanes, count, works.len(), out);
+    play_piece(alloc, catalogue, keys, past, lanes, piece, out);
+    play_rest(alloc, catalogue, keys, past, lanes, count, works.len(), out);
     gather(works, lanes, out);
     out.add_sync();
 }
 
 /// Answers the commands of a batch, of which each is of a lane from 1 to `lanes`: the steps of the lanes are taken in the order of the
-/// piece, and what is left behind it lane by lane, the merger last. Values are compared by the match of `keys`. A load, a drop and a list of the tables is one step; a search, a like
-/// and a merge are two, the pin and the answer. `merger` is the merger's first number in this batch, where there is one; it has a merge
-/// for each load and drop. The answers come in the order of the script, and then the merger's.
+/// piece, and what is left behind it lane by lane, the merger last. Values are compared by the match of `keys`. A load, a drop, a replace, a
+/// list of the tables and a search of an earlier position is one step; a search, a like, a contain and a merge are two, the pin and the
+/// answer. `past` has taken the journal up to some position, and takes more of it where an earlier position is asked for. `merger` is the
+/// merger's first number in this batch, where there is one; it has a merge for each load, drop and replace. The answers come in the order of
+/// the script, and then the merger's.
 ///
 /// Want of memory is answered before any step; from then on it is the reply to the command that meets it, which adds no entry.
 pub fn drive(
     alloc: Global,
     catalogue: &mut Catalogue,
     keys: Keys,
+    past: &mut Timeline,
     batch: &Batch,
     piece: &[u32],
     lanes: u32,
@@ -203,16 +215,18 @@ pub fn drive(
     requires lanes { IsOfLanes lanes batch.now }
     // the limits of the lake are at most those of one as it is shipped
     requires limits { IsWithin wide_limits catalogue.old.limits }
+    requires past { IsPrefix past.old catalogue.old.journal }
     // the merger's numbers stay below 2^64
     requires numbers { MatchOption merger ⊤ (λ first. first + updates batch.now < 2 ^ 64) }
     ensures played { OnOk result ((denials : List Bool) × (out.new.made ≡ batch_after (rules_with keys catalogue.old.limits) lanes batch.now (merges_of merger batch.now) piece.now denials out.old.made)) }
     ensures journal { OnOk result (out.new.made.journal ≡ catalogue.new.journal) }
     ensures limits { catalogue.new.limits ≡ catalogue.old.limits }
+    ensures past { IsPrefix past.new catalogue.new.journal }
     ensures err { OnErr result ((out.new.made ≡ out.old.made) × (catalogue.new ≡ catalogue.old)) }
 {
     let works = works_of(alloc, batch, merger)?;
     let mut all = share_out(alloc, &works, lanes)?;
     out.room(works.len(), works.len())?;
-    play(alloc, catalogue, keys, &works, &mut all, piece, lanes, out);
+    play(alloc, catalogue, keys, past, &works, &mut all, piece, lanes, out);
     Ok(())
 }

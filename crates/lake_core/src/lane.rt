@@ -1,5 +1,6 @@
 //! A lane of a batch: the work that it still has to do, what it holds for the first of it, and what it has done.
 ghost use Rattle.std.specs.Prelude.{◌≡◌, ◌==◌, ◌≤◌, ◌<◌, ◌+◌, ◌++◌, ◌∷◌, [], false, true, Bool, List, drop, length, take, MatchOption, None, OnOk, Some, option_to_list, map};
+ghost use mathlib.Core.List.{IsPrefix};
 ghost use Rattle.lake_model.specs.declared.Counts.{Counts};
 ghost use Rattle.lake_model.specs.Journal.{Entry};
 ghost use Rattle.catalogue.specs.Kept.{IsWithin};
@@ -17,8 +18,10 @@ ghost use Rattle.batch_work.specs.Works.{merge_policy, work_of};
 use crate::dropping::drop_table;
 use crate::loading::{load, load_file};
 use crate::merging::{Planned, plan_now, swap};
+use crate::past::search_past_now;
 use crate::replacing::replace;
 use crate::searching::finish;
+use asof_search::Timeline;
 use batch_work::{Done, Work, next_answer};
 use catalogue::Catalogue;
 use commands::Task;
@@ -147,12 +150,16 @@ fn reply_now(
     alloc: Global,
     catalogue: &mut Catalogue,
     keys: Keys,
+    past: &mut Timeline,
     work: &Work<'_>,
     out: &mut RunRecord,
 ) -> Reply
     requires pins { has_pin (work_of work.now).task ≡ false }
+    requires limits { IsWithin wide_limits catalogue.old.limits }
+    requires past { IsPrefix past.old catalogue.old.journal }
     requires journal { out.old.made.journal ≡ catalogue.old.journal }
     requires entries { 0 < out.old.entries_room }
+    ensures past { IsPrefix past.new catalogue.old.journal }
     ensures answered { (denied : Bool) × (reply_of result ≡ reply_or_denied denied (answer_to (rules_with keys catalogue.old.limits) (work_of work.now).task catalogue.old.journal catalogue.old.journal)) }
     ensures adds { Adds (who_of (work_of work.now)) (adds (rules_with keys catalogue.old.limits) (work_of work.now).task out.old.made.journal (reply_of result)) catalogue.old catalogue.new out.old out.new }
 {
@@ -166,6 +173,7 @@ fn reply_now(
         Task::Drop { name } => drop_table(catalogue, who, name, out),
         Task::Replace { name, body } => replace(alloc, catalogue, keys, who, name, body, out),
         Task::Tables => list_now(alloc, catalogue, keys),
+        Task::AsOf { .. } => search_past_now(alloc, catalogue, keys, past, command.task()),
         Task::Search { .. } | Task::Like { .. } | Task::Contain { .. } | Task::Merge { .. } =>
             unreachable!(),
     }
@@ -221,20 +229,24 @@ impl<'a> Lane<'a> {
     }
 
     /// Takes the next step, where there is one: the first of the work still to do is answered; but a search, a like or a merge has a
-    /// step before, in which the version of the lake is held at which it is answered, or the merge is planned.
+    /// step before, in which the version of the lake is held at which it is answered, or the merge is planned. A search of an earlier position
+    /// has one step, before which the timeline takes what it lacks of the journal.
     pub fn step(
         &mut self,
         alloc: Global,
         catalogue: &mut Catalogue,
         keys: Keys,
+        past: &mut Timeline,
         out: &mut RunRecord,
     )
         requires limits { IsWithin wide_limits catalogue.old.limits }
+        requires past { IsPrefix past.old catalogue.old.journal }
         requires journal { out.old.made.journal ≡ catalogue.old.journal }
         requires held { IsHeld catalogue.old.journal self.old.todo self.old.held }
         requires entries { length self.old.todo ≤ out.old.entries_room }
         ensures steps { (denied : Bool) × (alone catalogue.new.journal self.new ≡ step (rules_with keys catalogue.old.limits) (alone catalogue.old.journal self.old) (0, denied)) }
         ensures held { IsHeld catalogue.new.journal self.new.todo self.new.held }
+        ensures past { IsPrefix past.new catalogue.new.journal }
         ensures grows { (more : List Entry) × (catalogue.new.journal ≡ catalogue.old.journal ++ more) }
         ensures made { out.new.made ≡ record out.old.made { journal = catalogue.new.journal } }
         ensures limits { catalogue.new.limits ≡ catalogue.old.limits }
@@ -246,7 +258,7 @@ impl<'a> Lane<'a> {
             return;
         };
         if !work.has_pin() {
-            let reply = reply_now(alloc, catalogue, keys, &work, out);
+            let reply = reply_now(alloc, catalogue, keys, past, &work, out);
             self.answer(reply);
             return;
         }

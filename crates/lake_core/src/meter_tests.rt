@@ -4,6 +4,7 @@ ghost use Rattle.script_model.specs.Lanes.{IsOfLanes};
 
 use super::drive;
 use crate::tests::{body, command, name};
+use asof_search::Timeline;
 use catalogue::{Catalogue, Limits};
 use column_set::Keys;
 use commands::{Batch, Command, Task};
@@ -110,6 +111,7 @@ fn metered(alloc: Global, batch: &Batch) -> Result<(u64, (u64, u64)), Fail>
         alloc,
         &mut catalogue,
         Keys::Canonical,
+        &mut Timeline::new(alloc),
         batch,
         &[],
         1,

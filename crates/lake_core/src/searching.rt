@@ -9,6 +9,7 @@ ghost use Rattle.script_model.specs.Commands.{is_update_task};
 ghost use Rattle.record_model.specs.Play.{reply_or_denied};
 ghost use Rattle.record_model.specs.Rules.{rules_with};
 ghost use Rattle.commands.specs.Tasks.{IsTaskInRange, task_of};
+ghost use Rattle.lake_core.specs.Pasts.{is_past};
 ghost use Rattle.lake_core.specs.Searches.{column_reply, contained_at, found_at, found_with, IsPinOf};
 ghost use Rattle.batch_work.specs.Works.{merge_policy};
 ghost use Rattle.run_record.specs.Replies.{reply_of};
@@ -23,8 +24,8 @@ use run_record::Reply;
 use segment_core::{ColumnRefused, Layout, Pin};
 use std::alloc::Global;
 
-// The reply to a body that is no query.
-fn reply_to_query(refused: QueryRefused) -> Reply
+/// The reply to a body that is no query.
+pub(crate) fn reply_to_query(refused: QueryRefused) -> Reply
     ensures { reply_of result ≡ query_reply refused }
 {
     match refused {
@@ -167,6 +168,7 @@ fn list(alloc: Global, pin: &Pin) -> Reply
 pub fn finish(alloc: Global, keys: Keys, pin: Pin, task: &Task) -> Reply
     requires asks { is_update_task (task_of task.now) ≡ false }
     requires merges { merge_policy (task_of task.now) ≡ None }
+    requires present { is_past (task_of task.now) ≡ false }
     requires in_range { IsTaskInRange task.now }
     ensures { (limits : Counts) (journal : List Entry) → IsPinOf journal pin → (denied : Bool) × (reply_of result ≡ reply_or_denied denied (answer_to (rules_with keys limits) (task_of task.now) journal journal)) }
 {
@@ -179,6 +181,7 @@ pub fn finish(alloc: Global, keys: Keys, pin: Pin, task: &Task) -> Reply
         | Task::LoadFile { .. }
         | Task::Drop { .. }
         | Task::Replace { .. }
+        | Task::AsOf { .. }
         | Task::Merge { .. } => unreachable!(),
     }
 }

@@ -1,9 +1,10 @@
 //! Lanes whose steps are taken in several orders, and merges among them.
-ghost use Rattle.std.specs.Prelude.{◌≡◌, ◌≤◌, IfOk};
+ghost use Rattle.std.specs.Prelude.{◌≡◌, ◌≤◌, ◌<◌, ◌^◌, IfOk};
 ghost use Rattle.script_model.specs.Lanes.{IsOfLanes};
 ghost use Rattle.commands.specs.Tasks.{IsTaskInRange};
 
 use super::drive;
+use asof_search::Timeline;
 use catalogue::{Catalogue, Limits};
 use column_set::{Keys, Name};
 use commands::{Batch, Body, Command, Task};
@@ -17,13 +18,15 @@ enum Kind {
     Loaded(u64),
     Dropped(u64),
     Found(usize, u64),
+    Past(usize, u64),
+    Later(u64),
     Merged(u64, u64),
     Nothing(u64),
     Stale(u64, u64),
     Other,
 }
 
-use Kind::{Dropped, Found, Loaded, Merged, Nothing, Stale};
+use Kind::{Dropped, Found, Later, Loaded, Merged, Nothing, Past, Stale};
 
 // The kind of a reply.
 fn kind_of(reply: &Reply) -> Kind {
@@ -31,6 +34,8 @@ fn kind_of(reply: &Reply) -> Kind {
         Reply::Loaded { at, .. } => Loaded(*at),
         Reply::Dropped { at, .. } => Dropped(*at),
         Reply::Found { rows, layout, .. } => Found(rows.list().len(), layout.at()),
+        Reply::Past { rows, at, .. } => Past(rows.list().len(), *at),
+        Reply::Later { at, .. } => Later(*at),
         Reply::Merged { layout, at, .. } => Merged(layout.at(), *at),
         Reply::NothingToMerge { layout } => Nothing(layout.at()),
         Reply::Stale { layout, at, .. } => Stale(layout.at(), *at),
@@ -87,6 +92,32 @@ fn drop_table(number: u64, lane: u32, table: &str) -> Result<Command, Fail>
 {
     let task = Task::Drop { name: name(table)? };
     Ok(command(number, lane, task))
+}
+
+// A search for that key among the tables that were live after so many entries, on lane 2.
+fn search_past(alloc: Global, number: u64, asked: u64) -> Result<Command, Fail>
+    requires { asked < 2 ^ 32 }
+    ensures { IfOk result (λ command. command.lane ≡ 2) }
+{
+    let task = Task::AsOf {
+        asked,
+        k: 9,
+        body: body(alloc, "x\n")?,
+    };
+    Ok(command(number, 2, task))
+}
+
+// Lane 1 loads a table and drops it; lane 2 searches what was live after its load, and after its drop.
+fn searches_of_the_past(alloc: Global) -> Result<Batch, Fail>
+    ensures { IfOk result (λ batch. IsOfLanes 2 batch) }
+{
+    let commands = [
+        load(alloc, 1, "a1")?,
+        drop_table(2, 1, "a1")?,
+        search_past(alloc, 3, 1)?,
+        search_past(alloc, 4, 2)?,
+    ];
+    Ok(Batch::new(Vec::from_array(alloc, commands)?))
 }
 
 // Lane 1 loads two tables and searches them; lane 2 drops the second and searches too.
@@ -152,6 +183,7 @@ fn answers(
         alloc,
         &mut catalogue,
         Keys::Canonical,
+        &mut Timeline::new(alloc),
         batch,
         piece,
         2,
@@ -176,6 +208,24 @@ fn orders(rt: HostRuntime) -> Result<(), Fail> {
     ] {
         assert_eq!(rt;
             answers(alloc, &batch, piece, false, 3)?.as_slice(),
+            want.as_slice()
+        );
+    }
+    Ok(())
+}
+
+// A search of the past has one step. It stands at the position of that step, and finds what was live at the one that it asks for.
+#[test]
+fn past(rt: HostRuntime) -> Result<(), Fail> {
+    let alloc = rt.alloc();
+    let batch = searches_of_the_past(alloc)?;
+    for (piece, want) in [
+        ([].as_slice(), [Past(1, 2), Past(0, 2)]),
+        ([1, 2, 2, 1].as_slice(), [Past(1, 1), Later(1)]),
+        ([2, 1, 1, 2].as_slice(), [Later(0), Past(0, 2)]),
+    ] {
+        assert_eq!(rt;
+            answers(alloc, &batch, piece, false, 2)?.as_slice(),
             want.as_slice()
         );
     }

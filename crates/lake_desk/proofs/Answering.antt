@@ -12,7 +12,7 @@ use Rattle.turn_lock.specs.History.{Grows}
 use Rattle.turn_lock.specs.Passes.{Known, after_seeing, callers_of}
 use Rattle.turn_lock.proofs.Histories.{grows_self, grows_trans}
 use Rattle.lake.specs.Lawful.{caller_of}
-use Rattle.script_model.specs.Commands.{Command, Task, command_with, Load, LoadFile, DropTable, Replace, Tables, Search, Like, Contain, Merge, File, is_update_task}
+use Rattle.script_model.specs.Commands.{Command, Task, command_with, Load, LoadFile, DropTable, Replace, Tables, Search, Like, Contain, AsOf, Merge, File, is_update_task}
 use Rattle.record_model.specs.Replies.{Reply, NoMemory, load_reply, replace_reply, NothingToMerge, merge_reply}
 use Rattle.record_model.specs.Answered.{TableRead, IsTable, answer_to, adds, is_accepted, standing, load_answer, replace_answer, loads, replaces, table_read, file_read, change_of, policy_of, swaps}
 use Rattle.record_model.specs.Play.{done_with, entries_of, reply_or_denied, who_of}
@@ -161,6 +161,7 @@ asks_nothing rules Tables u m pinned = refl
 asks_nothing rules (Search k body) u m pinned = refl
 asks_nothing rules (Like k name place) u m pinned = refl
 asks_nothing rules (Contain a b body) u m pinned = refl
+asks_nothing rules (AsOf asked k body) u m pinned = refl
 asks_nothing rules (Merge all) u m pinned = absurd (let f : Some (policy_of all) ≡ None = m in cc)
 
 pub asked : (rules : Rules) (number : ℕ) (task : Task) (before : Known Entry) (reply : Reply) (after : List Entry) → is_update_task task ≡ false → merge_policy task ≡ None

@@ -10,10 +10,8 @@ use Rattle.turn_lock.specs.Passes.{Known, after_seeing, callers_of}
 use Rattle.turn_lock.proofs.Histories.{grows_self, grows_trans}
 use Rattle.lake.specs.Lawful.{caller_of}
 use Rattle.atomic_table.specs.Seated.{TableId}
+use Rattle.lake_core.proofs.PastLemmas.{prefix_on}
 use Rattle.lake_desk.specs.Gathered.{AllBegin, AreFree, AreOfOneLock, IsGathered}
-
-pub prefix_on : (xs ys zs : List Entry) → IsPrefix xs ys → IsPrefix ys zs → IsPrefix xs zs
-prefix_on xs ys zs p q = (p.0 ++ q.0, sym (append_assoc xs p.0 q.0) ∙ ap (λ (j : List Entry). j ++ q.0) p.1 ∙ q.1)
 
 pub begin_on : (whole more : List Entry) (lanes : List (Known Entry)) → IsPrefix whole more → AllBegin whole lanes → AllBegin more lanes
 begin_on whole more [] p h = tt

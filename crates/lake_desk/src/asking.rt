@@ -1,20 +1,25 @@
 //! Loads and replaces by what was read, and what is asked of the lake at a pin.
-ghost use Rattle.std.specs.Prelude.{◌≡◌, false, None};
+ghost use Rattle.std.specs.Prelude.{◌≡◌, false, true, None};
+ghost use mathlib.Core.List.{IsPrefix};
 ghost use Rattle.turn_lock.specs.Passes.{after_seeing};
 ghost use Rattle.script_model.specs.Commands.{is_update_task, command_with, Load, LoadFile, DropTable, Replace};
 ghost use Rattle.lake_model.specs.declared.Keys.{Keys};
-ghost use Rattle.record_model.specs.Rules.{rules_with};
+ghost use Rattle.record_model.specs.Rules.{rules_with, wide_limits};
+ghost use Rattle.catalogue.specs.Kept.{IsWithin};
 ghost use Rattle.run_record.specs.Replies.{reply_of};
 ghost use Rattle.commands.specs.Tasks.{file_of, task_of, IsTaskInRange};
 ghost use Rattle.batch_work.specs.Works.{merge_policy};
+ghost use Rattle.lake_core.specs.Pasts.{is_past};
 ghost use Rattle.lake_desk.specs.Answering.{IsAnswered};
 
 use crate::changing::{drop_table, load, replace};
+use asof_search::Timeline;
 use column_set::{Keys, Name};
 use commands::{Body, FileBody, Task};
 use lake::{Bounds, Lake, Pass};
-use lake_core::{Loadable, finish, make_table, make_table_of_file};
+use lake_core::{Loadable, finish, finish_past, make_table, make_table_of_file};
 use lake_io::{Gate, Point};
+use no_memory::NoMemory;
 use run_record::Reply;
 use std::alloc::Global;
 use std::sync::Wait;
@@ -116,6 +121,7 @@ pub(crate) fn ask<B: Bounds, R: Wait, G: Gate>(
     requires free { pass.old.holds ≡ false }
     requires asks { is_update_task (task_of task.now) ≡ false }
     requires merges { merge_policy (task_of task.now) ≡ None }
+    requires present { is_past (task_of task.now) ≡ false }
     requires in_range { IsTaskInRange task.now }
     ensures pass { pass.new ≡ after_seeing pass.old pass.new.seen false }
     ensures answered { IsAnswered (rules_with keys B.limits) (command_with number pass.old.caller (task_of task.now)) pass.old (reply_of result) pass.new.seen }
@@ -126,4 +132,38 @@ pub(crate) fn ask<B: Bounds, R: Wait, G: Gate>(
     };
     gate.at(pass.caller(), number, Point::Pinned);
     finish(alloc, keys, pin, task)
+}
+
+/// Answers a search of an earlier position at the newest one. The timeline takes what it has not taken of the journal, and out of memory
+/// the first of that. The lock is free once the entries are read.
+pub(crate) fn ask_past<B: Bounds, R: Wait, G: Gate>(
+    rt: &R,
+    alloc: Global,
+    keys: Keys,
+    lake: &Lake<B>,
+    pass: &mut Pass<B>,
+    past: &mut Timeline,
+    number: u64,
+    task: &Task,
+    gate: &G,
+) -> Reply
+    requires lock { pass.old.lock ≡ lake.now }
+    requires free { pass.old.holds ≡ false }
+    requires wide { IsWithin wide_limits B.limits }
+    requires begins { IsPrefix past.old pass.old.seen }
+    requires past { is_past (task_of task.now) ≡ true }
+    requires in_range { IsTaskInRange task.now }
+    ensures pass { pass.new ≡ after_seeing pass.old pass.new.seen false }
+    ensures begins { IsPrefix past.new pass.new.seen }
+    ensures answered { IsAnswered (rules_with keys B.limits) (command_with number pass.old.caller (task_of task.now)) pass.old (reply_of result) pass.new.seen }
+{
+    let read = lake.journal(rt, alloc, pass, past.taken());
+    let Ok(entries) = read else {
+        return Reply::NoMemory;
+    };
+    gate.at(pass.caller(), number, Point::Pinned);
+    match past.take_all(&entries) {
+        Ok(()) => finish_past(alloc, keys, past, task),
+        Err(NoMemory) => Reply::NoMemory,
+    }
 }

@@ -10,9 +10,11 @@ ghost use Rattle.script_model.specs.Commands.{command_with};
 ghost use Rattle.run_record.specs.Replies.{reply_of};
 ghost use Rattle.commands.specs.Tasks.{task_of, IsTaskInRange};
 ghost use Rattle.lake_desk.specs.Answering.{IsAnswered, IsStep};
+ghost use Rattle.lake_desk.specs.Pasts.{Begins};
 
-use crate::asking::{ask, drop_named, load_block, load_file, replace_by_block};
+use crate::asking::{ask, ask_past, drop_named, load_block, load_file, replace_by_block};
 use crate::merging::merge_parts;
+use asof_search::Timeline;
 use catalogue::Entry;
 use column_set::Keys;
 use commands::Task;
@@ -28,16 +30,21 @@ use std::thread::Threads;
 
 /// A desk at which one caller of a lake answers commands, and compares values by the match that holds for the whole lake. Contracts see it
 /// as the caller's pass, which holds no turn.
+///
+/// Its timeline takes what the caller has seen of the lake's journal, but only where an earlier position is asked for; before that it has
+/// no memory.
 #[derive(Drop)]
 pub struct LakeDesk<'a, B: Bounds> {
     alloc: Global,
     keys: Keys,
     lake: &'a Lake<B>,
     pass: Pass<B>,
+    past: Timeline,
 }
 
 impl<'a, B: Bounds> Model for LakeDesk<'a, B> {
     ghost use Rattle.std.specs.Prelude.{◌≡◌, false};
+    ghost use mathlib.Core.List.{IsPrefix};
     ghost use Rattle.turn_lock.specs.Passes.{Known};
     ghost use Rattle.lake_model.specs.Journal.{Entry};
     ghost use Rattle.record_model.specs.Rules.{wide_limits};
@@ -47,16 +54,24 @@ impl<'a, B: Bounds> Model for LakeDesk<'a, B> {
 
     ghost view = { λ d. d.pass };
 
-    ghost invariant = { λ d. (d.pass.lock ≡ d.lake.now) × (d.pass.holds ≡ false) × (d.keys ≡ B.keys) × IsWithin wide_limits B.limits };
+    ghost invariant = { λ d. (d.pass.lock ≡ d.lake.now) × (d.pass.holds ≡ false) × (d.keys ≡ B.keys) × IsWithin wide_limits B.limits × IsPrefix d.past d.pass.seen };
 }
 
 impl<'a, B: Bounds> LakeDesk<'a, B> {
-    /// The desk of this pass of the lake, whose values are compared by this match.
-    pub fn new(alloc: Global, keys: Keys, lake: &'a Lake<B>, pass: Pass<B>) -> LakeDesk<'a, B>
+    /// The desk of this pass of the lake, whose values are compared by this match, with a timeline that has taken a beginning of what the pass
+    /// has seen, or with a new one. It takes no memory.
+    pub fn new(
+        alloc: Global,
+        keys: Keys,
+        lake: &'a Lake<B>,
+        pass: Pass<B>,
+        past: Option<Timeline>,
+    ) -> LakeDesk<'a, B>
         requires keys { keys ≡ B.keys }
         requires lock { pass.lock ≡ lake.now }
         requires free { pass.holds ≡ false }
         requires wide { IsWithin wide_limits B.limits }
+        requires past { Begins past pass.seen }
         ensures { result ≡ pass }
     {
         LakeDesk {
@@ -64,14 +79,16 @@ impl<'a, B: Bounds> LakeDesk<'a, B> {
             keys,
             lake,
             pass,
+            past: past.unwrap_or(Timeline::new(alloc)),
         }
     }
 
-    /// The pass of the desk, with all that it has seen.
-    pub fn into_pass(self) -> Pass<B>
-        ensures { result ≡ self.entry }
+    /// The pass of the desk, with all that it has seen, and its timeline, which has taken a beginning of that.
+    pub fn into_pass(self) -> (Pass<B>, Option<Timeline>)
+        ensures pass { result.0 ≡ self.entry }
+        ensures past { Begins result.1 self.entry.seen }
     {
-        self.pass
+        (self.pass, Some(self.past))
     }
 
     /// A note of what the desk has seen.
@@ -161,6 +178,17 @@ impl<'a, B: Bounds> LakeDesk<'a, B> {
                 keys,
                 lake,
                 &mut self.pass,
+                number,
+                task,
+                gate,
+            ),
+            Task::AsOf { .. } => ask_past(
+                rt,
+                alloc,
+                keys,
+                lake,
+                &mut self.pass,
+                &mut self.past,
                 number,
                 task,
                 gate,

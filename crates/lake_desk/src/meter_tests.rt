@@ -103,7 +103,7 @@ fn metered<R: Threads + Wait + Sync>(
     commands: &[Command],
 ) -> Result<(u64, (u64, u64)), Fail> {
     let (lake, opening) = Lake::<Standard>::new(alloc, Limits::standard(), 1)?;
-    let mut desk = LakeDesk::new(alloc, Keys::Canonical, &lake, opening);
+    let mut desk = LakeDesk::new(alloc, Keys::Canonical, &lake, opening, None);
     let mut told = (0, 0);
     for command in commands {
         let by = By::Command {
@@ -113,7 +113,7 @@ fn metered<R: Threads + Wait + Sync>(
         let reply = desk.answer(rt, by, command.task(), &NoGate);
         told = told_by(&reply, told);
     }
-    let mut pass = desk.into_pass();
+    let (mut pass, _past) = desk.into_pass();
     Ok((meters(rt, &lake, &mut pass)?, told))
 }
 

@@ -52,7 +52,7 @@ fn lane_desks<'a, B: Bounds>(
     let mut desks = Vec::with_capacity(alloc, lanes as usize)?;
     for _lane in 0..lanes {
         let pass = lake.new_pass(opening);
-        desks.push(LakeDesk::new(alloc, keys, lake, pass))?;
+        desks.push(LakeDesk::new(alloc, keys, lake, pass, None))?;
     }
     Ok(desks)
 }
@@ -73,7 +73,7 @@ pub fn open_desks<'a, B: Bounds>(
     let mut opening = opening;
     let mut lane_desks = lane_desks(alloc, keys, lake, &mut opening, lanes)?;
     let mut desks = Vec::with_capacity(alloc, lane_desks.len() + 1)?;
-    desks.push(LakeDesk::new(alloc, keys, lake, opening))?;
+    desks.push(LakeDesk::new(alloc, keys, lake, opening, None))?;
     desks.append(&mut lane_desks)?;
     Ok(desks)
 }

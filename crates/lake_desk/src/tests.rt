@@ -49,8 +49,8 @@ fn load(alloc: Global, number: u64, lane: u32, table: &str) -> Result<Command, F
     Ok(command(number, lane, task))
 }
 
-// Lane 1 loads two tables, asks for the live ones and for columns like one of them, drops a table that there is not, loads a file that there is
-// not, and merges.
+// Lane 1 loads two tables, asks for the live ones, for columns like one of them and for what was live after the first load, drops a table that
+// there is not, loads a file that there is not, and merges.
 fn one_of_each(alloc: Global) -> Result<Batch, Fail>
     ensures { IfOk result (λ batch. IsOfLanes 2 batch) }
 {
@@ -58,6 +58,11 @@ fn one_of_each(alloc: Global) -> Result<Batch, Fail>
         k: 1,
         name: name("a")?,
         place: 1,
+    };
+    let past = Task::AsOf {
+        asked: 1,
+        k: 2,
+        body: body(alloc, "x\n")?,
     };
     let missing = Task::LoadFile {
         name: name("d")?,
@@ -68,9 +73,10 @@ fn one_of_each(alloc: Global) -> Result<Batch, Fail>
         load(alloc, 2, 1, "b")?,
         command(3, 1, Task::Tables),
         command(4, 1, like),
-        command(5, 1, Task::Drop { name: name("c")? }),
-        command(6, 1, missing),
-        command(7, 1, Task::Merge { all: true }),
+        command(5, 1, past),
+        command(6, 1, Task::Drop { name: name("c")? }),
+        command(7, 1, missing),
+        command(8, 1, Task::Merge { all: true }),
     ];
     Ok(Batch::new(Vec::from_array(alloc, commands)?))
 }
@@ -127,6 +133,7 @@ fn position(reply: &Reply) -> Option<u64> {
         | Reply::Repeated { at, .. }
         | Reply::Unknown { at, .. }
         | Reply::Listed { at, .. }
+        | Reply::Past { at, .. }
         | Reply::Merged { at, .. } => Some(*at),
         _ => None,
     }
@@ -149,19 +156,19 @@ fn one_lane_answers_in_its_order(rt: HostRuntime) -> Result<(), Fail> {
     assert_eq!(rt; record.syncs(), [3, 3].as_slice());
     assert_eq!(rt; record.journal().len(), 3);
     let positions = positions(rt.alloc(), &record)?;
-    if positions.len() != 22 {
+    if positions.len() != 24 {
         return Err("not so many answers".into());
     }
     let two = Some(2);
     let three = Some(3);
     assert_eq!(rt;
-        &positions[..7],
-        [Some(1), two, two, two, two, None, three].as_slice()
+        &positions[..8],
+        [Some(1), two, two, two, two, two, None, three].as_slice()
     );
     assert_eq!(rt;
-        &positions[11..18],
-        [three, three, three, three, three, None, three].as_slice()
+        &positions[12..20],
+        [three, three, three, three, three, three, None, three].as_slice()
     );
-    assert_eq!(rt; &positions[18..], [three, three, three, three].as_slice());
+    assert_eq!(rt; &positions[20..], [three, three, three, three].as_slice());
     Ok(())
 }

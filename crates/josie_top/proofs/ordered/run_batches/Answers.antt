@@ -5,6 +5,7 @@ use Rattle.record_model.specs.Rules.{rules_with}
 use Rattle.record_model.specs.Record.{Answered, RunRecord}
 use Rattle.script_model.specs.Options.{Options}
 use Rattle.lake_model.specs.declared.Counts.{Counts}
+use Rattle.lake_core.proofs.PastLemmas.{none_taken}
 use Rattle.josie_top.specs.Progress.{HasOneMore, IsUnderWay}
 use Rattle.josie_top.specs.World.{World, with_sink, world_of}
 use Rattle.josie_top.proofs.RunFacts.{starts, ends_between, is_answered, stands_still, moves_since, memory_moves, moved_on}
@@ -17,20 +18,21 @@ loop-number-init g c = (
   search rules,
   search rules,
   search rules,
+  none_taken c.new-past.result c.args.catalogue.now.journal c.new-past.ensures,
 )
 
 pub begin_batch-requires : goal.begin_batch-requires
-begin_batch-requires g c = let (way, on, journal, limits) = c.loop-number.invariant in on
+begin_batch-requires g c = let (way, on, journal, limits, past) = c.loop-number.invariant in on
 
 pub returns-in-Err-clause-table : goal.returns-in-Err-clause-table
-returns-in-Err-clause-table g c = let (way, on, journal, limits) = c.loop-number.invariant in c.in-Err.ensures.ends _ _ _ _ _ way
+returns-in-Err-clause-table g c = let (way, on, journal, limits, past) = c.loop-number.invariant in c.in-Err.ensures.ends _ _ _ _ _ way
 
 pub returns-in-Err-clause-moves : goal.returns-in-Err-clause-moves
-returns-in-Err-clause-moves g c = let (way, on, journal, limits) = c.loop-number.invariant in moves_since c.in-Err.status way.moved c.in-Err.ensures.moves
+returns-in-Err-clause-moves g c = let (way, on, journal, limits, past) = c.loop-number.invariant in moves_since c.in-Err.status way.moved c.in-Err.ensures.moves
 
 pub returns-then-is_err-clause-table : goal.returns-then-is_err-clause-table
 returns-then-is_err-clause-table g c =
-    let (way, on, journal, limits) = c.loop-number.invariant in
+    let (way, on, journal, limits, past) = c.loop-number.invariant in
     let begun = c.in-Ok.ensures.begun in
     let failed : is_err c.answer_in_order.result ≡ true = search rules in
     let same : c.answer_in_order.new.out.made ≡ c.begin_batch.new.out.made = on_err c.answer_in_order.result _ failed c.answer_in_order.ensures.err in
@@ -38,11 +40,11 @@ returns-then-is_err-clause-table g c =
     ends_between (rules_with c.args.keys c.args.catalogue.now.limits) c.args.out.now.made.options _ _ _ c.loop-number.gather c.answer_in_order.new.out.made begun.taken.given still begun.taken.gave begun.moved.fetches begun.unwritten
 
 pub returns-then-is_err-clause-moves : goal.returns-then-is_err-clause-moves
-returns-then-is_err-clause-moves g c = let (way, on, journal, limits) = c.loop-number.invariant in memory_moves (moved_on way.moved c.in-Ok.ensures.begun.moved)
+returns-then-is_err-clause-moves g c = let (way, on, journal, limits, past) = c.loop-number.invariant in memory_moves (moved_on way.moved c.in-Ok.ensures.begun.moved)
 
 pub returns-in-Some-clause-table : goal.returns-in-Some-clause-table
 returns-in-Some-clause-table g c =
-    let (way, on, journal, limits) = c.loop-number.invariant in
+    let (way, on, journal, limits, past) = c.loop-number.invariant in
     let fine : is_err c.answer_in_order.result ≡ false = search rules in
     let still = stands_still (rules_with c.args.keys c.args.catalogue.now.limits) c.args.out.now.made.options _ _ c.loop-number.gather c.loop-number.out.made c.begin_batch.new.out.made c.in-Ok.ensures.stands way in
     let answered = is_answered (rules_with c.args.keys c.args.catalogue.now.limits) c.args.out.now.made.options _ _ _ c.loop-number.gather c.begin_batch.new.gather c.begin_batch.new.out.made c.answer_in_order.new.out.made (length c.answers-first.result.now) c.in-Ok.batch
@@ -53,13 +55,13 @@ returns-in-Some-clause-table g c =
 
 pub returns-in-Some-clause-moves : goal.returns-in-Some-clause-moves
 returns-in-Some-clause-moves g c =
-    let (way, on, journal, limits) = c.loop-number.invariant in
+    let (way, on, journal, limits, past) = c.loop-number.invariant in
     let outside : World = world_of (g.S.Source.left c.begin_batch.new.source) (g.S.Source.faults c.begin_batch.new.source) (g.K.Sink.written c.begin_batch.new.sink) (g.K.Sink.faults c.begin_batch.new.sink) (g.F.Shelf.files c.begin_batch.new.shelf) (g.F.Shelf.faults c.begin_batch.new.shelf) in
     moves_since c.in-Some.status (moved_on way.moved c.in-Ok.ensures.begun.moved) (c.in-Some.ensures.moves outside)
 
 pub loop-number-preserved : goal.loop-number-preserved
 loop-number-preserved g c =
-    let (way, on, journal, limits) = c.loop-number.invariant in
+    let (way, on, journal, limits, past) = c.loop-number.invariant in
     let fine : is_err c.answer_in_order.result ≡ false = search rules in
     let still = stands_still (rules_with c.args.keys c.args.catalogue.now.limits) c.args.out.now.made.options _ _ c.loop-number.gather c.loop-number.out.made c.begin_batch.new.out.made c.in-Ok.ensures.stands way in
     let answered = is_answered (rules_with c.args.keys c.args.catalogue.now.limits) c.args.out.now.made.options _ _ _ c.loop-number.gather c.begin_batch.new.gather c.begin_batch.new.out.made c.answer_in_order.new.out.made (length c.answers-first.result.now) c.in-Ok.batch
@@ -73,12 +75,13 @@ loop-number-preserved g c =
       went.1,
       ap (λ (m : RunRecord). m.journal) went.0 ∙ on_ok c.answer_in_order.result _ fine c.answer_in_order.ensures.journal,
       c.answer_in_order.ensures.limits ∙ limits,
+      c.answer_in_order.ensures.past,
     )
 
 pub returns-clause-table : goal.returns-clause-table
 returns-clause-table g c =
-    let (way, on, journal, limits) = c.loop-number.invariant in
+    let (way, on, journal, limits, past) = c.loop-number.invariant in
     ends_between (rules_with c.args.keys c.args.catalogue.now.limits) c.args.out.now.made.options _ _ _ c.loop-number.gather c.loop-number.out.made [] way (Consumes-nil _) (omega arith) refl
 
 pub returns-clause-moves : goal.returns-clause-moves
-returns-clause-moves g c = let (way, on, journal, limits) = c.loop-number.invariant in memory_moves way.moved
+returns-clause-moves g c = let (way, on, journal, limits, past) = c.loop-number.invariant in memory_moves way.moved

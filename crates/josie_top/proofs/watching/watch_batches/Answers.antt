@@ -17,6 +17,7 @@ use Rattle.record_model.specs.Watched.{watch_text_behind}
 use Rattle.column_watch.specs.Watching.{WatchesOf, watches_with}
 use Rattle.josie_top.specs.Given.{all_watched}
 use Rattle.josie_top.specs.Progress.{HasOneMore}
+use Rattle.lake_core.proofs.PastLemmas.{none_taken}
 use Rattle.josie_top.specs.Watching.{IsWatched, unwritten}
 use Rattle.josie_top.specs.World.{World, world_of}
 use Rattle.josie_top.proofs.RunFacts.{answered_ends, answered_goes, answered_stops, done_moves, ends_between, is_answered, moves_since, moved_on, stands_still, starts}
@@ -37,25 +38,26 @@ loop-number-init g c =
       search rules,
       search rules,
       search rules,
+      none_taken c.new-past.result c.args.catalogue.now.journal c.new-past.ensures,
     )
 
 pub returns-in-Err-clause-watched : goal.returns-in-Err-clause-watched
 returns-in-Err-clause-watched g c = λ k queries same.
-    let (on, unended, journal, limits) = c.loop-number.invariant in
+    let (on, unended, journal, limits, past) = c.loop-number.invariant in
     let outside : World = world_of (g.S.Source.left c.begin_batch.new.source) (g.S.Source.faults c.begin_batch.new.source) (g.K.Sink.written c.loop-number.sink) (g.K.Sink.faults c.loop-number.sink) (g.F.Shelf.files c.begin_batch.new.shelf) (g.F.Shelf.faults c.begin_batch.new.shelf) in
     c.end_telling.ensures.watched k queries _ outside (c.in-Err.ensures.ends _ _ _ _ _ on.way) c.in-Err.ensures.moves.usage
     (told_for k queries _ _ _ c.loop-number.out.made c.begin_batch.new.out.made refl c.begin_batch.ensures.journal (on.told k queries same))
 
 pub returns-in-Err-clause-moves : goal.returns-in-Err-clause-moves
 returns-in-Err-clause-moves g c =
-    let (on, unended, journal, limits) = c.loop-number.invariant in
+    let (on, unended, journal, limits, past) = c.loop-number.invariant in
     let first : World = world_of (g.S.Source.left c.args.source.now) (g.S.Source.faults c.args.source.now) (g.K.Sink.written c.args.sink.now) (g.K.Sink.faults c.args.sink.now) (g.F.Shelf.files c.args.shelf.now) (g.F.Shelf.faults c.args.shelf.now) in
     let outside : World = world_of (g.S.Source.left c.begin_batch.new.source) (g.S.Source.faults c.begin_batch.new.source) (g.K.Sink.written c.loop-number.sink) (g.K.Sink.faults c.loop-number.sink) (g.F.Shelf.files c.begin_batch.new.shelf) (g.F.Shelf.faults c.begin_batch.new.shelf) in
     c.end_telling.ensures.moves first outside (written_moves {before = first} {now = outside} c.in-Err.status on.writes (moves_since c.in-Err.status on.way.moved c.in-Err.ensures.moves))
 
 pub returns-then-is_err-clause-watched : goal.returns-then-is_err-clause-watched
 returns-then-is_err-clause-watched g c = λ k queries same.
-    let (on, unended, journal, limits) = c.loop-number.invariant in
+    let (on, unended, journal, limits, past) = c.loop-number.invariant in
     let begun = c.in-Ok.ensures.begun in
     let failed : is_err c.answer_in_order.result ≡ true = search rules in
     let stands : c.answer_in_order.new.out.made ≡ c.loop-number.out.made = on_err c.answer_in_order.result _ failed c.answer_in_order.ensures.err ∙ c.in-Ok.ensures.stands in
@@ -66,7 +68,7 @@ returns-then-is_err-clause-watched g c = λ k queries same.
 
 pub returns-in-Err-tell_batch-clause-watched : goal.returns-in-Err-tell_batch-clause-watched
 returns-in-Err-tell_batch-clause-watched g c = λ k queries same.
-    let (on, unended, journal, limits) = c.loop-number.invariant in
+    let (on, unended, journal, limits, past) = c.loop-number.invariant in
     let fine : is_err c.answer_in_order.result ≡ false = search rules in
     let still = stands_still (standard_rules Canonical) made_options _ _ c.loop-number.gather c.loop-number.out.made c.begin_batch.new.out.made c.in-Ok.ensures.stands on.way in
     let more = subst (λ (l : Counts). HasOneMore (rules_with Canonical l) c.loop-number.number None c.in-Ok.batch c.begin_batch.new.out.made c.answer_in_order.new.out.made) limits (on_ok c.answer_in_order.result _ fine c.answer_in_order.ensures.more) in
@@ -86,7 +88,7 @@ returns-in-Err-tell_batch-clause-watched g c = λ k queries same.
 
 pub returns-then-ended-clause-watched : goal.returns-then-ended-clause-watched
 returns-then-ended-clause-watched g c = λ k queries same.
-    let (on, unended, journal, limits) = c.loop-number.invariant in
+    let (on, unended, journal, limits, past) = c.loop-number.invariant in
     let fine : is_err c.answer_in_order.result ≡ false = search rules in
     let still = stands_still (standard_rules Canonical) made_options _ _ c.loop-number.gather c.loop-number.out.made c.begin_batch.new.out.made c.in-Ok.ensures.stands on.way in
     let more = subst (λ (l : Counts). HasOneMore (rules_with Canonical l) c.loop-number.number None c.in-Ok.batch c.begin_batch.new.out.made c.answer_in_order.new.out.made) limits (on_ok c.answer_in_order.result _ fine c.answer_in_order.ensures.more) in
@@ -108,14 +110,14 @@ returns-then-ended-clause-watched g c = λ k queries same.
 
 pub returns-then-ended-clause-moves : goal.returns-then-ended-clause-moves
 returns-then-ended-clause-moves g c =
-    let (on, unended, journal, limits) = c.loop-number.invariant in
+    let (on, unended, journal, limits, past) = c.loop-number.invariant in
     let first : World = world_of (g.S.Source.left c.args.source.now) (g.S.Source.faults c.args.source.now) (g.K.Sink.written c.args.sink.now) (g.K.Sink.faults c.args.sink.now) (g.F.Shelf.files c.args.shelf.now) (g.F.Shelf.faults c.args.shelf.now) in
     let now : World = world_of (g.S.Source.left c.begin_batch.new.source) (g.S.Source.faults c.begin_batch.new.source) (g.K.Sink.written c.tell_batch.new.sink) (g.K.Sink.faults c.tell_batch.new.sink) (g.F.Shelf.files c.begin_batch.new.shelf) (g.F.Shelf.faults c.begin_batch.new.shelf) in
     c.end_telling-then-ended.ensures.moves first now (written_moves {before = first} {now = now} status.Done (omega (arith, on.writes, c.tell_batch.ensures.later)) (done_moves (moved_on on.way.moved c.in-Ok.ensures.begun.moved)))
 
 pub loop-number-preserved : goal.loop-number-preserved
 loop-number-preserved g c =
-    let (on, unended, journal, limits) = c.loop-number.invariant in
+    let (on, unended, journal, limits, past) = c.loop-number.invariant in
     let fine : is_err c.answer_in_order.result ≡ false = search rules in
     let still = stands_still (standard_rules Canonical) made_options _ _ c.loop-number.gather c.loop-number.out.made c.begin_batch.new.out.made c.in-Ok.ensures.stands on.way in
     let more = subst (λ (l : Counts). HasOneMore (rules_with Canonical l) c.loop-number.number None c.in-Ok.batch c.begin_batch.new.out.made c.answer_in_order.new.out.made) limits (on_ok c.answer_in_order.result _ fine c.answer_in_order.ensures.more) in
@@ -142,10 +144,11 @@ loop-number-preserved g c =
       goes,
       on_ok c.answer_in_order.result _ fine c.answer_in_order.ensures.journal,
       c.answer_in_order.ensures.limits ∙ limits,
+      c.answer_in_order.ensures.past,
     )
 
 pub returns-clause-watched : goal.returns-clause-watched
 returns-clause-watched g c = λ k queries same.
-    let (on, unended, journal, limits) = c.loop-number.invariant in
+    let (on, unended, journal, limits, past) = c.loop-number.invariant in
     watched_memory k queries _ _ c.loop-number.out.made
     (ends_between (standard_rules Canonical) made_options _ _ _ c.loop-number.gather c.loop-number.out.made [] on.way (Consumes-nil _) (omega arith) refl) (on.told k queries same)

@@ -14,8 +14,8 @@ share_out-requires c = within_lanes c.args.lanes c.args.merger c.args.batch.now 
 
 pub play-requires-clause-ready : goal.play-requires-clause-ready
 play-requires-clause-ready c =
-    ready_shared c.args.catalogue.now c.deref_mut.result.now c.in_ok-all.all.items c.room.new.self c.args.out.now.made c.args.lanes (length c.deref.result.now) (works_of c.deref.result.now) c.requires.journal c.in_ok-room.ensures.made c.deref_mut.ensures.value
-    c.in_ok-all.ensures (sym (works_long c.deref.result.now)) (omega (arith, c.in_ok-room.ensures.room.1, c.len-2.ensures, ap (λ works. length works) c.deref.ensures.value)) c.requires.limits
+    ready_shared c.args.catalogue.now c.args.past.now c.deref_mut.result.now c.in_ok-all.all.items c.room.new.self c.args.out.now.made c.args.lanes (length c.deref.result.now) (works_of c.deref.result.now) c.requires.journal c.in_ok-room.ensures.made c.deref_mut.ensures.value
+    c.in_ok-all.ensures (sym (works_long c.deref.result.now)) (omega (arith, c.in_ok-room.ensures.room.1, c.len-2.ensures, ap (λ works. length works) c.deref.ensures.value)) c.requires.limits c.requires.past
 
 pub returns-clause-played : goal.returns-clause-played
 returns-clause-played c =

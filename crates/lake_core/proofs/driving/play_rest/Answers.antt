@@ -6,7 +6,7 @@ use Rattle.lake_core.proofs.TurnLemmas.{goes_none, goes_by}
 use Rattle.lake_core.proofs.driving.play_rest.Goals as goal
 
 pub loop-before-init : goal.loop-before-init
-loop-before-init c = goes_none (state_with c.args.catalogue.now c.args.lanes.now c.args.out.now) c.requires
+loop-before-init c = goes_none (state_with c.args.catalogue.now c.args.past.now c.args.lanes.now c.args.out.now) c.requires
 
 pub loop-before-preserved : goal.loop-before-preserved
 loop-before-preserved c = goes_by _ _ _ _ _ _ (sym (lane_more (2 * c.args.works) c.loop-before.before)) c.loop-before.invariant c.play_lane.ensures

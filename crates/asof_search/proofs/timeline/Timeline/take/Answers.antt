@@ -9,5 +9,5 @@ invariant_of-self-2 c =
     let journal = c.self.inside.journal.items in
     let many : c.len.result ≡ length c.self.inside.journal.items = omega (arith, ap length c.in_ok-reserve.ensures.items) in
     let put : c.take.new.self ≡ puts_after (c.len.result + 1) c.self.inside.puts c.args.entry.now.what = c.in_ok-take.ensures.ok ∙ ap (λ (e : Entry). puts_after (c.len.result + 1) c.self.inside.puts e.what) c.entry.view_is in
-    let more : c.push_reserved.new.items.items ≡ c.self.inside.journal.items ++ c.args.entry.now ∷ [] = c.push_reserved.ensures ∙ (λ i. c.in_ok-reserve.ensures.items i ++ c.in_ok-taken.ensures i ∷ []) in
-    taken_timeline journal c.args.self.now c.push_reserved.new.items.items c.args.entry.now c.self.inside.puts c.take.new.self (map (λ b. b.value) c.self.inside.blocks.items) c.len.result c.self.invariant c.self.view_is c.requires.legal c.requires.few c.requires.light many put more
+    let more : c.push_reserved.new.self.items ≡ c.self.inside.journal.items ++ c.args.entry.now ∷ [] = c.push_reserved.ensures.items ∙ (λ i. c.in_ok-reserve.ensures.items i ++ c.in_ok-taken.ensures i ∷ []) in
+    taken_timeline journal c.args.self.now c.push_reserved.new.self.items c.args.entry.now c.self.inside.puts c.take.new.self (map (λ b. b.value) c.self.inside.blocks.items) c.len.result c.self.invariant c.self.view_is c.requires.legal c.requires.few c.requires.light many put more
