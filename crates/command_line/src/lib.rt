@@ -5,5 +5,5 @@
 mod numbers;
 mod words;
 
-pub use numbers::{read_any_number, read_number};
+pub use numbers::{read_any_number, read_number, read_number_or_zero};
 pub use words::{Mode, WordsRefused, read_words};

@@ -1,7 +1,7 @@
 //! Numbers, as they are written on a command line and in a script.
 ghost use Rattle.std.specs.Prelude.{◌≡◌, ◌≤◌, IfSome, min, option_map};
 ghost use Rattle.std.specs.List.{list_all};
-ghost use Rattle.script_model.specs.Words.{digits_value, is_digit, is_number, number, number_of};
+ghost use Rattle.script_model.specs.Words.{digits_value, is_digit, is_number, number, number_of, number_or_zero};
 
 /// More than every number that a command line or a script may hold.
 const TOO_GREAT: u64 = 4294967296;
@@ -19,6 +19,16 @@ pub fn read_number(text: &[u8], most: u32) -> Option<u32>
         return None;
     }
     Some(value as u32)
+}
+
+/// The number, of at most `most`, in decimal digits of which the first is not 0, or the one digit 0.
+pub fn read_number_or_zero(text: &[u8], most: u32) -> Option<u32>
+    ensures { result ≡ number_or_zero most text.now }
+{
+    if matches!(text, [b'0']) {
+        return Some(0);
+    }
+    read_number(text, most)
 }
 
 /// The number in decimal digits of which the first is not 0, and 4,294,967,296 where it is more.

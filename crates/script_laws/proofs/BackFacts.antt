@@ -8,10 +8,10 @@ use Rattle.std.proofs.lemmas.List.Sums.{sum_by-cons}
 use Rattle.lake_model.specs.Texts.{Text, lines_of}
 use Rattle.script_model.specs.declared.Reason.TheVariants as reason
 use Rattle.script_model.specs.declared.ScriptLimits.{ScriptLimits}
-use Rattle.script_model.specs.Commands.{Batch, Command, File, Task, Load, LoadFile, DropTable, Replace, Tables, Search, Like, Contain, Merge, command_with}
+use Rattle.script_model.specs.Commands.{Batch, Command, File, Task, Load, LoadFile, DropTable, Replace, Tables, Search, Like, Contain, AsOf, Merge, command_with}
 use Rattle.script_model.specs.Lanes.{IsOfLanes}
 use Rattle.script_model.specs.Reading.{Fails, Goes, Grammar, LinesRead, Open, Reading, Stands, Turn, block_ended, body_fault, does, fetched, file_size, is_end, opened, read, read_with, turn_of, turned, unless_fault, with_command}
-use Rattle.script_model.specs.Saying.{ContainBlock, Does, Front, LoadBlock, Opens, ReplaceBlock, Said, SearchBlock, closed, said}
+use Rattle.script_model.specs.Saying.{AsOfBlock, ContainBlock, Does, Front, LoadBlock, Opens, ReplaceBlock, Said, SearchBlock, closed, said}
 use Rattle.script_model.specs.Script.{Commands, Whole, commands, commands_from, commands_with, grammar_of, start, unless_begun_fault}
 use Rattle.script_model.specs.Words.{line_text, NoFeed, without_return}
 use Rattle.script_model.proofs.LinesLemmas.{commands_lines, lines_use}
@@ -178,6 +178,7 @@ module _ (limits : ScriptLimits) (lanes : ℕ) where
     command_back Tables l u n commands bytes asked later is fits room few = alone Tables l u n commands bytes asked later is fits room refl
     command_back (Search k body) l u n commands bytes asked later is fits room few = with_block (Search k body) (SearchBlock k) body l u n commands bytes asked later is fits room is.1 few refl refl
     command_back (Contain a b body) l u n commands bytes asked later is fits room few = with_block (Contain a b body) (ContainBlock a b) body l u n commands bytes asked later is fits room is.3 few refl refl
+    command_back (AsOf position k body) l u n commands bytes asked later is fits room few = with_block (AsOf position k body) (AsOfBlock position k) body l u n commands bytes asked later is fits room is.2 few refl refl
     command_back (Like k name place) l u n commands bytes asked later is fits room few = alone (Like k name place) l u n commands bytes asked later is fits room refl
     command_back (Merge all) l u n commands bytes asked later is fits room few = alone (Merge all) l u n commands bytes asked later is fits room refl
 

@@ -1,13 +1,14 @@
 -- Numbers in decimal, as they read back.
-use Rattle.std.proofs.Common.{◌≡◌, refl, ap, sym, ◌∙◌, subst, ℕ, suc, ◌+◌, ◌-◌, ◌*◌, ◌/◌, ◌%◌, ◌^◌, ◌<◌, ◌≤◌, List, [], ◌∷◌, ◌++◌, Bool, true, false, decimal, length, get_or, arith}
-use Rattle.std.specs.Prelude.{◌==◌, ◌&&◌, if◌then◌else◌, nat_le, not, None, Some}
+use Rattle.std.proofs.Common.{◌≡◌, refl, ap, sym, ◌∙◌, subst, ℕ, zero, suc, ◌+◌, ◌-◌, ◌*◌, ◌/◌, ◌%◌, ◌^◌, ◌<◌, ◌≤◌, List, [], ◌∷◌, ◌++◌, Bool, true, false, decimal, length, get_or, arith}
+use Rattle.std.specs.Prelude.{◌==◌, ◌&&◌, bytes_eq, if◌then◌else◌, nat_le, not, None, Some}
 use Rattle.std.specs.List.{AllByRecursion, list_all}
-use Rattle.std.proofs.lemmas.Bool.{le-leb}
+use Rattle.std.proofs.lemmas.Bool.{false_from_ne_true, le-leb}
 use Rattle.std.proofs.lemmas.Bool.Decides.{nat_tests}
-use Rattle.std.proofs.lemmas.Fmt.{decimal_by_steps, decimal_nonempty, first_decimal}
+use Rattle.std.proofs.lemmas.Fmt.{decimal_by_steps, decimal_digit, decimal_nonempty, first_decimal}
 use Rattle.std.proofs.lemmas.List.Sums.{fold-append}
+use Rattle.std.proofs.lemmas.Slice.Eq.{bytes_eq-Decides}
 use Rattle.lake_model.specs.Texts.{Text}
-use Rattle.script_model.specs.Words.{digits_value, is_digit, is_number, is_space, number, number_of}
+use Rattle.script_model.specs.Words.{digits_value, is_digit, is_number, is_space, number, number_of, number_or_zero}
 use Rattle.script_laws.proofs.WordFacts.{IsWord}
 
 -- a byte of a decimal number
@@ -76,6 +77,14 @@ number_within most n some low small =
     ap (λ (b : Bool). if b && nat_le (digits_value (decimal n)) most then Some (digits_value (decimal n)) else None) (is_number_of n some small)
     ∙ ap (λ (m : ℕ). if nat_le m most then Some m else None) (reads n small).value
     ∙ ap (λ (b : Bool). if b then Some n else None) (le-leb n most low)
+
+-- A number that may be 0 does too.
+pub number_or_zero_within : (most n : ℕ) → n ≤ most → n < 2 ^ 64 → number_or_zero most (decimal n) ≡ Some n
+number_or_zero_within most zero low small = ap (number_or_zero most) (decimal_digit 0 (omega arith))
+number_or_zero_within most (suc n) low small =
+    let other : bytes_eq (decimal (suc n)) (48 ∷ []) ≡ false =
+    false_from_ne_true (bytes_eq (decimal (suc n)) (48 ∷ [])) (λ same. omega (arith, first_decimal (suc n) (omega arith) small, ap (λ (t : Text). get_or t 0 0) ((bytes_eq-Decides (decimal (suc n)) (48 ∷ [])).0 same))) in
+    ap (λ (b : Bool). if b then Some 0 else number most (decimal (suc n))) other ∙ number_within most (suc n) (omega arith) low small
 
 -- Its digits are a word, and stand in a line.
 pub number_word : (n : ℕ) → n < 2 ^ 64 → IsWord (decimal n)

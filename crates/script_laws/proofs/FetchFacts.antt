@@ -8,7 +8,7 @@ use Rattle.script_model.specs.declared.Reason.TheVariants as reason
 use Rattle.script_model.specs.declared.ScriptLimits.{ScriptLimits}
 use Rattle.script_model.specs.Commands.{Batch, Command, File, LoadFile, Task, command_with, fetches, is_fetch}
 use Rattle.script_model.specs.Reading.{AtFault, Fails, Gives, Goes, Grammar, LinesRead, Open, Reached, Reading, Stands, Turn, block_ended, body_after, body_fault, counted, does, fetched, file_size, is_end, line_fault, line_in, next_file, opened, read, read_more, read_with, turn_of, turned, unless_fault, with_body, with_command}
-use Rattle.script_model.specs.Saying.{ContainBlock, Does, Fetches, Front, LoadBlock, ReplaceBlock, SearchBlock, Nothing, Opens, Said, Sync, Wrong, closed, said}
+use Rattle.script_model.specs.Saying.{AsOfBlock, ContainBlock, Does, Fetches, Front, LoadBlock, ReplaceBlock, SearchBlock, Nothing, Opens, Said, Sync, Wrong, closed, said}
 use Rattle.script_model.specs.Script.{Commands, FaultAt, at_end, begun_fault, commands, commands_with, end_turned, ended, grammar_of, last_batch, last_turn, start, unless_begun_fault, within}
 use Rattle.script_model.specs.Words.{number, without_return}
 use Rattle.script_text.specs.Gathering.{ReadsOn, reading_at}
@@ -82,6 +82,7 @@ module _ (grammar : Grammar) (n : ℕ) where
   closed_is (ReplaceBlock name) body = refl
   closed_is (SearchBlock k) body = refl
   closed_is (ContainBlock a b) body = refl
+  closed_is (AsOfBlock asked k) body = refl
 
   block_asked : (block : Open) (reading : Reading) → n + fetches reading.commands ≤ length reading.asked → IsAsked n (Goes (block_ended block reading))
   block_asked block reading h = pushed n reading (reading.numbered + 1) block.lane (closed block.front block.body) reading.asked h (closed_is block.front block.body)

@@ -8,7 +8,7 @@ use Rattle.std.proofs.lemmas.Slice.Eq.{bytes_eq-Decides}
 use Rattle.std.proofs.lemmas.List.{get_or-append-add, length-take-le}
 use Rattle.lake_model.specs.Tables.{is_name}
 use Rattle.lake_model.specs.Texts.{Text, Lines, lines_of, lines_with, onto_first}
-use Rattle.script_model.specs.Commands.{Task, Load, LoadFile, DropTable, Replace, Tables, Search, Like, Contain, Merge}
+use Rattle.script_model.specs.Commands.{Task, Load, LoadFile, DropTable, Replace, Tables, Search, Like, Contain, AsOf, Merge}
 use Rattle.script_model.specs.declared.ScriptLimits.{ScriptLimits}
 use Rattle.script_model.specs.Reading.{is_end, undotted}
 use Rattle.script_model.specs.Words.{line_text, NoFeed, without_return}
@@ -150,6 +150,8 @@ task_ends limits path (Like k name place) is =
     word_ends (codes "like") (with_word (decimal k) (with_word name (decimal place))) (word_ends (decimal k) (with_word name (decimal place)) (word_ends name (decimal place) (number_ends place (omega (arith, is.2.1)))))
 task_ends limits path (Contain a b body) is =
     word_ends (codes "contain") (with_word (decimal a) (decimal b)) (word_ends (decimal a) (decimal b) (number_ends b (omega (arith, is.2))))
+task_ends limits path (AsOf asked k body) is =
+    word_ends (codes "asof") (with_word (decimal asked) (decimal k)) (word_ends (decimal asked) (decimal k) (number_ends k (omega (arith, is.1.1))))
 task_ends limits path (Merge false) is = (omega arith, refl)
 task_ends limits path (Merge true) is = (omega arith, refl)
 
@@ -169,6 +171,9 @@ task_no_feed limits path (Like k name place) is =
 task_no_feed limits path (Contain a b body) is =
     word_no_feed (codes "contain") (with_word (decimal a) (decimal b)) (refl, (refl, (refl, (refl, (refl, (refl, (refl, tt)))))))
     (word_no_feed (decimal a) (decimal b) (number_no_feed a (omega (arith, is.1, is.2))) (number_no_feed b (omega (arith, is.2))))
+task_no_feed limits path (AsOf asked k body) is =
+    word_no_feed (codes "asof") (with_word (decimal asked) (decimal k)) (refl, (refl, (refl, (refl, tt))))
+    (word_no_feed (decimal asked) (decimal k) (number_no_feed asked (omega (arith, is.0))) (number_no_feed k (omega (arith, is.1.1))))
 task_no_feed limits path (Merge false) is = (refl, (refl, (refl, (refl, (refl, tt)))))
 task_no_feed limits path (Merge true) is = word_no_feed (codes "merge") (codes "all") (refl, (refl, (refl, (refl, (refl, tt))))) (refl, (refl, (refl, tt)))
 
@@ -194,4 +199,5 @@ body_no_feed Tables = tt
 body_no_feed (Search k body) = block_no_feed body
 body_no_feed (Like k name place) = tt
 body_no_feed (Contain a b body) = block_no_feed body
+body_no_feed (AsOf asked k body) = block_no_feed body
 body_no_feed (Merge all) = tt

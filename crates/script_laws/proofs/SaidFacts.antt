@@ -6,9 +6,9 @@ use Rattle.lake_model.specs.Tables.{is_name}
 use Rattle.lake_model.specs.Texts.{Text}
 use Rattle.script_model.specs.declared.Reason.{Reason}
 use Rattle.script_model.specs.Commands.{Task, DropTable, Tables, Like, Merge, is_fetch}
-use Rattle.script_model.specs.Saying.{Does, Fetches, Form, Front, Nothing, Opens, Said, Sync, Wrong, LoadForm, LoadFileForm, DropForm, ReplaceForm, TablesForm, SearchForm, LikeForm, ContainForm, MergeForm, SyncForm, ContainBlock, LoadBlock, ReplaceBlock, SearchBlock, command_said, lane_said, of_form, said, said_if, said_with, says}
+use Rattle.script_model.specs.Saying.{Does, Fetches, Form, Front, Nothing, Opens, Said, Sync, Wrong, LoadForm, LoadFileForm, DropForm, ReplaceForm, TablesForm, SearchForm, LikeForm, ContainForm, AsOfForm, MergeForm, SyncForm, AsOfBlock, ContainBlock, LoadBlock, ReplaceBlock, SearchBlock, command_said, lane_said, of_form, said, said_if, said_with, says}
 use Rattle.script_model.specs.declared.Reason.TheVariants as reason
-use Rattle.script_model.specs.Words.{behind_word, digits_value, first_word, is_number, number, number_of}
+use Rattle.script_model.specs.Words.{behind_word, digits_value, first_word, is_number, number, number_of, number_or_zero}
 use Rattle.script_model.proofs.NumberLemmas.{positive}
 
 -- What holds of all that a line may say whose lane is such a one: a whole command that it says is no fetch of a file.
@@ -75,6 +75,12 @@ module _ (P : Said → Type 0) (L : ℕ → Type 0) (holds : HoldsOf P L) where
       by_number (number 10000 a) (λ n. said_with (number 10000 b) (λ m. said_if (nat_le n m) (Opens lane (ContainBlock n m))))
       (λ n. by_number (number 10000 b) (λ m. said_if (nat_le n m) (Opens lane (ContainBlock n m))) (λ m. by_if (nat_le n m) (Opens lane (ContainBlock n m)) (holds.opens lane (ContainBlock n m) l)))
   by_form ContainForm lane (a ∷ b ∷ word ∷ more) text l = holds.wrong reason.Words
+  by_form AsOfForm lane [] text l = holds.wrong reason.Words
+  by_form AsOfForm lane (asked ∷ []) text l = holds.wrong reason.Words
+  by_form AsOfForm lane (asked ∷ k ∷ []) text l =
+      by_number (number_or_zero 4294967295 asked) (λ n. said_with (number 10000 k) (λ m. Opens lane (AsOfBlock n m)))
+      (λ n. by_number (number 10000 k) (λ m. Opens lane (AsOfBlock n m)) (λ m. holds.opens lane (AsOfBlock n m) l))
+  by_form AsOfForm lane (asked ∷ k ∷ word ∷ more) text l = holds.wrong reason.Words
   by_form MergeForm lane [] text l = holds.does lane (Merge false) l refl
   by_form MergeForm lane (word ∷ []) text l = by_if _ _ (holds.does lane (Merge true) l refl)
   by_form MergeForm lane (word ∷ other ∷ more) text l = holds.wrong reason.Words

@@ -9,11 +9,11 @@ use Rattle.lake_model.specs.Tables.{is_name}
 use Rattle.lake_model.specs.Texts.{Text}
 use Rattle.script_model.specs.declared.Reason.TheVariants as reason
 use Rattle.script_model.specs.declared.ScriptLimits.{ScriptLimits}
-use Rattle.script_model.specs.Commands.{Task, Load, LoadFile, DropTable, Replace, Tables, Search, Like, Contain, Merge}
-use Rattle.script_model.specs.Saying.{ContainBlock, Does, Fetches, Form, LoadBlock, Opens, ReplaceBlock, Said, SearchBlock, Wrong, LoadForm, LoadFileForm, DropForm, ReplaceForm, TablesForm, SearchForm, LikeForm, ContainForm, MergeForm, command_said, fetch_said, forms, lane_said, of_form, said, said_if, said_with, says}
+use Rattle.script_model.specs.Commands.{Task, Load, LoadFile, DropTable, Replace, Tables, Search, Like, Contain, AsOf, Merge}
+use Rattle.script_model.specs.Saying.{AsOfBlock, ContainBlock, Does, Fetches, Form, LoadBlock, Opens, ReplaceBlock, Said, SearchBlock, Wrong, LoadForm, LoadFileForm, DropForm, ReplaceForm, TablesForm, SearchForm, LikeForm, ContainForm, AsOfForm, MergeForm, command_said, fetch_said, forms, lane_said, of_form, said, said_if, said_with, says}
 use Rattle.script_model.specs.Words.{before_spaces, behind_word, first_word, is_space, number, number_of, words}
 use Rattle.script_laws.specs.Printed.{IsPath, IsTask, with_word, task_text}
-use Rattle.script_laws.proofs.DigitFacts.{last_of, number_back, number_within, number_word}
+use Rattle.script_laws.proofs.DigitFacts.{last_of, number_back, number_or_zero_within, number_within, number_word}
 use Rattle.script_laws.proofs.WordFacts.{BeginsWell, IsWord, behind_alone, behind_of, first_alone, first_of, has_word, word_begins, word_begins_alone, words_alone, words_of}
 
 -- what a command of this task says
@@ -22,6 +22,7 @@ task_said lane path (Load name body) = Opens lane (LoadBlock name)
 task_said lane path (Replace name body) = Opens lane (ReplaceBlock name)
 task_said lane path (Search k body) = Opens lane (SearchBlock k)
 task_said lane path (Contain a b body) = Opens lane (ContainBlock a b)
+task_said lane path (AsOf asked k body) = Opens lane (AsOfBlock asked k)
 task_said lane path (LoadFile name file) = Fetches lane name path
 task_said lane path (DropTable name) = Does lane (DropTable name)
 task_said lane path Tables = Does lane Tables
@@ -117,6 +118,9 @@ like_word = (omega arith, (refl, (refl, (refl, (refl, tt)))))
 contain_word : IsWord (codes "contain")
 contain_word = (omega arith, (refl, (refl, (refl, (refl, (refl, (refl, (refl, tt))))))))
 
+asof_word : IsWord (codes "asof")
+asof_word = (omega arith, (refl, (refl, (refl, (refl, tt)))))
+
 merge_word : IsWord (codes "merge")
 merge_word = (omega arith, (refl, (refl, (refl, (refl, (refl, tt))))))
 
@@ -195,6 +199,20 @@ says_contain lane a b some whole low =
     ∙ ap (λ (n : Option ℕ). said_with n (λ b. said_if (nat_le a b) (Opens lane (ContainBlock a b)))) (number_within 10000 b (omega (arith, some, whole)) low few)
     ∙ ap (λ (t : Bool). said_if t (Opens lane (ContainBlock a b))) (le-leb a b whole)
 
+says_asof : (lane asked k : ℕ) → asked ≤ 4294967295 → 1 ≤ k → k ≤ 10000 → command_said lane (with_word (codes "asof") (with_word (decimal asked) (decimal k))) ≡ Opens lane (AsOfBlock asked k)
+says_asof lane asked k far some low =
+    let small : asked < 2 ^ 64 = omega (arith, far) in
+    let few : k < 2 ^ 64 = omega (arith, low) in
+    let is_asked = number_word asked small in
+    let is_k = number_word k few in
+    by_word lane (with_word (codes "asof") (with_word (decimal asked) (decimal k))) (codes "asof") (first_of (codes "asof") (with_word (decimal asked) (decimal k)) asof_word)
+    ∙ by_rest AsOfForm lane (with_word (codes "asof") (with_word (decimal asked) (decimal k))) (with_word (decimal asked) (decimal k))
+    (behind_of (codes "asof") (with_word (decimal asked) (decimal k)) asof_word (word_begins (decimal asked) (decimal k) is_asked))
+    ∙ by_words AsOfForm lane (with_word (decimal asked) (decimal k)) (decimal asked ∷ decimal k ∷ [])
+    (words_of (decimal asked) (decimal k) is_asked ∙ ap (λ (ws : List Text). decimal asked ∷ ws) (words_alone (decimal k) is_k))
+    ∙ ap (λ (n : Option ℕ). said_with n (λ asked. said_with (number 10000 (decimal k)) (λ k. Opens lane (AsOfBlock asked k)))) (number_or_zero_within 4294967295 asked far small)
+    ∙ ap (λ (n : Option ℕ). said_with n (λ k. Opens lane (AsOfBlock asked k))) (number_within 10000 k (omega (arith, some)) low few)
+
 says_file : (lane : ℕ) (name path : Text) → is_name name ≡ true → IsPath path → command_said lane (with_word (codes "loadfile") (with_word name path)) ≡ Fetches lane name path
 says_file lane name path h path_is =
     let is = name_word name h in
@@ -218,6 +236,7 @@ says_task limits lane path Tables is = says_tables lane
 says_task limits lane path (Search k body) is = says_search lane k is.0.0 is.0.1
 says_task limits lane path (Like k name place) is = says_like lane k place name is.0.0 is.0.1 is.1 is.2.0 is.2.1
 says_task limits lane path (Contain a b body) is = says_contain lane a b is.0 is.1 is.2
+says_task limits lane path (AsOf asked k body) is = says_asof lane asked k is.0 is.1.0 is.1.1
 says_task limits lane path (Merge false) is = says_merge lane
 says_task limits lane path (Merge true) is = says_merge_all lane
 
@@ -237,6 +256,7 @@ begins_task path Tables = record { front = refl; other = ap (λ (w : Text). byte
 begins_task path (Search k body) = record { front = refl; other = ap (λ (w : Text). bytes_eq w (codes "sync")) (first_of (codes "search") (decimal k) search_word) }
 begins_task path (Like k name place) = record { front = refl; other = ap (λ (w : Text). bytes_eq w (codes "sync")) (first_of (codes "like") (with_word (decimal k) (with_word name (decimal place))) like_word) }
 begins_task path (Contain a b body) = record { front = refl; other = ap (λ (w : Text). bytes_eq w (codes "sync")) (first_of (codes "contain") (with_word (decimal a) (decimal b)) contain_word) }
+begins_task path (AsOf asked k body) = record { front = refl; other = ap (λ (w : Text). bytes_eq w (codes "sync")) (first_of (codes "asof") (with_word (decimal asked) (decimal k)) asof_word) }
 begins_task path (Merge false) = record { front = refl; other = ap (λ (w : Text). bytes_eq w (codes "sync")) (first_alone (codes "merge") merge_word) }
 begins_task path (Merge true) = record { front = refl; other = ap (λ (w : Text). bytes_eq w (codes "sync")) (first_of (codes "merge") (codes "all") merge_word) }
 

@@ -4,7 +4,7 @@ use Rattle.std.specs.Str.{is_utf8}
 use Rattle.lake_model.specs.Tables.{is_name}
 use Rattle.lake_model.specs.Texts.{Text, lines_of}
 use Rattle.script_model.specs.declared.ScriptLimits.{ScriptLimits}
-use Rattle.script_model.specs.Commands.{Batch, Command, File, Task, Load, LoadFile, DropTable, Replace, Tables, Search, Like, Contain, Merge}
+use Rattle.script_model.specs.Commands.{Batch, Command, File, Task, Load, LoadFile, DropTable, Replace, Tables, Search, Like, Contain, AsOf, Merge}
 use Rattle.script_model.specs.Lanes.{IsOfLanes}
 use Rattle.script_model.specs.Reading.{file_size}
 use Rattle.script_model.specs.Words.{line_text, NoFeed, before_spaces, is_space}
@@ -25,6 +25,7 @@ task_text path Tables = codes "tables"
 task_text path (Search k body) = with_word (codes "search") (decimal k)
 task_text path (Like k name place) = with_word (codes "like") (with_word (decimal k) (with_word name (decimal place)))
 task_text path (Contain a b body) = with_word (codes "contain") (with_word (decimal a) (decimal b))
+task_text path (AsOf asked k body) = with_word (codes "asof") (with_word (decimal asked) (decimal k))
 task_text path (Merge false) = codes "merge"
 task_text path (Merge true) = with_word (codes "merge") (codes "all")
 
@@ -45,6 +46,7 @@ body_lines (Load name body) = block_lines body
 body_lines (Replace name body) = block_lines body
 body_lines (Search k body) = block_lines body
 body_lines (Contain a b body) = block_lines body
+body_lines (AsOf asked k body) = block_lines body
 body_lines (LoadFile name file) = []
 body_lines (DropTable name) = []
 body_lines Tables = []
@@ -65,6 +67,7 @@ paths_in Tables path = []
 paths_in (Search k body) path = []
 paths_in (Like k name place) path = []
 paths_in (Contain a b body) path = []
+paths_in (AsOf asked k body) path = []
 paths_in (Merge all) path = []
 
 -- the paths of the commands behind one of this task
@@ -77,6 +80,7 @@ paths_behind Tables paths = paths
 paths_behind (Search k body) paths = paths
 paths_behind (Like k name place) paths = paths
 paths_behind (Contain a b body) paths = paths
+paths_behind (AsOf asked k body) paths = paths
 paths_behind (Merge all) paths = paths
 
 -- the lines of a batch, whose files are fetched at these paths, in their order
@@ -99,6 +103,7 @@ files_in Tables = []
 files_in (Search k body) = []
 files_in (Like k name place) = []
 files_in (Contain a b body) = []
+files_in (AsOf asked k body) = []
 files_in (Merge all) = []
 
 abbrev pub files_of : Batch → List File
@@ -137,6 +142,7 @@ IsTask limits path Tables = ⊤
 IsTask limits path (Search k body) = IsFrom1To 10000 k × IsBody limits body
 IsTask limits path (Like k name place) = IsFrom1To 10000 k × (is_name name ≡ true) × IsFrom1To 4294967295 place
 IsTask limits path (Contain a b body) = (1 ≤ a) × (a ≤ b) × (b ≤ 10000) × IsBody limits body
+IsTask limits path (AsOf asked k body) = (asked ≤ 4294967295) × IsFrom1To 10000 k × IsBody limits body
 IsTask limits path (Merge all) = ⊤
 
 -- each command has a task and a line within the limits, and there is a path for each file and no other
@@ -151,6 +157,7 @@ task_size (Load name body) = length body
 task_size (Replace name body) = length body
 task_size (Search k body) = length body
 task_size (Contain a b body) = length body
+task_size (AsOf asked k body) = length body
 task_size (LoadFile name file) = file_size file
 task_size (DropTable name) = 0
 task_size Tables = 0

@@ -6,7 +6,7 @@ use Rattle.std.specs.Str.{is_utf8}
 use Rattle.lake_model.specs.Tables.{is_name}
 use Rattle.lake_model.specs.Texts.{Text}
 use Rattle.script_model.specs.declared.Reason.TheVariants as reason
-use Rattle.script_model.specs.Saying.{ContainForm, DropForm, Form, LikeForm, LoadFileForm, LoadForm, ReplaceForm, SearchForm, SyncForm, TablesForm, Fetches, Said, Wrong, command_said, contain_said, fetch_said, lane_said, like_said, of_form, said_if, says}
+use Rattle.script_model.specs.Saying.{AsOfForm, ContainForm, DropForm, Form, LikeForm, LoadFileForm, LoadForm, ReplaceForm, SearchForm, SyncForm, TablesForm, Fetches, Said, Wrong, asof_said, command_said, contain_said, fetch_said, lane_said, like_said, of_form, said_if, says}
 use Rattle.script_model.specs.Words.{before_spaces, behind_word, first_word, words}
 use Rattle.script_text.specs.Fronts.{IsNotOne, has_none}
 use Rattle.script_text.proofs.WordLemmas.{words_more, words_none, words_one, words_some}
@@ -159,29 +159,49 @@ like_by lane text behind behind_both k name place e f one g h =
 pub no_like_by : (lane : ℕ) (text behind behind_both : Text) → behind ≡ behind_word text → behind_both ≡ behind_word behind → IsNotOne (words behind_both) → says LikeForm lane (words text) text ≡ Wrong reason.Words
 no_like_by lane text behind behind_both e f h = no_like lane text (subst (λ (t : Text). IsNotOne (words t)) (f ∙ ap behind_word e) h)
 
--- ---- `contain`
+-- ---- `contain` and `asof`, each with two words
+
+-- The words of a text, where one word stands behind the first.
+two_words : (text behind second : Text) → behind ≡ behind_word text → words behind ≡ second ∷ [] → words text ≡ first_word text ∷ second ∷ []
+two_words text behind second e one =
+    let rest : words (behind_word text) ≡ second ∷ [] = ap words (sym e) ∙ one in
+    words_more text (one_some second (words (behind_word text)) rest) ∙ ap (λ (ws : List Text). first_word text ∷ ws) rest
+
+-- Where none or more do, the words are wrong.
+not_two : (form : Form) (lane : ℕ) (text behind : Text) → behind ≡ behind_word text → IsNotOne (words behind) → says form lane [] text ≡ Wrong reason.Words
+    → ((first : Text) (ws : List Text) → IsNotOne ws → says form lane (first ∷ ws) text ≡ Wrong reason.Words) → says form lane (words text) text ≡ Wrong reason.Words
+not_two form lane text behind e h none more =
+    let other : IsNotOne (words (behind_word text)) = subst (λ (t : Text). IsNotOne (words t)) e h in
+    elim (cases_Bool (length (first_word text) == 0)) [
+      | inl t ↦ ap (λ (ws : List Text). says form lane ws text) (words_none text t) ∙ none
+      | inr f ↦ ap (λ (ws : List Text). says form lane ws text) (words_some text f) ∙ more (first_word text) (words (behind_word text)) other
+    ]
 
 two_contain : (lane : ℕ) (text a : Text) (ws : List Text) → IsNotOne ws → says ContainForm lane (a ∷ ws) text ≡ Wrong reason.Words
 two_contain lane text a [] h = refl
 two_contain lane text a (w ∷ []) h = absurd h
 two_contain lane text a (w ∷ v ∷ ws) h = refl
 
--- Where no word or more than one stands behind the first, it is no `contain`.
-no_contain : (lane : ℕ) (text : Text) → IsNotOne (words (behind_word text)) → says ContainForm lane (words text) text ≡ Wrong reason.Words
-no_contain lane text h =
-    elim (cases_Bool (length (first_word text) == 0)) [
-      | inl t ↦ ap (λ (ws : List Text). says ContainForm lane ws text) (words_none text t)
-      | inr f ↦ ap (λ (ws : List Text). says ContainForm lane ws text) (words_some text f) ∙ two_contain lane text (first_word text) (words (behind_word text)) h
-    ]
-
 pub contain_by : (lane : ℕ) (text behind a b : Text) → behind ≡ behind_word text → words behind ≡ b ∷ [] → a ≡ first_word text → says ContainForm lane (words text) text ≡ contain_said lane a b
 contain_by lane text behind a b e one g =
-    let second : words (behind_word text) ≡ b ∷ [] = ap words (sym e) ∙ one in
-    ap (λ (ws : List Text). says ContainForm lane ws text) (words_more text (one_some b (words (behind_word text)) second) ∙ ap (λ (ws : List Text). first_word text ∷ ws) second)
-    ∙ ap (λ (w : Text). contain_said lane w b) (sym g)
+    ap (λ (ws : List Text). says ContainForm lane ws text) (two_words text behind b e one) ∙ ap (λ (w : Text). contain_said lane w b) (sym g)
 
 pub no_contain_by : (lane : ℕ) (text behind : Text) → behind ≡ behind_word text → IsNotOne (words behind) → says ContainForm lane (words text) text ≡ Wrong reason.Words
-no_contain_by lane text behind e h = no_contain lane text (subst (λ (t : Text). IsNotOne (words t)) e h)
+no_contain_by lane text behind e h = not_two ContainForm lane text behind e h refl (two_contain lane text)
+
+two_asof : (lane : ℕ) (text asked : Text) (ws : List Text) → IsNotOne ws → says AsOfForm lane (asked ∷ ws) text ≡ Wrong reason.Words
+two_asof lane text asked [] h = refl
+two_asof lane text asked (w ∷ []) h = absurd h
+two_asof lane text asked (w ∷ v ∷ ws) h = refl
+
+pub asof_by : (lane : ℕ) (text behind asked k : Text) → behind ≡ behind_word text → words behind ≡ k ∷ [] → asked ≡ first_word text → says AsOfForm lane (words text) text ≡ asof_said lane asked k
+asof_by lane text behind asked k e one g =
+    ap (λ (ws : List Text). says AsOfForm lane ws text) (two_words text behind k e one) ∙ ap (λ (w : Text). asof_said lane w k) (sym g)
+
+pub no_asof_by : (lane : ℕ) (text behind : Text) → behind ≡ behind_word text → IsNotOne (words behind) → says AsOfForm lane (words text) text ≡ Wrong reason.Words
+no_asof_by lane text behind e h = not_two AsOfForm lane text behind e h refl (two_asof lane text)
+
+-- ---- the text behind a lane word
 
 pub lane_in : (lanes lane : ℕ) (text : Text) → lane ≤ lanes → bytes_eq (first_word text) (codes "sync") ≡ false → lane_said lanes (Some lane) text ≡ command_said lane text
 lane_in lanes lane text h e =

@@ -1,5 +1,5 @@
 -- What a line outside a block says, as the code holds it.
-use Rattle.std.specs.Prelude.{ℕ, ◌≡◌, ◌<◌, ◌≤◌, ⊤, Bool, true, false, List, [], ◌∷◌, Result, Ok, Err}
+use Rattle.std.specs.Prelude.{ℕ, ◌≡◌, ◌<◌, ◌≤◌, ◌^◌, ⊤, Bool, true, false, List, [], ◌∷◌, Result, Ok, Err}
 use Rattle.lake_model.specs.Texts.{Text}
 use Rattle.script_model.specs.declared.Reason.{Reason}
 use Rattle.script_model.specs.Saying as model
@@ -8,7 +8,7 @@ use Rattle.script_text.specs.Readings.{body_size}
 use Rattle.script_text.specs.declared.front.Form.{Form}
 use Rattle.script_text.specs.declared.front.Form.TheVariants as form
 use Rattle.script_text.specs.declared.front.Front.{Front}
-use Rattle.script_text.specs.declared.front.Front.TheVariants.{Load, Replace, Search, Contain}
+use Rattle.script_text.specs.declared.front.Front.TheVariants.{Load, Replace, Search, Contain, AsOf}
 use Rattle.script_text.specs.declared.front.Said.{Said}
 use Rattle.script_text.specs.declared.front.Said.TheVariants.{Nothing, Sync, Opens, Does, Fetches}
 
@@ -31,6 +31,7 @@ form_of form.Tables = model.TablesForm
 form_of form.Search = model.SearchForm
 form_of form.Like = model.LikeForm
 form_of form.Contain = model.ContainForm
+form_of form.AsOf = model.AsOfForm
 form_of form.Merge = model.MergeForm
 form_of form.Sync = model.SyncForm
 
@@ -39,13 +40,15 @@ front_of (Load name) = model.LoadBlock name
 front_of (Replace name) = model.ReplaceBlock name
 front_of (Search k) = model.SearchBlock k
 front_of (Contain a b) = model.ContainBlock a b
+front_of (AsOf asked k) = model.AsOfBlock asked k
 
--- a search asks for 1 to 10,000 columns, and a fraction is at most 1
+-- a search asks for 1 to 10,000 columns, a fraction is at most 1, and a position is a number of 32 bits
 abbrev pub IsFrontInRange : Front → Type 0
 IsFrontInRange (Load name) = ⊤
 IsFrontInRange (Replace name) = ⊤
 IsFrontInRange (Search k) = (1 ≤ k) × (k ≤ 10000)
 IsFrontInRange (Contain a b) = (1 ≤ a) × (a ≤ b) × (b ≤ 10000)
+IsFrontInRange (AsOf asked k) = (asked < 2 ^ 32) × (1 ≤ k) × (k ≤ 10000)
 
 abbrev pub said_of : Said → model.Said
 said_of Nothing = model.Nothing

@@ -2,7 +2,7 @@
 use Rattle.std.specs.Prelude.{ℕ, ◌+◌, ◌≡◌, ◌<◌, ◌≤◌, ⊤, List, [], ◌∷◌, ◌++◌, length, Option, Some, None, Result, Ok, Err}
 use Rattle.lake_io.specs.Files as shelf
 use Rattle.lake_model.specs.Texts.{Text}
-use Rattle.script_model.specs.Commands.{Batch, File, Task, Load, LoadFile, DropTable, Replace, Tables, Search, Like, Contain, Merge}
+use Rattle.script_model.specs.Commands.{Batch, File, Task, Load, LoadFile, DropTable, Replace, Tables, Search, Like, Contain, AsOf, Merge}
 use Rattle.script_model.specs.Lanes.{IsOfLanes}
 use Rattle.script_model.specs.Reading.{Grammar, Open, Reading, Turn, unless_fault, body_fault, with_body}
 use Rattle.script_model.specs.Reading as turn
@@ -22,6 +22,7 @@ body_size (Load name body) = length body
 body_size (Replace name body) = length body
 body_size (Search k body) = length body
 body_size (Contain a b body) = length body
+body_size (AsOf asked k body) = length body
 body_size (LoadFile name file) = 0
 body_size (DropTable name) = 0
 body_size Tables = 0

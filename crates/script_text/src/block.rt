@@ -112,6 +112,7 @@ impl OpenBlock {
             Front::Replace { name } => Task::Replace { name, body },
             Front::Search { k } => Task::Search { k, body },
             Front::Contain { a, b } => Task::Contain { a, b, body },
+            Front::AsOf { asked, k } => Task::AsOf { asked, k, body },
         }
     }
 }

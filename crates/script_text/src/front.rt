@@ -1,14 +1,14 @@
 //! What a line outside a block says.
 ghost use Rattle.std.specs.Prelude.{ℕ, ◌<◌, ◌≡◌, ◌≤◌, IfOk, bytes_eq, find, option_map};
 ghost use Rattle.script_model.specs.Saying as model;
-ghost use Rattle.script_model.specs.Saying.{command_said, contain_said, forms, lane_said, like_said, said, says};
+ghost use Rattle.script_model.specs.Saying.{asof_said, command_said, contain_said, forms, lane_said, like_said, said, says};
 ghost use Rattle.script_model.specs.Words.{number_of, words};
 ghost use Rattle.script_text.specs.Fronts.{IsSaidInRange, Says, form_of};
 
 use crate::line::is_skipped;
 use crate::spaces::{before_spaces, behind_word, first_word, has_no_word, only_word};
 use column_set::Name;
-use command_line::{read_any_number, read_number};
+use command_line::{read_any_number, read_number, read_number_or_zero};
 use commands::Task;
 use script_model::Reason;
 use std::str;
@@ -18,6 +18,9 @@ const MOST_ROWS: u32 = 10000;
 
 /// The most parts that a fraction may count.
 const MOST_PARTS: u32 = 10000;
+
+/// The most entries of the journal that a search of the past may ask for.
+const MOST_ENTRIES: u32 = u32::MAX;
 
 /// The greatest place of a column.
 const MOST_PLACE: u32 = u32::MAX;
@@ -33,6 +36,7 @@ pub(crate) enum Form {
     Search,
     Like,
     Contain,
+    AsOf,
     Merge,
     Sync,
 }
@@ -44,6 +48,7 @@ pub(crate) enum Front {
     Replace { name: Name },
     Search { k: u32 },
     Contain { a: u32, b: u32 },
+    AsOf { asked: u64, k: u32 },
 }
 
 /// What a line says.
@@ -143,6 +148,9 @@ fn read_form(word: &[u8]) -> Option<Form>
     if b"contain".as_slice() == word {
         return Some(Form::Contain);
     }
+    if b"asof".as_slice() == word {
+        return Some(Form::AsOf);
+    }
     if b"merge".as_slice() == word {
         return Some(Form::Merge);
     }
@@ -167,6 +175,7 @@ fn says(form: Form, lane: u32, text: &[u8]) -> Result<Said<'_>, Reason>
         Form::Search => search_said(lane, text),
         Form::Like => like_said(lane, text),
         Form::Contain => contain_said(lane, text),
+        Form::AsOf => asof_said(lane, text),
         Form::Merge => merge_said(lane, text),
         Form::Sync => sync_said(text),
     }
@@ -342,6 +351,37 @@ fn read_contain(lane: u32, a: &[u8], b: &[u8]) -> Result<Said<'static>, Reason>
     Ok(Said::Opens {
         lane,
         front: Front::Contain { a, b },
+    })
+}
+
+// `asof A K`.
+fn asof_said(lane: u32, text: &[u8]) -> Result<Said<'_>, Reason>
+    requires { 0 < lane }
+    ensures said { Says (says model.AsOfForm lane (words text.now) text.now) result }
+    ensures in_range { IfOk result (λ said. (lanes : ℕ) → lane ≤ lanes → IsSaidInRange lanes said) }
+{
+    let Some(k) = only_word(behind_word(text)) else {
+        return Err(Reason::Words);
+    };
+    read_asof(lane, first_word(text), k)
+}
+
+// A search of the tables that were live after the first `asked` entries of the journal.
+fn read_asof(lane: u32, asked: &[u8], k: &[u8]) -> Result<Said<'static>, Reason>
+    requires { 0 < lane }
+    ensures said { Says (asof_said lane asked.now k.now) result }
+    ensures in_range { IfOk result (λ said. (lanes : ℕ) → lane ≤ lanes → IsSaidInRange lanes said) }
+{
+    let Some(asked) = read_number_or_zero(asked, MOST_ENTRIES) else {
+        return Err(Reason::Words);
+    };
+    let Some(k) = read_number(k, MOST_ROWS) else {
+        return Err(Reason::Words);
+    };
+    let asked = u64::from(asked);
+    Ok(Said::Opens {
+        lane,
+        front: Front::AsOf { asked, k },
     })
 }
 

@@ -52,6 +52,10 @@ fn push_task(text: &mut String, task: &Task) -> Result<(), AllocError> {
             let body = str::from_utf8(body.bytes()).unwrap_or("?");
             write!(text, "contain {a} {b} {body:?};")
         }
+        Task::AsOf { asked, k, body } => {
+            let body = str::from_utf8(body.bytes()).unwrap_or("?");
+            write!(text, "asof {asked} {k} {body:?};")
+        }
         Task::Merge { all: false } => text.push_str("merge;"),
         Task::Merge { all: true } => text.push_str("merge all;"),
     }
@@ -168,7 +172,7 @@ fn repeated(alloc: Global, line: &str, count: usize, last: &str) -> Result<Strin
     Ok(script)
 }
 
-const WORKED: [(&str, &str); 68] = [
+const WORKED: [(&str, &str); 75] = [
     ("", "end"),
     ("\n  \n# x\n#\n\r\n", "end"),
     ("tables", "[1@1 tables;]"),
@@ -212,6 +216,16 @@ const WORKED: [(&str, &str); 68] = [
     ("like 10001 a 1\n", "line 1 Words"),
     ("like 1 a 4294967296\n", "line 1 Words"),
     ("like 1 a 4294967295\n", "[1@1 like 1 a 4294967295;]"),
+    ("asof 0 5\nx\n.\n", "[1@1 asof 0 5 \"x\\n\";]"),
+    (
+        "asof 4294967295 10000\n.\n",
+        "[1@1 asof 4294967295 10000 \"\";]",
+    ),
+    ("asof 01 5\n", "line 1 Words"),
+    ("asof 4294967296 1\n", "line 1 Words"),
+    ("asof 1\n", "line 1 Words"),
+    ("asof 1 0\n", "line 1 Words"),
+    ("asof 1 2 3\n", "line 1 Words"),
     ("merge\nmerge all\n", "[1@1 merge;2@1 merge all;]"),
     (" merge  all \r", "[1@1 merge all;]"),
     ("merge al\n", "line 1 Words"),

@@ -3,7 +3,7 @@ ghost use Rattle.std.specs.Prelude.{◌≡◌, ◌==◌, IfOk, map};
 ghost use Rattle.std.specs.List.{slice_split};
 ghost use Rattle.option_model.specs.Plain.{all_there, lane_number, order_of, piece_of};
 
-use crate::numbers::read_number;
+use crate::numbers::{read_number, read_number_or_zero};
 use commands::{Order, Piece};
 use no_memory::NoMemory;
 use std::alloc::Global;
@@ -86,8 +86,8 @@ fn read_lanes(
 fn read_lane(lanes: u32, merge: bool, text: &[u8]) -> Option<u32>
     ensures { result ≡ lane_number lanes merge text.now }
 {
-    if merge && matches!(text, [b'0']) {
-        return Some(0);
+    if merge {
+        return read_number_or_zero(text, lanes);
     }
     read_number(text, lanes)
 }
