@@ -40,6 +40,13 @@ pub enum Reply {
         probes: u64,
         layout: Layout,
     },
+    /// The rows that answer a query of `query` keys over the tables that were live after the first `asked` entries of the journal.
+    Past {
+        query: u32,
+        rows: KeptRows,
+        asked: u64,
+        at: u64,
+    },
     /// The `parts` parts that were planned gave way to one of `tables` tables, or to none where `tables` is 0, by the entry numbered
     /// `at` of the journal. The layout is the one in which the merge was planned.
     Merged {
@@ -107,6 +114,11 @@ pub enum Reply {
     /// No parts of this layout are to be merged.
     NothingToMerge {
         layout: Layout,
+    },
+    /// The journal is shorter than the `asked` entries that a search of the past names.
+    Later {
+        asked: u64,
+        at: u64,
     },
     /// The merge was planned in this layout, and `gone` is the number of the first planned part that is no longer there at `at`.
     Stale {
