@@ -2,7 +2,6 @@
 use Rattle.std.proofs.Common.{◌≡◌, ap, sym, ◌∙◌, subst, ℕ, ◌+◌, ◌<◌, ◌≤◌, List, ◌∷◌, ◌++◌, length, drop, get_or, Some, arith, false}
 use Rattle.std.specs.Prelude.{slice_get, slice_set}
 use Rattle.std.specs.List.{AllByRecursion}
-use Rattle.std.proofs.Math.Seq.{drop-append_seam}
 use mathlib.Core.List.{IsPrefix}
 use Rattle.lake_model.specs.Journal.{Entry}
 use Rattle.turn_lock.specs.History.{Grows, IsOfGiven}
@@ -12,7 +11,7 @@ use Rattle.lake.specs.Lawful.{caller_of}
 use Rattle.record_model.specs.Record.{Answered, RunRecord}
 use Rattle.lake_desk.specs.Gathered.{AllBegin, AllMeet, AreApart, AreFree, AreHandedOut, AreOfOneLock, IsBehindAll, IsGathered}
 use Rattle.lake_desk.specs.Together.{with_batch}
-use Rattle.lake_core.proofs.PastLemmas.{prefix_on}
+use Rattle.lake_core.proofs.PastLemmas.{prefix_on, rest_of}
 use Rattle.lake_desk.proofs.Gathers.{begin_on}
 use Rattle.lake_desk.proofs.Places.{all_at}
 
@@ -111,9 +110,6 @@ handed_meet lanes journal before now after read has handed =
     (subst (λ (ds : List (Known Entry)). AllMeet read.seen ds (read ∷ handed.later)) (sym has.before_is) (has.same, has.grows, meet))
 
 -- ---- the record
-
-rest_of : (xs ys : List Entry) → IsPrefix xs ys → xs ++ drop (length xs) ys ≡ ys
-rest_of xs ys p = ap (λ (zs : List Entry). xs ++ drop (length xs) zs) (sym p.1) ∙ ap (λ (zs : List Entry). xs ++ zs) (drop-append_seam xs p.0) ∙ p.1
 
 -- the record's journal is then what the opening desk has read
 pub journal_whole : (made room now : RunRecord) (answers : List Answered) (entries listed whole : List Entry) → now ≡ with_batch answers entries room → room ≡ made → listed ≡ made.journal → entries ≡ drop (length listed) whole → IsPrefix made.journal whole
