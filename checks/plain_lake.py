@@ -1,7 +1,7 @@
 """A plain model of a lake: the reply to each command at a version, and the version after it.
 
-A version is the position of the journal, the live tables in the order in which they were loaded or replaced, and the parts of the layout. It never changes, so a pin is
-the version itself. A table is a name and its columns, a column a title and an ordered list of distinct values. A part is a number and its places; a
+A version is the position of the journal, the live tables in the order in which they were loaded or replaced, the parts of the layout, and the version one entry
+earlier. It never changes, so a pin is the version itself. A table is a name and its columns, a column a title and an ordered list of distinct values. A part is a number and its places; a
 place is the position of a load or a replace, its table, and whether that was dropped or replaced. All text is ASCII, so that `str.casefold` and `str.strip` make the
 key of a value.
 """
@@ -29,6 +29,7 @@ class Version(NamedTuple):
     position: int
     tables: tuple
     parts: tuple
+    before: "Version | None" = None  # one entry earlier, or None for the empty lake
 
 
 EMPTY = Version(0, (), ())
@@ -94,7 +95,7 @@ def put(at, name, columns):
     """The next version, with one more table in a part of its own."""
     position = at.position + 1
     part = Part(position, (Place(position, (name, columns), False),))
-    return Version(position, at.tables + ((name, columns),), at.parts + (part,))
+    return Version(position, at.tables + ((name, columns),), at.parts + (part,), at)
 
 
 def without(at, name):
@@ -107,7 +108,7 @@ def without(at, name):
 def drop(at, name):
     if not find(at, name):
         return [f"refused unknown {name} at {at.position}"], at, None
-    return [f"dropped {name} at {at.position + 1}"], Version(at.position + 1, *without(at, name)), ("drop", name)
+    return [f"dropped {name} at {at.position + 1}"], Version(at.position + 1, *without(at, name), at), ("drop", name)
 
 
 def replace(at, name, records):
@@ -117,7 +118,7 @@ def replace(at, name, records):
     if not find(at, name):
         return [f"refused unknown {name} at {at.position}"], at, None
     columns = columns_of(records)
-    after = put(Version(at.position, *without(at, name)), name, columns)
+    after = put(Version(at.position, *without(at, name)), name, columns)._replace(before=at)
     return [f"replaced {line(name, columns)} at {after.position}"], after, ("replace", name)
 
 
@@ -154,7 +155,7 @@ def merge(pinned, now, whole):
     parts = now.parts[:first] + made + now.parts[first + len(plan):]
     change = f"from {','.join(map(str, numbers))} kept {','.join(map(str, kept)) or 'none'}"
     reply = [f"merged {len(plan)} parts into {len(kept)} tables at {position}", layout(pinned)]
-    return reply, Version(position, now.tables, parts), ("swap", change)
+    return reply, Version(position, now.tables, parts, now), ("swap", change)
 
 
 def list_tables(at):
@@ -180,11 +181,14 @@ def shared_rows(at, query, excepted):
     return sorted(found)
 
 
+def row_lines(found):
+    return [f"  {-less} {name.decode()} {place} \"{quoted(title.decode())}\"" for less, name, title, place in found]
+
+
 def answered(at, query, found, work):
     """The reply of these rows and this work."""
-    rows = [f"  {-less} {name.decode()} {place} \"{quoted(title.decode())}\"" for less, name, title, place in found]
     reads, probes = work
-    return [f"answer {len(found)} of {len(query)} at {at.position}"] + rows + [f"  work reads {reads} probes {probes}", layout(at)]
+    return [f"answer {len(found)} of {len(query)} at {at.position}"] + row_lines(found) + [f"  work reads {reads} probes {probes}", layout(at)]
 
 
 def answer(at, most, query, excepted):
@@ -206,6 +210,24 @@ def contain(at, part, whole, lines):
     least = max(1, -(-part * len(query) // whole))
     found = [row for row in shared_rows(at, query, None) if -row[0] >= least]
     return query_fault(lines) or answered(at, query, found, plain_search.contain_work(at.parts, query, least))
+
+
+def earlier(at, position):
+    """The version at a position that is not after this one's."""
+    while at.position > position:
+        at = at.before
+    return at
+
+
+def as_of(at, asked, most, lines):
+    """The columns that shared the most keys with the query after the first so many entries, as it is answered at a version."""
+    if query_fault(lines):
+        return query_fault(lines)
+    if asked > at.position:
+        return [f"refused later {asked} at {at.position}"]
+    query = set(set_of(lines))
+    found = shared_rows(earlier(at, asked), query, None)[:most]
+    return [f"answer {len(found)} of {len(query)} as of {asked} at {at.position}"] + row_lines(found)
 
 
 def like(at, most, name, place):

@@ -3,8 +3,8 @@
 
     checks/random_lakes.py [JOSIE]
 
-The seeds are fixed, so the scripts are always the same. They load from blocks and from files, drop, replace, list, merge, ask which columns contain a part of some values, and search by values and by
-columns over a few names and values, in batches: names that are taken or unknown, files and places that do not exist, tables with two columns of one name, fields
+The seeds are fixed, so the scripts are always the same. They load from blocks and from files, drop, replace, list, merge, ask which columns contain a part of some values, and search by values, by
+columns and at earlier positions over a few names and values, in batches: names that are taken or unknown, files and places that do not exist, positions that are still to come, tables with two columns of one name, fields
 without a value, values that differ only by case and by the white space around them, quoted fields, lines with a carriage return or a further dot, tables without a
 header or with a record of another length, fields and lines that are not UTF-8, words of lanes, and further spaces between words. The model is
 `plain_lake.py`; what josie writes, every second script with a trace, is compared with it byte for byte. Where a contain is asked beside a search for 10,000 columns,
@@ -151,6 +151,14 @@ class Script:
         block = [self.value() for _ in range(chance.randint(0, 7))]
         self.command(f"search {most}", plain_lake.search(self.lake, most, block), block)
 
+    def as_of(self):
+        """A search of the past: of some position, of one of the last few, or of one that is still to come."""
+        chance, position = self.chance, self.lake.position
+        asked = chance.choice([chance.randint(0, position), max(0, position - chance.randint(0, 3)), position + chance.randint(1, 2)])
+        most = chance.choice([1, 2, 3, 5, 10, 10000])
+        block = [self.value() for _ in range(chance.randint(0, 7))]
+        self.command(f"asof {asked} {most}", plain_lake.as_of(self.lake, asked, most, block), block)
+
     def fraction(self):
         whole = self.chance.choice([1, 2, 3, 10, 10000])
         return self.chance.randint(1, whole), whole
@@ -196,6 +204,8 @@ class Script:
             self.search()
         elif pick < 0.30:
             self.contain()
+        elif pick < 0.36:
+            self.as_of()
         elif pick < 0.42:
             self.like()
         elif pick < 0.52:

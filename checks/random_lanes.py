@@ -101,6 +101,8 @@ def made_again(command, pinned, now):
         return plain_lake.search(pinned, int(more[0]), command.block), now, None
     if kind == "contain":
         return plain_lake.contain(pinned, int(more[0]), int(more[1]), command.block), now, None
+    if kind == "asof":
+        return plain_lake.as_of(now, int(more[0]), int(more[1]), command.block), now, None
     return plain_lake.like(pinned, int(more[0]), more[1], int(more[2])), now, None
 
 

@@ -6,8 +6,8 @@
 The first part: random scripts of loads, drops, replaces, lists, searches and merges on one to five lanes, with a merger and without, each in a random order
 (pieces with too few and too many steps, and lanes that have none left) and lane by lane. The second: one script of three lanes, a search and a list, a
 load and a drop, and a merge of the whole layout, in every order of its seven steps. What josie writes, mostly with a trace, is the model's, byte for
-byte. The model is a list of versions (`plain_lake.py`): a load, a drop, a replace and a list take one step, a search, a contain and a merge two, of which the first takes
-the version that they are answered at. The seeds are fixed. It prints one line, and ends with 0 if everything is as the model says.
+byte. The model is a list of versions (`plain_lake.py`): a load, a drop, a replace, a list and an asof take one step, a search, a contain and a merge two, of which
+the first takes the version that they are answered at. The seeds are fixed. It prints one line, and ends with 0 if everything is as the model says.
 """
 import itertools
 import random
@@ -36,7 +36,9 @@ def random_command(chance):
         return f"search {chance.choice([1, 2, 9])}", chance.sample(VALUES, chance.randint(1, 4))
     if pick < 0.75:
         return f"contain {chance.randint(1, 2)} {chance.randint(2, 4)}", chance.sample(VALUES, chance.randint(1, 4))
-    if pick < 0.82:
+    if pick < 0.79:
+        return f"asof {chance.randint(0, 6)} {chance.choice([1, 2, 9])}", chance.sample(VALUES, chance.randint(1, 4))
+    if pick < 0.85:
         return f"like {chance.choice([1, 9])} {chance.choice(NAMES)} {chance.randint(1, 2)}", None
     return chance.choice(["merge", "merge", "merge all"]), None
 
@@ -84,6 +86,8 @@ def step(lane, play):
         reply = plain_lake.search(pinned, int(more[0]), block)
     elif kind == "contain":
         reply = plain_lake.contain(pinned, int(more[0]), int(more[1]), block)
+    elif kind == "asof":
+        reply = plain_lake.as_of(at, int(more[0]), int(more[1]), block)
     else:
         reply = plain_lake.like(pinned, int(more[0]), more[1], int(more[2]))
     play["lake"] = at

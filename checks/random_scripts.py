@@ -19,7 +19,7 @@ from check import Wrong, main
 
 WORDS, LANE, UNKNOWN, NO_END, LONG = "bad words", "no such lane", "no such command", "block without end", "line too long"
 TEMPLATES = [
-    b"load t", b"loadfile t x.csv", b"drop t", b"replace t", b"tables", b"search 5", b"like 5 t 1", b"contain 1 2", b"merge", b"merge all", b"sync", b"@1 tables", b"# note", b"  tables  ",
+    b"load t", b"loadfile t x.csv", b"drop t", b"replace t", b"tables", b"search 5", b"like 5 t 1", b"contain 1 2", b"asof 0 5", b"merge", b"merge all", b"sync", b"@1 tables", b"# note", b"  tables  ",
 ]
 NAME_BYTES = set(range(0x21, 0x7F))
 
@@ -32,6 +32,10 @@ def number(word, most):
     if not word or not all(48 <= byte <= 57 for byte in word) or word[0] == 48 or int(word) > most:
         raise ValueError
     return int(word)
+
+
+def number_or_zero(word, most):
+    return 0 if word == b"0" else number(word, most)
 
 
 def name(word):
@@ -55,7 +59,7 @@ def says(text):
             raise ValueError
         if lane > 1:
             raise Fault(LANE)
-    if not words or words[0] not in (b"load", b"loadfile", b"drop", b"replace", b"tables", b"search", b"like", b"contain", b"merge", b"sync"):
+    if not words or words[0] not in (b"load", b"loadfile", b"drop", b"replace", b"tables", b"search", b"like", b"contain", b"asof", b"merge", b"sync"):
         raise Fault(UNKNOWN)
     kind, more = words[0], words[1:]
     if kind == b"loadfile":
@@ -69,7 +73,7 @@ def says(text):
         if more not in ([], [b"all"]):
             raise ValueError
         return kind, ()
-    wanted = {b"load": 1, b"drop": 1, b"replace": 1, b"tables": 0, b"search": 1, b"like": 3, b"contain": 2, b"sync": 0}[kind]
+    wanted = {b"load": 1, b"drop": 1, b"replace": 1, b"tables": 0, b"search": 1, b"like": 3, b"contain": 2, b"asof": 2, b"sync": 0}[kind]
     if len(more) != wanted:
         raise ValueError
     if kind in (b"load", b"drop", b"replace"):
@@ -81,6 +85,8 @@ def says(text):
         if part > whole:
             raise ValueError
         return kind, (part, whole)
+    if kind == b"asof":
+        return kind, (number_or_zero(more[0], 4294967295), number(more[1], 10000))
     if kind == b"like":
         return kind, (number(more[0], 10000), name(more[1]), number(more[2], 4294967295))
     return kind, ()
@@ -100,7 +106,9 @@ def reply(kind, values, body):
         return "tables 0 at 0"
     if kind == b"merge":
         return "refused nothing to merge at 0"
-    return f"answer 0 of {len({line.strip() for line in body} - {b''})} at 0"
+    if kind == b"asof" and values[0] > 0:
+        return f"refused later {values[0]} at 0"
+    return f"answer 0 of {len({line.strip() for line in body} - {b''})} {'as of 0 ' if kind == b'asof' else ''}at 0"
 
 
 def without_return(line):
@@ -128,7 +136,7 @@ def model(script):
                 done, batch = done + batch, []
                 continue
             body = []
-            if kind in (b"load", b"replace", b"search", b"contain"):
+            if kind in (b"load", b"replace", b"search", b"contain", b"asof"):
                 opened = at
                 while True:
                     if at == len(lines):
@@ -176,7 +184,11 @@ def random_line(chance):
     """One line, or a command with its block."""
     pick = chance.random()
     if pick < 0.25:
-        return [chance.choice([b"search %d" % chance.randint(1, 10000), b"contain %d %d" % (chance.randint(1, 50), chance.randint(50, 10000))])] + block(chance)
+        fronts = [
+            b"search %d" % chance.randint(1, 10000), b"contain %d %d" % (chance.randint(1, 50), chance.randint(50, 10000)),
+            b"asof %d %d" % (chance.choice([0, 0, 1, 4294967295]), chance.randint(1, 10000)),
+        ]
+        return [chance.choice(fronts)] + block(chance)
     if pick < 0.3:
         return [chance.choice([b"load t", b"replace t"]), chance.choice([b".", b".\r"])]
     if pick < 0.9:
@@ -184,7 +196,7 @@ def random_line(chance):
         return [line + chance.choice([b"", b"", b"\r"])]
     return [chance.choice([
         b"@0 tables", b"@01 tables", b"@2 tables", b"@", b"@ tables", b"@1 sync", b"@1", b"@99999999999999999999 tables", b"find 3", b"Tables", b"tables x",
-        b"search 0", b"search 01", b"search 10001", b"contain 2 1", b"contain 0 1", b"contain 1", b"contain 1 10001", b"contain 1 2 3", b"like 1 a 0", b"like 1 a 4294967296", b"drop", b"drop \xc3\xa9", b"replace", b"replace a b", b"replaced a", b"load " + b"n" * 256,
+        b"search 0", b"search 01", b"search 10001", b"contain 2 1", b"contain 0 1", b"contain 1", b"contain 1 10001", b"contain 1 2 3", b"asof 01 5", b"asof 00 5", b"asof 1", b"asof 0 0", b"asof 0 05", b"asof 0 10001", b"asof 4294967296 5", b"asof 1 2 3", b"like 1 a 0", b"like 1 a 4294967296", b"drop", b"drop \xc3\xa9", b"replace", b"replace a b", b"replaced a", b"load " + b"n" * 256,
         b"loadfile a", b"loadfile a \xff", b"merge al", b"merge all all", b"merges", b" # x", b"\rtables", b"tables\r\r", b"." , b"x" * 4097, b"#" * 4097, b" " * 4097,
     ])]
 

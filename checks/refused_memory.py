@@ -20,8 +20,8 @@ from check import HERE, Wrong, main
 from random_lanes import checked, numbered, parted, placed
 
 RUNS = ["runs/one_read_and_one_probe", "runs/drop_between_plan_and_swap", "runs/real_tables"]
-EXAMPLES = ["refresh", "race.2", "contain"]
-WITH_BLOCK = ("load", "replace", "search", "contain")
+EXAMPLES = ["refresh", "race.2", "contain", "asof"]
+WITH_BLOCK = ("load", "replace", "search", "contain", "asof")
 
 
 def text_of(*names):

@@ -22,6 +22,7 @@ from .errors import (
     NameInvalid,
     NameTaken,
     OutOfMemory,
+    PositionUnknown,
     QueryRefused,
     Refused,
     ShardFailed,
@@ -35,7 +36,7 @@ from .lake import Lake
 from .names import table_name
 from .partners import Asked, Partner, Survey, joinable, survey
 from .profiles import Profile, profile
-from .replies import Answer, Dropped, FolderLoad, Loaded, Match, Merged, Replaced, Table
+from .replies import Answer, Dropped, FolderLoad, Loaded, Match, Merged, PastAnswer, Replaced, Table
 from .reports import report
 from .sharded import Shard, ShardedAnswer, ShardedLake
 
@@ -62,6 +63,8 @@ __all__ = [
     "NameTaken",
     "OutOfMemory",
     "Partner",
+    "PastAnswer",
+    "PositionUnknown",
     "profile",
     "Profile",
     "QueryRefused",

@@ -86,6 +86,14 @@ class ColumnUnknown(Refused):
     """The table has no column at this place, or of this name, or several of this name."""
 
 
+class PositionUnknown(Refused):
+    """The position is not one of the lake's history, of which the last is `last`; `last` is `None` if nothing was sent, as no history is so long."""
+
+    def __init__(self, reply: str, words: str | None = None, last: int | None = None) -> None:
+        self.last = last
+        super().__init__(reply, words)
+
+
 class LakeFull(Refused):
     """The lake would exceed its limit of tables, updates, members or key bytes: it has `count` of `what`, and `more` were to be added."""
 
@@ -145,6 +153,9 @@ def refusal(reply: str) -> Refused:
             return TableUnknown(reply, f"no table named {name} is live")
         case ["column", name, place, *_]:
             return ColumnUnknown(reply, f"the table {name} has no column {place}")
+        case ["later", position, "at", last]:
+            words = f"the lake has no position {int(position):,} yet; its history ends at {int(last):,}"
+            return PositionUnknown(reply, words, int(last))
         case ["full", what, count, "more", more, *_]:
             words = f"the lake has {int(count):,} {_FULL.get(what, what)}, and {int(more):,} more are too many"
             return LakeFull(reply, words, what, int(count), int(more))

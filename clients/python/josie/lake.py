@@ -10,12 +10,23 @@ from dataclasses import dataclass
 from types import TracebackType
 from typing import Any, Protocol, TypeAlias
 
-from .errors import ColumnUnknown, CountInvalid, FolderEmpty, JosieError, NameInvalid, Refused, TableUnknown, TooLong, ValueInvalid
+from .errors import (
+    ColumnUnknown,
+    CountInvalid,
+    FolderEmpty,
+    JosieError,
+    NameInvalid,
+    PositionUnknown,
+    Refused,
+    TableUnknown,
+    TooLong,
+    ValueInvalid,
+)
 from .findings import Findings, checked_k, cuts, found
 from .names import checked, table_name
 from .profiles import HEADER_BYTES, Profile, header, profile
 from .program import BATCH_COMMANDS, BLOCK_BYTES, Program, block
-from .replies import Answer, Dropped, FolderLoad, Loaded, Match, Merged, Replaced, Table
+from .replies import Answer, Dropped, FolderLoad, Loaded, Match, Merged, PastAnswer, Replaced, Table
 
 Path: TypeAlias = "str | os.PathLike[str]"
 
@@ -148,6 +159,23 @@ class Lake:
         if not 1 <= part <= whole <= 10_000:
             raise CountInvalid(f"{part} of {whole} is no fraction of 1 to 10,000 parts")
         answer: Answer = self._ask(b"contain %d %d\n" % (part, whole) + _query_block(values))
+        return answer
+
+    def asof(self, position: int, values: Iterable[str], k: int = 10) -> PastAnswer:
+        """The k columns (1 to 10,000) that shared the most distinct values with these at an earlier position of the lake's history: that of a reply, or 0, at
+        which the lake is empty. The first such question takes longer than a search, since the program builds an index of the tables of the past.
+
+        Raises `CountInvalid`, `ValueInvalid` or `TooLong` before anything is sent, and `PositionUnknown`, with the last position there is.
+
+        >>> with Lake() as lake:
+        ...     loaded = lake.load("stations", b"id,city\\n1,Oslo\\n2,Lima\\n")
+        ...     _ = lake.drop("stations")
+        ...     lake.asof(loaded.position, ["oslo"]).matches
+        (Match(overlap=1, table='stations', place=2, column='city'),)
+        """
+        if not 0 <= position <= 4_294_967_295:
+            raise PositionUnknown(f"a position is 0 to 4,294,967,295, not {position}")
+        answer: PastAnswer = self._ask(b"asof %d %d\n" % (position, checked_k(k)) + _query_block(values))
         return answer
 
     def like(self, table: str, column: int | str, k: int = 10) -> Answer:

@@ -107,6 +107,17 @@ class Answer(Matches):
 
 
 @dataclass(frozen=True)
+class PastAnswer(Matches):
+    """The columns that shared the most with a query of `values` distinct values, over the tables that were live at the position `asked`. The lake was at
+    `position` when it answered."""
+
+    values: int
+    asked: int
+    position: int
+    matches: tuple[Match, ...]
+
+
+@dataclass(frozen=True)
 class FolderLoad:
     """The result of loading a folder: the tables that were loaded; the path of each by its name; the warnings of each that has some, and why each other file
     was refused, by its path."""
@@ -167,6 +178,8 @@ def parsed(first: bytes, further: list[bytes]) -> Any:
         return Replaced(words[2].decode(), int(words[4]), int(words[6]), int(words[8]))
     if kind == b"tables":
         return [_table(line) for line in further]
+    if kind == b"answer" and words[5] == b"as":
+        return PastAnswer(int(words[4]), int(words[7]), int(words[9]), tuple(map(_match, further)))
     if kind == b"answer":
         return Answer(int(words[4]), int(words[6]), tuple(map(_match, further)))
     if kind == b"merged":

@@ -21,7 +21,7 @@ import unittest
 from unittest import mock
 
 import josie
-from josie import Dropped, Lake, Loaded, Match, Merged, Replaced, Table
+from josie import Dropped, Lake, Loaded, Match, Merged, PastAnswer, Replaced, Table
 from josie.errors import refusal
 from josie.names import is_name
 from josie.program import find_program
@@ -44,6 +44,8 @@ class Calls(InALake):
         self.assertEqual(list(self.lake.like("stations", "city")), [Match(2, "rivers", 2, "mouth")])
         self.assertEqual(list(self.lake.contain(["oslo", "rome", "lima", "bern"], 3, 4)), [Match(3, "stations", 2, "city")])
         self.assertEqual(list(self.lake.contain(["rome", "LIMA"])), [Match(2, "rivers", 2, "mouth"), Match(2, "stations", 2, "city")])
+        self.assertEqual(self.lake.asof(1, ["rome", "LIMA"]), PastAnswer(2, 1, 2, (Match(2, "stations", 2, "city"),)))
+        self.assertEqual(self.lake.asof(0, ["rome"]), PastAnswer(1, 0, 2, ()))
         self.assertEqual(self.lake.merge(), Merged(2, 2, 3))
         self.assertIsNone(self.lake.merge())
         self.assertIsNone(self.lake.merge(whole=False))
@@ -52,6 +54,11 @@ class Calls(InALake):
         self.assertEqual(list(self.lake.search(["oslo", "rome", "tiber"])), [Match(2, "stations", 2, "city"), Match(1, "rivers", 1, "name")])
         self.assertEqual(self.lake.drop("stations"), Dropped("stations", 5))
         self.assertEqual(len(self.lake.like("rivers", "name")), 0)
+        self.assertEqual(len(self.lake.search(["rome"])), 0)
+        self.assertEqual(list(self.lake.asof(4, ["rome"])), [Match(1, "stations", 2, "city")])
+        self.assertEqual(list(self.lake.asof(3, ["rome"])), [Match(1, "rivers", 2, "mouth"), Match(1, "stations", 2, "city")])
+        self.assertEqual(list(self.lake.asof(3, ["rome"], k=1)), [Match(1, "rivers", 2, "mouth")])
+        self.assertEqual(self.lake.asof(5, ["rome", "paris"]), PastAnswer(2, 5, 5, ()))
 
     def test_answers_are_those_of_a_plain_count(self):
         draw = random.Random(7)
@@ -124,6 +131,11 @@ class Refusals(InALake):
             (josie.TableRefused, lambda: self.lake.replace("stations", b"a,b\n1\n")),
             (josie.TableUnknown, lambda: self.lake.like("rivers", 1)),
             (josie.CountInvalid, lambda: self.lake.contain(["Oslo"], 2, 1)),
+            (josie.PositionUnknown, lambda: self.lake.asof(2, ["Oslo"])),
+            (josie.PositionUnknown, lambda: self.lake.asof(-1, ["Oslo"])),
+            (josie.PositionUnknown, lambda: self.lake.asof(4_294_967_296, ["Oslo"])),
+            (josie.CountInvalid, lambda: self.lake.asof(1, ["Oslo"], k=0)),
+            (josie.ValueInvalid, lambda: self.lake.asof(1, ["two\nlines"])),
             (josie.ColumnUnknown, lambda: self.lake.like("stations", 4)),
             (josie.ColumnUnknown, lambda: self.lake.like("stations", "town")),
             (josie.TableUnknown, lambda: self.lake.like("rivers", "mouth")),
@@ -162,6 +174,7 @@ class Refusals(InALake):
             ("refused repeated stations at 1", "a table named stations is live"),
             ("refused unknown rivers at 4", "no table named rivers is live"),
             ("refused column stations 9 at 2", "the table stations has no column 9"),
+            ("refused later 4 at 3", "the lake has no position 4 yet; its history ends at 3"),
             ("refused file missing", "there is no such file"),
             ("refused full tables 65536 more 1 at 65536", "the lake has 65,536 live tables, and 1 more are too many"),
             ("refused csv no-header", "it has no header"),
@@ -178,6 +191,7 @@ class Refusals(InALake):
         for error in [
             refusal("refused full tables 65536 more 1 at 65536"),
             refusal("refused csv record 2 field 1 not UTF-8"),
+            refusal("refused later 4 at 3"),
             josie.LakeEnded(-9, "killed"),
             josie.ShardFailed(2, "tcp://127.0.0.1:9", "its worker is gone"),
         ]:
@@ -195,6 +209,9 @@ class Refusals(InALake):
                 self.assertEqual(isinstance(reply, josie.Refused), " refused " in example or example.endswith(" no memory"))
         full = replies["65537 refused full tables 65536 more 1 at 65536"]
         self.assertEqual((type(full), full.what, full.count, full.more), (josie.LakeFull, "tables", 65536, 1))
+        later = replies["7 refused later 4 at 3"]
+        self.assertEqual((type(later), later.last), (josie.PositionUnknown, 3))
+        self.assertEqual(replies["9 answer 4 of 8 as of 6 at 8"], PastAnswer(8, 6, 8, ()))
         self.assertEqual(type(replies["4 no memory"]), josie.OutOfMemory)
         self.assertEqual(type(replies["1 refused query values"]), josie.QueryRefused)
         self.assertGreater(len(replies), 20)

@@ -2,7 +2,7 @@
 use Rattle.std.specs.Prelude.{ℕ, ◌≤◌, false, List, map, Option, Some, None}
 use Rattle.std.specs.List.{AllByRecursion}
 use Rattle.lake_model.specs.declared.Policy.{Policy}
-use Rattle.script_model.specs.Commands.{Command, command_with, Task, Load, LoadFile, DropTable, Replace, Tables, Search, Like, Contain, Merge, Batch}
+use Rattle.script_model.specs.Commands.{Command, command_with, Task, Load, LoadFile, DropTable, Replace, Tables, Search, Like, Contain, AsOf, Merge, Batch}
 use Rattle.record_model.specs.Answered.{policy_of}
 use Rattle.batch_work.specs.declared.work.Work.{Work}
 use Rattle.batch_work.specs.declared.work.Work.TheVariants as work
@@ -28,4 +28,5 @@ merge_policy Tables = None
 merge_policy (Search k body) = None
 merge_policy (Like k name place) = None
 merge_policy (Contain a b body) = None
+merge_policy (AsOf asked k body) = None
 merge_policy (Merge all) = Some (policy_of all)

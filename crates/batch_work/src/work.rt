@@ -96,6 +96,8 @@ fn has_pin(task: &Task) -> bool
         | Task::Drop { .. }
         | Task::Replace { .. }
         | Task::Tables => false,
+        // It sees the journal once, when it is answered.
+        Task::AsOf { .. } => false,
     }
 }
 
@@ -113,7 +115,8 @@ fn merge_policy(task: &Task) -> Option<Policy>
         | Task::Tables
         | Task::Search { .. }
         | Task::Like { .. }
-        | Task::Contain { .. } => None,
+        | Task::Contain { .. }
+        | Task::AsOf { .. } => None,
     }
 }
 

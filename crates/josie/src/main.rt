@@ -27,6 +27,8 @@ const HELP: &str = "josie run [--lanes N] [--order LIST] [--merge] [--trace] [--
                         of a live table, whose own columns are left out
     contain A B         finds all columns that hold at least A of B parts of the lines that follow, up
                         to a line `.`
+    asof A K            finds the K columns that shared the most values with the lines that follow, up
+                        to a line `.`, when the lake's history had A entries: the `at` of a reply
     merge               merges four adjacent parts of the index of one size, or else rewrites a part
                         half of whose tables were dropped or replaced
     merge all           merges the whole index into one part; no merge changes an answer

@@ -8,8 +8,8 @@ ghost use Rattle.reply_text.specs.Lines.{first_line};
 ghost use Rattle.run_record.specs.Replies.{reply_of};
 
 use crate::refusals::{
-    push_full, push_no_column, push_not_utf8, push_nothing_to_merge, push_query_not_utf8,
-    push_refused, push_repeated, push_stale, push_unequal, push_unknown,
+    push_full, push_later, push_no_column, push_not_utf8, push_nothing_to_merge,
+    push_query_not_utf8, push_refused, push_repeated, push_stale, push_unequal, push_unknown,
 };
 use crate::words::Word::{Number, Text};
 use crate::words::push_line;
@@ -94,6 +94,31 @@ fn push_found(
     push_line("", number, &words, into)
 }
 
+// `N answer R of Q as of A at P`
+fn push_past(
+    number: u64,
+    query: u32,
+    rows: &KeptRows,
+    asked: u64,
+    at: u64,
+    into: &mut Vec<u8>,
+) -> Result<(), NoMemory>
+    ensures ok { OnOk result (into.new.items ≡ into.old.items ++ first_line number (model.Past query rows.now asked at)) }
+    ensures kept { Keeps into.old.items into.new.items }
+{
+    let words = [
+        Text("answer"),
+        Number(rows.list().len() as u64),
+        Text("of"),
+        Number(u64::from(query)),
+        Text("as of"),
+        Number(asked),
+        Text("at"),
+        Number(at),
+    ];
+    push_line("", number, &words, into)
+}
+
 // `N merged F parts into K tables at P`
 fn push_merged(
     number: u64,
@@ -145,6 +170,12 @@ pub fn push_first_line(number: u64, reply: &Reply, into: &mut Vec<u8>) -> Result
             layout,
             ..
         } => push_found(number, *query, rows, layout, into),
+        Reply::Past {
+            query,
+            rows,
+            asked,
+            at,
+        } => push_past(number, *query, rows, *asked, *at, into),
         Reply::Merged {
             layout,
             parts,
@@ -176,6 +207,7 @@ pub fn push_first_line(number: u64, reply: &Reply, into: &mut Vec<u8>) -> Result
         Reply::QueryNotUtf8 { line } => push_query_not_utf8(number, *line, into),
         Reply::QueryTooLarge => push_refused(number, "query values", &[], into),
         Reply::NothingToMerge { layout } => push_nothing_to_merge(number, layout, into),
+        Reply::Later { asked, at } => push_later(number, *asked, *at, into),
         Reply::Stale { layout, gone, at } => push_stale(number, layout, *gone, *at, into),
         Reply::NoMemory => push_line("", number, &[Text("no memory")], into),
     }

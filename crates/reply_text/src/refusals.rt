@@ -155,6 +155,15 @@ pub fn push_nothing_to_merge(
     push_refused(number, "nothing to merge", &words, into)
 }
 
+/// Appends `N refused later A at P`.
+pub fn push_later(number: u64, asked: u64, at: u64, into: &mut Vec<u8>) -> Result<(), NoMemory>
+    ensures ok { OnOk result (into.new.items ≡ into.old.items ++ first_line number (model.Later asked at)) }
+    ensures kept { Keeps into.old.items into.new.items }
+{
+    let words = [Number(asked), Text("at"), Number(at)];
+    push_refused(number, "later", &words, into)
+}
+
 /// Appends `N refused stale part G at P`.
 pub fn push_stale(
     number: u64,

@@ -156,6 +156,24 @@ fn rows_are_lines_and_column_names_are_quoted(rt: HostRuntime) -> Result<(), Fai
 }
 
 #[test]
+fn a_search_of_the_past_shows_the_position_that_it_asked_for(rt: HostRuntime) -> Result<(), Fail> {
+    let alloc = rt.alloc();
+    let mut rows = Vec::new(alloc);
+    rows.push(row(alloc, 2, Name::read(b"t1").ok_or("no name")?, "city")?)?;
+    let past = Reply::Past {
+        query: 3,
+        rows: KeptRows::new(rows),
+        asked: 4,
+        at: 18446744073709551615,
+    };
+    let wanted = "7 answer 1 of 3 as of 4 at 18446744073709551615\n  2 t1 2 \"city\"\n";
+    traces(&rt, past, wanted)?;
+    let later = Reply::Later { asked: 10, at: 9 };
+    traces(&rt, later, "7 refused later 10 at 9\n")?;
+    Ok(())
+}
+
+#[test]
 fn a_drop_shows_its_name_and_a_list_its_tables(rt: HostRuntime) -> Result<(), Fail> {
     let name = Name::read(b"t1").ok_or("no name")?;
     let dropped = Reply::Dropped { name, at: 3 };

@@ -77,7 +77,7 @@ fn push_more_lines(reply: &Reply, into: &mut Vec<u8>) -> Result<(), NoMemory>
 {
     match reply {
         Reply::Listed { tables, .. } => push_tables(tables.list(), into),
-        Reply::Found { rows, .. } => push_rows(rows.list(), into),
+        Reply::Found { rows, .. } | Reply::Past { rows, .. } => push_rows(rows.list(), into),
         _ => Ok(()),
     }
 }
