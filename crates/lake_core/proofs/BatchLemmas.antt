@@ -98,7 +98,7 @@ pub batch_made : (keys : Keys) (count many : ℕ) (commands : List Command) (pie
     → made ≡ with_answers (answers_of (gathered commands (lists_of rest))) out''.made → final ≡ synced made
     → (denials : List Bool) × (final ≡ record_after out.made commands (play (rules_with keys catalogue.limits) (whole_order piece count (2 * many)) denials (play_of catalogue.journal lanes)))
 batch_made keys count many commands piece made final catalogue mid after past past' past'' lanes some rest out out' out'' first second gathers syncs =
-    let goes = goes_on piece (turns_each (2 * many) (range_with_len 1 count ++ 0 ∷ [])) (state_with catalogue past lanes out) (state_with mid past' some out') (state_with after rest out'') first second in
+    let goes = goes_on piece (turns_each (2 * many) (range_with_len 1 count ++ 0 ∷ [])) (state_with catalogue past lanes out) (state_with mid past' some out') (state_with after past'' rest out'') first second in
     let lists : map (λ (lane : Lane). lane.done) (map played rest) ≡ lists_of rest = map-map (λ (lane : Lane). lane.done) played rest in (
       goes.leads.0,
       syncs

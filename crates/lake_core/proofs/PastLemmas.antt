@@ -1,14 +1,22 @@
 -- What a timeline has taken of a journal, and what it takes then.
-use Rattle.std.proofs.Common.{◌≡◌, refl, ap, sym, ◌∙◌, subst, ℕ, ◌+◌, ◌^◌, ◌<◌, ◌≤◌, List, [], ◌∷◌, ◌++◌, append-nil, append_assoc, true, arith, cond, drop, length, length-append, lit<}
-use Rattle.std.specs.Prelude.{count_by}
+use Rattle.std.proofs.Common.{◌≡◌, refl, ap, sym, ◌∙◌, subst, ℕ, ◌+◌, ◌^◌, ◌<◌, ◌≤◌, List, [], ◌∷◌, ◌++◌, append-nil, append_assoc, Bool, true, false, arith, cond, drop, length, length-append, lit<, take, None, Option, Some, ◌⊎◌, inl, inr}
+use Rattle.std.specs.Prelude.{count_by, nat_lt}
 use Rattle.std.proofs.Math.Seq.{drop-append_seam}
 use Rattle.std.proofs.lemmas.List.Sums.{sum_by-cons}
 use mathlib.Core.List.{IsPrefix}
 use Rattle.lake_model.specs.declared.Counts.{Counts}
-use Rattle.lake_model.specs.Journal.{Dropped, Entry, Loaded, Replaced, Swapped, What, counts, entry_with, is_update, loads_of}
+use Rattle.asof_search.specs.declared.refusal.PastRefused.{PastRefused}
+use Rattle.asof_search.specs.declared.refusal.PastRefused.TheVariants as refused
+use Rattle.asof_search.specs.Refusals.{past_refusal}
+use Rattle.lake_model.specs.Answer.{answer}
+use Rattle.lake_model.specs.Texts.{Text}
+use Rattle.lake_model.specs.Journal.{Dropped, Entry, Loaded, Replaced, Swapped, What, counts, entry_with, is_update, live, loads_of}
 use Rattle.lake_model.specs.Layout.{is_legal}
 use Rattle.catalogue.specs.Kept.{IsWithin}
+use Rattle.record_model.specs.Replies.{Later, Past, past_reply}
 use Rattle.record_model.specs.Rules.{wide_limits}
+use Rattle.lake_core.specs.Pasts.{past_refusal_reply}
+use Rattle.lake_core.proofs.LoadLemmas.{Answers}
 
 -- nothing
 pub none_taken : (past journal : List Entry) → past ≡ [] → IsPrefix past journal
@@ -64,3 +72,26 @@ module _ (past journal entries : List Entry) (begins : IsPrefix past journal) (r
     caught_light =
         let small : 16777216 < 2 ^ 32 = lit< tt in
         omega (arith, small, ap (λ (j : List Entry). (counts j).members) caught, within.members, wide.members)
+
+-- ---- what is answered
+
+-- a position of which there is no pin
+pub past_refused : (keys : List Text) (asked k : ℕ) (journal : List Entry) (e : PastRefused) → ((e ≡ refused.NoMemory) × (past_refusal asked journal ≡ None)) ⊎ (past_refusal asked journal ≡ Some e)
+    → Answers (past_refusal_reply asked e) (past_reply keys asked k journal)
+past_refused keys asked k journal e (inl wanting) = (true, ap (past_refusal_reply asked) wanting.0)
+past_refused keys asked k journal e (inr late) = by (nat_lt (length journal) asked) late
+  where
+    by : (b : Bool) → cond b (Some (refused.Later (length journal))) None ≡ Some e
+        → Answers (past_refusal_reply asked e) (cond b (Later asked (length journal)) (Past (length keys) (answer (live (take asked journal)) keys k None) asked (length journal)))
+    by true h = let same : refused.Later (length journal) ≡ e = cc in (false, ap (past_refusal_reply asked) (sym same))
+    by false h = absurd (let none : None ≡ Some e = h in cc)
+
+-- a position of which there is one
+pub past_found : (keys : List Text) (asked k : ℕ) (journal : List Entry) → past_refusal asked journal ≡ None
+    → Past (length keys) (answer (live (take asked journal)) keys k None) asked (length journal) ≡ past_reply keys asked k journal
+past_found keys asked k journal none = by (nat_lt (length journal) asked) none
+  where
+    by : (b : Bool) → cond b (Some (refused.Later (length journal))) None ≡ None
+        → Past (length keys) (answer (live (take asked journal)) keys k None) asked (length journal) ≡ cond b (Later asked (length journal)) (Past (length keys) (answer (live (take asked journal)) keys k None) asked (length journal))
+    by true h = absurd (let some : Some (refused.Later (length journal)) ≡ None = h in cc)
+    by false h = refl
