@@ -3,7 +3,7 @@ use Rattle.std.proofs.Common.{◌≡◌, refl, ap, sym, ◌∙◌, subst, inl, i
 use Rattle.std.specs.Prelude.{bytes_eq, count_by}
 use Rattle.std.specs.Cmp.{IsTotalOrder}
 use Rattle.std.specs.Cmp.Lexicographic.{slice_cmp}
-use Rattle.std.specs.List.{All, AllByRecursion, IsDistinct, filter, slice_range, sum_by}
+use Rattle.std.specs.List.{All, AllByRecursion, IsDistinct, filter, sum_by}
 use Rattle.std.specs.List.Sorted.{IsNonDecreasingBy, IsPartitionPoint, IsSortedBy, IsSortedByKey}
 use Rattle.std.specs.Ordering.{is_lt, nat_cmp, ordering_then}
 use Rattle.std.specs.Cmp.{nat_cmp_is}
@@ -17,7 +17,7 @@ use Rattle.std.proofs.lemmas.List.Kept.{IsSortedBy-filter}
 use Rattle.std.proofs.lemmas.List.Sorted.{ranks_by, sorted_far, sum_by-IsPermutation, All-permutation}
 use Rattle.std.proofs.lemmas.List.Sums.{sum_by-cons}
 use Rattle.std.proofs.lemmas.Slice.Eq.{bytes_eq-Decides}
-use Rattle.list_laws.proofs.ListLemmas.{all_append, all_filter, all_passed, all_weaker, any_none, filter-append, filter_filter, filter_none}
+use Rattle.list_laws.proofs.ListLemmas.{all_append, all_filter, all_passed, all_weaker, any_none, filter-append, filter_filter}
 use Rattle.column_set.proofs.OverlapLemmas.{flipped}
 use Rattle.lake_model.specs.Texts.{Text}
 use Rattle.lake_model.specs.Tables.{has_key}

@@ -1,4 +1,4 @@
-use Rattle.std.proofs.Common.{◌≡◌, ◌<◌, ◌∙◌, ◌++◌, [], ℕ, List, ap, sym, arith, append-nil, length, take}
+use Rattle.std.proofs.Common.{◌≡◌, ◌∙◌, ◌++◌, ℕ, ap, sym, arith, append-nil, length, take}
 use Rattle.std.proofs.Math.Seq.{take-length}
 use Rattle.segment_core.specs.Hashes.{hash_of}
 use Rattle.column_watch.specs.Index.{keys_from}

@@ -1,4 +1,4 @@
-use Rattle.std.proofs.Common.{◌≡◌, ◌∙◌, ℕ, List, ap, sym, subst, filter, map, nat_eq}
+use Rattle.std.proofs.Common.{◌∙◌, ℕ, ap, sym, subst, filter, map, nat_eq}
 use Rattle.std.specs.Prelude.{bytes_eq}
 use Rattle.std.specs.Cmp.Lexicographic.{slice_cmp}
 use Rattle.std.specs.List.{AllByRecursion, IsDistinct}
@@ -6,7 +6,6 @@ use Rattle.std.specs.List.Sorted.{IsSortedByKey}
 use Rattle.std.specs.Ordering.{nat_cmp}
 use Rattle.std.proofs.lemmas.List.Elements.{recursion_from_All}
 use Rattle.list_laws.proofs.ListLemmas.{all_map}
-use Rattle.segment_core.specs.Hashes.{hash_of}
 use Rattle.column_watch.specs.Held.{StateOf}
 use Rattle.column_watch.specs.Index.{text_of}
 use Rattle.column_watch.specs.declared.holders.KeyAt.{KeyAt}

@@ -1,9 +1,6 @@
-use Rattle.std.proofs.Common.{◌≡◌, ◌∙◌, List, ap, subst, arith, length, map, rules}
+use Rattle.std.proofs.Common.{List, subst, rules}
 use Rattle.std.specs.List.Sorted.{IsPermutation}
-use Rattle.std.proofs.lemmas.List.{length-map}
-use Rattle.std.proofs.lemmas.List.Sorted.{length_permutation}
 use Rattle.column_set.proofs.KeyLemmas.{sorted_by_key}
-use Rattle.column_watch.specs.Index.{key_cmp}
 use Rattle.column_watch.specs.declared.holders.KeyAt.{KeyAt}
 use Rattle.column_watch.proofs.HolderLemmas.{keys_of}
 use Rattle.column_watch.proofs.IndexLemmas.{key_cmp_total}
