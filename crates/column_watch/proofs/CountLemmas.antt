@@ -1,20 +1,22 @@
 -- What is counted for each query and each column, and the rows that follow.
 use Rattle.std.proofs.Common.{◌≡◌, refl, ap, sym, ◌∙◌, subst, ℕ, zero, suc, ◌+◌, ◌-◌, ◌<◌, ◌≤◌, List, [], ◌∷◌, ◌++◌, Bool, true, false, length, get_or, arith, take, drop, map, replicate, nat_eq, Option, Some, None}
 use Rattle.std.specs.Prelude.{bytes_eq, count_by}
-use Rattle.std.specs.List.{All, IsDistinct}
+use Rattle.std.specs.List.{All, AllByRecursion, IsDistinct}
 use Rattle.std.specs.Global.{Vec}
 use Rattle.std.proofs.Math.Seq.{take-append_seam, take-suc}
 use Rattle.std.proofs.lemmas.Grind.{same_number_lists}
 use Rattle.std.proofs.lemmas.List.{get_or-map, length-map, map-append}
-use Rattle.std.proofs.lemmas.List.Elements.{All-map}
+use Rattle.std.proofs.lemmas.List.Elements.{All-from_recursion, All-map}
 use Rattle.std.proofs.lemmas.List.Sums.{sum_by-append, sum_by-cons}
+use Rattle.list_laws.proofs.ListLemmas.{all_unmap}
 use Rattle.column_set.proofs.OverlapLemmas.{overlap_both_ways}
 use Rattle.lake_model.specs.Texts.{Text}
 use Rattle.lake_model.specs.Tables.{Column, Table, Titles, has_key, keys_at, overlap, sets_of, titles_of}
 use Rattle.lake_model.specs.Answer.{Row, row_at, rows_from}
 use Rattle.lake_model.proofs.AnswerLemmas.{rows_from_skipped, rows_from_taken}
 use Rattle.column_watch.specs.Held.{HasColumns, IsColumn, IsCounted, holders_from}
-use Rattle.column_watch.proofs.HolderLemmas.{holders_count, once}
+use Rattle.column_watch.specs.declared.holders.KeyAt.{KeyAt}
+use Rattle.column_watch.proofs.HolderLemmas.{holders_count, holders_few, holders_within, once}
 
 pub count_more : {X : Type 0} (p : X → Bool) (xs : List X) (i : ℕ) (d : X) → i < length xs → count_by p (take (i + 1) xs) ≡ count_by p (take i xs) + once (p (get_or xs i d))
 count_more p xs i d h =
@@ -97,11 +99,28 @@ number_at counts table w keys i d h k e =
     let c : Column = record { name = []; keys = [] } in
     sym (get_or-map (λ (numbers : List ℕ). get_or numbers w 0) counts i d 0 k) ∙ ap (λ (us : List ℕ). get_or us i 0) e ∙ get_or-map (λ (column : Column). overlap keys column.keys) table.columns i c 0 h ∙ ap (overlap keys) (sym (column_keys table i c h))
 
+-- how often a query is among those of some keys
+count_mapped : (p : ℕ → Bool) (xs : List KeyAt) → count_by (λ at. p at.query) xs ≡ count_by p (map (λ at. at.query) xs)
+count_mapped p [] = refl
+count_mapped p (x ∷ xs) = omega (arith, sum_by-cons (λ (at : KeyAt). once (p at.query)) x xs, sum_by-cons (λ y. once (p y)) x.query (map (λ at. at.query) xs), count_mapped p xs)
+
+-- the queries that hold a key are some of the queries
+module _ (holders : List KeyAt) (queries : List (List Text)) (key : Text) (held : map (λ at. at.query) holders ≡ holders_from 0 queries key) where
+  pub few_holders : length holders ≤ length queries
+  few_holders = omega (arith, ap length held, length-map holders (λ at. at.query), holders_few 0 queries key)
+
+  pub holders_below : (n : ℕ) → length queries ≤ n → All (λ at. at.query < n) holders
+  holders_below n h =
+      All-from_recursion (λ at. at.query < n) holders
+      (all_unmap (λ w. w < n) (λ at. at.query) holders (subst (AllByRecursion (λ w. w < n)) (sym held) (holders_within 0 n queries key (omega (arith, h)))))
+
 -- one key more
-pub counted_more : (queries : List (List Text)) (keys : List Text) (i : ℕ) (key : Text) (olds news holders : List ℕ) → i < length keys → key ≡ get_or keys i [] → holders ≡ holders_from 0 queries key
-    → ((w : ℕ) → get_or olds w 0 ≡ count_by (has_key (get_or queries w [])) (take i keys)) → ((w : ℕ) → get_or news w 0 ≡ get_or olds w 0 + count_by (nat_eq w) holders) → (w : ℕ) → get_or news w 0 ≡ count_by (has_key (get_or queries w [])) (take (i + 1) keys)
+pub counted_more : (queries : List (List Text)) (keys : List Text) (i : ℕ) (key : Text) (olds news : List ℕ) (holders : List KeyAt) → i < length keys → key ≡ get_or keys i [] → map (λ at. at.query) holders ≡ holders_from 0 queries key
+    → ((w : ℕ) → get_or olds w 0 ≡ count_by (has_key (get_or queries w [])) (take i keys)) → ((w : ℕ) → get_or news w 0 ≡ get_or olds w 0 + count_by (λ at. nat_eq w at.query) holders)
+    → (w : ℕ) → get_or news w 0 ≡ count_by (has_key (get_or queries w [])) (take (i + 1) keys)
 counted_more queries keys i key olds news holders h e f before raised w =
-    let once_more : count_by (nat_eq w) holders ≡ once (has_key (get_or queries w []) (get_or keys i [])) = ap (count_by (nat_eq w)) f ∙ holders_count queries key w ∙ ap (λ k. once (has_key (get_or queries w []) k)) e in
+    let once_more : count_by (λ at. nat_eq w at.query) holders ≡ once (has_key (get_or queries w []) (get_or keys i [])) =
+    count_mapped (nat_eq w) holders ∙ ap (count_by (nat_eq w)) f ∙ holders_count queries key w ∙ ap (λ k. once (has_key (get_or queries w []) k)) e in
     omega (arith, raised w, before w, once_more, count_more (has_key (get_or queries w [])) keys i [] h)
 
 -- what is written over the whole of a list

@@ -17,7 +17,9 @@ use Rattle.lake_model.proofs.AnswerLemmas.{row_cmp_total}
 use Rattle.lake_model.proofs.LayoutLemmas.{live_more}
 use Rattle.lake_model.proofs.SortingLemmas.{length-in_order}
 use Rattle.column_watch.specs.Watching.{Tells, WatchOf, answer_of, before_last, rows_of, watch_at, watch_with}
-use Rattle.column_watch.specs.Held.{IsColumn, IsCounted, IsCurrent, IsKept, Settles, StateOf, gone_by, holders_from, put_by, ready, rows_left, rows_put, state_with, still, watch_of}
+use Rattle.column_watch.specs.Held.{IsColumn, IsCounted, IsCurrent, IsKept, Settles, StateOf, gone_by, put_by, ready, rows_left, rows_put, state_with, still, watch_of}
+use Rattle.column_watch.specs.Index.{IsIndexOf}
+use Rattle.column_watch.specs.declared.holders.KeyAt.{KeyAt}
 use Rattle.column_watch.proofs.CountLemmas.{is_column}
 use Rattle.column_watch.proofs.HolderLemmas.{keys_of}
 use Rattle.column_watch.proofs.OrderLemmas.{left_again}
@@ -113,8 +115,8 @@ same_maps f olds news n same =
     get_or-map f news k no_state d within ∙ same k no_state inside ∙ sym (get_or-map f olds k no_state d inside))
 
 -- the queries after all of them were prepared for an entry, and settled
-module _ (journal : List Entry) (entry : Entry) (table : Option Table) (gone : Option Text) (puts : table ≡ put_by entry.what) (takes : gone ≡ gone_by entry.what) (start prepared settled : List StateOf) (held : Text → List ℕ)
-    (few : length start ≤ 16) (current : All (IsCurrent journal) start) (indexed : (key : Text) → held key ≡ holders_from 0 (map (λ state. state.keys) start) key)
+module _ (journal : List Entry) (entry : Entry) (table : Option Table) (gone : Option Text) (puts : table ≡ put_by entry.what) (takes : gone ≡ gone_by entry.what) (start prepared settled : List StateOf) (held : List KeyAt)
+    (few : length start ≤ 16) (current : All (IsCurrent journal) start) (indexed : IsIndexOf (map (λ state. state.keys) start) held)
     (n : length prepared ≡ length start) (is_ready : (i : ℕ) (d : StateOf) → i < length start → get_or prepared i d ≡ ready (get_or start i d) (rows_put (get_or start i d).keys table))
     (m : length settled ≡ length prepared) (settles : (i : ℕ) (d : StateOf) → i < length prepared → Settles gone (get_or prepared i d) (get_or settled i d)) where
   same_keys : (i : ℕ) (d : StateOf) → i < length start → (get_or settled i d).keys ≡ (get_or start i d).keys
@@ -132,7 +134,7 @@ module _ (journal : List Entry) (entry : Entry) (table : Option Table) (gone : O
     current = λ i d h. let within : i < length start = omega (arith, h, n, m) in current_after journal entry (get_or start i d) (get_or prepared i d) (get_or settled i d) (current i d within)
         (is_ready i d within ∙ ap (λ (t : Option Table). ready (get_or start i d) (rows_put (get_or start i d).keys t)) puts)
         (subst (λ (g : Option Text). Settles g (get_or prepared i d) (get_or settled i d)) takes (settles i d (omega (arith, n, within))));
-    indexed = λ some key. indexed key ∙ ap (λ keys. holders_from 0 keys key) (sym (same_maps (λ state. state.keys) start settled (m ∙ n) same_keys));
+    indexed = λ some. subst (λ keys. IsIndexOf keys held) (sym (same_maps (λ state. state.keys) start settled (m ∙ n) same_keys)) indexed;
   }
 
 -- the queries while memory is taken for an entry
@@ -140,18 +142,18 @@ module _ (start prepared : List StateOf) (n : length prepared ≡ length start) 
   pub still_queries : map watch_of prepared ≡ map watch_of start
   still_queries = same_maps watch_of start prepared n (λ i d h. ap (λ (p : StateOf). watch_of p) (same i d h))
 
-  pub kept_still : (journal : List Entry) (held : Text → List ℕ) → length start ≤ 16 → All (IsCurrent journal) start → (0 < length journal → (key : Text) → held key ≡ holders_from 0 (map (λ state. state.keys) start) key) → IsKept journal prepared held
+  pub kept_still : (journal : List Entry) (held : List KeyAt) → length start ≤ 16 → All (IsCurrent journal) start → (0 < length journal → IsIndexOf (map (λ state. state.keys) start) held) → IsKept journal prepared held
   kept_still journal held few current indexed = record {
     few = omega (arith, few, n);
     current = λ i d h. let within : i < length start = omega (arith, h, n) in current_still journal (get_or start i d) (get_or prepared i d) (same i d within) (current i d within);
-    indexed = λ some key. indexed some key ∙ ap (λ keys. holders_from 0 keys key) (sym (same_maps (λ state. state.keys) start prepared n (λ i d h. ap (λ (p : StateOf). p.keys) (same i d h))));
+    indexed = λ some. subst (λ keys. IsIndexOf keys held) (sym (same_maps (λ state. state.keys) start prepared n (λ i d h. ap (λ (p : StateOf). p.keys) (same i d h)))) (indexed some);
   }
 
 -- a query by its number
 pub watch_of_number : (states : List StateOf) (w : ℕ) (d : StateOf) → w - 1 < length states → watch_at (map watch_of states) w ≡ watch_of (get_or states (w - 1) d)
 watch_of_number states w d h = get_or-map watch_of states (w - 1) d (watch_with [] 0) h
 
-module _ (journal : List Entry) (states : List StateOf) (held : Text → List ℕ) (w : ℕ) (state : StateOf) (h : IsKept journal states held) (low : 1 ≤ w) (high : w ≤ length states) (is : state ≡ get_or states (w - 1) state) where
+module _ (journal : List Entry) (states : List StateOf) (held : List KeyAt) (w : ℕ) (state : StateOf) (h : IsKept journal states held) (low : 1 ≤ w) (high : w ≤ length states) (is : state ≡ get_or states (w - 1) state) where
   of_number : watch_at (map watch_of states) w ≡ watch_of state
   of_number = watch_of_number states w state (omega arith) ∙ ap watch_of (sym is)
 
@@ -161,11 +163,11 @@ module _ (journal : List Entry) (states : List StateOf) (held : Text → List �
       ap length current.rows ∙ length-in_order row_cmp_total (rows_of journal (watch_of state)) ∙ ap (λ (v : WatchOf). length (rows_of journal v)) (sym of_number)
 
 -- one more query
-pub kept_more : (states : List StateOf) (held : Text → List ℕ) (keys : List Text) (k : ℕ) → IsKept [] states held → length states < 16 → IsDistinct bytes_eq keys → IsKept [] (states ++ state_with keys k [] [] [] false ∷ []) held
+pub kept_more : (states : List StateOf) (held : List KeyAt) (keys : List Text) (k : ℕ) → IsKept [] states held → length states < 16 → IsDistinct bytes_eq keys → IsKept [] (states ++ state_with keys k [] [] [] false ∷ []) held
 kept_more states held keys k h few d = record {
   few = omega (arith, few, length-append states (state_with keys k [] [] [] false ∷ []));
   current = All-push (IsCurrent []) states (state_with keys k [] [] [] false) h.current (current_first keys k d);
-  indexed = λ some key. absurd (omega (arith, some));
+  indexed = λ some. absurd (omega (arith, some));
 }
 
 -- ---- queries that are prepared one by one
@@ -206,10 +208,10 @@ module _ (table : Option Table) (counts : List (List ℕ)) (start now : List Sta
 
 -- ---- all queries, before and after an entry
 
-module _ (journal : List Entry) (states seen start prepared : List StateOf) (old held : Text → List ℕ) (h : IsKept journal states old) (sees : seen ≡ states) (starts : start ≡ states)
-    (indexed : (key : Text) → held key ≡ holders_from 0 (keys_of seen) key) (n : length prepared ≡ length start) where
-  start_indexed : (key : Text) → held key ≡ holders_from 0 (keys_of start) key
-  start_indexed key = indexed key ∙ ap (λ us. holders_from 0 (keys_of us) key) (sees ∙ sym starts)
+module _ (journal : List Entry) (states seen start prepared : List StateOf) (old held : List KeyAt) (h : IsKept journal states old) (sees : seen ≡ states) (starts : start ≡ states)
+    (indexed : IsIndexOf (keys_of seen) held) (n : length prepared ≡ length start) where
+  start_indexed : IsIndexOf (keys_of start) held
+  start_indexed = subst (λ (us : List StateOf). IsIndexOf (keys_of us) held) (sees ∙ sym starts) indexed
 
   start_few : length start ≤ 16
   start_few = omega (arith, h.few, ap length starts)
@@ -222,7 +224,7 @@ module _ (journal : List Entry) (states seen start prepared : List StateOf) (old
     pub refused_kept : IsKept entries after held
     refused_kept =
         subst (λ (us : List StateOf). IsKept entries us held) (sym is)
-        (subst (λ (es : List Entry). IsKept es prepared held) (sym stays) (kept_still start prepared n same journal held start_few start_current (λ some key. start_indexed key)))
+        (subst (λ (es : List Entry). IsKept es prepared held) (sym stays) (kept_still start prepared n same journal held start_few start_current (λ some. start_indexed)))
 
     pub refused_queries : map watch_of after ≡ map watch_of states
     refused_queries = ap (map watch_of) is ∙ still_queries start prepared n same ∙ ap (map watch_of) starts

@@ -1,15 +1,14 @@
 -- What is held of the watched queries beside the journal.
-use Rattle.std.specs.Prelude.{◌≡◌, ◌+◌, ◌<◌, ◌≤◌, ⊤, ℕ, Bool, not, List, [], ◌∷◌, ◌++◌, bytes_eq, filter, get_or, if◌then◌else◌, length, map, take, Option, Some, None, String}
-use Rattle.std.specs.Option.{option_map_or}
+use Rattle.std.specs.Prelude.{◌≡◌, ◌+◌, ◌<◌, ◌≤◌, ⊤, ℕ, Bool, not, List, [], ◌∷◌, ◌++◌, bytes_eq, filter, get_or, if◌then◌else◌, length, map, take, Option, Some, None}
 use Rattle.std.specs.List.{All, IsDistinct}
-use Rattle.std.specs.Global.{Global, Vec}
-use Rattle.std.specs.BTreeMap.{BTreeMap, get_by_text}
 use Rattle.lake_model.specs.Texts.{Text}
 use Rattle.lake_model.specs.Tables.{Table, has_key, overlap}
 use Rattle.lake_model.specs.Sorting.{in_order}
 use Rattle.lake_model.specs.Answer.{Row, row_cmp, rows_of_table}
 use Rattle.lake_model.specs.Journal.{Entry, What, Loaded, Dropped, Replaced, Swapped}
+use Rattle.column_watch.specs.Index.{IsIndexOf}
 use Rattle.column_watch.specs.Watching.{Tells, WatchOf, answer_of, before_last, rows_of, watch_with}
+use Rattle.column_watch.specs.declared.holders.KeyAt.{KeyAt}
 
 -- A watched query: its rows; the rows that an entry is about to put, and the first ones before it; and whether the last entry changed
 -- the first ones.
@@ -76,15 +75,11 @@ abbrev pub holders_from : ℕ → List (List Text) → Text → List ℕ
 holders_from n [] key = []
 holders_from n (keys ∷ queries) key = (if has_key keys key then n ∷ [] else []) ++ holders_from (n + 1) queries key
 
--- Each query is current; and once an entry was taken, each key is held by the queries that have it.
-pub record IsKept (journal : List Entry) (states : List StateOf) (held : Text → List ℕ) : Type 0 where
+-- Each query is current; and once an entry was taken, there is an index of the keys of all queries.
+pub record IsKept (journal : List Entry) (states : List StateOf) (index : List KeyAt) : Type 0 where
   pub few : length states ≤ 16
   pub current : All (IsCurrent journal) states
-  pub indexed : 0 < length journal → (key : Text) → held key ≡ holders_from 0 (map (λ state. state.keys) states) key
-
--- the queries that a map gives for a key
-abbrev pub held_by : BTreeMap (String Global) (Vec ℕ) → Text → List ℕ
-held_by holders key = option_map_or (λ list. list.items) (get_by_text holders key) []
+  pub indexed : 0 < length journal → IsIndexOf (map (λ state. state.keys) states) index
 
 -- how many keys each query shares with each column
 abbrev pub overlaps_of : List (List Text) → Table → List (List ℕ)

@@ -1,2 +1,3 @@
 pub mod Watching
 pub mod Held
+pub mod Index

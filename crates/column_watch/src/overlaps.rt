@@ -4,10 +4,11 @@ ghost use Rattle.std.specs.List.{All, IsDistinct};
 ghost use Rattle.lake_model.specs.Answer.{rows_of_table};
 ghost use Rattle.lake_model.specs.Tables.{keys_at, overlap as overlap_of};
 ghost use Rattle.lake_model.specs.Texts.{Text};
-ghost use Rattle.column_watch.specs.Held.{held_by, holders_from, overlaps_of};
+ghost use Rattle.column_watch.specs.Held.{overlaps_of};
+ghost use Rattle.column_watch.specs.Index.{IsIndexOf};
 
 use crate::held::Held;
-use crate::holders::{Holders, holders_of};
+use crate::holders::{Holders, KeyAt, holders_of};
 use crate::watched::Watched;
 use column_set::{Row, TableSets};
 use no_memory::NoMemory;
@@ -21,7 +22,7 @@ pub(crate) fn overlaps(
     table: &TableSets,
 ) -> Result<Vec<Vec<u32>>, NoMemory>
     requires few { length queries.now ≤ 16 }
-    requires indexed { (key : List ℕ) → held_by holders.now key ≡ holders_from 0 (map (λ state. state.keys) queries.now) key }
+    requires indexed { IsIndexOf (map (λ state. state.keys) queries.now) holders.now }
     requires different { All (λ state. IsDistinct bytes_eq state.keys) queries.now }
     ensures { IfOk result (λ overlaps. map (λ counts. counts.items) overlaps.items ≡ overlaps_of (map (λ state. state.keys) queries.now) table.now) }
 {
@@ -41,7 +42,7 @@ fn count_column(
     place: u32,
 ) -> Result<Vec<u32>, NoMemory>
     requires few { length queries.now ≤ 16 }
-    requires indexed { (key : List ℕ) → held_by holders.now key ≡ holders_from 0 (map (λ state. state.keys) queries.now) key }
+    requires indexed { IsIndexOf (map (λ state. state.keys) queries.now) holders.now }
     requires different { All (λ state. IsDistinct bytes_eq state.keys) queries.now }
     requires low { 0 < place }
     requires high { place ≤ length table.now.columns }
@@ -49,20 +50,23 @@ fn count_column(
 {
     let mut counts = vec![in alloc; 0u32; queries.len()]?;
     for i in 0..table.size(place) {
-        raise(&mut counts, holders_of(holders, table.key(place, i)));
+        raise(
+            &mut counts,
+            holders_of(holders, queries, table.key(place, i)),
+        );
     }
     Ok(counts)
 }
 
-// Raises the counts of these queries by one.
-fn raise(counts: &mut [u32], holders: &[u32])
-    requires within { All (λ w. w < length counts.old) holders.now }
+// Raises the counts of the queries of these keys by one.
+fn raise(counts: &mut [u32], holders: &[KeyAt])
+    requires within { All (λ at. at.query < length counts.old) holders.now }
     requires small { (w : ℕ) → get_or counts.old w 0 + length holders.now < 2 ^ 32 }
     ensures len { length counts.new ≡ length counts.old }
-    ensures raised { (w : ℕ) → get_or counts.new w 0 ≡ get_or counts.old w 0 + count_by (nat_eq w) holders.now }
+    ensures raised { (w : ℕ) → get_or counts.new w 0 ≡ get_or counts.old w 0 + count_by (λ at. nat_eq w at.query) holders.now }
 {
-    for w in holders {
-        counts[*w as usize] += 1;
+    for at in holders {
+        counts[at.query as usize] += 1;
     }
 }
 

@@ -1,7 +1,8 @@
 //! The watched queries of a lake.
-ghost use Rattle.std.specs.Prelude.{◌≡◌, ◌<◌, ◌≤◌, ◌+◌, ◌∷◌, ◌++◌, [], ℕ, List, bytes_eq, length, map, option_map, IfOk, OnErr, OnOk};
+ghost use Rattle.std.specs.Prelude.{◌≡◌, ◌<◌, ◌≤◌, ◌+◌, ◌∷◌, ◌++◌, [], bytes_eq, length, map, option_map, IfOk, OnErr, OnOk};
 ghost use Rattle.std.specs.List.{All, IsDistinct};
-ghost use Rattle.column_watch.specs.Held.{IsCounted, gone_by, held_by, holders_from, put_by};
+ghost use Rattle.column_watch.specs.Held.{IsCounted, gone_by, put_by};
+ghost use Rattle.column_watch.specs.Index.{IsIndexOf};
 ghost use Rattle.column_watch.specs.Watching.{Tells, answer_of, before_last, rows_of, watch_at, watch_with, watches_with};
 ghost use Rattle.catalogue.specs.Entries.{what_of};
 
@@ -13,7 +14,6 @@ use catalogue::{Entry, What};
 use column_set::{Name, QuerySet, Rows, TableSets};
 use no_memory::NoMemory;
 use std::alloc::Global;
-use std::collections::BTreeMap;
 use std::marker::Model;
 
 /// Up to 16 queries, whose answers are kept while the entries of a journal are taken one after another. A contract sees the entries that
@@ -32,13 +32,13 @@ pub struct Watches {
 impl Model for Watches {
     ghost use Rattle.std.specs.Prelude.{map};
     ghost use Rattle.column_watch.specs.Watching.{WatchesOf, watches_with};
-    ghost use Rattle.column_watch.specs.Held.{IsKept, held_by, watch_of};
+    ghost use Rattle.column_watch.specs.Held.{IsKept, watch_of};
 
     ghost Value = { WatchesOf };
 
     ghost view = { λ w. watches_with w.journal.items (map watch_of w.queries.items) };
 
-    ghost invariant = { λ w. IsKept w.journal.items w.queries.items (held_by w.holders) };
+    ghost invariant = { λ w. IsKept w.journal.items w.queries.items w.holders };
 }
 
 impl Watches {
@@ -50,7 +50,7 @@ impl Watches {
             alloc,
             journal: Vec::new(alloc),
             queries: Vec::new(alloc),
-            holders: BTreeMap::new(alloc),
+            holders: Holders::new(alloc),
         }
     }
 
@@ -141,7 +141,7 @@ impl Watches {
     }
 }
 
-// Makes the map of the keys before the first entry.
+// Puts the keys of the queries in order before the first entry.
 fn index_first(
     alloc: Global,
     holders: &mut Holders,
@@ -149,9 +149,9 @@ fn index_first(
     taken: usize,
 ) -> Result<(), NoMemory>
     requires few { length queries.now ≤ 16 }
-    requires indexed { 0 < taken → (key : List ℕ) → held_by holders.old key ≡ holders_from 0 (map (λ state. state.keys) queries.now) key }
-    ensures ok { OnOk result ((key : List ℕ) → held_by holders.new key ≡ holders_from 0 (map (λ state. state.keys) queries.now) key) }
-    ensures err { OnErr result (0 < taken → (key : List ℕ) → held_by holders.new key ≡ holders_from 0 (map (λ state. state.keys) queries.now) key) }
+    requires indexed { 0 < taken → IsIndexOf (map (λ state. state.keys) queries.now) holders.old }
+    ensures ok { OnOk result (IsIndexOf (map (λ state. state.keys) queries.now) holders.new) }
+    ensures err { OnErr result (0 < taken → IsIndexOf (map (λ state. state.keys) queries.now) holders.new) }
 {
     if taken == 0 {
         *holders = index_queries(alloc, queries)?;
@@ -188,7 +188,7 @@ fn counted(
     table: Option<&TableSets>,
 ) -> Result<Vec<Vec<u32>>, NoMemory>
     requires few { length queries.now ≤ 16 }
-    requires indexed { (key : List ℕ) → held_by holders.now key ≡ holders_from 0 (map (λ state. state.keys) queries.now) key }
+    requires indexed { IsIndexOf (map (λ state. state.keys) queries.now) holders.now }
     requires different { All (λ state. IsDistinct bytes_eq state.keys) queries.now }
     ensures { IfOk result (λ overlaps. IsCounted (option_map (λ table. table.now) table.entry) (map (λ state. state.keys) queries.now) (map (λ counts. counts.items) overlaps.items)) }
 {

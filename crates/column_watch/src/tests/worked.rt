@@ -102,3 +102,21 @@ fn replaces_and_a_merge(rt: HostRuntime) -> Result<(), Fail> {
     expect(&rt, &watches, 1, false, &[(1, "s", 1), (1, "t", 1)])?;
     Ok(())
 }
+
+// All keys but z share one hash, FNV-1a of 32 bits: each of them is told to its own queries alone.
+#[test]
+fn keys_of_one_hash(rt: HostRuntime) -> Result<(), Fail> {
+    let alloc = rt.alloc();
+    let bodies = [
+        "liquid\nbbfnvwgx\nbjupuneu\nbkdbefyq\nchdzyqte\n",
+        "costarring\ncugejptr\nbkdbefyq\ncxmykoub\n",
+        "z\n",
+    ];
+    let text = "c,c\nbkdbefyq,cybuhtxg\nliquid,cugejptr\ncostarring,dhqvtngf\n";
+    let mut watches = watch(alloc, bodies, 3)?;
+    take(&mut watches, load(alloc, "s", text))?;
+    expect(&rt, &watches, 1, true, &[(2, "s", 1)])?;
+    expect(&rt, &watches, 2, true, &[(2, "s", 1), (1, "s", 2)])?;
+    expect(&rt, &watches, 3, false, &[])?;
+    Ok(())
+}

@@ -1,9 +1,15 @@
-use Rattle.std.proofs.Common.{◌<◌, arith, length}
-use Rattle.column_watch.specs.Held.{held_by}
-use Rattle.column_watch.proofs.HolderLemmas.{index_more}
+use Rattle.std.proofs.Common.{List, subst, rules}
+use Rattle.std.specs.List.Sorted.{IsPermutation}
+use Rattle.column_set.proofs.KeyLemmas.{sorted_by_key}
+use Rattle.column_watch.specs.declared.holders.KeyAt.{KeyAt}
+use Rattle.column_watch.proofs.HolderLemmas.{keys_of}
+use Rattle.column_watch.proofs.IndexLemmas.{key_cmp_total}
 use Rattle.column_watch.proofs.holders.index_queries.Goals as goal
 
-pub loop-w-preserved : goal.loop-w-preserved
-loop-w-preserved c = λ q.
-    let within : c.loop-w.w < length c.args.queries.now = omega arith in
-    index_more c.args.queries.now c.loop-w.w q c.index-queries-w.result c.keys.result.now (held_by c.loop-w.holders q) (held_by c.add_query.new.holders q) within c.index-queries-w.is c.keys.ensures (c.loop-w.invariant q) (c.in_ok-add_query.ensures q)
+pub returns : goal.returns
+returns c =
+    let queries = keys_of c.args.queries.now in
+    record {
+      rising = sorted_by_key (key_cmp_total queries) (λ (a : KeyAt). a) c.sort_unstable_by.new.self.items c.sort_unstable_by.ensures.sorted (λ a r f' k. search rules);
+      same = subst (λ (ks : List KeyAt). IsPermutation ks c.sort_unstable_by.new.self.items) c.in_ok-keys.ensures.keys c.sort_unstable_by.ensures.permutation;
+    }

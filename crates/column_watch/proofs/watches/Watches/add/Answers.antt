@@ -2,13 +2,13 @@ use Rattle.std.proofs.Common.{◌≡◌, ◌<◌, ◌∙◌, ◌++◌, ◌∷◌
 use Rattle.std.proofs.lemmas.List.{length-map}
 use Rattle.lake_model.specs.Journal.{Entry}
 use Rattle.column_watch.specs.Watching.{WatchesOf}
-use Rattle.column_watch.specs.Held.{IsKept, StateOf, held_by, watch_of}
+use Rattle.column_watch.specs.Held.{IsKept, StateOf, watch_of}
 use Rattle.column_watch.proofs.StateLemmas.{kept_more}
 use Rattle.column_watch.proofs.watches.Watches.add.Goals as goal
 
 pub invariant_of-self-2 : goal.invariant_of-self-2
 invariant_of-self-2 c =
-    let held = held_by c.self.inside.holders in
+    let held = c.self.inside.holders in
     let states = c.self.inside.queries.items in
     let none : c.self.inside.journal.items ≡ [] = ap (λ (v : WatchesOf). v.journal) c.self.view_is ∙ c.requires.empty in
     let kept : IsKept [] states held = subst (λ (journal : List Entry). IsKept journal states held) none c.self.invariant in
