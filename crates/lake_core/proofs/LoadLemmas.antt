@@ -25,14 +25,13 @@ use Rattle.catalogue.specs.Refusals.{load_refusal, drop_refusal}
 use Rattle.catalogue.specs.Kept.{CatalogueOf, catalogue_with}
 use Rattle.script_model.specs.Commands.{Load}
 use Rattle.record_model.specs.Rules.{Rules}
-use Rattle.record_model.specs.Replies.{Reply, Fault, Loaded, Dropped, Unknown, Full, Repeated, OfCsv, OfSets, OfQuery, fault_reply, csv_reply, sets_reply, query_reply, load_reply, drop_reply, search_reply, unless_lake_full}
-use Rattle.record_model.specs.Answered.{TableRead, IsTable, QueryRead, IsQuery, NoQuery, table_read, query_read, records_read, sets_read, keys_read, load_answer, search_answer, loads, adds, is_accepted, standing}
+use Rattle.record_model.specs.Replies.{Reply, Fault, Loaded, Dropped, Unknown, Full, Repeated, OfCsv, OfSets, OfQuery, fault_reply, csv_reply, sets_reply, query_reply, load_reply, drop_reply, unless_lake_full}
+use Rattle.record_model.specs.Answered.{TableRead, IsTable, QueryRead, IsQuery, NoQuery, table_read, query_read, records_read, sets_read, keys_read, load_answer, loads, adds, is_accepted, standing}
 use Rattle.record_model.specs.Play.{reply_or_denied}
 use Rattle.record_model.specs.Record.{RunRecord}
 use Rattle.record_model.proofs.PlayLemmas.{fault_nowhere}
 use Rattle.lake_core.specs.Drops.{drop_refusal_reply, dropped_by}
 use Rattle.lake_core.specs.Loads.{IsRefusal, refusal_reply, loaded_by, with_added}
-use Rattle.record_model.proofs.LegalLemmas.{either_none}
 
 -- the reply is this one, or the one for want of memory
 abbrev pub Answers : Reply → Reply → Type 0

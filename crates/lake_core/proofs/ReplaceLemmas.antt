@@ -1,5 +1,5 @@
 -- What a replace is answered, from what its parts answer.
-use Rattle.std.proofs.Common.{◌≡◌, refl, ap, sym, ◌∙◌, ℕ, ◌+◌, List, [], ◌∷◌, length, true, false, cond, ◌⊎◌, inl, inr, Option, Some, None}
+use Rattle.std.proofs.Common.{◌≡◌, refl, ap, sym, ◌∙◌, ℕ, ◌+◌, List, [], length, true, false, cond, ◌⊎◌, inl, inr, Some, None}
 use Rattle.std.specs.Prelude.{find}
 use Rattle.lake_model.specs.declared.Who.{Who}
 use Rattle.lake_model.specs.declared.Counts.{Counts}

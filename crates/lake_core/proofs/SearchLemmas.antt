@@ -1,6 +1,6 @@
 -- What is answered at a pin is what the definitions answer at the journal of its version.
 use Rattle.std.proofs.Common.{◌≡◌, refl, ap, sym, ◌∙◌, ℕ, ◌-◌, ◌≤◌, List, length, map, Option, Some, None, Bool, true, false, cond, ◌⊎◌, inl, inr, arith}
-use Rattle.std.specs.Prelude.{count_by, find, nat_eq, not, slice_get}
+use Rattle.std.specs.Prelude.{find, nat_eq, slice_get}
 use Rattle.std.proofs.lemmas.Bool.Decides.{nat_tests}
 use Rattle.std.proofs.lemmas.Simd.{map-map}
 use Rattle.lake_model.specs.Answer.{Query, Row, answer}

@@ -1,7 +1,7 @@
 use Rattle.std.proofs.Common.{◌≡◌, ap, false, length, None, refl, subst, sym, take, ◌∙◌}
 use Rattle.lake_model.specs.Answer.{answer}
 use Rattle.lake_model.specs.Journal.{live}
-use Rattle.record_model.specs.Answered.{IsQuery, past_answer, query_read}
+use Rattle.record_model.specs.Answered.{past_answer, query_read}
 use Rattle.record_model.specs.Play.{reply_or_denied}
 use Rattle.record_model.specs.Replies.{Past, past_reply, query_reply}
 use Rattle.lake_core.proofs.LoadLemmas.{Answers, query_found, query_refused}
