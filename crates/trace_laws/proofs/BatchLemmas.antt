@@ -12,7 +12,7 @@ use Rattle.record_model.specs.Replies.{Reply}
 use Rattle.record_model.specs.Answered.{Standing, Nowhere, Saw, Added, PlannedAndSaw, PlannedAndAdded, standing, change_of, adds, is_accepted, TableRead, IsTable, NoTable, table_read, file_read, loads, replaces, swaps, policy_of}
 use Rattle.record_model.specs.Play.{Done, who_of}
 use Rattle.record_model.specs.Right.{Moment, moments, moments_by, Rises, entries_by, at_position, accepted, between}
-use Rattle.list_laws.proofs.ListLemmas.{all_append}
+use Rattle.list_laws.proofs.ListLemmas.{all_append, all_left, all_right}
 use Rattle.record_model.proofs.RightLemmas.{rises_le}
 use Rattle.trace_laws.specs.Checks.{AreEntered}
 use Rattle.trace_laws.proofs.OwnLemmas.{Pairs, Picks, Climbs, AreIn, AreOf, owned, picks_are, picks_few, picks_all}
@@ -156,13 +156,10 @@ are_lane lane (d ∷ done) = by (d.command.lane == lane) refl (are_lane lane don
 entered_lane : (rules : Rules) (journal : List Entry) (lane : ℕ) (done : List Done) → AreEntered journal (accepted rules journal done) → AreEntered journal (accepted rules journal (of_lane lane done))
 entered_lane rules journal lane [] h = tt
 entered_lane rules journal lane (d ∷ done) h =
-    let parts = split (entries_by rules journal d.command d.reply (standing d.reply)) (accepted rules journal done) h in
-    by (d.command.lane == lane) (entered_lane rules journal lane done parts.1) parts.0
+    let here : Pairs = entries_by rules journal d.command d.reply (standing d.reply) in
+    let later : Pairs = accepted rules journal done in
+    by (d.command.lane == lane) (entered_lane rules journal lane done (all_right (λ (a : ℕ × Entry). slice_get journal (a.0 - 1) ≡ Some a.1) here later h)) (all_left (λ (a : ℕ × Entry). slice_get journal (a.0 - 1) ≡ Some a.1) here later h)
   where
-    split : (ps qs : Pairs) → AreEntered journal (ps ++ qs) → AreEntered journal ps × AreEntered journal qs
-    split [] qs h = (tt, h)
-    split (p ∷ ps) qs h = let rest = split ps qs h.1 in ((h.0, rest.0), rest.1)
-
     by : (b : Bool) → AreEntered journal (accepted rules journal (of_lane lane done)) → AreEntered journal (entries_by rules journal d.command d.reply (standing d.reply))
         → AreEntered journal (accepted rules journal (cond b (d ∷ of_lane lane done) (of_lane lane done)))
     by true rest own = all_append (λ (a : ℕ × Entry). slice_get journal (a.0 - 1) ≡ Some a.1) (entries_by rules journal d.command d.reply (standing d.reply)) (accepted rules journal (of_lane lane done)) own rest

@@ -5,7 +5,9 @@ use Rattle.std.specs.List.{AllByRecursion, list_all, list_any, range_with_len}
 use Rattle.std.proofs.lemmas.Bool.{eq-eqb, eqb-true}
 use Rattle.std.proofs.lemmas.Bool.Decides.{nat_tests}
 use Rattle.std.specs.Prelude.{bytes_eq}
-use Rattle.std.proofs.lemmas.Slice.Eq.{bytes_eq-Decides}
+use Rattle.list_laws.proofs.ListLemmas.{both, same_texts, texts_same}
+use Rattle.std.proofs.lemmas.List.{take-map, drop-map, length-map}
+use Rattle.std.proofs.Math.Seq.{take-append_seam}
 use Rattle.record_model.specs.Rules.{Rules}
 use Rattle.lake_model.specs.Texts.{Text}
 use Rattle.lake_model.specs.Journal.{Entry}
@@ -26,15 +28,15 @@ use Rattle.trace_laws.specs.Rebuilt.{Hinted, hinted_with, stands_at, is_at, rebu
 use Rattle.trace_laws.specs.Named.{IsBatchNamed}
 use Rattle.trace_laws.specs.Verdict.{all_commands, hinted_zip, puts_one, counted, remade_of, hints_of, remade}
 use Rattle.trace_laws.specs.Passing.{same_standing, same_hint, tells, moments_of, lane_rises, batches_rise, is_apart, are_apart, is_filled, passes, verdict, RightPasses, VerdictDecides}
-use Rattle.trace_laws.proofs.TotalLemmas.{total, total_both, total_each, once, one_lane, none_above}
+use Rattle.trace_laws.proofs.TotalLemmas.{total, total_same, total_zero, total_both, total_each, once, one_lane, none_above}
 use Rattle.trace_laws.proofs.BatchLemmas.{of_lane}
 use Rattle.trace_laws.proofs.RecordLemmas.{checks_decide}
 use Rattle.trace_laws.proofs.RebuiltLemmas.{HasDone, Known, Tells, batches_tell, hint_at, hints_tell, IsOrdered}
 use Rattle.trace_laws.specs.Reading.{groups_of}
 use Rattle.trace_laws.proofs.LineLemmas.{text_grouped}
 use Rattle.trace_laws.proofs.NameLemmas.{right_named}
-use Rattle.trace_laws.proofs.VerdictLemmas.{reply_hint, zip_hints, map_take, map_drop, all_hinted, sizes, counts_from, size_map, hints_decide, hints_found, IsLow}
-use Rattle.trace_laws.proofs.PassingLemmas.{begins, take_begun, lane_moments, RiseFrom, Stood, stood_from, passing_is_right, both_true}
+use Rattle.trace_laws.proofs.VerdictLemmas.{reply_hint, zip_hints, all_hinted, sizes, counts_from, hints_decide, hints_found, IsLow}
+use Rattle.trace_laws.proofs.PassingLemmas.{begins, lane_moments, RiseFrom, Stood, stood_from, passing_is_right}
 
 -- ---- positions
 
@@ -53,7 +55,7 @@ rise_checked rules lanes merge next journal from (batch ∷ batches) (sync ∷ s
     let now : List Answered = take (length commands) answers in
     let done : List Done = dones commands now in
     let hinted : List Hinted = hinted_zip commands (take (length commands) (map reply_hint answers)) in
-    let same : hinted_of done ≡ hinted = zip_hints commands now ∙ ap (hinted_zip commands) (map_take reply_hint (length commands) answers) in
+    let same : hinted_of done ≡ hinted = zip_hints commands now ∙ ap (hinted_zip commands) (sym (take-map reply_hint (length commands) answers)) in
     let many = h.0.many in
     let here : length (accepted rules journal done) ≡ counted (hinted_of done) = sizes rules journal done h.0.again in
     let counts : counted (hinted_of done) ≡ counted hinted = ap counted same in
@@ -65,7 +67,7 @@ rise_checked rules lanes merge next journal from (batch ∷ batches) (sync ∷ s
     let rest : RiseFrom lanes merge (next + updates batch) sync batches (drop (length commands) answers) = rise_checked rules lanes merge (next + updates batch) journal sync batches syncs (drop (length commands) answers) h.1 in
     ap (λ (b : Bool). b && batches_rise lanes merge (next + updates batch) (from + counted hinted) batches (drop (length commands) (map reply_hint answers))) (all_in_range (lane_rises hinted from (from + counted hinted)) 0 (lanes + 1) lane)
     ∙ ap (λ (n : ℕ). batches_rise lanes merge (next + updates batch) n batches (drop (length commands) (map reply_hint answers))) (sym sync_is)
-    ∙ ap (batches_rise lanes merge (next + updates batch) sync batches) (sym (map_drop reply_hint (length commands) answers)) ∙ rest
+    ∙ ap (batches_rise lanes merge (next + updates batch) sync batches) (drop-map reply_hint (length commands) answers) ∙ rest
 
 -- ---- each position is filled
 
@@ -96,18 +98,10 @@ shift k l = by (k == l) refl
     by true e = eq-eqb (suc k) (suc l) (ap suc (eqb-true k l e))
     by false e = grind (arith, nat_tests, e)
 
-total_few : (f g : ℕ → ℕ) (n : ℕ) → ((l : ℕ) → f l ≡ g l) → total f n ≡ total g n
-total_few f g zero e = e 0
-total_few f g (suc n) e = omega (arith, total_few f g n e, e (suc n))
-
-total_none : (f : ℕ → ℕ) (n : ℕ) → ((l : ℕ) → f l ≡ 0) → total f n ≡ 0
-total_none f zero e = e 0
-total_none f (suc n) e = omega (arith, total_none f n e, e (suc n))
-
 one_position : (at n : ℕ) → total (λ l. once 1 (at == suc l)) n ≤ 1
-one_position zero n = let none = total_none (λ l. once 1 (0 == suc l)) n (λ l. let e : (0 == suc l) ≡ false = grind (arith, nat_tests) in ap (once 1) e) in omega (arith, none)
+one_position zero n = let none = total_zero (λ l. once 1 (0 == suc l)) n (λ l. let e : (0 == suc l) ≡ false = grind (arith, nat_tests) in ap (once 1) e) in omega (arith, none)
 one_position (suc k) n =
-    let same = total_few (λ l. once 1 (suc k == suc l)) (λ l. once 1 (k == l)) n (λ l. ap (once 1) (shift k l)) in
+    let same = total_same (λ l. once 1 (suc k == suc l)) (λ l. once 1 (k == l)) n (λ l. ap (once 1) (shift k l)) in
     by (nat_le k n) refl same
   where
     by : (b : Bool) → nat_le k n ≡ b → total (λ l. once 1 (suc k == suc l)) n ≡ total (λ l. once 1 (k == l)) n → total (λ l. once 1 (suc k == suc l)) n ≤ 1
@@ -115,15 +109,15 @@ one_position (suc k) n =
     by false e same = omega (arith, same, none_above k 1 n (grind (arith, nat_tests, e)))
 
 one_hint : (hint : Hint) (n : ℕ) → total (λ l. once 1 (is_at (suc l) hint)) n ≤ puts_one hint
-one_hint Wanting n = let e = total_none (λ l. 0) n (λ l. refl) in omega (arith, e)
-one_hint (Stands Nowhere) n = let e = total_none (λ l. 0) n (λ l. refl) in omega (arith, e)
-one_hint (Stands (Saw at)) n = let e = total_none (λ l. 0) n (λ l. refl) in omega (arith, e)
+one_hint Wanting n = let e = total_zero (λ l. 0) n (λ l. refl) in omega (arith, e)
+one_hint (Stands Nowhere) n = let e = total_zero (λ l. 0) n (λ l. refl) in omega (arith, e)
+one_hint (Stands (Saw at)) n = let e = total_zero (λ l. 0) n (λ l. refl) in omega (arith, e)
 one_hint (Stands (Added at)) n = one_position at n
-one_hint (Stands (PlannedAndSaw pinned at)) n = let e = total_none (λ l. 0) n (λ l. refl) in omega (arith, e)
+one_hint (Stands (PlannedAndSaw pinned at)) n = let e = total_zero (λ l. 0) n (λ l. refl) in omega (arith, e)
 one_hint (Stands (PlannedAndAdded pinned at)) n = one_position at n
 
 total_counted : (hinted : List Hinted) (n : ℕ) → total (λ l. count_at (suc l) hinted) n ≤ counted hinted
-total_counted [] n = let e = total_none (λ l. 0) n (λ l. refl) in omega (arith, e)
+total_counted [] n = let e = total_zero (λ l. 0) n (λ l. refl) in omega (arith, e)
 total_counted (h ∷ hinted) n =
     let both = total_both (λ l. count_at (suc l) (h ∷ hinted)) (λ l. once 1 (is_at (suc l) h.hint)) (λ l. count_at (suc l) hinted) n (λ l. refl) in
     omega (arith, both, one_hint h.hint n, total_counted hinted n)
@@ -148,7 +142,7 @@ filled_at hinted zero l h below = absurd (omega (arith, below))
 filled_at hinted (suc n) l h below = by (l == n) refl (filled_at hinted n l k.1)
   where
     k : (list_any (λ (h : Hinted). is_at (suc n) h.hint) hinted ≡ true) × (is_filled hinted n ≡ true)
-    k = both_true (list_any (λ (h : Hinted). is_at (suc n) h.hint) hinted) (is_filled hinted n) h
+    k = both (list_any (λ (h : Hinted). is_at (suc n) h.hint) hinted) (is_filled hinted n) h
 
     by : (b : Bool) → (l == n) ≡ b → (l < n → list_any (λ (h : Hinted). is_at (suc l) h.hint) hinted ≡ true) → list_any (λ (h : Hinted). is_at (suc l) h.hint) hinted ≡ true
     by true e rest = subst (λ (m : ℕ). list_any (λ (h : Hinted). is_at (suc m) h.hint) hinted ≡ true) (sym (eqb-true l n e)) k.0
@@ -248,7 +242,7 @@ right_passes rules options batches made of right =
     let count : counted (hinted_of done) ≡ size = ap counted zipped in
     let long : length made.journal ≡ size = omega (arith, counts.size, count) in
     let journal_is : made.journal ≡ journal = sym told.0 ∙ ap (λ (n : ℕ). rebuilt rules (hinted_of done) n) long ∙ ap (λ (hs : List Hinted). rebuilt rules hs size) zipped in
-    let enough : length hints ≡ length commands = size_map reply_hint made.answers ∙ counts.answers_are in
+    let enough : length hints ≡ length commands = length-map made.answers reply_hint ∙ counts.answers_are in
     let rise : RiseFrom options.lanes options.merge 1 0 batches made.answers = rise_checked rules options.lanes options.merge 1 made.journal 0 batches made.syncs made.answers checked.each in
     let stood : AllByRecursion (Stood size) done = stood_from options.lanes options.merge 1 0 size batches made.answers of rise (omega (arith, count)) in
     let filled : is_filled (hinted_of done) size ≡ true = all_filled rules made.journal done size knows (omega (arith, long)) in
@@ -261,22 +255,16 @@ right_passes rules options batches made of right =
 
 -- ---- the verdict
 
-bytes_self : (xs : Text) → bytes_eq xs xs ≡ true
-bytes_self xs = (bytes_eq-Decides xs xs).1 refl
-
-bytes_same : (xs ys : Text) → bytes_eq xs ys ≡ true → xs ≡ ys
-bytes_same xs ys h = (bytes_eq-Decides xs ys).0 h
-
 pub verdict_decides : VerdictDecides
 verdict_decides rules options batches trace of names traced few = (
   (λ h.
       let hints : List Hint = hints_of batches options.merge trace in
-      let k = both_true (passes rules options batches hints) (bytes_eq (text (remade_of rules options batches hints)) trace) h in
+      let k = both (passes rules options batches hints) (bytes_eq (text (remade_of rules options batches hints)) trace) h in
       record {
         right = passing_is_right rules options batches hints of k.0;
         options_are = refl;
         ended = refl;
-        is = bytes_same (text (remade_of rules options batches hints)) trace k.1;
+        is = same_texts (text (remade_of rules options batches hints)) trace k.1;
       }),
   (λ made is.
       let hints : List Hint = hints_of batches options.merge trace in
@@ -285,7 +273,7 @@ verdict_decides rules options batches trace of names traced few = (
       let best = hints_decide rules options batches trace made of names traced few is in
       let passing : passes rules options batches hints ≡ true = ap (passes rules options batches) found ∙ right_passes rules options batches made of is.right in
       ap (λ (b : Bool). b && bytes_eq (text (remade_of rules options batches hints)) trace) passing
-      ∙ ap (λ (t : Text). bytes_eq t trace) best.1.is ∙ bytes_self trace),
+      ∙ ap (λ (t : Text). bytes_eq t trace) best.1.is ∙ texts_same trace trace refl),
 )
 
 -- ---- what the code of a checker stands on
@@ -305,4 +293,4 @@ rebuilt_front rules hinted size n le long =
     let k : ℕ = size - n in
     let e : size ≡ k + n = omega (arith, le) in
     let rest = begins rules hinted n k in
-    ap (λ (m : ℕ). take n (rebuilt rules hinted m)) e ∙ ap (take n) rest.1 ∙ ap (λ (m : ℕ). take m (rebuilt rules hinted n ++ rest.0)) (sym long) ∙ take_begun (rebuilt rules hinted n) rest.0
+    ap (λ (m : ℕ). take n (rebuilt rules hinted m)) e ∙ ap (take n) rest.1 ∙ ap (λ (m : ℕ). take m (rebuilt rules hinted n ++ rest.0)) (sym long) ∙ take-append_seam (rebuilt rules hinted n) rest.0

@@ -20,7 +20,7 @@ use Rattle.record_model.specs.Replies.{Reply, Loaded, Dropped, Replaced, Listed,
 use Rattle.record_model.specs.Texts.{spaced, listed, hexadecimal, escaped_byte, quoted, position_text, part_text, parts_text, layout_line, work_line, which_text, reply_words, table_line, row_line, more_lines, trace_lines, command_text, answer_lines, written_lines, what_words, entry_line, journal_lines, answers_text, journal_text, text}
 use Rattle.script_model.specs.Words.{line_text}
 use Rattle.script_model.proofs.LinesLemmas.{lines_whole}
-use Rattle.list_laws.proofs.ListLemmas.{all_append}
+use Rattle.list_laws.proofs.ListLemmas.{all_append, all_of, all_weaker}
 use Rattle.trace_laws.specs.Reading.{is_clean, IsName, is_first, Groups, groups_with, onto_groups, grouped, groups_of}
 use Rattle.trace_laws.specs.Named.{IsReplyNamed, IsWhatNamed, IsRecordNamed}
 use Rattle.trace_laws.proofs.TextLemmas.{clean_decimal, some_decimal, clean_command}
@@ -73,13 +73,9 @@ whole_spaced : (words : List Text) → AreWhole words → is_whole (spaced words
 whole_spaced [] h = refl
 whole_spaced (w ∷ words) h = whole_append w (flat_map (λ (y : Text). (0x20 ∷ []) ++ y) words) h.0 (whole_joined (λ (y : Text). y) (0x20 ∷ []) words refl h.1)
 
-all_of : {X : Type 0} (f : X → Text) (each : (x : X) → is_whole (f x) ≡ true) (xs : List X) → AllByRecursion (λ x. is_whole (f x) ≡ true) xs
-all_of f each [] = tt
-all_of f each (x ∷ xs) = (each x, all_of f each xs)
-
 whole_listed : (ns : List ℕ) → is_whole (listed decimal ns) ≡ true
 whole_listed [] = refl
-whole_listed (n ∷ ns) = whole_append (decimal n) (flat_map (λ (m : ℕ). (0x2C ∷ []) ++ decimal m) ns) (whole_decimal n) (whole_joined decimal (0x2C ∷ []) ns refl (all_of decimal whole_decimal ns))
+whole_listed (n ∷ ns) = whole_append (decimal n) (flat_map (λ (m : ℕ). (0x2C ∷ []) ++ decimal m) ns) (whole_decimal n) (whole_joined decimal (0x2C ∷ []) ns refl (all_of (λ x. is_whole (decimal x) ≡ true) ns whole_decimal))
 
 -- ---- a column's name
 
@@ -130,7 +126,7 @@ whole_part part = whole_append (decimal part.0) (0x3A ∷ join_by position_text 
   where
     places : (ps : List (ℕ × Bool)) → is_whole (join_by position_text (0x2C ∷ []) ps) ≡ true
     places [] = refl
-    places (p ∷ ps) = whole_append (position_text p) (flat_map (λ (q : ℕ × Bool). (0x2C ∷ []) ++ position_text q) ps) (whole_position p) (whole_joined position_text (0x2C ∷ []) ps refl (all_of position_text whole_position ps))
+    places (p ∷ ps) = whole_append (position_text p) (flat_map (λ (q : ℕ × Bool). (0x2C ∷ []) ++ position_text q) ps) (whole_position p) (whole_joined position_text (0x2C ∷ []) ps refl (all_of (λ x. is_whole (position_text x) ≡ true) ps whole_position))
 
 whole_parts : (parts : List (ℕ × List (ℕ × Bool))) → AreWhole (parts_text parts)
 whole_parts [] = (refl, tt)
@@ -287,15 +283,14 @@ journal_grouped entries h =
 
 -- ---- the whole text
 
+more_whole : (lines : List Text) → AreMore lines → AllByRecursion NoFeed lines
+more_whole lines h = all_weaker (λ (l : Text). (is_whole l ≡ true) × (is_first l ≡ false)) NoFeed lines (λ l k. no_feed l k.0) h
+
 answer_whole : (a : Answered) → IsReplyNamed a.reply → AllByRecursion NoFeed (answer_lines true a)
 answer_whole a named = (
   no_feed (spaced (command_text a.who ∷ reply_words a.reply)) (whole_spaced (command_text a.who ∷ reply_words a.reply) (clean_whole (command_text a.who) (clean_command a.who), whole_words a.reply named)),
   more_whole (more_lines a.reply ++ trace_lines a.reply) (reply_more a.reply named),
 )
-  where
-    more_whole : (lines : List Text) → AreMore lines → AllByRecursion NoFeed lines
-    more_whole [] h = tt
-    more_whole (l ∷ lines) h = (no_feed l h.0.0, more_whole lines h.1)
 
 answers_whole : (answers : List Answered) → AllByRecursion (λ (a : Answered). IsReplyNamed a.reply) answers → AllByRecursion NoFeed (flat_map (answer_lines true) answers)
 answers_whole [] h = tt
@@ -306,10 +301,6 @@ journal_whole entries h = (
   no_feed (spaced (codes "journal" ∷ decimal (length entries) ∷ [])) (whole_spaced (codes "journal" ∷ decimal (length entries) ∷ []) (refl, (whole_decimal (length entries), tt))),
   more_whole (map entry_line (enumerate_from 1 entries)) (entries_more 1 entries h),
 )
-  where
-    more_whole : (lines : List Text) → AreMore lines → AllByRecursion NoFeed lines
-    more_whole [] h = tt
-    more_whole (l ∷ lines) h = (no_feed l h.0.0, more_whole lines h.1)
 
 written_all : (answers : List Answered) → flat_map (written_lines true) answers ≡ flat_map (answer_lines true) answers
 written_all [] = refl

@@ -3,13 +3,14 @@ use Rattle.std.proofs.Common.{◌+◌, ◌≤◌, ◌≡◌, refl, ap, sym, ◌�
 use Rattle.std.specs.Prelude.{◌==◌, ◌&&◌, nat_le, filter, get_or, replicate, slice_set, Option, Some, None}
 use Rattle.std.specs.List.{AllByRecursion, list_all}
 use Rattle.std.proofs.lemmas.Bool.{eq-eqb, eqb-true}
-use Rattle.std.proofs.lemmas.Bool.Decides.{nat_tests}
+use Rattle.list_laws.proofs.ListLemmas.{both, not_both}
+use Rattle.std.proofs.lemmas.List.{get_or-set_same, get_or-set_other, length-set, length-replicate, get_or-replicate}
 use Rattle.record_model.specs.Right.{Moment}
 use Rattle.trace_laws.specs.Checks.{is_behind, rises}
 use Rattle.trace_laws.specs.Rebuilt.{Hinted}
 use Rattle.trace_laws.specs.Passing.{lane_rises, moments_of}
 use Rattle.trace_laws.specs.Lows.{PassIsTest, climbed, with_low, lows_on, all_below, rises_on, PassDecides}
-use Rattle.trace_laws.proofs.PassingLemmas.{both_true, in_range}
+use Rattle.trace_laws.proofs.PassingLemmas.{in_range}
 use Rattle.trace_laws.proofs.DecidingLemmas.{all_in_range}
 
 -- ---- one lane goes on
@@ -28,27 +29,13 @@ rises_split low (m ∷ ms) ns to = by (is_behind m.own low m.at) (rises_split m.
 
 -- ---- the list of lows
 
-set_same : (lows : List ℕ) (l low : ℕ) → l < length lows → get_or (slice_set lows l low) l 0 ≡ low
-set_same [] l low h = absurd (omega (arith, h))
-set_same (x ∷ lows) zero low h = refl
-set_same (x ∷ lows) (suc l) low h = set_same lows l low (omega (arith, h))
-
 set_other : (lows : List ℕ) (m l low : ℕ) → (m == l) ≡ false → get_or (slice_set lows m low) l 0 ≡ get_or lows l 0
-set_other [] m l low e = refl
-set_other (x ∷ lows) zero zero low e = absurd (let f : (0 == 0) ≡ false = e in cc)
-set_other (x ∷ lows) zero (suc l) low e = refl
-set_other (x ∷ lows) (suc m) zero low e = refl
-set_other (x ∷ lows) (suc m) (suc l) low e = set_other lows m l low (let z : (m == l) ≡ false = grind (arith, nat_tests, e) in z)
-
-set_size : (lows : List ℕ) (l low : ℕ) → length (slice_set lows l low) ≡ length lows
-set_size [] l low = refl
-set_size (x ∷ lows) zero low = refl
-set_size (x ∷ lows) (suc l) low = ap suc (set_size lows l low)
+set_other lows m l low e = get_or-set_other lows m l low 0 (λ same. not_both ⊥ (m == l) (eq-eqb m l (sym same)) e)
 
 all_low : (to : ℕ) (lows : List ℕ) (l : ℕ) → list_all (λ low. nat_le low to) lows ≡ true → l < length lows → nat_le (get_or lows l 0) to ≡ true
 all_low to [] l h below = absurd (omega (arith, below))
-all_low to (x ∷ lows) zero h below = (both_true (nat_le x to) (list_all (λ low. nat_le low to) lows) h).0
-all_low to (x ∷ lows) (suc l) h below = all_low to lows l (both_true (nat_le x to) (list_all (λ low. nat_le low to) lows) h).1 (omega (arith, below))
+all_low to (x ∷ lows) zero h below = (both (nat_le x to) (list_all (λ low. nat_le low to) lows) h).0
+all_low to (x ∷ lows) (suc l) h below = all_low to lows l (both (nat_le x to) (list_all (λ low. nat_le low to) lows) h).1 (omega (arith, below))
 
 low_all : (to : ℕ) (lows : List ℕ) → ((l : ℕ) → l < length lows → nat_le (get_or lows l 0) to ≡ true) → list_all (λ low. nat_le low to) lows ≡ true
 low_all to [] h = refl
@@ -70,7 +57,7 @@ own_goes : (h : Hinted) (hinted : List Hinted) (lows : List ℕ) (to lane low : 
     → rises_on (h ∷ hinted) lows to lane ≡ rises_on hinted (slice_set lows h.command.lane low) to lane
 own_goes h hinted lows to lane low e below c =
     let same : h.command.lane ≡ lane = eqb-true h.command.lane lane e in
-    let at : get_or (slice_set lows h.command.lane low) lane 0 ≡ low = ap (λ (m : ℕ). get_or (slice_set lows m low) lane 0) same ∙ set_same lows lane low below in
+    let at : get_or (slice_set lows h.command.lane low) lane 0 ≡ low = ap (λ (m : ℕ). get_or (slice_set lows m low) lane 0) same ∙ get_or-set_same lows lane low 0 below in
     ap (λ (ms : List Moment). rises (get_or lows lane 0) ms to) (own_first h hinted lane e)
     ∙ ap (λ (m : ℕ). rises (get_or lows m 0) (moments_of h.hint ++ mine hinted lane) to) (sym same)
     ∙ rises_split (get_or lows h.command.lane 0) (moments_of h.hint) (mine hinted lane) to
@@ -102,7 +89,7 @@ pass_sound to lows (x ∷ hinted) h lane below = by (climbed (get_or lows x.comm
         → ((low : ℕ) → all_below to (lows_on (Some (slice_set lows x.command.lane low)) hinted) ≡ true → (l : ℕ) → l < length (slice_set lows x.command.lane low) → rises_on hinted (slice_set lows x.command.lane low) to l ≡ true)
         → rises_on (x ∷ hinted) lows to lane ≡ true
     by None e h rest = absurd (none_on to hinted h)
-    by (Some low) e h rest = each_goes x hinted lows to lane low below e ∙ rest low h lane (let size = set_size lows x.command.lane low in omega (arith, size, below))
+    by (Some low) e h rest = each_goes x hinted lows to lane low below e ∙ rest low h lane (let size = length-set lows x.command.lane low in omega (arith, size, below))
 
 pass_complete : (to : ℕ) (lows : List ℕ) (hinted : List Hinted) → AllByRecursion (λ (h : Hinted). h.command.lane < length lows) hinted → ((lane : ℕ) → lane < length lows → rises_on hinted lows to lane ≡ true) → all_below to (lows_on (Some lows) hinted) ≡ true
 pass_complete to lows [] within h = low_all to lows h
@@ -123,7 +110,7 @@ pass_complete to lows (x ∷ hinted) within h = by (climbed (get_or lows x.comma
         let well = h x.command.lane within.0 in
         cc
     by (Some low) e rest =
-        let size = set_size lows x.command.lane low in
+        let size = length-set lows x.command.lane low in
         rest low (there (length lows) hinted (length (slice_set lows x.command.lane low)) (sym size) within.1)
         (λ l below. sym (each_goes x hinted lows to l low (omega (arith, size, below)) e) ∙ h l (omega (arith, size, below)))
 
@@ -134,15 +121,6 @@ pass_decides lanes to lows hinted size within =
 
 -- ---- a batch from its start
 
-get_replicate : (n from l : ℕ) → l < n → get_or (replicate n from) l 0 ≡ from
-get_replicate zero from l h = absurd (omega (arith, h))
-get_replicate (suc n) from zero h = refl
-get_replicate (suc n) from (suc l) h = get_replicate n from l (omega (arith, h))
-
-size_replicate : (n from : ℕ) → length (replicate n from) ≡ n
-size_replicate zero from = refl
-size_replicate (suc n) from = ap suc (size_replicate n from)
-
 within_more : (lanes : ℕ) (hinted : List Hinted) → AllByRecursion (λ (h : Hinted). h.command.lane ≤ lanes) hinted → AllByRecursion (λ (h : Hinted). h.command.lane < lanes + 1) hinted
 within_more lanes [] h = tt
 within_more lanes (x ∷ hinted) h = let le : x.command.lane ≤ lanes = h.0 in (omega (arith, le), within_more lanes hinted h.1)
@@ -150,8 +128,8 @@ within_more lanes (x ∷ hinted) h = let le : x.command.lane ≤ lanes = h.0 in 
 pub pass_is_test : PassIsTest
 pass_is_test lanes from to hinted within =
     let lows : List ℕ = replicate (lanes + 1) from in
-    let decides = pass_decides (lanes + 1) to lows hinted (size_replicate (lanes + 1) from) (within_more lanes hinted within) in
-    let same : (lane : ℕ) → lane < lanes + 1 → rises_on hinted lows to lane ≡ lane_rises hinted from to lane = λ lane below. ap (λ (low : ℕ). rises low (mine hinted lane) to) (get_replicate (lanes + 1) from lane below) in (
+    let decides = pass_decides (lanes + 1) to lows hinted (length-replicate (lanes + 1) from) (within_more lanes hinted within) in
+    let same : (lane : ℕ) → lane < lanes + 1 → rises_on hinted lows to lane ≡ lane_rises hinted from to lane = λ lane below. ap (λ (low : ℕ). rises low (mine hinted lane) to) (get_or-replicate (lanes + 1) lane from 0 below) in (
       (λ h. all_in_range (lane_rises hinted from to) 0 (lanes + 1) (λ l below. sym (same l (omega (arith, below))) ∙ decides.0 h l (omega (arith, below)))),
       (λ h. decides.1 (λ l below. same l below ∙ in_range (lane_rises hinted from to) 0 (lanes + 1) l h (omega arith) (omega (arith, below)))),
     )

@@ -31,13 +31,12 @@ use Rattle.record_model.specs.Play.{Done, who_of, merger_commands}
 use Rattle.script_model.specs.Commands.{updates}
 use Rattle.script_model.specs.Lanes.{IsOfLanes}
 use Rattle.record_model.specs.Right.{pinned_by, made_by, IsRecordRight}
-use Rattle.list_laws.proofs.ListLemmas.{all_append}
+use Rattle.list_laws.proofs.ListLemmas.{all_append, all_filter, both}
 use Rattle.trace_laws.specs.Hints.{Hint, Wanting, Stands, reply_by}
 use Rattle.trace_laws.specs.Checks.{dones}
 use Rattle.trace_laws.specs.Rebuilt.{Hinted, is_at, pinned_of, put_by, rebuilt, all_dones, hinted_of, answer_again}
 use Rattle.trace_laws.specs.Reading.{is_clean, IsName}
 use Rattle.trace_laws.specs.Named.{IsReplyNamed, IsWhatNamed, IsRecordNamed, IsTaskNamed, IsBatchNamed}
-use Rattle.trace_laws.proofs.HintLemmas.{and_first, and_second}
 use Rattle.trace_laws.proofs.RecordLemmas.{all_take}
 use Rattle.trace_laws.proofs.RebuiltLemmas.{hints_tell}
 
@@ -131,18 +130,10 @@ rebuilt_named rules hinted (suc n) named =
 abbrev AreTablesNamed : List Table → Type 0
 AreTablesNamed tables = AllByRecursion IsTableNamed tables
 
-kept_named : (keep : Table → Bool) (tables : List Table) → AreTablesNamed tables → AreTablesNamed (filter keep tables)
-kept_named keep [] h = tt
-kept_named keep (t ∷ tables) h = by (keep t) (kept_named keep tables h.1)
-  where
-    by : (b : Bool) → AreTablesNamed (filter keep tables) → AreTablesNamed (cond b (t ∷ filter keep tables) (filter keep tables))
-    by true rest = (h.0, rest)
-    by false rest = rest
-
 after_named : (tables : List Table) (what : What) → AreTablesNamed tables → IsWhatNamed what → AreTablesNamed (live_after tables what)
 after_named tables (journal.Loaded table) h k = all_append IsTableNamed tables (table ∷ []) h (k, tt)
-after_named tables (journal.Dropped name) h k = kept_named (λ table. not (has_name name table)) tables h
-after_named tables (journal.Replaced table) h k = all_append IsTableNamed (without table.name tables) (table ∷ []) (kept_named (λ other. not (has_name table.name other)) tables h) (k, tt)
+after_named tables (journal.Dropped name) h k = all_filter IsTableNamed (λ table. not (has_name name table)) tables h
+after_named tables (journal.Replaced table) h k = all_append IsTableNamed (without table.name tables) (table ∷ []) (all_filter IsTableNamed (λ other. not (has_name table.name other)) tables h) (k, tt)
 after_named tables (journal.Swapped planned kept) h k = h
 
 fold_named : (tables : List Table) (entries : List Entry) → AreTablesNamed tables → AreEntriesNamed entries → AreTablesNamed (fold (λ tables (e : Entry). live_after tables e.what) tables entries)
@@ -160,14 +151,6 @@ IsRowNamed row = IsName row.table
 abbrev AreRowsNamed : List Row → Type 0
 AreRowsNamed rows = AllByRecursion IsRowNamed rows
 
-rows_kept : (keep : Row → Bool) (rows : List Row) → AreRowsNamed rows → AreRowsNamed (filter keep rows)
-rows_kept keep [] h = tt
-rows_kept keep (r ∷ rows) h = by (keep r) (rows_kept keep rows h.1)
-  where
-    by : (b : Bool) → AreRowsNamed (filter keep rows) → AreRowsNamed (cond b (r ∷ filter keep rows) (filter keep rows))
-    by true rest = (h.0, rest)
-    by false rest = rest
-
 columns_named : (keys : List Text) (table : Text) (columns : List (ℕ × Column)) → IsName table → AreRowsNamed (map (λ (c : ℕ × Column). row_of keys table c.0 c.1) columns)
 columns_named keys table [] h = tt
 columns_named keys table (c ∷ columns) h = (h, columns_named keys table columns h)
@@ -176,7 +159,7 @@ all_rows_named : (keys : List Text) (tables : List Table) → AreTablesNamed tab
 all_rows_named keys [] h = tt
 all_rows_named keys (t ∷ tables) h =
     all_append IsRowNamed (rows_of_table keys t) (flat_map (rows_of_table keys) tables)
-    (rows_kept (λ (row : Row). nat_lt 0 row.overlap) (map (λ (c : ℕ × Column). row_of keys t.name c.0 c.1) (enumerate_from 1 t.columns)) (columns_named keys t.name (enumerate_from 1 t.columns) h.0))
+    (all_filter IsRowNamed (λ (row : Row). nat_lt 0 row.overlap) (map (λ (c : ℕ × Column). row_of keys t.name c.0 c.1) (enumerate_from 1 t.columns)) (columns_named keys t.name (enumerate_from 1 t.columns) h.0))
     (all_rows_named keys tables h.1)
 
 put_rows : (r : Row) (rows : List Row) → IsRowNamed r → AreRowsNamed rows → AreRowsNamed (put_in_order row_cmp r rows)
@@ -193,21 +176,16 @@ unfolding in_order
 sorted_named [] h = tt
 sorted_named (r ∷ rows) h = put_rows r (in_order row_cmp rows) h.0 (sorted_named rows h.1)
 
-first_named : (n : ℕ) (rows : List Row) → AreRowsNamed rows → AreRowsNamed (take n rows)
-first_named zero rows h = tt
-first_named (suc n) [] h = tt
-first_named (suc n) (r ∷ rows) h = (h.0, first_named n rows h.1)
-
 answer_named : (tables : List Table) (keys : List Text) (k : ℕ) (except : Option Text) → AreTablesNamed tables → AreRowsNamed (answer tables keys k except)
 answer_named tables keys k except h =
     let rest : List Table = filter (λ table. not (is_excepted except table.name)) tables in
-    first_named k (in_order row_cmp (flat_map (rows_of_table keys) rest)) (sorted_named (flat_map (rows_of_table keys) rest) (all_rows_named keys rest (kept_named (λ table. not (is_excepted except table.name)) tables h)))
+    all_take IsRowNamed k (in_order row_cmp (flat_map (rows_of_table keys) rest)) (sorted_named (flat_map (rows_of_table keys) rest) (all_rows_named keys rest (all_filter IsTableNamed (λ table. not (is_excepted except table.name)) tables h)))
 
 contain_named : (tables : List Table) (keys : List Text) (a b : ℕ) → AreTablesNamed tables → AreRowsNamed (contain tables keys a b)
 contain_named tables keys a b h =
     let rest : List Table = filter (λ table. not (is_excepted None table.name)) tables in
-    let rows : AreRowsNamed (all_rows tables keys None) = all_rows_named keys rest (kept_named (λ table. not (is_excepted None table.name)) tables h) in
-    sorted_named (filter (λ (row : Row). nat_le (need a b (length keys)) row.overlap) (all_rows tables keys None)) (rows_kept (λ (row : Row). nat_le (need a b (length keys)) row.overlap) (all_rows tables keys None) rows)
+    let rows : AreRowsNamed (all_rows tables keys None) = all_rows_named keys rest (all_filter IsTableNamed (λ table. not (is_excepted None table.name)) tables h) in
+    sorted_named (filter (λ (row : Row). nat_le (need a b (length keys)) row.overlap) (all_rows tables keys None)) (all_filter IsRowNamed (λ (row : Row). nat_le (need a b (length keys)) row.overlap) (all_rows tables keys None) rows)
 
 lines_named : (tables : List Table) → AreTablesNamed tables → AllByRecursion (λ (line : Line). IsName line.name) (map line_of tables)
 lines_named [] h = tt
@@ -357,13 +335,13 @@ right_named rules lanes merge batches made of named right =
 
 -- a table's name is clean
 pub name_clean : (name : Text) → is_name name ≡ true → IsName name
-name_clean name h = bytes_clean name (and_second (nat_le 1 (length name) && nat_le (length name) 255) (list_all (λ byte. nat_le 0x21 byte && nat_le byte 0x7E) name) h)
+name_clean name h = bytes_clean name (both (nat_le 1 (length name) && nat_le (length name) 255) (list_all (λ byte. nat_le 0x21 byte && nat_le byte 0x7E) name) h).1
   where
     byte_clean : (byte : ℕ) → (nat_le 0x21 byte && nat_le byte 0x7E) ≡ true → (not (byte == 0x20) && not (byte == 0x0A)) ≡ true
-    byte_clean byte h = let low = and_first (nat_le 0x21 byte) (nat_le byte 0x7E) h in grind (arith, nat_tests, low)
+    byte_clean byte h = let low = (both (nat_le 0x21 byte) (nat_le byte 0x7E) h).0 in grind (arith, nat_tests, low)
 
     bytes_clean : (bytes : Text) → list_all (λ byte. nat_le 0x21 byte && nat_le byte 0x7E) bytes ≡ true → is_clean bytes ≡ true
     bytes_clean [] h = refl
     bytes_clean (x ∷ bytes) h =
-        ap (λ (b : Bool). b && is_clean bytes) (byte_clean x (and_first (nat_le 0x21 x && nat_le x 0x7E) (list_all (λ byte. nat_le 0x21 byte && nat_le byte 0x7E) bytes) h))
-        ∙ bytes_clean bytes (and_second (nat_le 0x21 x && nat_le x 0x7E) (list_all (λ byte. nat_le 0x21 byte && nat_le byte 0x7E) bytes) h)
+        let k = both (nat_le 0x21 x && nat_le x 0x7E) (list_all (λ byte. nat_le 0x21 byte && nat_le byte 0x7E) bytes) h in
+        ap (λ (b : Bool). b && is_clean bytes) (byte_clean x k.0) ∙ bytes_clean bytes k.1

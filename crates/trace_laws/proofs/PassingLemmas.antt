@@ -2,9 +2,10 @@
 use Rattle.std.proofs.Common.{◌≡◌, refl, ap, sym, ◌∙◌, subst, ℕ, zero, suc, ◌+◌, ◌-◌, ◌≤◌, ◌<◌, List, [], ◌∷◌, ◌++◌, append_assoc, map, flat_map, length, length-append, take, drop, Bool, true, false, not, cond, arith}
 use Rattle.std.specs.Prelude.{◌==◌, ◌&&◌, ◌||◌, filter, find, slice_get, Option, Some}
 use Rattle.std.specs.List.{AllByRecursion, list_all, list_any, range_with_len}
-use Rattle.std.proofs.lemmas.List.{append-nil, map-append}
+use Rattle.std.proofs.lemmas.List.{append-nil, map-append, take-take, take-map, drop-map, length-map}
 use Rattle.std.proofs.lemmas.Bool.{eq-eqb, eqb-true}
 use Rattle.std.proofs.lemmas.Bool.Decides.{nat_tests}
+use Rattle.std.proofs.Math.Seq.{take-append_seam}
 use Rattle.lake_model.specs.declared.Who.{Who}
 use Rattle.record_model.specs.Rules.{Rules}
 use Rattle.lake_model.specs.Journal.{What, Entry, entry_with}
@@ -17,29 +18,26 @@ use Rattle.record_model.specs.Play.{Done, who_of, merger_commands}
 use Rattle.script_model.specs.Commands.{updates}
 use Rattle.script_model.specs.Lanes.{IsOfLanes}
 use Rattle.record_model.specs.Right.{Moment, moments, moments_by, answer_by, at_position, entries_by}
-use Rattle.list_laws.proofs.ListLemmas.{all_append}
+use Rattle.list_laws.proofs.ListLemmas.{all_append, all_left, all_right, both, drop_seam}
 use Rattle.trace_laws.specs.Hints.{Hint, Wanting, Stands, hint_of, reply_by}
 use Rattle.trace_laws.specs.Checks.{dones, rises, IsMadeAgain, AreEntered, AreBatchesChecked}
 use Rattle.trace_laws.specs.Rebuilt.{Hinted, hinted_with, is_at, pinned_of, put_by, rebuilt, all_dones, hinted_of, answer_again}
 use Rattle.trace_laws.specs.Verdict.{all_commands, hinted_zip, counted, syncs_from, remade_of}
 use Rattle.trace_laws.specs.Passing.{same_standing, same_hint, tells, moments_of, lane_rises, batches_rise, is_apart, are_apart, is_filled, PassingIsRight}
-use Rattle.trace_laws.proofs.HintLemmas.{rises_is, and_first, and_second}
+use Rattle.trace_laws.proofs.HintLemmas.{rises_is}
 use Rattle.trace_laws.proofs.BatchLemmas.{of_lane}
 use Rattle.trace_laws.proofs.RecordLemmas.{checks_decide, AreWithinLanes, all_lanes, batch_within, entered_all, HasEntries}
-use Rattle.trace_laws.proofs.RebuiltLemmas.{AddsOne, adds_one, IsOrdered, IsOrderly, all_ordered, take_take}
-use Rattle.trace_laws.proofs.VerdictLemmas.{reply_hint, zip_hints, map_take, map_drop, all_hinted, sizes, counted_append, hinted_append, IsLow, IsLowReply, all_low, size_map}
+use Rattle.trace_laws.proofs.RebuiltLemmas.{AddsOne, adds_one, IsOrdered, IsOrderly, all_ordered}
+use Rattle.trace_laws.proofs.VerdictLemmas.{reply_hint, zip_hints, all_hinted, sizes, counted_append, hinted_append, IsLow, IsLowReply, all_low}
 
 -- ---- hints
-
-pub both_true : (a b : Bool) → (a && b) ≡ true → (a ≡ true) × (b ≡ true)
-both_true a b h = (and_first a b h, and_second a b h)
 
 standing_is : (s t : Standing) → same_standing s t ≡ true → s ≡ t
 standing_is Nowhere Nowhere h = refl
 standing_is (Saw a) (Saw b) h = ap Saw (eqb-true a b h)
 standing_is (Added a) (Added b) h = ap Added (eqb-true a b h)
-standing_is (PlannedAndSaw p a) (PlannedAndSaw q b) h = let k = both_true (p == q) (a == b) h in ap (λ (n : ℕ). PlannedAndSaw n a) (eqb-true p q k.0) ∙ ap (PlannedAndSaw q) (eqb-true a b k.1)
-standing_is (PlannedAndAdded p a) (PlannedAndAdded q b) h = let k = both_true (p == q) (a == b) h in ap (λ (n : ℕ). PlannedAndAdded n a) (eqb-true p q k.0) ∙ ap (PlannedAndAdded q) (eqb-true a b k.1)
+standing_is (PlannedAndSaw p a) (PlannedAndSaw q b) h = let k = both (p == q) (a == b) h in ap (λ (n : ℕ). PlannedAndSaw n a) (eqb-true p q k.0) ∙ ap (PlannedAndSaw q) (eqb-true a b k.1)
+standing_is (PlannedAndAdded p a) (PlannedAndAdded q b) h = let k = both (p == q) (a == b) h in ap (λ (n : ℕ). PlannedAndAdded n a) (eqb-true p q k.0) ∙ ap (PlannedAndAdded q) (eqb-true a b k.1)
 standing_is s t h = cc
 
 hint_is : (h k : Hint) → same_hint h k ≡ true → h ≡ k
@@ -60,7 +58,7 @@ told_hints rules journal [] (h ∷ hints) size told = let none : suc (length hin
 told_hints rules journal (c ∷ commands) [] size told = refl
 told_hints rules journal (c ∷ commands) (h ∷ hints) size told =
     let more : suc (length hints) ≡ suc (length commands) = size in
-    let k = both_true (tells rules journal (hinted_with c h)) (list_all (tells rules journal) (hinted_zip commands hints)) told in
+    let k = both (tells rules journal (hinted_with c h)) (list_all (tells rules journal) (hinted_zip commands hints)) told in
     ap (λ (x : Hint). x ∷ map reply_hint (map (answer_again rules journal) (hinted_zip commands hints))) (hint_is (hint_of (reply_by rules journal c h)) h k.0)
     ∙ ap (λ (xs : List Hint). h ∷ xs) (told_hints rules journal commands hints (omega (arith, more)) k.1)
 
@@ -95,7 +93,7 @@ again_zip : (rules : Rules) (journal : List Entry) (commands : List Command) (hi
 again_zip rules journal [] hints told = tt
 again_zip rules journal (c ∷ commands) [] told = tt
 again_zip rules journal (c ∷ commands) (h ∷ hints) told =
-    let k = both_true (tells rules journal (hinted_with c h)) (list_all (tells rules journal) (hinted_zip commands hints)) told in
+    let k = both (tells rules journal (hinted_with c h)) (list_all (tells rules journal) (hinted_zip commands hints)) told in
     (ap (reply_by rules journal c) (sym (hint_is (hint_of (reply_by rules journal c h)) h k.0)), again_zip rules journal commands hints k.1)
 
 -- ---- the journal that is rebuilt
@@ -130,16 +128,12 @@ begins rules hinted n (suc k) =
     let more : List Entry = put_by rules (rebuilt rules hinted (k + n)) (find (λ (h : Hinted). is_at (suc (k + n)) h.hint) hinted) in
     (before.0 ++ more, ap (rebuilt rules hinted) e ∙ ap (λ (j : List Entry). j ++ more) before.1 ∙ append_assoc (rebuilt rules hinted n) before.0 more)
 
-pub take_begun : (xs ys : List Entry) → take (length xs) (xs ++ ys) ≡ xs
-take_begun [] ys = refl
-take_begun (x ∷ xs) ys = ap (λ (zs : List Entry). x ∷ zs) (take_begun xs ys)
-
 get_begun : (xs ys : List Entry) (e : Entry) → slice_get (xs ++ e ∷ ys) (length xs) ≡ Some e
 get_begun [] ys e = refl
 get_begun (x ∷ xs) ys e = get_begun xs ys e
 
 filled_down : (hinted : List Hinted) (n : ℕ) → is_filled hinted (suc n) ≡ true → (list_any (λ (h : Hinted). is_at (suc n) h.hint) hinted ≡ true) × (is_filled hinted n ≡ true)
-filled_down hinted n h = both_true (list_any (λ (h : Hinted). is_at (suc n) h.hint) hinted) (is_filled hinted n) h
+filled_down hinted n h = both (list_any (λ (h : Hinted). is_at (suc n) h.hint) hinted) (is_filled hinted n) h
 
 -- the entry at position n + 1
 next_by : (rules : Rules) (journal : List Entry) (hinted : List Hinted) (n k : ℕ) → journal ≡ rebuilt rules hinted (k + n) → length (rebuilt rules hinted n) ≡ n → (h : Hinted) → find (λ (h : Hinted). is_at (suc n) h.hint) hinted ≡ Some h → Fine rules journal h → is_at (suc n) h.hint ≡ true
@@ -147,8 +141,8 @@ next_by : (rules : Rules) (journal : List Entry) (hinted : List Hinted) (n k : �
 next_by rules journal hinted n k is size h found fine at =
     let puts = fine.puts n at in
     let rest = begins rules hinted n k in
-    let front : take n journal ≡ rebuilt rules hinted n = ap (take n) (is ∙ rest.1) ∙ ap (λ (m : ℕ). take m (rebuilt rules hinted n ++ rest.0)) (sym size) ∙ take_begun (rebuilt rules hinted n) rest.0 in
-    let pins : take (pinned_of h.hint) (rebuilt rules hinted n) ≡ take (pinned_of h.hint) journal = ap (take (pinned_of h.hint)) (sym front) ∙ take_take (pinned_of h.hint) n journal puts.1 in (
+    let front : take n journal ≡ rebuilt rules hinted n = ap (take n) (is ∙ rest.1) ∙ ap (λ (m : ℕ). take m (rebuilt rules hinted n ++ rest.0)) (sym size) ∙ take-append_seam (rebuilt rules hinted n) rest.0 in
+    let pins : take (pinned_of h.hint) (rebuilt rules hinted n) ≡ take (pinned_of h.hint) journal = ap (take (pinned_of h.hint)) (sym front) ∙ take-take (pinned_of h.hint) n journal puts.1 in (
       puts.0.what,
       puts.0.is,
       ap (λ (o : Option Hinted). rebuilt rules hinted n ++ put_by rules (rebuilt rules hinted n) o) found
@@ -229,7 +223,7 @@ found_more x hinted (y ∷ some) apart h = ((λ n at. by n at (is_at n x.hint) r
 apart_found : (hinted : List Hinted) → are_apart hinted ≡ true → AllByRecursion (FoundIn hinted) hinted
 apart_found [] h = tt
 apart_found (x ∷ hinted) h =
-    let k = both_true (is_apart x.hint hinted) (are_apart hinted) h in
+    let k = both (is_apart x.hint hinted) (are_apart hinted) h in
     ((λ n at. ap (λ (b : Bool). cond b (Some x) (find (λ (z : Hinted). is_at n z.hint) hinted)) at), found_more x hinted hinted k.0 (apart_found hinted k.1))
 
 -- ---- positions along lanes
@@ -239,7 +233,7 @@ in_range f low zero l h above below = absurd (omega (arith, above, below))
 in_range f low (suc size) l h above below = by (low == l) refl (in_range f (low + 1) size l k.1)
   where
     k : (f low ≡ true) × (list_all f (range_with_len (low + 1) size) ≡ true)
-    k = both_true (f low) (list_all f (range_with_len (low + 1) size)) h
+    k = both (f low) (list_all f (range_with_len (low + 1) size)) h
 
     by : (b : Bool) → (low == l) ≡ b → (low + 1 ≤ l → l < low + 1 + size → f l ≡ true) → f l ≡ true
     by true e rest = subst (λ (m : ℕ). f m ≡ true) (eqb-true low l e) k.0
@@ -347,14 +341,14 @@ batch_rises lanes merge next from batch batches answers h =
     let now : List Answered = take (length commands) answers in
     let hinted : List Hinted = hinted_zip commands (take (length commands) (map reply_hint answers)) in
     let sync : ℕ = from + counted hinted in
-    let same : hinted_of (dones commands now) ≡ hinted = zip_hints commands now ∙ ap (hinted_zip commands) (map_take reply_hint (length commands) answers) in
-    let k = both_true (list_all (lane_rises hinted from sync) (range_with_len 0 (lanes + 1))) (batches_rise lanes merge (next + updates batch) sync batches (drop (length commands) (map reply_hint answers))) h in (
+    let same : hinted_of (dones commands now) ≡ hinted = zip_hints commands now ∙ ap (hinted_zip commands) (sym (take-map reply_hint (length commands) answers)) in
+    let k = both (list_all (lane_rises hinted from sync) (range_with_len 0 (lanes + 1))) (batches_rise lanes merge (next + updates batch) sync batches (drop (length commands) (map reply_hint answers))) h in (
       record {
         sync_is = ap (λ (hs : List Hinted). from + counted hs) (sym same);
         rising = λ lane under. ap (λ (ms : List Moment). rises from ms sync) (sym (lane_moments lane (dones commands now)) ∙ ap (λ (hs : List Hinted). flat_map (λ (h : Hinted). moments_of h.hint) (filter (λ (h : Hinted). h.command.lane == lane) hs)) same)
             ∙ in_range (lane_rises hinted from sync) 0 (lanes + 1) lane k.0 (omega arith) (omega (arith, under));
       },
-      ap (batches_rise lanes merge (next + updates batch) sync batches) (map_drop reply_hint (length commands) answers) ∙ k.1,
+      ap (batches_rise lanes merge (next + updates batch) sync batches) (sym (drop-map reply_hint (length commands) answers)) ∙ k.1,
     )
 
 counted_dones : (ds es : List Done) → counted (hinted_of (ds ++ es)) ≡ counted (hinted_of ds) + counted (hinted_of es)
@@ -389,20 +383,8 @@ stood_from lanes merge next from size (batch ∷ batches) answers of rise is =
     (all_lanes (λ (d : Done). IsLowReply size d.reply) lanes done inside (λ lane under. all_low from sync size (of_lane lane done) (omega (arith, rest)) (rises_is from (moments (of_lane lane done)) sync (rising lane under)))))
     (stood_from lanes merge (next + updates batch) sync size batches later of.1 k.1 rest)
 
-take_first : (ws more : List Who) → take (length ws) (ws ++ more) ≡ ws
-take_first [] more = refl
-take_first (w ∷ ws) more = ap (λ (us : List Who). w ∷ us) (take_first ws more)
-
-drop_first : (ws more : List Who) → drop (length ws) (ws ++ more) ≡ more
-drop_first [] more = refl
-drop_first (w ∷ ws) more = drop_first ws more
-
 whos : List Answered → List Who
 whos answers = map (λ (a : Answered). a.who) answers
-
-all_split : (P : Done → Type 0) (xs ys : List Done) → AllByRecursion P (xs ++ ys) → AllByRecursion P xs × AllByRecursion P ys
-all_split P [] ys h = (tt, h)
-all_split P (x ∷ xs) ys h = let rest = all_split P xs ys h.1 in ((h.0, rest.0), rest.1)
 
 checked_from : (rules : Rules) (lanes : ℕ) (merge : Bool) (next : ℕ) (journal : List Entry) (from : ℕ) (batches : List Batch) (answers : List Answered)
     → map (λ (a : Answered). a.who) answers ≡ map who_of (all_commands merge next batches) → RiseFrom lanes merge next from batches answers
@@ -421,25 +403,27 @@ checked_from rules lanes merge next journal from (batch ∷ batches) answers who
     let sync : ℕ = from + counted (hinted_zip commands (take (length commands) (map reply_hint answers))) in
     let k = batch_rises lanes merge next from batch batches answers rise in
     let sync_is : sync ≡ from + counted (hinted_of done) = k.0.sync_is in
-    let both = all_split (IsMadeAgain rules journal) done more again in
-    let entries = all_split (HasEntries rules journal) done more has in
+    let again_now = all_left (IsMadeAgain rules journal) done more again in
+    let again_later = all_right (IsMadeAgain rules journal) done more again in
+    let has_now = all_left (HasEntries rules journal) done more has in
+    let has_later = all_right (HasEntries rules journal) done more has in
     let parts : map (λ (a : Answered). a.who) answers ≡ map who_of commands ++ map who_of others = who ∙ map-append who_of commands others in
-    let count : length (map who_of commands) ≡ length commands = size_map who_of commands in
+    let count : length (map who_of commands) ≡ length commands = length-map commands who_of in
     let mine : map (λ (a : Answered). a.who) now ≡ map who_of commands =
-    map_take (λ (a : Answered). a.who) (length commands) answers ∙ ap (take (length commands)) parts ∙ ap (λ (n : ℕ). take n (map who_of commands ++ map who_of others)) (sym count) ∙ take_first (map who_of commands) (map who_of others) in
+    sym (take-map (λ (a : Answered). a.who) (length commands) answers) ∙ ap (take (length commands)) parts ∙ ap (λ (n : ℕ). take n (map who_of commands ++ map who_of others)) (sym count) ∙ take-append_seam (map who_of commands) (map who_of others) in
     let theirs : map (λ (a : Answered). a.who) later ≡ map who_of others =
-    map_drop (λ (a : Answered). a.who) (length commands) answers ∙ ap (drop (length commands)) parts ∙ ap (λ (n : ℕ). drop n (map who_of commands ++ map who_of others)) (sym count) ∙ drop_first (map who_of commands) (map who_of others) in
-    let counts = sizes rules journal done both.0 in
+    sym (drop-map (λ (a : Answered). a.who) (length commands) answers) ∙ ap (drop (length commands)) parts ∙ ap (λ (n : ℕ). drop n (map who_of commands ++ map who_of others)) (sym count) ∙ drop_seam (map who_of commands) (map who_of others) in
+    let counts = sizes rules journal done again_now in
     let all = counted_dones done more in
-    let rest = checked_from rules lanes merge (next + updates batch) journal sync batches later theirs k.1 both.1 entries.1 (omega (arith, size, all, sync_is)) in (
+    let rest = checked_from rules lanes merge (next + updates batch) journal sync batches later theirs k.1 again_later has_later (omega (arith, size, all, sync_is)) in (
       record {
         answered = mine;
-        again = both.0;
-        entered = entered_all rules journal done entries.0;
+        again = again_now;
+        entered = entered_all rules journal done has_now;
         many = omega (arith, sync_is, counts);
         rising = k.0.rising;
       },
-      subst (λ (hs : List Hint). AreBatchesChecked rules lanes merge (next + updates batch) journal sync batches (syncs_from merge (next + updates batch) sync batches hs) later) (map_drop reply_hint (length commands) answers) rest,
+      subst (λ (hs : List Hint). AreBatchesChecked rules lanes merge (next + updates batch) journal sync batches (syncs_from merge (next + updates batch) sync batches hs) later) (sym (drop-map reply_hint (length commands) answers)) rest,
     )
 
 -- ---- the callers
@@ -493,11 +477,11 @@ passing_is_right rules options batches hints of h =
     let answers : List Answered = map (answer_again rules journal) hinted in
     let done : List Done = all_dones options.merge 1 batches answers in
     let made : RunRecord = remade_of rules options batches hints in
-    let a = both_true (length hints == length commands) (are_apart hinted && (is_filled hinted size && (batches_rise options.lanes options.merge 1 0 batches hints && (list_all (tells rules journal) hinted && is_legal journal)))) h in
-    let b = both_true (are_apart hinted) (is_filled hinted size && (batches_rise options.lanes options.merge 1 0 batches hints && (list_all (tells rules journal) hinted && is_legal journal))) a.1 in
-    let c = both_true (is_filled hinted size) (batches_rise options.lanes options.merge 1 0 batches hints && (list_all (tells rules journal) hinted && is_legal journal)) b.1 in
-    let d = both_true (batches_rise options.lanes options.merge 1 0 batches hints) (list_all (tells rules journal) hinted && is_legal journal) c.1 in
-    let e = both_true (list_all (tells rules journal) hinted) (is_legal journal) d.1 in
+    let a = both (length hints == length commands) (are_apart hinted && (is_filled hinted size && (batches_rise options.lanes options.merge 1 0 batches hints && (list_all (tells rules journal) hinted && is_legal journal)))) h in
+    let b = both (are_apart hinted) (is_filled hinted size && (batches_rise options.lanes options.merge 1 0 batches hints && (list_all (tells rules journal) hinted && is_legal journal))) a.1 in
+    let c = both (is_filled hinted size) (batches_rise options.lanes options.merge 1 0 batches hints && (list_all (tells rules journal) hinted && is_legal journal)) b.1 in
+    let d = both (batches_rise options.lanes options.merge 1 0 batches hints) (list_all (tells rules journal) hinted && is_legal journal) c.1 in
+    let e = both (list_all (tells rules journal) hinted) (is_legal journal) d.1 in
     let enough : length hints ≡ length commands = eqb-true (length hints) (length commands) a.0 in
     let hints_are : map reply_hint answers ≡ hints = told_hints rules journal commands hints enough e.0 in
     let zipped : hinted_of done ≡ hinted = all_hinted options.merge 1 batches answers ∙ ap (hinted_zip commands) hints_are in

@@ -2,9 +2,12 @@
 use Rattle.std.proofs.Common.{◌≡◌, refl, ap, sym, ◌∙◌, subst, ℕ, zero, suc, ◌+◌, ◌-◌, ◌≤◌, ◌<◌, ◌⊎◌, inl, inr, List, [], ◌∷◌, ◌++◌, map, length, take, drop, Bool, true, false, cond, arith}
 use Rattle.std.specs.Prelude.{nat_lt, ◌==◌, ◌||◌, Option, Some, None, slice_get, find, ⊤}
 use Rattle.std.specs.List.{AllByRecursion, list_any}
-use Rattle.std.proofs.lemmas.List.{take-append-drop}
-use Rattle.std.proofs.lemmas.Bool.{eq-eqb, eqb-true}
+use Rattle.std.proofs.lemmas.List.{take-append-drop, take-take, map-append}
+use Rattle.std.proofs.lemmas.Bool.{eq-eqb, eqb-true, or_cases}
 use Rattle.std.proofs.lemmas.Bool.Decides.{nat_tests}
+use Rattle.std.proofs.Math.Seq.{take-length}
+use Rattle.std.proofs.lemmas.List.Folds.{list_any-append}
+use Rattle.std.proofs.Math.Bool.{or-true}
 use Rattle.lake_model.specs.declared.Who.{Who}
 use Rattle.record_model.specs.Rules.{Rules}
 use Rattle.lake_model.specs.declared.CsvRefused.TheVariants as csv
@@ -25,7 +28,7 @@ use Rattle.record_model.specs.Play.{Done, who_of, merger_commands}
 use Rattle.script_model.specs.Commands.{updates}
 use Rattle.script_model.specs.Lanes.{IsOfLanes}
 use Rattle.record_model.specs.Right.{Moment, moments, moments_by, Rises, answer_by, entries_by, at_position, accepted, between, AreBatchesRight}
-use Rattle.list_laws.proofs.ListLemmas.{all_append}
+use Rattle.list_laws.proofs.ListLemmas.{all_append, not_both}
 use Rattle.trace_laws.specs.Hints.{Hint, Stands, hint_of, reply_by}
 use Rattle.trace_laws.specs.Checks.{dones, IsMadeAgain, AreEntered}
 use Rattle.trace_laws.specs.Rebuilt.{Hinted, hinted_with, stands_at, is_at, pinned_of, put_by, rebuilt, all_dones, hinted_of, answer_again, HintsTell}
@@ -55,44 +58,40 @@ fault_refuses (OfFile FailedFault) = refl
 fault_refuses (OfFile MissingFault) = refl
 fault_refuses (OfFile TooLongFault) = refl
 
-not_both : (b : Bool) → b ≡ false → b ≡ true → ⊥
-not_both true e f = cc
-not_both false e f = cc
-
 load_adds : (rules : Rules) (read : TableRead) (now : List Entry) → is_accepted (standing (load_answer rules read now)) ≡ true → AddsOne (loads read)
 load_adds rules (IsTable table) now h = record { what = journal.Loaded table; is = refl }
-load_adds rules (NoTable fault) now h = absurd (not_both (is_accepted (standing (fault_reply fault))) (fault_refuses fault) h)
+load_adds rules (NoTable fault) now h = absurd (not_both ⊥ (is_accepted (standing (fault_reply fault))) h (fault_refuses fault))
 
 replace_adds : (rules : Rules) (read : TableRead) (now : List Entry) → is_accepted (standing (replace_answer rules read now)) ≡ true → AddsOne (replaces read)
 replace_adds rules (IsTable table) now h = record { what = journal.Replaced table; is = refl }
-replace_adds rules (NoTable fault) now h = absurd (not_both (is_accepted (standing (fault_reply fault))) (fault_refuses fault) h)
+replace_adds rules (NoTable fault) now h = absurd (not_both ⊥ (is_accepted (standing (fault_reply fault))) h (fault_refuses fault))
 
 search_adds : (k : ℕ) (read : QueryRead) (pinned : List Entry) → is_accepted (standing (search_answer k read pinned)) ≡ true → ⊥
-search_adds k (IsQuery keys) pinned h = not_both false refl h
-search_adds k (NoQuery fault) pinned h = not_both (is_accepted (standing (fault_reply fault))) (fault_refuses fault) h
+search_adds k (IsQuery keys) pinned h = not_both ⊥ false h refl
+search_adds k (NoQuery fault) pinned h = not_both ⊥ (is_accepted (standing (fault_reply fault))) h (fault_refuses fault)
 
 contain_adds : (a b : ℕ) (read : QueryRead) (pinned : List Entry) → is_accepted (standing (contain_answer a b read pinned)) ≡ true → ⊥
-contain_adds a b (IsQuery keys) pinned h = not_both false refl h
-contain_adds a b (NoQuery fault) pinned h = not_both (is_accepted (standing (fault_reply fault))) (fault_refuses fault) h
+contain_adds a b (IsQuery keys) pinned h = not_both ⊥ false h refl
+contain_adds a b (NoQuery fault) pinned h = not_both ⊥ (is_accepted (standing (fault_reply fault))) h (fault_refuses fault)
 
 past_adds : (asked k : ℕ) (read : QueryRead) (now : List Entry) → is_accepted (standing (past_answer asked k read now)) ≡ true → ⊥
 past_adds asked k (IsQuery keys) now h = by (nat_lt (length now) asked) h
   where
     by : (b : Bool) → is_accepted (standing (cond b (Later asked (length now)) (Past (length keys) (answer (live (take asked now)) keys k None) asked (length now)))) ≡ true → ⊥
-    by true h = not_both false refl h
-    by false h = not_both false refl h
-past_adds asked k (NoQuery fault) now h = not_both (is_accepted (standing (fault_reply fault))) (fault_refuses fault) h
+    by true h = not_both ⊥ false h refl
+    by false h = not_both ⊥ false h refl
+past_adds asked k (NoQuery fault) now h = not_both ⊥ (is_accepted (standing (fault_reply fault))) h (fault_refuses fault)
 
 like_adds : (k : ℕ) (name : Text) (place : ℕ) (pinned : List Entry) (found : Option Table) → is_accepted (standing (like_table k name place pinned found)) ≡ true → ⊥
-like_adds k name place pinned None h = not_both false refl h
+like_adds k name place pinned None h = not_both ⊥ false h refl
 like_adds k name place pinned (Some table) h = by (slice_get table.columns (place - 1)) h
   where
     by : (column : Option Column) → is_accepted (standing (like_column k name place pinned column)) ≡ true → ⊥
-    by None h = not_both false refl h
-    by (Some column) h = not_both false refl h
+    by None h = not_both ⊥ false h refl
+    by (Some column) h = not_both ⊥ false h refl
 
 merge_adds : (pinned now : List Entry) (parts : List Part) → is_accepted (standing (merge_planned pinned now parts)) ≡ true → AddsOne (swaps (plan_of parts))
-merge_adds pinned now [] h = absurd (not_both false refl h)
+merge_adds pinned now [] h = absurd (not_both ⊥ false h refl)
 merge_adds pinned now (part ∷ parts) h = record { what = _; is = refl }
 
 pub adds_one : (rules : Rules) (task : Task) (pinned now : List Entry) → is_accepted (standing (answer_to rules task pinned now)) ≡ true → AddsOne (change_of rules task pinned)
@@ -100,7 +99,7 @@ adds_one rules (Load name body) pinned now h = load_adds rules (table_read rules
 adds_one rules (LoadFile name file) pinned now h = load_adds rules (file_read rules.keys name file) now h
 adds_one rules (DropTable name) pinned now h = record { what = journal.Dropped name; is = refl }
 adds_one rules (Replace name body) pinned now h = replace_adds rules (table_read rules.keys name body) now h
-adds_one rules Tables pinned now h = absurd (not_both false refl h)
+adds_one rules Tables pinned now h = absurd (not_both ⊥ false h refl)
 adds_one rules (Search k body) pinned now h = absurd (search_adds k (query_read rules.keys body) pinned h)
 adds_one rules (Like k name place) pinned now h = absurd (like_adds k name place pinned (live_table pinned name) h)
 adds_one rules (Contain a b body) pinned now h = absurd (contain_adds a b (query_read rules.keys body) pinned h)
@@ -162,28 +161,13 @@ abbrev HasAt : ℕ → Pairs → Type 0
 HasAt n ps = list_any (λ (p : ℕ × Entry). p.0 == n) ps ≡ true
 
 any_append : {X : Type 0} (test : X → Bool) (xs ys : List X) → list_any test (xs ++ ys) ≡ true → (list_any test xs ≡ true) ⊎ (list_any test ys ≡ true)
-any_append test [] ys h = inr h
-any_append test (x ∷ xs) ys h = by (test x) h (any_append test xs ys)
-  where
-    by : (b : Bool) → (b || list_any test (xs ++ ys)) ≡ true → (list_any test (xs ++ ys) ≡ true → (list_any test xs ≡ true) ⊎ (list_any test ys ≡ true)) → ((b || list_any test xs) ≡ true) ⊎ (list_any test ys ≡ true)
-    by true h rest = inl refl
-    by false h rest = rest h
+any_append test xs ys h = or_cases (list_any test xs) (list_any test ys) (sym (list_any-append test xs ys) ∙ h)
 
 any_left : {X : Type 0} (test : X → Bool) (xs ys : List X) → list_any test xs ≡ true → list_any test (xs ++ ys) ≡ true
-any_left test [] ys h = cc
-any_left test (x ∷ xs) ys h = by (test x) h (any_left test xs ys)
-  where
-    by : (b : Bool) → (b || list_any test xs) ≡ true → (list_any test xs ≡ true → list_any test (xs ++ ys) ≡ true) → (b || list_any test (xs ++ ys)) ≡ true
-    by true h rest = refl
-    by false h rest = rest h
+any_left test xs ys h = list_any-append test xs ys ∙ ap (λ (b : Bool). b || list_any test ys) h
 
 any_right : {X : Type 0} (test : X → Bool) (xs ys : List X) → list_any test ys ≡ true → list_any test (xs ++ ys) ≡ true
-any_right test [] ys h = h
-any_right test (x ∷ xs) ys h = by (test x) (any_right test xs ys h)
-  where
-    by : (b : Bool) → list_any test (xs ++ ys) ≡ true → (b || list_any test (xs ++ ys)) ≡ true
-    by true h = refl
-    by false h = h
+any_right test xs ys h = list_any-append test xs ys ∙ ap (λ (b : Bool). list_any test xs || b) h ∙ or-true (list_any test xs)
 
 -- the lane that made an entry
 record Maker (lanes n : ℕ) (m : ℕ) (es : List Entry) : Type 0 where
@@ -346,7 +330,7 @@ puts_known : (rules : Rules) (journal : List Entry) (d : Done) (n : ℕ) → Kno
 puts_known rules journal d n k h = by d.reply refl k.again
   where
     by : (reply : Reply) → d.reply ≡ reply → d.reply ≡ reply_by rules journal d.command (hint_of d.reply) → Puts rules journal n (hinted_with d.command (hint_of d.reply))
-    by NoMemory e again = let none : stands_at (suc n) (standing d.reply) ≡ false = ap (λ (r : Reply). stands_at (suc n) (standing r)) e in absurd (not_both (stands_at (suc n) (standing d.reply)) none h)
+    by NoMemory e again = let none : stands_at (suc n) (standing d.reply) ≡ false = ap (λ (r : Reply). stands_at (suc n) (standing r)) e in absurd (not_both ⊥ (stands_at (suc n) (standing d.reply)) h none)
     by reply e again =
         let hint : hint_of d.reply ≡ Stands (standing d.reply) = ap hint_of e ∙ sym (ap (λ (r : Reply). Stands (standing r)) e) in
         subst (λ (x : Hint). Puts rules journal n (hinted_with d.command x)) (sym hint)
@@ -375,12 +359,6 @@ take_more n [] e h = cc
 take_more zero (x ∷ xs) e h = let is : x ≡ e = cc in ap (λ (y : Entry). y ∷ []) is
 take_more (suc n) (x ∷ xs) e h = ap (λ (es : List Entry). x ∷ es) (take_more n xs e h)
 
-pub take_take : (p n : ℕ) (journal : List Entry) → p ≤ n → take p (take n journal) ≡ take p journal
-take_take zero n journal le = refl
-take_take (suc p) zero journal le = absurd (omega (arith, le))
-take_take (suc p) (suc n) [] le = refl
-take_take (suc p) (suc n) (x ∷ xs) le = ap (λ (es : List Entry). x ∷ es) (take_take p n xs (omega (arith, le)))
-
 rebuilt_is : (rules : Rules) (journal : List Entry) (done : List Done) → Tells rules journal 0 done → (n : ℕ) → n ≤ length journal → rebuilt rules (hinted_of done) n ≡ take n journal
 rebuilt_is rules journal done tells zero le = refl
 rebuilt_is rules journal done tells (suc n) le =
@@ -388,7 +366,7 @@ rebuilt_is rules journal done tells (suc n) le =
     let found = found_puts rules journal n done tells.known (tells.made n (omega arith) (omega (arith, le))) in
     let puts = found.2 in
     let h : Hinted = found.0 in
-    let pins : take (pinned_of h.hint) (take n journal) ≡ take (pinned_of h.hint) journal = take_take (pinned_of h.hint) n journal puts.before in
+    let pins : take (pinned_of h.hint) (take n journal) ≡ take (pinned_of h.hint) journal = take-take (pinned_of h.hint) n journal puts.before in
     ap (λ (o : Option Hinted). rebuilt rules (hinted_of done) n ++ put_by rules (rebuilt rules (hinted_of done) n) o) found.1
     ∙ ap (λ (j : List Entry). j ++ put_by rules j (Some h)) before
     ∙ ap (λ (p : List Entry). take n journal ++ map (entry_with (who_of h.command)) (change_of rules h.command.task p)) pins
@@ -414,14 +392,6 @@ again_answers rules journal (c ∷ commands) (a ∷ answers) who again =
     ∙ ap (λ (w : Who). answered_with w a.reply ∷ map (answer_again rules journal) (hinted_of (dones commands answers))) (sym first)
     ∙ ap (λ (answers : List Answered). a ∷ answers) (again_answers rules journal commands answers others again.1)
 
-hinted_append : (ds es : List Done) → hinted_of (ds ++ es) ≡ hinted_of ds ++ hinted_of es
-hinted_append [] es = refl
-hinted_append (d ∷ ds) es = ap (λ (hs : List Hinted). hinted_with d.command (hint_of d.reply) ∷ hs) (hinted_append ds es)
-
-answered_append : (rules : Rules) (journal : List Entry) (hs is : List Hinted) → map (answer_again rules journal) (hs ++ is) ≡ map (answer_again rules journal) hs ++ map (answer_again rules journal) is
-answered_append rules journal [] is = refl
-answered_append rules journal (h ∷ hs) is = ap (λ (answers : List Answered). answer_again rules journal h ∷ answers) (answered_append rules journal hs is)
-
 answers_again : (rules : Rules) (lanes : ℕ) (merge : Bool) (next : ℕ) (journal : List Entry) (from : ℕ) (batches : List Batch) (syncs : List ℕ) (answers : List Answered)
     → AllByRecursion (IsOfLanes lanes) batches → AllByRecursion (λ e. e.who.caller ≤ lanes) journal
     → AreBatchesRight rules lanes merge next journal from batches syncs answers → map (answer_again rules journal) (hinted_of (all_dones merge next batches answers)) ≡ answers
@@ -440,18 +410,14 @@ answers_again rules lanes merge next journal from (batch ∷ batches) (sync ∷ 
     let who = h.1.answered in
     let again : AllByRecursion (IsMadeAgain rules journal) done = all_lanes (IsMadeAgain rules journal) lanes done (batch_within lanes next merge batch now of.0)
     (λ lane under. (lane_says rules lane from sync journal (of_lane lane done) h.0 within (each lane under)).again) in
-    ap (map (answer_again rules journal)) (hinted_append done more) ∙ answered_append rules journal (hinted_of done) (hinted_of more)
+    ap (map (answer_again rules journal)) (map-append (λ (d : Done). hinted_with d.command (hint_of d.reply)) done more) ∙ map-append (answer_again rules journal) (hinted_of done) (hinted_of more)
     ∙ ap (λ (first : List Answered). first ++ map (answer_again rules journal) (hinted_of more)) (again_answers rules journal commands now who again)
     ∙ ap (λ (rest : List Answered). now ++ rest) (answers_again rules lanes merge (next + updates batch) journal sync batches syncs later of.1 callers h.2)
     ∙ take-append-drop (length commands) answers
 
-take_all : (journal : List Entry) → take (length journal) journal ≡ journal
-take_all [] = refl
-take_all (e ∷ journal) = ap (λ (es : List Entry). e ∷ es) (take_all journal)
-
 pub hints_tell : HintsTell
 hints_tell rules lanes merge batches made of right =
     let tells = batches_tell rules lanes merge 1 made.journal 0 batches made.syncs made.answers of right.callers right.each in (
-      rebuilt_is rules made.journal (all_dones merge 1 batches made.answers) tells (length made.journal) (omega arith) ∙ take_all made.journal,
+      rebuilt_is rules made.journal (all_dones merge 1 batches made.answers) tells (length made.journal) (omega arith) ∙ take-length made.journal,
       answers_again rules lanes merge 1 made.journal 0 batches made.syncs made.answers of right.callers right.each,
     )

@@ -1,6 +1,6 @@
 -- A record is right exactly where it passes the tests.
 use Rattle.std.proofs.Common.{◌≡◌, refl, ap, sym, ◌∙◌, subst, ℕ, zero, suc, ◌+◌, ◌-◌, ◌≤◌, List, [], ◌∷◌, ◌++◌, length, length-append, take, drop, Bool, true, false, cond, arith}
-use Rattle.std.specs.Prelude.{◌==◌, Some, slice_get, filter}
+use Rattle.std.specs.Prelude.{◌==◌, Some, slice_get}
 use Rattle.std.specs.List.{AllByRecursion, enumerate_from}
 use Rattle.std.proofs.lemmas.List.{take-append-drop, length-take-le}
 use Rattle.std.proofs.Math.Seq.{take-add}
@@ -15,7 +15,7 @@ use Rattle.record_model.specs.Play.{Done, merger_commands}
 use Rattle.script_model.specs.Commands.{updates}
 use Rattle.script_model.specs.Lanes.{IsOfLanes}
 use Rattle.record_model.specs.Right.{Moment, moments, moments_by, Rises, IsPlaced, IsUnplaced, entries_by, accepted, between, IsRight, IsBatchRight, AreBatchesRight}
-use Rattle.list_laws.proofs.ListLemmas.{all_append}
+use Rattle.list_laws.proofs.ListLemmas.{all_append, all_left, all_right, all_filter}
 use Rattle.record_model.proofs.RightLemmas.{rises_le, accepted_stay, all_placed_stay}
 use Rattle.record_model.proofs.PlayedLemmas.{merges_are}
 use Rattle.trace_laws.specs.Checks.{dones, IsMadeAgain, AreEntered, IsBatchChecked, AreBatchesChecked, ChecksDecide}
@@ -36,12 +36,12 @@ size_between from to journal le within =
     let c : length (take from journal) + length (between from to journal) ≡ length (take to journal) = sym (length-append (take from journal) (between from to journal)) ∙ ap (λ (j : List Entry). length j) (whole from to journal le) in
     omega (arith, a, b, c, le)
 
-pub all_take : (P : Entry → Type 0) (n : ℕ) (es : List Entry) → AllByRecursion P es → AllByRecursion P (take n es)
+pub all_take : {X : Type 0} (P : X → Type 0) (n : ℕ) (es : List X) → AllByRecursion P es → AllByRecursion P (take n es)
 all_take P zero es h = tt
 all_take P (suc n) [] h = tt
 all_take P (suc n) (e ∷ es) h = (h.0, all_take P n es h.1)
 
-pub all_drop : (P : Entry → Type 0) (n : ℕ) (es : List Entry) → AllByRecursion P es → AllByRecursion P (drop n es)
+pub all_drop : {X : Type 0} (P : X → Type 0) (n : ℕ) (es : List X) → AllByRecursion P es → AllByRecursion P (drop n es)
 all_drop P zero es h = h
 all_drop P (suc n) [] h = tt
 all_drop P (suc n) (e ∷ es) h = all_drop P n es h.1
@@ -77,14 +77,6 @@ all_again_right rules journal more (d ∷ done) low high le rises h =
     let rest = all_again_right rules journal more done next.0 high le next.1 h.1 in
     ((here.0, rest.0), (here.1, rest.1))
 
-all_of_lane : (P : Done → Type 0) (lane : ℕ) (done : List Done) → AllByRecursion P done → AllByRecursion P (of_lane lane done)
-all_of_lane P lane [] h = tt
-all_of_lane P lane (d ∷ done) h = by (d.command.lane == lane) (all_of_lane P lane done h.1)
-  where
-    by : (b : Bool) → AllByRecursion P (of_lane lane done) → AllByRecursion P (cond b (d ∷ of_lane lane done) (of_lane lane done))
-    by true rest = (h.0, rest)
-    by false rest = rest
-
 abbrev pub AreWithinLanes : ℕ → List Done → Type 0
 AreWithinLanes lanes done = AllByRecursion (λ d. d.command.lane ≤ lanes) done
 
@@ -104,7 +96,7 @@ lane_right rules lanes from to journal done le within of callers rises again ent
     own_are rules lanes from to journal done of (all_take (λ (e : Entry). e.who.caller ≤ lanes) (to - from) (drop from journal) (all_drop (λ (e : Entry). e.who.caller ≤ lanes) from journal callers)) rises entered (omega (arith, size, many)) lane under in
     let stays : accepted rules (take to journal ++ drop to journal) mine ≡ accepted rules (take to journal) mine = accepted_stay rules (take to journal) (drop to journal) mine from to (omega (arith, stop)) (rises lane under) in
     let made = all_again_right rules (take to journal) (drop to journal) mine from to (omega (arith, stop)) (rises lane under)
-    (subst (λ (j : List Entry). AllByRecursion (IsMadeAgain rules j) mine) (sym parts) (all_of_lane (IsMadeAgain rules journal) lane done again)) in
+    (subst (λ (j : List Entry). AllByRecursion (IsMadeAgain rules j) mine) (sym parts) (all_filter (IsMadeAgain rules journal) (λ (d : Done). d.command.lane == lane) done again)) in
     record {
       entries = ap (λ (n : ℕ). owned lane (n + 1) (between from to journal)) start ∙ own ∙ sym (ap (λ (j : List Entry). accepted rules j mine) parts) ∙ stays ∙ sym (ap (λ (j : List Entry). accepted rules j mine) joined);
       placed = subst (λ (j : List Entry). ArePlaced rules j mine) (sym joined) made.0;
@@ -208,24 +200,15 @@ entered_enumerated journal n (suc k) = by (drop n journal) refl (entered_enumera
           subst (λ (es : List Entry). AreEntered journal (enumerate_from (n + 1 + 1) (take k es))) (drop_next n journal x xs is) rest,
         )
 
-entered_filter : (journal : List Entry) (lane : ℕ) (ps : Pairs) → AreEntered journal ps → AreEntered journal (filter (is_of lane) ps)
-entered_filter journal lane [] h = tt
-entered_filter journal lane (p ∷ ps) h = by (is_of lane p) (entered_filter journal lane ps h.1)
-  where
-    by : (b : Bool) → AreEntered journal (filter (is_of lane) ps) → AreEntered journal (cond b (p ∷ filter (is_of lane) ps) (filter (is_of lane) ps))
-    by true rest = (h.0, rest)
-    by false rest = rest
-
 abbrev pub HasEntries : Rules → List Entry → Done → Type 0
 HasEntries rules journal d = AreEntered journal (entries_by rules journal d.command d.reply (standing d.reply))
 
-entered_split : (journal : List Entry) (ps qs : Pairs) → AreEntered journal (ps ++ qs) → AreEntered journal ps × AreEntered journal qs
-entered_split journal [] qs h = (tt, h)
-entered_split journal (p ∷ ps) qs h = let rest = entered_split journal ps qs h.1 in ((h.0, rest.0), rest.1)
-
 pub entered_each : (rules : Rules) (journal : List Entry) (done : List Done) → AreEntered journal (accepted rules journal done) → AllByRecursion (HasEntries rules journal) done
 entered_each rules journal [] h = tt
-entered_each rules journal (d ∷ done) h = let parts = entered_split journal (entries_by rules journal d.command d.reply (standing d.reply)) (accepted rules journal done) h in (parts.0, entered_each rules journal done parts.1)
+entered_each rules journal (d ∷ done) h =
+    let here : Pairs = entries_by rules journal d.command d.reply (standing d.reply) in
+    let later : Pairs = accepted rules journal done in
+    (all_left (λ (e : ℕ × Entry). slice_get journal (e.0 - 1) ≡ Some e.1) here later h, entered_each rules journal done (all_right (λ (e : ℕ × Entry). slice_get journal (e.0 - 1) ≡ Some e.1) here later h))
 
 pub entered_all : (rules : Rules) (journal : List Entry) (done : List Done) → AllByRecursion (HasEntries rules journal) done → AreEntered journal (accepted rules journal done)
 entered_all rules journal [] h = tt
@@ -258,7 +241,7 @@ lane_says rules lane from to journal mine le within right =
       rising = rising;
       again = all_made_again rules journal mine placed right.unplaced;
       own = own;
-      entered = subst (AreEntered journal) (sym own) (entered_filter journal lane (enumerate_from (from + 1) (between from to journal)) (entered_enumerated journal from (to - from)));
+      entered = subst (AreEntered journal) (sym own) (all_filter (λ (e : ℕ × Entry). slice_get journal (e.0 - 1) ≡ Some e.1) (is_of lane) (enumerate_from (from + 1) (between from to journal)) (entered_enumerated journal from (to - from)));
     }
 
 batch_checked : (rules : Rules) (lanes from to : ℕ) (journal : List Entry) (commands : List Command) (answers : List Answered) → from ≤ to → to ≤ length journal → AreWithinLanes lanes (dones commands answers)

@@ -1,8 +1,9 @@
 -- Whichever right record has a trace for its text, it is the one that the hints of the trace make.
-use Rattle.std.proofs.Common.{◌≡◌, refl, ap, sym, ◌∙◌, subst, ℕ, zero, suc, ◌+◌, ◌-◌, ◌≤◌, ◌<◌, ◌^◌, List, [], ◌∷◌, ◌++◌, map, length, length-append, take, drop, Bool, true, cond, arith}
+use Rattle.std.proofs.Common.{◌≡◌, refl, ap, sym, ◌∙◌, subst, ℕ, suc, ◌+◌, ◌-◌, ◌≤◌, ◌<◌, ◌^◌, List, [], ◌∷◌, ◌++◌, map, length, length-append, take, drop, Bool, true, cond, arith}
 use Rattle.std.specs.Prelude.{⊤}
 use Rattle.std.specs.List.{AllByRecursion}
-use Rattle.std.proofs.lemmas.List.{map-append, take-append-drop}
+use Rattle.std.proofs.lemmas.List.{map-append, take-append-drop, take-map, drop-map, length-map}
+use Rattle.std.proofs.Math.Seq.{take-append_seam}
 use Rattle.lake_model.specs.declared.Who.{Who}
 use Rattle.record_model.specs.Rules.{Rules}
 use Rattle.lake_model.specs.Texts.{Text}
@@ -42,20 +43,6 @@ zip_hints [] answers = refl
 zip_hints (c ∷ commands) [] = refl
 zip_hints (c ∷ commands) (a ∷ answers) = ap (λ (hs : List Hinted). hinted_with c (hint_of a.reply) ∷ hs) (zip_hints commands answers)
 
-pub size_map : {X Y : Type 0} (f : X → Y) (xs : List X) → length (map f xs) ≡ length xs
-size_map f [] = refl
-size_map f (x ∷ xs) = ap suc (size_map f xs)
-
-pub map_take : {X Y : Type 0} (f : X → Y) (n : ℕ) (xs : List X) → map f (take n xs) ≡ take n (map f xs)
-map_take f zero xs = refl
-map_take f (suc n) [] = refl
-map_take f (suc n) (x ∷ xs) = ap (λ ys. f x ∷ ys) (map_take f n xs)
-
-pub map_drop : {X Y : Type 0} (f : X → Y) (n : ℕ) (xs : List X) → map f (drop n xs) ≡ drop n (map f xs)
-map_drop f zero xs = refl
-map_drop f (suc n) [] = refl
-map_drop f (suc n) (x ∷ xs) = map_drop f n xs
-
 zip_append : (commands more : List Command) (hints : List Hint) → hinted_zip commands (take (length commands) hints) ++ hinted_zip more (drop (length commands) hints) ≡ hinted_zip (commands ++ more) hints
 zip_append [] more hints = refl
 zip_append (c ∷ commands) more [] = none more
@@ -66,8 +53,7 @@ zip_append (c ∷ commands) more [] = none more
 zip_append (c ∷ commands) more (h ∷ hints) = ap (λ (hs : List Hinted). hinted_with c h ∷ hs) (zip_append commands more hints)
 
 pub hinted_append : (ds es : List Done) → hinted_of (ds ++ es) ≡ hinted_of ds ++ hinted_of es
-hinted_append [] es = refl
-hinted_append (d ∷ ds) es = ap (λ (hs : List Hinted). hinted_with d.command (hint_of d.reply) ∷ hs) (hinted_append ds es)
+hinted_append ds es = map-append (λ (d : Done). hinted_with d.command (hint_of d.reply)) ds es
 
 pub all_hinted : (merge : Bool) (next : ℕ) (batches : List Batch) (answers : List Answered) → hinted_of (all_dones merge next batches answers) ≡ hinted_zip (all_commands merge next batches) (map reply_hint answers)
 all_hinted merge next [] answers = refl
@@ -75,8 +61,8 @@ all_hinted merge next (batch ∷ batches) answers =
     let commands : List Command = batch ++ merger_commands merge next batch in
     let later : List Command = all_commands merge (next + updates batch) batches in
     hinted_append (dones commands (take (length commands) answers)) (all_dones merge (next + updates batch) batches (drop (length commands) answers))
-    ∙ ap (λ (hs : List Hinted). hs ++ hinted_of (all_dones merge (next + updates batch) batches (drop (length commands) answers))) (zip_hints commands (take (length commands) answers) ∙ ap (hinted_zip commands) (map_take reply_hint (length commands) answers))
-    ∙ ap (λ (hs : List Hinted). hinted_zip commands (take (length commands) (map reply_hint answers)) ++ hs) (all_hinted merge (next + updates batch) batches (drop (length commands) answers) ∙ ap (hinted_zip later) (map_drop reply_hint (length commands) answers))
+    ∙ ap (λ (hs : List Hinted). hs ++ hinted_of (all_dones merge (next + updates batch) batches (drop (length commands) answers))) (zip_hints commands (take (length commands) answers) ∙ ap (hinted_zip commands) (sym (take-map reply_hint (length commands) answers)))
+    ∙ ap (λ (hs : List Hinted). hinted_zip commands (take (length commands) (map reply_hint answers)) ++ hs) (all_hinted merge (next + updates batch) batches (drop (length commands) answers) ∙ ap (hinted_zip later) (sym (drop-map reply_hint (length commands) answers)))
     ∙ zip_append commands later (map reply_hint answers)
 
 -- ---- how many are accepted
@@ -133,13 +119,13 @@ counts_from rules lanes merge next journal from (batch ∷ batches) (sync ∷ sy
     let rest = counts_from rules lanes merge (next + updates batch) journal sync batches syncs later h.1 in
     let many = h.0.many in
     let here : length (accepted rules journal done) ≡ counted (hinted_of done) = sizes rules journal done h.0.again in
-    let hints : hinted_of done ≡ hinted_zip commands (take (length commands) (map reply_hint answers)) = zip_hints commands now ∙ ap (hinted_zip commands) (map_take reply_hint (length commands) answers) in
+    let hints : hinted_of done ≡ hinted_zip commands (take (length commands) (map reply_hint answers)) = zip_hints commands now ∙ ap (hinted_zip commands) (sym (take-map reply_hint (length commands) answers)) in
     let counts : counted (hinted_of done) ≡ counted (hinted_zip commands (take (length commands) (map reply_hint answers))) = ap counted hints in
     let sync_is : sync ≡ from + counted (hinted_zip commands (take (length commands) (map reply_hint answers))) = omega (arith, many, here, counts) in
     let syncs_are : syncs ≡ syncs_from merge (next + updates batch) sync batches (drop (length commands) (map reply_hint answers)) =
-    rest.syncs_are ∙ ap (syncs_from merge (next + updates batch) sync batches) (map_drop reply_hint (length commands) answers) in
+    rest.syncs_are ∙ ap (syncs_from merge (next + updates batch) sync batches) (sym (drop-map reply_hint (length commands) answers)) in
     let both : counted (hinted_of (done ++ more)) ≡ counted (hinted_of done) + counted (hinted_of more) = ap counted (hinted_append done more) ∙ counted_append (hinted_of done) (hinted_of more) in
-    let who : length now ≡ length commands = sym (size_map (λ (a : Answered). a.who) now) ∙ ap (λ (ws : List Who). length ws) h.0.answered ∙ size_map who_of commands in
+    let who : length now ≡ length commands = sym (length-map now (λ (a : Answered). a.who)) ∙ ap (λ (ws : List Who). length ws) h.0.answered ∙ length-map commands who_of in
     let parts : length now + length later ≡ length answers = sym (length-append now later) ∙ ap (λ (as_all : List Answered). length as_all) (take-append-drop (length commands) answers) in
     let all : length (commands ++ all_commands merge (next + updates batch) batches) ≡ length commands + length (all_commands merge (next + updates batch) batches) = length-append commands (all_commands merge (next + updates batch) batches) in
     record {
@@ -192,7 +178,7 @@ lows_from rules lanes merge next journal from (batch ∷ batches) (sync ∷ sync
     let done : List Done = dones commands now in
     let within : sync ≤ length journal = right_le rules lanes merge (next + updates batch) journal sync batches syncs later h.2 in
     let each = h.1.each in
-    let who : length now ≡ length commands = sym (size_map (λ (a : Answered). a.who) now) ∙ ap (λ (ws : List Who). length ws) h.1.answered ∙ size_map who_of commands in
+    let who : length now ≡ length commands = sym (length-map now (λ (a : Answered). a.who)) ∙ ap (λ (ws : List Who). length ws) h.1.answered ∙ length-map commands who_of in
     let low : AllByRecursion (λ (d : Done). IsLowReply (length journal) d.reply) done = all_lanes (λ (d : Done). IsLowReply (length journal) d.reply) lanes done (batch_within lanes next merge batch now of.0)
     (λ lane under. all_low from sync (length journal) (of_lane lane done) within (lane_says rules lane from sync journal (of_lane lane done) h.0 within (each lane under)).rising) in
     subst (λ (all : List Answered). AllByRecursion (λ (a : Answered). IsLowReply (length journal) a.reply) all) (take-append-drop (length commands) answers)
@@ -224,10 +210,6 @@ hints_told n [] small low named = refl
 hints_told n (a ∷ answers) small low named =
     ap (λ (h : Hint). h ∷ map hint_read (map (answer_lines true) answers)) (hint_of_lines a.who a.reply (readable n a.reply small low.0 named.0))
     ∙ ap (λ (hs : List Hint). hint_of a.reply ∷ hs) (hints_told n answers small low.1 named.1)
-
-take_front : {X : Type 0} (xs ys : List X) → take (length xs) (xs ++ ys) ≡ xs
-take_front [] ys = refl
-take_front (x ∷ xs) ys = ap (λ zs. x ∷ zs) (take_front xs ys)
 
 counted_few : (commands : List Command) (hints : List Hint) → counted (hinted_zip commands hints) ≤ length commands
 counted_few [] hints = omega arith
@@ -265,9 +247,9 @@ hints_found rules options batches trace made of traced few named is =
     let read : map hint_read (groups_of trace) ≡ map reply_hint made.answers ++ hint_read (journal_lines made.journal) ∷ [] =
     ap (map hint_read) groups ∙ map-append hint_read (map (answer_lines true) made.answers) (journal_lines made.journal ∷ [])
     ∙ ap (λ (hs : List Hint). hs ++ hint_read (journal_lines made.journal) ∷ []) (hints_told (length made.journal) made.answers small lows named.replies) in
-    let enough : length (all_commands options.merge 1 batches) ≡ length (map reply_hint made.answers) = sym (size_map reply_hint made.answers ∙ counts.answers_are) in
+    let enough : length (all_commands options.merge 1 batches) ≡ length (map reply_hint made.answers) = sym (length-map made.answers reply_hint ∙ counts.answers_are) in
     ap (take (length (all_commands options.merge 1 batches))) read ∙ ap (λ (n : ℕ). take n (map reply_hint made.answers ++ hint_read (journal_lines made.journal) ∷ [])) enough
-    ∙ take_front (map reply_hint made.answers) (hint_read (journal_lines made.journal) ∷ [])
+    ∙ take-append_seam (map reply_hint made.answers) (hint_read (journal_lines made.journal) ∷ [])
 
 pub one_record : OneRecord
 one_record rules options batches trace made of traced few named is =

@@ -1,7 +1,7 @@
 //! The laws by which a trace is checked: whether the bytes of a trace are the text of some right record of the batches. Of each answer
-//! only a hint is read, which says where it stands; the hints and the commands make one record, and the trace is right exactly where
-//! this record passes the tests and has the trace for its text. So no reply and no entry is parsed, and the verdict is a function that
-//! runs. There is no code here: each law is the contract of a function that does nothing.
+//! only a hint is read, which says where it stands. The hints and the commands make one record, and the trace is right exactly where this
+//! record passes the tests and has the trace for its text; so no reply and no entry is read back, and the verdict is a definition that
+//! computes. There is no code here: each law is the contract of a function that does nothing.
 #![tactic(auto)]
 
 ghost use Rattle.trace_laws.specs.Checks.{ChecksDecide, PositionsDecide};
