@@ -1,5 +1,5 @@
 -- What is right passes, and so the verdict decides.
-use Rattle.std.proofs.Common.{◌≡◌, refl, ap, sym, ◌∙◌, subst, ℕ, zero, suc, ◌+◌, ◌-◌, ◌≤◌, ◌<◌, ◌^◌, List, [], ◌∷◌, ◌++◌, map, flat_map, length, take, drop, Bool, true, false, not, arith}
+use Rattle.std.proofs.Common.{◌≡◌, refl, ap, sym, ◌∙◌, subst, ℕ, zero, suc, ◌+◌, ◌-◌, ◌≤◌, ◌<◌, List, [], ◌∷◌, ◌++◌, map, flat_map, length, take, drop, Bool, true, false, not, arith}
 use Rattle.std.specs.Prelude.{nat_le, ◌==◌, ◌&&◌, ◌||◌, filter}
 use Rattle.std.specs.List.{AllByRecursion, list_all, list_any, range_with_len}
 use Rattle.std.proofs.lemmas.Bool.{eq-eqb, eqb-true}
@@ -15,25 +15,22 @@ use Rattle.lake_model.specs.Layout.{is_legal}
 use Rattle.script_model.specs.Commands.{Command, Batch}
 use Rattle.record_model.specs.Replies.{Reply}
 use Rattle.record_model.specs.Answered.{Standing, Nowhere, Saw, Added, PlannedAndSaw, PlannedAndAdded, standing}
-use Rattle.script_model.specs.Options.{Options}
 use Rattle.record_model.specs.Record.{Answered, RunRecord}
 use Rattle.record_model.specs.Play.{Done, merger_commands}
 use Rattle.script_model.specs.Commands.{updates}
-use Rattle.script_model.specs.Lanes.{IsOfLanes}
 use Rattle.record_model.specs.Right.{Moment, moments, accepted}
-use Rattle.record_model.specs.Texts.{answer_lines, journal_lines, text}
+use Rattle.record_model.specs.Texts.{text}
 use Rattle.trace_laws.specs.Hints.{Hint, Wanting, Stands, hint_of}
 use Rattle.trace_laws.specs.Checks.{dones, rises, AreBatchesChecked}
 use Rattle.trace_laws.specs.Rebuilt.{Hinted, hinted_with, stands_at, is_at, rebuilt, all_dones, hinted_of}
-use Rattle.trace_laws.specs.Named.{IsBatchNamed}
 use Rattle.trace_laws.specs.Verdict.{all_commands, hinted_zip, puts_one, counted, remade_of, hints_of, remade}
-use Rattle.trace_laws.specs.Passing.{same_standing, same_hint, tells, moments_of, lane_rises, batches_rise, is_apart, are_apart, is_filled, passes, verdict, RightPasses, VerdictDecides}
+use Rattle.trace_laws.specs.Passing.{same_standing, same_hint, tells, moments_of, lane_rises, batches_rise, is_apart, are_apart, is_filled, passes, RightPasses, VerdictDecides, VerdictGroups}
 use Rattle.trace_laws.proofs.TotalLemmas.{total, total_same, total_zero, total_both, total_each, once, one_lane, none_above}
 use Rattle.trace_laws.proofs.BatchLemmas.{of_lane}
 use Rattle.trace_laws.proofs.RecordLemmas.{checks_decide}
 use Rattle.trace_laws.proofs.RebuiltLemmas.{HasDone, Known, Tells, batches_tell, hint_at, hints_tell, IsOrdered}
-use Rattle.trace_laws.specs.Reading.{groups_of}
-use Rattle.trace_laws.proofs.LineLemmas.{text_grouped}
+use Rattle.trace_laws.specs.Reading.{groups_of, is_cut}
+use Rattle.trace_laws.proofs.LineLemmas.{text_cut, text_grouped}
 use Rattle.trace_laws.proofs.NameLemmas.{right_named}
 use Rattle.trace_laws.proofs.VerdictLemmas.{reply_hint, zip_hints, all_hinted, sizes, counts_from, hints_decide, hints_found, IsLow}
 use Rattle.trace_laws.proofs.PassingLemmas.{begins, lane_moments, RiseFrom, Stood, stood_from, passing_is_right}
@@ -278,14 +275,12 @@ verdict_decides rules options batches trace of names traced few = (
 
 -- ---- what the code of a checker stands on
 
--- Where the verdict is true, the lines of each answer are those of the answer made again: so a difference anywhere says no.
-pub verdict_groups : (rules : Rules) (options : Options) (batches : List Batch) (trace : Text) → AllByRecursion (IsOfLanes options.lanes) batches → AllByRecursion IsBatchNamed batches
-    → options.trace ≡ true → length (all_commands options.merge 1 batches) < 2 ^ 64 → verdict rules options batches trace ≡ true
-    → groups_of trace ≡ map (answer_lines true) (remade rules options batches trace).answers ++ journal_lines (remade rules options batches trace).journal ∷ []
+pub verdict_groups : VerdictGroups
 verdict_groups rules options batches trace of names traced few said =
     let made : RunRecord = remade rules options batches trace in
     let is = (verdict_decides rules options batches trace of names traced few).0 said in
-    ap groups_of (sym is.is) ∙ text_grouped made traced refl (right_named rules options.lanes options.merge batches made of names is.right)
+    let named = right_named rules options.lanes options.merge batches made of names is.right in
+    (sym (ap is_cut is.is) ∙ text_cut made traced refl named, ap groups_of (sym is.is) ∙ text_grouped made traced refl named)
 
 -- The journal that was rebuilt up to a position is the front of the whole.
 pub rebuilt_front : (rules : Rules) (hinted : List Hinted) (size n : ℕ) → n ≤ size → length (rebuilt rules hinted n) ≡ n → take n (rebuilt rules hinted size) ≡ rebuilt rules hinted n

@@ -8,7 +8,7 @@ use Rattle.std.proofs.lemmas.Bool.Decides.{nat_tests}
 use Rattle.lake_model.specs.declared.Who.{Who}
 use Rattle.lake_model.specs.declared.Which.{Which}
 use Rattle.lake_model.specs.declared.Which.TheVariants as which
-use Rattle.lake_model.specs.Texts.{Text, Lines, lines_of}
+use Rattle.lake_model.specs.Texts.{Text, Lines, lines_of, lines_with}
 use Rattle.lake_model.specs.Tables.{Line}
 use Rattle.lake_model.specs.Answer.{Row}
 use Rattle.lake_model.specs.Layout.{Shown}
@@ -21,7 +21,7 @@ use Rattle.record_model.specs.Texts.{spaced, listed, hexadecimal, escaped_byte, 
 use Rattle.script_model.specs.Words.{line_text}
 use Rattle.script_model.proofs.LinesLemmas.{lines_whole}
 use Rattle.list_laws.proofs.ListLemmas.{all_append, all_of, all_weaker}
-use Rattle.trace_laws.specs.Reading.{is_clean, IsName, is_first, Groups, groups_with, onto_groups, grouped, groups_of}
+use Rattle.trace_laws.specs.Reading.{is_clean, IsName, is_first, Groups, groups_with, onto_groups, grouped, groups_of, is_cut, is_nothing}
 use Rattle.trace_laws.specs.Named.{IsReplyNamed, IsWhatNamed, IsRecordNamed}
 use Rattle.trace_laws.proofs.TextLemmas.{clean_decimal, some_decimal, clean_command}
 
@@ -333,3 +333,15 @@ text_grouped made traced ended named =
     ap (λ (ls : List Text). (grouped ls).groups) cut
     ∙ ap (λ (g : Groups). g.groups) (answers_grouped made.answers (journal_lines made.journal) named.replies (ap (λ (g : Groups). g.opening) last))
     ∙ ap (λ (g : Groups). map (answer_lines true) made.answers ++ g.groups) last
+
+-- It has no line in front of its first answer, and no byte behind its last line feed.
+pub text_cut : (made : RunRecord) → made.options.trace ≡ true → made.ended ≡ true → IsRecordNamed made → is_cut (text made) ≡ true
+unfolding all_lines_of lines_of
+text_cut made traced ended named =
+    let lines : List Text = all_lines_of made in
+    let whole : AllByRecursion NoFeed lines = all_append NoFeed (flat_map (answer_lines true) made.answers) (journal_lines made.journal) (answers_whole made.answers named.replies) (journal_whole made.journal named.entries) in
+    let all : lines_of (flat_map line_text lines ++ []) ≡ lines_with lines [] = lines_whole lines [] whole ∙ ap (λ (ls : List Text). lines_with ls []) (append-nil lines) in
+    let read : lines_of (text made) ≡ lines_with lines [] = ap lines_of (text_lines made traced ended ∙ sym (append-nil (flat_map line_text lines))) ∙ all in
+    let last : grouped (journal_lines made.journal) ≡ groups_with [] (journal_lines made.journal ∷ []) = journal_grouped made.journal named.entries in
+    ap (λ (l : Lines). is_nothing l.rest && is_nothing (grouped l.ended).opening) read
+    ∙ ap (λ (g : Groups). is_nothing g.opening) (answers_grouped made.answers (journal_lines made.journal) named.replies (ap (λ (g : Groups). g.opening) last))

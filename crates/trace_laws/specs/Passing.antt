@@ -13,10 +13,11 @@ use Rattle.script_model.specs.Commands.{updates}
 use Rattle.record_model.specs.Play.{merger_commands}
 use Rattle.script_model.specs.Lanes.{IsOfLanes}
 use Rattle.record_model.specs.Right.{Moment, moments_by, IsRecordRight}
-use Rattle.record_model.specs.Texts.{text}
+use Rattle.record_model.specs.Texts.{answer_lines, journal_lines, text}
 use Rattle.trace_laws.specs.Hints.{Hint, Wanting, Stands, hint_of, reply_by}
 use Rattle.trace_laws.specs.Checks.{rises}
 use Rattle.trace_laws.specs.Rebuilt.{Hinted, is_at, rebuilt}
+use Rattle.trace_laws.specs.Reading.{groups_of, is_cut}
 use Rattle.trace_laws.specs.Named.{IsBatchNamed}
 use Rattle.trace_laws.specs.Verdict.{IsTraceOf, all_commands, hinted_zip, counted, remade_of, hints_of, remade}
 
@@ -101,3 +102,9 @@ VerdictDecides = (rules : Rules) (options : Options) (batches : List Batch) (tra
     → options.trace ≡ true → length (all_commands options.merge 1 batches) < 2 ^ 64
     → (verdict rules options batches trace ≡ true → IsTraceOf rules options batches trace (remade rules options batches trace))
     × ((made : RunRecord) → IsTraceOf rules options batches trace made → verdict rules options batches trace ≡ true)
+
+-- Where the verdict is true, the trace is cut into the lines of each answer that is made again, and those of the journal: a difference anywhere says no.
+abbrev pub VerdictGroups : Type 0
+VerdictGroups = (rules : Rules) (options : Options) (batches : List Batch) (trace : Text) → AllByRecursion (IsOfLanes options.lanes) batches → AllByRecursion IsBatchNamed batches
+    → options.trace ≡ true → length (all_commands options.merge 1 batches) < 2 ^ 64 → verdict rules options batches trace ≡ true
+    → (is_cut trace ≡ true) × (groups_of trace ≡ map (answer_lines true) (remade rules options batches trace).answers ++ journal_lines (remade rules options batches trace).journal ∷ [])

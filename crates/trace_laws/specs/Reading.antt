@@ -1,5 +1,5 @@
 -- What the lines of an answer tell of where it was made.
-use Rattle.std.specs.Prelude.{ℕ, min, ◌-◌, ◌^◌, ◌<◌, ◌≡◌, ◌==◌, Bool, true, ◌&&◌, ◌||◌, not, if◌then◌else◌, List, [], ◌∷◌, length, get_or, bytes_eq, codes, Option, Some, None, ⊤}
+use Rattle.std.specs.Prelude.{ℕ, min, ◌-◌, ◌^◌, ◌<◌, ◌≡◌, ◌==◌, Bool, true, false, ◌&&◌, ◌||◌, not, if◌then◌else◌, List, [], ◌∷◌, length, get_or, bytes_eq, codes, Option, Some, None, ⊤}
 use Rattle.std.specs.List.{slice_split, list_all}
 use Rattle.lake_model.specs.Texts.{Text, lines_of}
 use Rattle.script_model.specs.Words.{is_space, digits_value}
@@ -100,3 +100,11 @@ grouped (line ∷ lines) = onto_groups line (grouped lines)
 
 abbrev pub groups_of : Text → List (List Text)
 groups_of trace = (grouped (lines_of trace).ended).groups
+
+abbrev pub is_nothing : {X : Type 0} → List X → Bool
+is_nothing [] = true
+is_nothing (x ∷ xs) = false
+
+-- no line stands in front of the first answer, and none behind the last line feed
+abbrev pub is_cut : Text → Bool
+is_cut trace = is_nothing (lines_of trace).rest && is_nothing (grouped (lines_of trace).ended).opening

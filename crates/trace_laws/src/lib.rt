@@ -6,7 +6,7 @@
 
 ghost use Rattle.trace_laws.specs.Checks.{ChecksDecide, PositionsDecide};
 ghost use Rattle.trace_laws.specs.Lows.{PassDecides, PassIsTest};
-ghost use Rattle.trace_laws.specs.Passing.{PassingIsRight, RightPasses, VerdictDecides};
+ghost use Rattle.trace_laws.specs.Passing.{PassingIsRight, RightPasses, VerdictDecides, VerdictGroups};
 ghost use Rattle.trace_laws.specs.Rebuilt.{HintsTell};
 ghost use Rattle.trace_laws.specs.Verdict.{HintsDecide};
 
@@ -43,7 +43,9 @@ pub fn passing_law()
     ensures complete { RightPasses }
 {}
 
-/// The verdict is true exactly where some right record has the trace for its text.
+/// The verdict is true exactly where some right record has the trace for its text. Where it is true, the groups of the trace are the lines
+/// of the answers made again and of the journal.
 pub fn verdict_law()
-    ensures { VerdictDecides }
+    ensures decides { VerdictDecides }
+    ensures groups { VerdictGroups }
 {}
