@@ -62,11 +62,12 @@ fn fill_record(
     let Ok(mut catalogue) = Catalogue::new(alloc, Limits::standard()) else {
         return Err(NoMemory);
     };
+    let mut past = Timeline::new(alloc);
     if drive(
         alloc,
         &mut catalogue,
         Keys::Canonical,
-        &mut Timeline::new(alloc),
+        &mut past,
         &batch,
         &[],
         1,

@@ -1,7 +1,8 @@
 -- From what was made to what was answered, and from there to a step.
 use Rattle.std.proofs.Common.{◌≡◌, refl, ap, sym, ◌∙◌, subst, ℕ, ◌≤◌, List, [], ◌∷◌, ◌++◌, append-nil, append_assoc, length, length-append, Bool, true, false, cond, map, inl, Option, None, Some, arith, take}
 use Rattle.std.proofs.lemmas.List.{take_all, take-append-le}
-use Rattle.std.specs.Prelude.{IfOk, Ok, Err, option_map}
+use Rattle.std.specs.Prelude.{IfOk, Ok, Err, option_map, unwrap_or}
+use mathlib.Core.List.{IsPrefix}
 use Rattle.std.specs.declared.result.Result.{Result}
 use Rattle.record_model.specs.Rules.{Rules}
 use Rattle.lake_model.specs.declared.Policy.{Policy}
@@ -26,7 +27,9 @@ use Rattle.segment_core.specs.Versions.{VersionOf, version_with}
 use Rattle.segment_merge.specs.Planned.{plan_at}
 use Rattle.batch_work.specs.Works.{merge_policy}
 use Rattle.lake_core.specs.Loads.{IsRefusal, loaded_by}
+use Rattle.lake_core.specs.Pasts.{is_past}
 use Rattle.lake_core.specs.Replaces.{replaced_by}
+use Rattle.lake_core.proofs.PastLemmas.{none_taken, prefix_on}
 use Rattle.lake_core.proofs.LoadLemmas.{Answers, refused_answer, refused_nowhere}
 use Rattle.lake_core.proofs.ReplaceLemmas.{refused_replace_answer}
 use Rattle.lake_core.proofs.MergeLemmas.{planned_later, planned_now, planned_reply, planned_change}
@@ -34,6 +37,7 @@ use Rattle.lake_core.specs.Merging.{IsPlanned, merge_of, swap_reply, swapped_by}
 use Rattle.lake_core.specs.declared.merging.Planned.{Planned}
 use Rattle.lake_desk.proofs.Lanes.{none_right, not_own}
 use Rattle.lake_desk.specs.Answering.{IsMade, IsAnswered, IsStep}
+use Rattle.lake_desk.specs.Pasts.{Begins}
 use Rattle.record_model.proofs.LegalLemmas.{either_none}
 
 self_prefix : (now : List Entry) → (length now ≤ length now) × (take (length now) now ≡ now)
@@ -238,3 +242,33 @@ merge_denied rules number all before after grows = record {
   is = refl;
   added = sym (append-nil after);
 }
+
+-- ---- searches of the past
+
+-- one adds nothing, and is no merge
+pub asks_past : (task : Task) → is_past task ≡ true → (is_update_task task ≡ false) × (merge_policy task ≡ None)
+asks_past (Load name body) h = absurd (let f : false ≡ true = h in cc)
+asks_past (LoadFile name file) h = absurd (let f : false ≡ true = h in cc)
+asks_past (DropTable name) h = absurd (let f : false ≡ true = h in cc)
+asks_past (Replace name body) h = absurd (let f : false ≡ true = h in cc)
+asks_past Tables h = absurd (let f : false ≡ true = h in cc)
+asks_past (Search k body) h = absurd (let f : false ≡ true = h in cc)
+asks_past (Like k name place) h = absurd (let f : false ≡ true = h in cc)
+asks_past (Contain a b body) h = absurd (let f : false ≡ true = h in cc)
+asks_past (AsOf asked k body) h = (refl, refl)
+asks_past (Merge all) h = absurd (let f : false ≡ true = h in cc)
+
+pub asked_past : (rules : Rules) (number : ℕ) (task : Task) (before : Known Entry) (reply : Reply) (after : List Entry) → is_past task ≡ true
+    → Grows caller_of (callers_of before) before.seen after → Answers reply (answer_to rules task after after) → IsAnswered rules (command_with number before.caller task) before reply after
+asked_past rules number task before reply after past grows answers = let (update, policy) = asks_past task past in asked rules number task before reply after update policy grows answers
+
+-- ---- what a timeline took
+
+-- a beginning of what was seen before an answer is one of what is seen then
+pub begins_still : {rules : Rules} {command : Command} {before : Known Entry} {reply : Reply} {after : List Entry} → IsAnswered rules command before reply after → (past : List Entry) → IsPrefix past before.seen → IsPrefix past after
+begins_still {rules} {command} {before} {reply} {after} a past begins = prefix_on past before.seen after begins (a.grows.rest ++ entries_of rules a.pinned command reply, behind_of rules command before reply after a)
+
+-- a timeline that was given, or a new one
+pub begins_first : (past : Option (List Entry)) (fresh seen : List Entry) → fresh ≡ [] → Begins past seen → IsPrefix (unwrap_or past fresh) seen
+begins_first None fresh seen none begins = none_taken fresh seen none
+begins_first (Some past) fresh seen none begins = begins

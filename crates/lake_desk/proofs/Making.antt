@@ -1,11 +1,9 @@
 -- What a lake accepts or refuses, as an answer.
-use Rattle.std.proofs.Common.{◌≡◌, refl, ap, sym, ◌∙◌, ℕ, ◌+◌, List, [], ◌∷◌, ◌++◌, append-nil, length, length-append, Bool, true, false, cond, map, ◌⊎◌, Option, Some, None, arith}
-use Rattle.std.specs.Prelude.{option_map, find}
-use Rattle.lake_model.specs.Limits.{Bounded, is_passed, drop_bounds}
+use Rattle.std.proofs.Common.{◌≡◌, refl, ap, sym, ◌∙◌, ℕ, ◌+◌, List, [], ◌∷◌, ◌++◌, append-nil, length, length-append, false, map, ◌⊎◌, Option, Some, None, arith}
 use Rattle.lake_model.specs.declared.Counts.{Counts}
 use Rattle.lake_model.specs.Texts.{Text}
 use Rattle.lake_model.specs.Tables.{Table, members}
-use Rattle.lake_model.specs.Journal.{Entry, What, is_live, counts, Loaded as LoadedWhat, Dropped as DroppedWhat, Replaced as ReplacedWhat, entry_with, who_with}
+use Rattle.lake_model.specs.Journal.{Entry, What, Loaded as LoadedWhat, Dropped as DroppedWhat, Replaced as ReplacedWhat, entry_with, who_with}
 use Rattle.turn_lock.specs.History.{Grows}
 use Rattle.turn_lock.specs.Passes.{Known, callers_of}
 use Rattle.catalogue.specs.declared.refusal.LoadRefused.{LoadRefused}

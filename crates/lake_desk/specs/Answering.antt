@@ -1,14 +1,13 @@
 -- What an answer at a lake is.
-use Rattle.std.specs.Prelude.{ℕ, ◌≡◌, ◌≤◌, Bool, false, List, [], ◌∷◌, ◌++◌, length, take, map, if◌then◌else◌}
+use Rattle.std.specs.Prelude.{ℕ, ◌≡◌, ◌≤◌, Bool, false, List, [], ◌∷◌, ◌++◌, length, take, map}
 use Rattle.record_model.specs.Rules.{Rules}
-use Rattle.lake_model.specs.Texts.{Text}
-use Rattle.lake_model.specs.Journal.{Entry, What, Dropped, entry_with, who_with}
+use Rattle.lake_model.specs.Journal.{Entry, What, entry_with, who_with}
 use Rattle.turn_lock.specs.History.{Grows}
 use Rattle.turn_lock.specs.Passes.{Known, after_seeing, callers_of}
 use Rattle.lake.specs.Lawful.{caller_of}
 use Rattle.script_model.specs.Commands.{Command}
 use Rattle.record_model.specs.Replies.{Reply}
-use Rattle.record_model.specs.Answered.{answer_to, has_pin, is_accepted, standing}
+use Rattle.record_model.specs.Answered.{answer_to, has_pin}
 use Rattle.record_model.specs.Play.{done_with, entries_of, reply_or_denied}
 use Rattle.record_model.specs.Right.{IsRight}
 

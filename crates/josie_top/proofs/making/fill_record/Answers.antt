@@ -8,9 +8,13 @@ use Rattle.option_model.specs.Generator.{made_options}
 use Rattle.record_model.specs.Play.{batch_after}
 use Rattle.record_model.specs.Record.{empty, with_end}
 use Rattle.script_model.specs.Options.{plain}
+use Rattle.lake_core.proofs.PastLemmas.{none_taken}
 use Rattle.josie_top.proofs.MakingFacts.{lake_made}
 use Rattle.josie_top.proofs.StreamFacts.{on_err, on_ok}
 use Rattle.josie_top.proofs.making.fill_record.Goals as goal
+
+pub drive-requires-clause-past : goal.drive-requires-clause-past
+drive-requires-clause-past c = none_taken c.new-past.result c.in-Ok.catalogue.journal c.new-past.ensures
 
 pub returns-then-is_err-clause-err : goal.returns-then-is_err-clause-err
 returns-then-is_err-clause-err c = (on_err c.drive.result _ (let failed : is_err c.drive.result ≡ true = search rules in failed) c.drive.ensures.err).0 ∙ c.requires.empty
