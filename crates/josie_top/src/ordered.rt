@@ -113,7 +113,8 @@ fn run_batches<S: Source, K: Sink, F: Shelf>(
         if answer_in_order(
             alloc, catalogue, keys, &mut past, &batch, number, merger, out,
         )
-        .is_err() {
+        .is_err()
+        {
             return Status::NoMemory;
         }
         next += batch.updates();

@@ -153,10 +153,7 @@ fn watch_batches<S: Source, K: Sink, F: Shelf>(
             Err(status) => return end_telling(alloc, status, out, sink),
         };
         let keys = Keys::Canonical;
-        if answer_in_order(
-            alloc, catalogue, keys, &mut past, &batch, number, None, out,
-        )
-        .is_err() {
+        if answer_in_order(alloc, catalogue, keys, &mut past, &batch, number, None, out).is_err() {
             return Status::NoMemory;
         }
         if let Err(stop) = tell_batch(alloc, watches, out, sink) {

@@ -227,6 +227,8 @@ pub fn drive(
     let works = works_of(alloc, batch, merger)?;
     let mut all = share_out(alloc, &works, lanes)?;
     out.room(works.len(), works.len())?;
-    play(alloc, catalogue, keys, past, &works, &mut all, piece, lanes, out);
+    play(
+        alloc, catalogue, keys, past, &works, &mut all, piece, lanes, out,
+    );
     Ok(())
 }

@@ -27,7 +27,7 @@ returns-in-Err-pin-clause-answered c =
       c.reply_to_position.ensures ∙ there.1
           ∙ ap (reply_or_denied there.0)
           (query_found c.args.keys (λ read. past_answer asked k read past) c.bytes.result.now query c.in-Ok.ensures.sound c.in-Ok.ensures.keys
-              ∙ ap (λ bytes. past_answer asked k (query_read c.args.keys bytes) past) c.bytes.ensures.value),
+          ∙ ap (λ bytes. past_answer asked k (query_read c.args.keys bytes) past) c.bytes.ensures.value),
     )
 
 pub returns-in-Ok-rows_at-clause-answered : goal.returns-in-Ok-rows_at-clause-answered
