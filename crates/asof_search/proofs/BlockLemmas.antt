@@ -1,12 +1,12 @@
 -- Blocks of what was put, and the parts over them.
-use Rattle.std.proofs.Common.{◌≡◌, refl, ap, sym, ◌∙◌, subst, ℕ, zero, suc, ◌+◌, ◌-◌, ◌*◌, ◌<◌, ◌≤◌, List, [], ◌∷◌, ◌++◌, Bool, true, false, not, ◌&&◌, length, get_or, arith, drop, take, map, min, append_assoc, append-nil, below_more, Result, Ok, Err, inl, inr}
-use Rattle.std.specs.Prelude.{flat_map, sum_by, ◌⊎◌, IfOk}
+use Rattle.std.proofs.Common.{◌≡◌, ◌≢◌, nat_eq, refl, ap, sym, ◌∙◌, subst, ℕ, zero, suc, ◌+◌, ◌-◌, ◌*◌, ◌<◌, ◌≤◌, List, [], ◌∷◌, ◌++◌, Bool, true, false, not, ◌&&◌, length, get_or, arith, drop, take, map, min, append_assoc, append-nil, Result, Ok, Err, inl, inr}
+use Rattle.std.specs.Prelude.{flat_map, slice_set, sum_by, ◌⊎◌, IfOk}
 use Rattle.std.specs.List.{AllByRecursion, filter}
-use Rattle.std.proofs.lemmas.List.{drop-append-le, drop-drop, drop-map, drop_min, get_or_append_left, length-append, length-drop, length-take, map-append, take-append-le, take-append-drop, take-map, take_min, take_more}
+use Rattle.std.proofs.lemmas.List.{drop-drop, drop-map, drop_min, get_or-set_other, get_or-set_same, length-append, length-drop, length-set, length-take, map-append, take-append-le, take-append-drop, take-map, take_min, take_more}
 use Rattle.std.proofs.Math.ListN.{drop_of_length-le}
 use Rattle.std.proofs.Math.Nat.{le-mul_of_pos_right}
-use Rattle.std.proofs.Math.Seq.{get_or-append_seam}
 use Rattle.std.proofs.lemmas.Bool.{lt-leb}
+use Rattle.std.proofs.lemmas.Bool.Decides.{eqb_tells}
 use Rattle.std.proofs.lemmas.List.Concat.{flat_map-append}
 use Rattle.std.proofs.lemmas.List.Sums.{sum_by-append, sum_by-cons}
 use Rattle.lake_model.specs.Tables.{Table, members}
@@ -15,7 +15,7 @@ use Rattle.list_laws.specs.Distinct.{Rises}
 use Rattle.list_laws.proofs.ListLemmas.{all_unmap, all_weaker, filter-append, filter_none, rises_distinct, rises_left}
 use Rattle.segment_core.specs.Distinct.{AreDistinct}
 use Rattle.segment_core.specs.Versions.{live_of, part_with, places_with}
-use Rattle.asof_search.specs.Puts.{AreBlocks, IsKeptAt, PutOf, has_ended, place_of, positions_put, tables_put, was_live}
+use Rattle.asof_search.specs.Puts.{AreBlocks, IsKeptAt, IsOfBlock, PutOf, has_ended, place_of, positions_put, tables_put, was_live}
 use Rattle.asof_search.proofs.HistoryLemmas.{filter_alike}
 
 -- ---- the places of a part
@@ -110,36 +110,63 @@ block_light most size n tables h =
 
 -- ---- kept blocks
 
--- more tables change nothing of whole blocks
-pub blocks_stay : (size : ℕ) (tables more : List Table) (blocks : List (List Table)) → AreBlocks size tables blocks → AreBlocks size (tables ++ more) blocks
-blocks_stay size tables more blocks h = record {
-  whole = λ b within. omega (arith, h.whole b within, length-append tables more);
-  same = λ b within.
-      let inside : b * size ≤ length tables = omega (arith, h.whole b within) in
-      let enough : size ≤ length (drop (b * size) tables) = omega (arith, h.whole b within, length-drop (b * size) tables) in
-      h.same b within ∙ sym (ap (take size) (drop-append-le (b * size) tables more inside) ∙ take-append-le size (drop (b * size) tables) more enough);
+-- what comes behind changes nothing of the first elements from an index on
+take_drop_append : {X : Type 0} (n m : ℕ) (xs ys : List X) → n ≤ length (drop m xs) → take n (drop m (xs ++ ys)) ≡ take n (drop m xs)
+take_drop_append n zero xs ys h = take-append-le n xs ys h
+take_drop_append zero (suc m) [] ys h = refl
+take_drop_append (suc n) (suc m) [] ys h = absurd (omega (arith, h))
+take_drop_append n (suc m) (x ∷ xs) ys h = take_drop_append n m xs ys h
+
+take_of_take : {X : Type 0} (n m : ℕ) (xs : List X) → n ≤ m → take n (take m xs) ≡ take n xs
+take_of_take zero m xs h = refl
+take_of_take (suc n) zero xs h = absurd (omega (arith, h))
+take_of_take (suc n) (suc m) [] h = refl
+take_of_take (suc n) (suc m) (x ∷ xs) h = ap (λ us. x ∷ us) (take_of_take n m xs (omega (arith, h)))
+
+-- more tables change nothing of what is kept of a block
+block_stays : (size b : ℕ) (tables more block : List Table) → IsOfBlock size b tables block → IsOfBlock size b (tables ++ more) block
+block_stays size b tables more block h = record {
+  small = h.small;
+  within = omega (arith, h.within, length-drop (b * size) tables, length-drop (b * size) (tables ++ more), length-append tables more);
+  first = h.first ∙ sym (take_drop_append (length block) (b * size) tables more h.within);
 }
 
--- one more whole block
-pub blocks_more : (size b : ℕ) (tables these : List Table) (before after : List (List Table)) → AreBlocks size tables before → 0 < size → these ≡ take size (drop (b * size) tables) → IsKeptAt size b these before after → AreBlocks size tables after
-blocks_more size b tables these before after h some is k =
-    let long : length (take size (drop (b * size) tables)) ≡ size = ap length (sym is) ∙ k.full in
-    let full : b * size + size ≤ length tables = omega (arith, long, length-take size (drop (b * size) tables), length-drop (b * size) tables, some) in
-    let fits : (c : ℕ) → c < length before + 1 → c * size + size ≤ length tables =
-    λ c l. below_more (λ (n : ℕ). n * size + size ≤ length tables) (length before) (λ n lower. h.whole n lower) (subst (λ (n : ℕ). n * size + size ≤ length tables) (sym k.first) full) c l in
-    let old : (c : ℕ) → c < length before → get_or (before ++ these ∷ []) c [] ≡ take size (drop (c * size) tables) =
-    λ c l. get_or_append_left before (these ∷ []) [] c l ∙ h.same c l in
-    let new : get_or (before ++ these ∷ []) (length before) [] ≡ take size (drop (length before * size) tables) =
-    get_or-append_seam before these [] [] ∙ is ∙ ap (λ (n : ℕ). take size (drop (n * size) tables)) (sym k.first) in
-    let many : length after ≡ length before + 1 = ap length k.more ∙ length-append before (these ∷ []) in
+pub blocks_stay : (size : ℕ) (tables more : List Table) (blocks : List (List Table)) → AreBlocks size tables blocks → AreBlocks size (tables ++ more) blocks
+blocks_stay size tables more blocks h b within = block_stays size b tables more (get_or blocks b []) (h b within)
+
+-- all that there is of a block
+whole_block : (size b : ℕ) (tables these : List Table) → these ≡ take size (drop (b * size) tables) → IsOfBlock size b tables these
+whole_block size b tables these is =
+    let long : length these ≡ min size (length (drop (b * size) tables)) = ap length is ∙ length-take size (drop (b * size) tables) in
     record {
-      whole = λ c l. fits c (omega (arith, l, many));
-      same = λ c l. ap (λ (us : List (List Table)). get_or us c []) k.more
-          ∙ below_more (λ (n : ℕ). get_or (before ++ these ∷ []) n [] ≡ take size (drop (n * size) tables)) (length before) old new c (omega (arith, l, many));
+      small = omega (arith, long);
+      within = omega (arith, long);
+      first = is ∙ sym (take_min size (drop (b * size) tables)) ∙ ap (λ (n : ℕ). take n (drop (b * size) tables)) (sym long);
     }
 
+-- one block more, or in the place of what was kept of it
+pub blocks_more : (size b : ℕ) (tables these : List Table) (before after : List (List Table)) → AreBlocks size tables before → these ≡ take size (drop (b * size) tables) → IsKeptAt b these before after → AreBlocks size tables after
+blocks_more size b tables these before after h is k c within = by (eqb_tells c b)
+  where
+    by : ((nat_eq c b ≡ true) × (c ≡ b)) ⊎ ((nat_eq c b ≡ false) × (c ≢ b)) → IsOfBlock size c tables (get_or after c [])
+    by (inl same) =
+        let there : get_or after c [] ≡ these = ap (λ (n : ℕ). get_or after n []) same.1 ∙ k.here in
+        subst (IsOfBlock size c tables) (sym there) (subst (λ (n : ℕ). IsOfBlock size n tables these) (sym same.1) (whole_block size b tables these is))
+    by (inr other) = let old = k.others c within other.1 in subst (IsOfBlock size c tables) (sym old.1) (h c old.0)
+
 pub blocks_none : (size : ℕ) (tables : List Table) → AreBlocks size tables []
-blocks_none size tables = record { whole = λ b l. absurd (omega (arith, l)); same = λ b l. absurd (omega (arith, l)) }
+blocks_none size tables b l = absurd (omega (arith, l))
+
+-- what is kept of a block is the first of all that there is of it
+pub block_kept : (size b : ℕ) (tables these block : List Table) → these ≡ take size (drop (b * size) tables) → IsOfBlock size b tables block → block ≡ take (length block) these
+block_kept size b tables these block is h = h.first ∙ sym (take_of_take (length block) size (drop (b * size) tables) h.small) ∙ ap (take (length block)) (sym is)
+
+-- in the place of another
+pub kept_there : (b : ℕ) (these : List Table) (before : List (List Table)) → b < length before → IsKeptAt b these before (slice_set before b these)
+kept_there b these before h = record {
+  here = get_or-set_same before b these [] h;
+  others = λ c within other. (omega (arith, within, length-set before b these), get_or-set_other before b c these [] other);
+}
 
 -- ---- what is still to come
 
@@ -179,9 +206,9 @@ part_ok (Err e) number asked puts positions tables marks f g h is = tt
 
 -- ---- one block more
 
-pub blocks_after : (size b : ℕ) (tables these : List Table) (before after : List (List Table)) → AreBlocks size tables before → 0 < size → these ≡ take size (drop (b * size) tables) → (after ≡ before) ⊎ IsKeptAt size b these before after → AreBlocks size tables after
-blocks_after size b tables these before after h some is (inl e) = subst (AreBlocks size tables) (sym e) h
-blocks_after size b tables these before after h some is (inr k) = blocks_more size b tables these before after h some is k
+pub blocks_after : (size b : ℕ) (tables these : List Table) (before after : List (List Table)) → AreBlocks size tables before → these ≡ take size (drop (b * size) tables) → (after ≡ before) ⊎ IsKeptAt b these before after → AreBlocks size tables after
+blocks_after size b tables these before after h is (inl e) = subst (AreBlocks size tables) (sym e) h
+blocks_after size b tables these before after h is (inr k) = blocks_more size b tables these before after h is k
 
 -- nothing is left behind as many blocks as there are puts
 pub none_left : (size asked : ℕ) (puts rest : List PutOf) → rest ≡ drop (length puts * size) puts → 0 < size → filter (was_live asked) rest ≡ []

@@ -26,7 +26,7 @@ pub record IsHistory (journal : List Entry) (puts : List PutOf) : Type 0 where
   pub tables : tables_put puts ≡ loads_of journal
   pub past : (asked : ℕ) → asked ≤ length journal → tables_put (filter (was_live asked) puts) ≡ live (take asked journal)
 
--- A legal journal with its history, and the segments of the first whole blocks of 256 of its tables. There are fewer than 2^32 loads and
+-- A legal journal with its history, and the segments of the first tables of its blocks of 256 tables. There are fewer than 2^32 loads and
 -- replaces, and members of their tables.
 pub record IsTimeline (journal : List Entry) (puts : List PutOf) (blocks : List (List Table)) : Type 0 where
   pub legal : is_legal journal ≡ true

@@ -1,5 +1,5 @@
 -- What a journal puts, by its loads and replaces, and until when each stays.
-use Rattle.std.specs.Prelude.{◌≡◌, ◌+◌, ◌*◌, ◌<◌, ◌≤◌, ℕ, Bool, false, not, ◌&&◌, List, [], ◌∷◌, ◌++◌, drop, get_or, if◌then◌else◌, is_none, length, map, nat_eq, nat_le, slice_set, take, Option, Some, None}
+use Rattle.std.specs.Prelude.{◌≡◌, ◌*◌, ◌<◌, ◌≤◌, ℕ, Bool, false, not, ◌&&◌, List, [], ◌∷◌, ◌++◌, drop, get_or, if◌then◌else◌, is_none, length, map, nat_eq, nat_le, slice_set, take, Option, Some, None}
 use Rattle.lake_model.specs.Texts.{Text}
 use Rattle.lake_model.specs.Tables.{Table, table_with}
 use Rattle.lake_model.specs.Journal.{What, Loaded, Dropped, Replaced, Swapped, has_name}
@@ -67,13 +67,17 @@ pub record IsIndexed (puts : List PutOf) (index : Text → Option ℕ) : Type 0 
 abbrev pub place_of : ℕ → PutOf → Place
 place_of asked put = place_with put.position put.table (not (was_live asked put))
 
--- Lists of tables which are the first whole blocks of all tables, of a size each.
-pub record AreBlocks (size : ℕ) (tables : List Table) (blocks : List (List Table)) : Type 0 where
-  pub whole : (b : ℕ) → b < length blocks → b * size + size ≤ length tables
-  pub same : (b : ℕ) → b < length blocks → get_or blocks b [] ≡ take size (drop (b * size) tables)
+-- the first tables of the block of an index, where all tables are cut into blocks of a size
+pub record IsOfBlock (size b : ℕ) (tables block : List Table) : Type 0 where
+  pub small : length block ≤ size
+  pub within : length block ≤ length (drop (b * size) tables)
+  pub first : block ≡ take (length block) (drop (b * size) tables)
 
--- Where the block of an index, of these tables, was kept, its tables are behind the others, and it is a whole one.
-pub record IsKeptAt (size b : ℕ) (tables : List Table) (before after : List (List Table)) : Type 0 where
-  pub first : length before ≡ b
-  pub full : length tables ≡ size
-  pub more : after ≡ before ++ tables ∷ []
+-- Each list has the first tables of its block. Of the blocks that are not whole, there may be more by now.
+abbrev pub AreBlocks : ℕ → List Table → List (List Table) → Type 0
+AreBlocks size tables blocks = (b : ℕ) → b < length blocks → IsOfBlock size b tables (get_or blocks b [])
+
+-- of the lists, that of an index is now this one, and the others are as before
+pub record IsKeptAt (b : ℕ) (tables : List Table) (before after : List (List Table)) : Type 0 where
+  pub here : get_or after b [] ≡ tables
+  pub others : (c : ℕ) → c < length after → (c ≡ b → ⊥) → (c < length before) × (get_or after c [] ≡ get_or before c [])

@@ -1,5 +1,5 @@
 //! The parts in which an earlier position is searched: blocks of what was put, a segment each.
-ghost use Rattle.std.specs.Prelude.{◌≡◌, ◌⊎◌, ◌*◌, ◌<◌, ◌≤◌, ◌^◌, [], drop, filter, flat_map, get_or, length, map, not, sum_by, true, false, IfOk};
+ghost use Rattle.std.specs.Prelude.{◌≡◌, ◌⊎◌, ◌*◌, ◌<◌, ◌≤◌, ◌^◌, [], drop, filter, flat_map, get_or, length, map, not, sum_by, take, true, false, IfOk};
 ghost use Rattle.lake_model.specs.Layout.{positions_of};
 ghost use Rattle.lake_model.specs.Tables.{members};
 ghost use Rattle.list_laws.specs.Distinct.{Rises};
@@ -16,8 +16,8 @@ use std::alloc::Global;
 use std::sync::Arc;
 
 /// The parts in which the tables are searched that were live after the first `asked` entries: a part for each block of so many puts, up to
-/// the last one with a put of these entries. A table is marked where it was not live then. The segment of a whole block is built when it is
-/// first asked for, and kept; that of the last block, if it is not whole, is built each time.
+/// the last one with a put of these entries. A table is marked where it was not live then. The segment of a block is built when it is first
+/// asked for, and kept; that of the last block is built again where it has more tables by then.
 pub(crate) fn past_parts(
     alloc: Global,
     size: usize,
@@ -43,7 +43,7 @@ pub(crate) fn past_parts(
         }
         let count = size.min(rest.len());
         let these = &rest[..count];
-        let segment = block_segment(alloc, size, blocks, block, these)?;
+        let segment = block_segment(alloc, blocks, block, these)?;
         parts.push(past_part(alloc, block as u64 + 1, segment, these, asked)?)?;
         rest = &rest[count..];
     }
@@ -62,28 +62,37 @@ fn is_later(puts: &[Put], asked: u64) -> bool
     }
 }
 
-// The segment of the block of an index, from 0, that has these puts. It is kept where the block is whole and those before it are kept.
+// The segment of the block of an index, from 0, that has these puts. It is kept, unless one of a block before it is not.
 fn block_segment(
     alloc: Global,
-    size: usize,
     blocks: &mut Vec<Arc<Segment>>,
     block: usize,
     puts: &[Put],
 ) -> Result<Arc<Segment>, NoMemory>
     requires few { length puts.now ≤ 256 }
     requires light { sum_by members (tables_put puts.now) < 2 ^ 32 }
-    requires kept { block < length blocks.old.items → get_or (map (λ b. b.value) blocks.old.items) block [] ≡ tables_put puts.now }
+    requires kept { block < length blocks.old.items → get_or (map (λ b. b.value) blocks.old.items) block [] ≡ take (length (get_or (map (λ b. b.value) blocks.old.items) block [])) (tables_put puts.now) }
     ensures tables { IfOk result (λ segment. segment.value ≡ tables_put puts.now) }
-    ensures blocks { (map (λ b. b.value) blocks.new.items ≡ map (λ b. b.value) blocks.old.items) ⊎ IsKeptAt size block (tables_put puts.now) (map (λ b. b.value) blocks.old.items) (map (λ b. b.value) blocks.new.items) }
+    ensures blocks { (map (λ b. b.value) blocks.new.items ≡ map (λ b. b.value) blocks.old.items) ⊎ IsKeptAt block (tables_put puts.now) (map (λ b. b.value) blocks.old.items) (map (λ b. b.value) blocks.new.items) }
 {
-    if block < blocks.len() {
+    if block < blocks.len() && blocks[block].tables().len() == puts.len() {
         return Ok(Arc::try_clone(&blocks[block])?);
     }
     let segment = Arc::new(alloc, built(alloc, puts)?)?;
-    if blocks.len() == block && puts.len() == size {
-        blocks.push(Arc::try_clone(&segment)?)?;
-    }
+    keep(blocks, block, Arc::try_clone(&segment)?)?;
     Ok(segment)
+}
+
+// Keeps the segment of the block of an index, behind the others or in the place of what was kept of this block.
+fn keep(blocks: &mut Vec<Arc<Segment>>, block: usize, segment: Arc<Segment>) -> Result<(), NoMemory>
+    ensures { (map (λ b. b.value) blocks.new.items ≡ map (λ b. b.value) blocks.old.items) ⊎ IsKeptAt block segment.value (map (λ b. b.value) blocks.old.items) (map (λ b. b.value) blocks.new.items) }
+{
+    if block < blocks.len() {
+        blocks[block] = segment;
+    } else if block == blocks.len() {
+        blocks.push(segment)?;
+    }
+    Ok(())
 }
 
 // The segment of the tables of at most 256 puts.

@@ -105,8 +105,8 @@ impl Timeline {
     /// one name, and no two positions of loads are the same. What is taken later changes nothing of the pin.
     ///
     /// A position within a block of 256 loads and replaces is searched in the whole block, of which what was not live is marked. The first
-    /// pin that needs a whole block builds its segment, which is kept; the segment of the last block, if it is not whole, is built for each
-    /// pin that needs it. Beside that a pin costs a walk over the loads and replaces of its blocks.
+    /// pin that needs a block builds its segment, which is kept; that of the last block is built again for the first pin behind a further
+    /// load or replace. Beside that a pin costs a walk over the loads and replaces of its blocks.
     ///
     /// It is refused where more entries are asked for than were taken, and else only where memory is wanting.
     pub fn pin(&mut self, asked: u64) -> Result<Pin, PastRefused>

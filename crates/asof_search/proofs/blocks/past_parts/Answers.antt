@@ -3,7 +3,7 @@ use Rattle.std.proofs.lemmas.List.{length-map}
 use Rattle.std.specs.Prelude.{sum_by}
 use Rattle.lake_model.specs.Tables.{Table, members}
 use Rattle.asof_search.specs.Puts.{tables_put}
-use Rattle.asof_search.proofs.BlockLemmas.{block_light, block_tables, blocks_after, none_left, past_live, past_positions, rest_rises, drop_rest, under_way_more}
+use Rattle.asof_search.proofs.BlockLemmas.{block_kept, block_light, block_tables, blocks_after, none_left, past_live, past_positions, rest_rises, drop_rest, under_way_more}
 use Rattle.asof_search.proofs.blocks.past_parts.Goals as goal
 
 pub is_later-requires : goal.is_later-requires
@@ -23,22 +23,22 @@ block_segment-requires-clause-light c =
 pub block_segment-requires-clause-kept : goal.block_segment-requires-clause-kept
 block_segment-requires-clause-kept c within =
     let is = block_tables c.args.size c.loop-block.block c.args.puts.now c.loop-block.rest.now (take c.min-count.result c.loop-block.rest.now) c.loop-block.invariant.under_way.left (ap (λ (n : ℕ). take n c.loop-block.rest.now) c.min-count.ensures) in
-    c.loop-block.invariant.kept.same c.loop-block.block (omega (arith, within, length-map c.loop-block.blocks.items (λ b. b.value))) ∙ sym is
+    block_kept c.args.size c.loop-block.block (tables_put c.args.puts.now) (tables_put (take c.min-count.result c.loop-block.rest.now)) _ is (c.loop-block.invariant.kept c.loop-block.block (omega (arith, within, length-map c.loop-block.blocks.items (λ b. b.value))))
 
 pub returns-in_err-segment-clause-blocks : goal.returns-in_err-segment-clause-blocks
 returns-in_err-segment-clause-blocks c =
     let is = block_tables c.args.size c.loop-block.block c.args.puts.now c.loop-block.rest.now (take c.min-count.result c.loop-block.rest.now) c.loop-block.invariant.under_way.left (ap (λ (n : ℕ). take n c.loop-block.rest.now) c.min-count.ensures) in
-    blocks_after c.args.size c.loop-block.block (tables_put c.args.puts.now) (tables_put (take c.min-count.result c.loop-block.rest.now)) _ _ c.loop-block.invariant.kept c.requires.some is c.block_segment.ensures.blocks
+    blocks_after c.args.size c.loop-block.block (tables_put c.args.puts.now) (tables_put (take c.min-count.result c.loop-block.rest.now)) _ _ c.loop-block.invariant.kept is c.block_segment.ensures.blocks
 
 pub returns-in_err-past_part-clause-blocks : goal.returns-in_err-past_part-clause-blocks
 returns-in_err-past_part-clause-blocks c =
     let is = block_tables c.args.size c.loop-block.block c.args.puts.now c.loop-block.rest.now (take c.min-count.result c.loop-block.rest.now) c.loop-block.invariant.under_way.left (ap (λ (n : ℕ). take n c.loop-block.rest.now) c.min-count.ensures) in
-    blocks_after c.args.size c.loop-block.block (tables_put c.args.puts.now) (tables_put (take c.min-count.result c.loop-block.rest.now)) _ _ c.loop-block.invariant.kept c.requires.some is c.block_segment.ensures.blocks
+    blocks_after c.args.size c.loop-block.block (tables_put c.args.puts.now) (tables_put (take c.min-count.result c.loop-block.rest.now)) _ _ c.loop-block.invariant.kept is c.block_segment.ensures.blocks
 
 pub returns-in_err-push-clause-blocks : goal.returns-in_err-push-clause-blocks
 returns-in_err-push-clause-blocks c =
     let is = block_tables c.args.size c.loop-block.block c.args.puts.now c.loop-block.rest.now (take c.min-count.result c.loop-block.rest.now) c.loop-block.invariant.under_way.left (ap (λ (n : ℕ). take n c.loop-block.rest.now) c.min-count.ensures) in
-    blocks_after c.args.size c.loop-block.block (tables_put c.args.puts.now) (tables_put (take c.min-count.result c.loop-block.rest.now)) _ _ c.loop-block.invariant.kept c.requires.some is c.block_segment.ensures.blocks
+    blocks_after c.args.size c.loop-block.block (tables_put c.args.puts.now) (tables_put (take c.min-count.result c.loop-block.rest.now)) _ _ c.loop-block.invariant.kept is c.block_segment.ensures.blocks
 
 pub loop-block-preserved : goal.loop-block-preserved
 loop-block-preserved c =
@@ -46,7 +46,7 @@ loop-block-preserved c =
     record {
       under_way = rw (c.in_ok-push.ensures.items) (under_way_more c.args.size c.args.asked c.loop-block.block c.args.puts.now c.loop-block.rest.now (take c.min-count.result c.loop-block.rest.now) _ c.loop-block.parts.items c.in_ok-past_part.field-0 c.loop-block.invariant.under_way
           (ap (λ (n : ℕ). take n c.loop-block.rest.now) c.min-count.ensures) (drop_rest c.min-count.result c.args.size c.loop-block.rest.now c.min-count.ensures) c.in_ok-past_part.ensures);
-      kept = blocks_after c.args.size c.loop-block.block (tables_put c.args.puts.now) (tables_put (take c.min-count.result c.loop-block.rest.now)) _ _ c.loop-block.invariant.kept c.requires.some is c.block_segment.ensures.blocks;
+      kept = blocks_after c.args.size c.loop-block.block (tables_put c.args.puts.now) (tables_put (take c.min-count.result c.loop-block.rest.now)) _ _ c.loop-block.invariant.kept is c.block_segment.ensures.blocks;
     }
 
 pub returns-clause-live : goal.returns-clause-live
