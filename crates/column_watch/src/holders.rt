@@ -1,5 +1,5 @@
 //! The keys of all queries, in an order in which the queries that hold a key are found.
-ghost use Rattle.std.specs.Prelude.{◌≡◌, ◌≤◌, ◌<◌, ◌*◌, ◌++◌, [], List, bytes_eq, filter, length, map, nat_eq, true, IfOk, OnOk};
+ghost use Rattle.std.specs.Prelude.{◌≡◌, ◌≤◌, ◌<◌, ◌*◌, ◌++◌, [], List, bytes_eq, filter, length, map, false, nat_eq, nat_lt, true, IfOk, OnOk};
 ghost use Rattle.std.specs.Cmp.Lexicographic.{slice_cmp};
 ghost use Rattle.std.specs.List.{All, IsDistinct};
 ghost use Rattle.std.specs.List.Sorted.{IsNonDecreasingBy, IsPartitionPoint, IsSortedByKey};
@@ -14,6 +14,9 @@ use segment_core::{count_below, hash_key, starts_of};
 use std::alloc::Global;
 use std::cmp::Ordering;
 use std::marker::Model;
+
+// How many keys of one hash are looked at one by one.
+const NEAR: usize = 32;
 
 /// A key of a query: its hash, the index of the query, and the index of the key among those of the query.
 #[derive(Clone, Copy)]
@@ -158,7 +161,23 @@ fn bounds_of_hash(hashes: &[u32], starts: &[u32], hash: u32) -> (usize, usize)
     if from >= hashes.len() || hashes[from] != hash {
         return (0, 0);
     }
-    (from, count_up_to(hashes, starts, hash))
+    (from, count_from(hashes, starts, hash, from))
+}
+
+// How many of the hashes, which rise, are not above one, where so many are below it. Few keys share a hash, so that the first above it is
+// mostly near.
+fn count_from(hashes: &[u32], starts: &[u32], hash: u32, below: usize) -> usize
+    requires rising { IsNonDecreasingBy (λ n. n) hashes.now }
+    requires below { IsPartitionPoint (λ n. nat_lt n hash ≡ true) (λ n. nat_lt n hash ≡ false) hashes.now below }
+    ensures within { result ≤ length hashes.now }
+    ensures point { IsPartitionPoint (λ n. n ≤ hash) (λ n. hash < n) hashes.now result }
+{
+    for at in below..hashes.len().min(below.saturating_add(NEAR)) {
+        if hashes[at] != hash {
+            return at;
+        }
+    }
+    count_up_to(hashes, starts, hash)
 }
 
 // How many of the hashes, which rise, are not above one.
