@@ -8,7 +8,7 @@ values, 18 of each of five columns and ten others, and asks for ten rows. The pr
 into one part. The past is asked by `asof`, of the merged lake: at the last position at which all tables lie in whole blocks of 256; and at the last before the merge, where
 some lie in a block that is not whole. The time of a question is the CPU time of the run with all of them less that without, each
 the least of N whole runs, over their number; the first search of the past is one question alone, and the later ones are all but this one. It ends with 1 if a later
-search of the past costs more than twice as much as a search of the present, of the lake as it was loaded.
+search of the past costs more than twice as much as a search of the merged lake.
 """
 import os
 import random
@@ -70,7 +70,7 @@ def main():
                 one = measured(merged + questions(front, asked[:1]))
                 later = (measured(merged + questions(front, asked)) - one) / (len(asked) - 1) * 1e6
                 print(f"  {name:15}  the first {(one - lake) * 1e6:11.1f} us   each later {later:9.1f} us, {later / present:6.2f} times merged, {later / parts:6.2f} times as loaded", flush=True)
-                is_slow |= later > LIMIT * parts
+                is_slow |= later > LIMIT * present
     sys.exit(is_slow)
 
 
