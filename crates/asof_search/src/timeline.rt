@@ -87,13 +87,14 @@ impl Timeline {
 
     /// Takes the next entries of the journal, one after another, each at the cost of [`Timeline::take`].
     ///
-    /// It is refused only where memory is wanting. Then the first of them are taken, or none.
+    /// It is refused only where memory is wanting. Then the first of them are taken, or none, behind what was taken before.
     pub fn take_all(&mut self, entries: &[Entry]) -> Result<(), NoMemory>
         requires legal { is_legal (self.old ++ entries.now) ≡ true }
         requires few { length (loads_of (self.old ++ entries.now)) < 2 ^ 32 }
         requires light { (counts (self.old ++ entries.now)).members < 2 ^ 32 }
         ensures ok { OnOk result (self.new ≡ self.old ++ entries.now) }
         ensures begins { IsPrefix self.new (self.old ++ entries.now) }
+        ensures kept { IsPrefix self.old self.new }
     {
         for entry in entries {
             self.take(entry)?;

@@ -11,7 +11,7 @@ use crate::part::contain_part;
 use column_set::{QuerySet, Row, Rows};
 use no_memory::NoMemory;
 use part_columns::{Answer, Columns, most_columns, most_probes};
-use segment_core::Looks;
+use segment_core::{HashedQuery, Looks};
 use std::alloc::Global;
 use std::marker::Model;
 
@@ -90,10 +90,11 @@ fn ask_parts(
     ensures looks { IfOk result (λ asked. sum_by (looks_for query.now least) looks.old.version.parts ≤ looks.new.spare) }
     ensures rows { IfOk result (λ asked. sum_by (rows_for query.now least) looks.old.version.parts ≤ asked.1) }
 {
+    let hashed = HashedQuery::new(alloc, query)?;
     let mut asked = Vec::new(alloc);
     let mut rows = 0;
     for part in 0..looks.parts() {
-        let tokens = looks.query_tokens(alloc, part, query)?;
+        let tokens = looks.query_tokens(alloc, part, &hashed)?;
         let read = (tokens.len() + 1).saturating_sub(least as usize);
         let probes = most_probes(looks, part, &tokens[..read]) as usize;
         looks.reserve_log(read + probes)?;

@@ -12,7 +12,7 @@ use column_set::{Name, QuerySet};
 use cost_model::Chooser;
 use no_memory::NoMemory;
 use part_columns::{Answer, Columns, most_columns, most_probes};
-use segment_core::Looks;
+use segment_core::{HashedQuery, Looks};
 use std::alloc::Global;
 use std::marker::Model;
 use topk_heap::TopK;
@@ -90,9 +90,10 @@ fn ask_parts(
     ensures log { looks.new.log ≡ looks.old.log }
     ensures room { IfOk result (λ asked. sum_by (looks_in query.now) looks.old.version.parts ≤ looks.new.spare) }
 {
+    let hashed = HashedQuery::new(alloc, query)?;
     let mut asked = Vec::new(alloc);
     for part in 0..looks.parts() {
-        let tokens = looks.query_tokens(alloc, part, query)?;
+        let tokens = looks.query_tokens(alloc, part, &hashed)?;
         let probes = most_probes(looks, part, &tokens);
         looks.reserve_log(tokens.len() + probes as usize)?;
         asked.push(tokens)?;

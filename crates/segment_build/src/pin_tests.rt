@@ -9,8 +9,8 @@ use column_set::{Keys, Name, QuerySet, SharedTable, TableSets};
 use csv_table::read_table;
 use no_memory::NoMemory;
 use segment_core::{
-    ColumnRefused, Look, Looks, Marks, Numbers, Owner, Part, Pin, Posting, Segment, TokenAt,
-    Version, order_by_hash,
+    ColumnRefused, HashedQuery, Look, Looks, Marks, Numbers, Owner, Part, Pin, Posting, Segment,
+    TokenAt, Version, order_by_hash,
 };
 use std::alloc::Global;
 use std::process::Abort;
@@ -184,7 +184,8 @@ fn asked(alloc: Global, looks: &Looks<'_>, body: &[u8]) -> Result<Vec<u32>, Fail
         return Err(Fail::from("no part"));
     }
     let query = QuerySet::read(alloc, Keys::Canonical, body)?;
-    Ok(looks.query_tokens(alloc, 0, &query)?)
+    let hashed = HashedQuery::new(alloc, &query)?;
+    Ok(looks.query_tokens(alloc, 0, &hashed)?)
 }
 
 // The list of a key in the first part.

@@ -7,7 +7,7 @@ use Rattle.std.specs.List.{filter, flat_map, enumerate_from, list_any, AllByRecu
 use Rattle.std.specs.List.Sorted.{IsPermutation, IsSorted}
 use Rattle.std.proofs.lemmas.Bool.Decides.{nat_tests}
 use Rattle.std.proofs.lemmas.Cmp.{nat_cmp_total}
-use Rattle.std.proofs.lemmas.List.{map-append, length-map, take_more}
+use Rattle.std.proofs.lemmas.List.{get_or-map, map-append, length-map, take_more}
 use Rattle.std.proofs.lemmas.List.Concat.{flat_map-append}
 use Rattle.std.proofs.lemmas.List.Elements.{All-from_recursion}
 use Rattle.std.proofs.lemmas.List.Folds.{list_any_none}
@@ -20,6 +20,8 @@ use Rattle.lake_model.specs.Tables.{Table, has_key, distinct}
 use Rattle.lake_model.proofs.SortingLemmas.{in_order-IsPermutation, in_order_moves, sorted_is}
 use Rattle.search_model.specs.Segment.{Titled, Token, columns_of, segment, token_cmp, token_of, tokens_in, tokens_of}
 use Rattle.search_model.specs.Arrays.{IsToken, key_of}
+use Rattle.segment_core.specs.Among.{found_by, hit_keys}
+use Rattle.segment_core.specs.declared.segment.Hit.{Hit}
 use Rattle.search_model.proofs.FilterLemmas.{rising}
 use Rattle.search_model.proofs.OverlapLemmas.{front, tokens_from, tokens_from-cons}
 use Rattle.search_model.proofs.TokenLemmas.{distinct_differs}
@@ -131,6 +133,27 @@ one_more tokens keys i found h d is =
     ap (flat_map of) (take_more keys i [] h)
     ∙ flat_map-append of (take i keys) (get_or keys i [] ∷ [])
     ∙ ap (λ (ns : List ℕ). flat_map of (take i keys) ++ ns) (append-nil (of (get_or keys i [])) ∙ looked_up tokens (get_or keys i []) found d is)
+
+-- a key is put behind others, or no token has it
+pub found_more : (tokens : List Token) (keys before : List Text) (i : ℕ) → i < length keys → found_by tokens before ≡ found_by tokens (take i keys) → found_by tokens (before ++ get_or keys i [] ∷ []) ≡ found_by tokens (take (i + 1) keys)
+found_more tokens keys before i h e =
+    let of : Text → List ℕ = λ key. tokens_in tokens (key ∷ []) in
+    flat_map-append of before (get_or keys i [] ∷ [])
+    ∙ ap (λ (ns : List ℕ). ns ++ flat_map of (get_or keys i [] ∷ [])) e
+    ∙ sym (flat_map-append of (take i keys) (get_or keys i [] ∷ []))
+    ∙ sym (ap (flat_map of) (take_more keys i [] h))
+
+pub found_none : (tokens : List Token) (keys before : List Text) (i : ℕ) → i < length keys → IsDistinct bytes_eq (map (λ t. t.key) tokens) → IsToken tokens (get_or keys i []) None → found_by tokens before ≡ found_by tokens (take i keys) → found_by tokens before ≡ found_by tokens (take (i + 1) keys)
+found_none tokens keys before i h d is e =
+    e ∙ sym (append-nil (found_by tokens (take i keys))) ∙ sym (one_more tokens keys i None h d is)
+
+-- one more hit, of which the key is looked up
+pub hit_more : (tokens : List Token) (keys : List Text) (hits : List Hit) (i : ℕ) (d : Hit) (found : Option ℕ) → i < length hits → IsDistinct bytes_eq (map (λ t. t.key) tokens) → IsToken tokens (get_or keys (get_or hits i d).index []) found
+    → found_by tokens (take (i + 1) (hit_keys keys hits)) ≡ found_by tokens (take i (hit_keys keys hits)) ++ option_to_list found
+hit_more tokens keys hits i d found h apart is =
+    let key : Hit → Text = λ hit. get_or keys hit.index [] in
+    let within : i < length (hit_keys keys hits) = omega (arith, length-map hits key) in
+    one_more tokens (hit_keys keys hits) i found within apart (subst (λ (k : Text). IsToken tokens k found) (sym (get_or-map key hits i d [] h)) is)
 
 -- ---- the keys of the tokens differ
 

@@ -5,3 +5,4 @@ pub mod Positions
 pub mod LiveColumn
 pub mod Plans
 pub mod Hashes
+pub mod Among

@@ -3,6 +3,7 @@
 
 mod column;
 mod find;
+mod hashed;
 mod hashes;
 mod layout;
 mod looks;
@@ -15,6 +16,7 @@ mod swap;
 mod version;
 
 pub use column::ColumnRefused;
+pub use hashed::HashedQuery;
 pub use hashes::{HashOrder, count_below, hash_key, order_by_hash, starts_of};
 pub use layout::{Layout, Places, TableLines};
 pub use looks::Looks;

@@ -2,10 +2,11 @@
 ghost use Rattle.std.specs.Prelude.{◌≡◌, ◌<◌, ◌+◌, ◌++◌, ◌∷◌, [], count_by, drop, false, get_or, length, not, IfOk, OnErr, OnOk};
 ghost use Rattle.search_model.specs.Looks.{is_read};
 
+use crate::hashed::HashedQuery;
 use crate::order::ColumnOrder;
 use crate::segment::Segment;
 use crate::version::{Part, Version};
-use column_set::{QuerySet, Titles};
+use column_set::Titles;
 use no_memory::NoMemory;
 use search_model::{Look, Posting};
 use std::alloc::Global;
@@ -108,7 +109,7 @@ impl<'a> Looks<'a> {
         &self,
         alloc: Global,
         part: u32,
-        query: &QuerySet,
+        query: &HashedQuery<'_>,
     ) -> Result<Vec<u32>, NoMemory>
         requires { part < length self.now.version.parts }
         ensures { IfOk result (λ tokens. tokens.items ≡ tokens_in (segment_at self.now.version.parts part).tokens query.now) }

@@ -9,6 +9,7 @@ ghost use Rattle.search_model.specs.Segment.{segment, tokens_in};
 ghost use Rattle.segment_core.specs.LiveColumn.{fault_in, keys_in};
 
 use crate::column::ColumnRefused;
+use crate::hashed::HashedQuery;
 use crate::hashes::{HashOrder, count_below, hash_key, key_at};
 use crate::order::ColumnOrder;
 use column_set::{QuerySet, SharedTable};
@@ -18,6 +19,13 @@ use std::alloc::Global;
 use std::cmp::Ordering as Comparison;
 use std::marker::Model;
 use std::sync::atomic::{AtomicU64, Ordering};
+
+/// A token of which the key may be that of a query at an index, from 0: they have the same hash.
+#[derive(Clone, Copy)]
+struct Hit {
+    token: u32,
+    index: u32,
+}
 
 /// The inverted index of a list of tables. Its columns are those of the tables, numbered from 0 by table and then by place. Its
 /// tokens are the distinct keys of the columns, numbered from 0 by rising frequency (how many columns hold the key), and then by
@@ -252,12 +260,19 @@ impl Segment {
 }
 
 impl Segment {
+    ghost use Rattle.std.specs.List.{All};
+    ghost use Rattle.segment_core.specs.Among.{found_by, hit_keys, IsHit};
+
     /// The tokens of which the keys are the query's, rising. It walks the smaller of the two: the tokens, or the keys of the query.
-    pub(crate) fn tokens_among(&self, alloc: Global, query: &QuerySet) -> Result<Vec<u32>, NoMemory>
+    pub(crate) fn tokens_among(
+        &self,
+        alloc: Global,
+        query: &HashedQuery<'_>,
+    ) -> Result<Vec<u32>, NoMemory>
         ensures { IfOk result (λ tokens. tokens.items ≡ tokens_in (segment self.now).tokens query.now) }
     {
-        if self.tokens.len() < query.len() as usize {
-            self.asked_tokens(alloc, query)
+        if self.tokens.len() < query.query().len() as usize {
+            self.asked_tokens(alloc, query.query())
         } else {
             self.found_tokens(alloc, query)
         }
@@ -277,25 +292,59 @@ impl Segment {
     }
 
     // The same, where each key of the query is looked up.
-    fn found_tokens(&self, alloc: Global, query: &QuerySet) -> Result<Vec<u32>, NoMemory>
+    fn found_tokens(&self, alloc: Global, query: &HashedQuery<'_>) -> Result<Vec<u32>, NoMemory>
         ensures { IfOk result (λ tokens. tokens.items ≡ tokens_in (segment self.now).tokens query.now) }
     {
-        let mut tokens = self.looked_up(alloc, query)?;
+        let hits = self.hits(alloc, query)?;
+        let mut tokens = self.tokens_of_hits(alloc, query, &hits)?;
         tokens.sort_unstable();
         Ok(tokens)
     }
 
-    // The tokens of which the keys are the query's, in the order of the query's keys.
-    fn looked_up(&self, alloc: Global, query: &QuerySet) -> Result<Vec<u32>, NoMemory>
-        ensures { IfOk result (λ tokens. IsPermutation (tokens_in (segment self.now).tokens query.now) tokens.items) }
+    // For each key of the query of which some token has the hash, the first such token. No key of a token is read yet: the reads are misses
+    // of the cache, which do not wait for one another where nothing else lies between them.
+    fn hits(&self, alloc: Global, query: &HashedQuery<'_>) -> Result<Vec<Hit>, NoMemory>
+        ensures hits { IfOk result (λ hits. All (IsHit (segment self.now).tokens query.now) hits.items) }
+        ensures all { IfOk result (λ hits. IsPermutation (tokens_in (segment self.now).tokens query.now) (found_by (segment self.now).tokens (hit_keys query.now hits.items))) }
     {
-        let mut tokens = Vec::new(alloc);
-        for i in 0..query.len() {
-            if let Some(token) = self.lookup(query.key(i)) {
+        let mut hits = Vec::new(alloc);
+        for index in 0..query.query().len() {
+            if let Some(token) = self.first_hashed(query.hash(index)) {
+                hits.push(Hit { token, index })?;
+            }
+        }
+        Ok(hits)
+    }
+
+    // The tokens that the keys of these hits are, in their order.
+    fn tokens_of_hits(
+        &self,
+        alloc: Global,
+        query: &HashedQuery<'_>,
+        hits: &[Hit],
+    ) -> Result<Vec<u32>, NoMemory>
+        requires { All (IsHit (segment self.now).tokens query.now) hits.now }
+        ensures { IfOk result (λ tokens. tokens.items ≡ found_by (segment self.now).tokens (hit_keys query.now hits.now)) }
+    {
+        let mut tokens = Vec::with_capacity(alloc, hits.len())?;
+        for hit in hits {
+            if let Some(token) = self.token_of_hit(query, *hit) {
                 tokens.push(token)?;
             }
         }
         Ok(tokens)
+    }
+
+    // The token that the key of a hit is.
+    fn token_of_hit(&self, query: &HashedQuery<'_>, hit: Hit) -> Option<u32>
+        requires { IsHit (segment self.now).tokens query.now hit }
+        ensures { IsToken (segment self.now).tokens (get_or query.now hit.index []) result }
+    {
+        let key = query.query().key(hit.index);
+        if self.key(hit.token) == key {
+            return Some(hit.token);
+        }
+        self.lookup_colliding(query.hash(hit.index), key)
     }
 }
 

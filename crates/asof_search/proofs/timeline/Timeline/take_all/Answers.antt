@@ -1,4 +1,4 @@
-use Rattle.std.proofs.Common.{◌++◌, sym, subst}
+use Rattle.std.proofs.Common.{◌++◌, sym, subst, take}
 use mathlib.Core.List.{IsPrefix}
 use Rattle.asof_search.proofs.TakeLemmas.{still_few, still_legal, still_light, taken_begins}
 use Rattle.asof_search.proofs.timeline.Timeline.take_all.Goals as goal
@@ -15,3 +15,10 @@ take-requires-clause-light c = still_light c.args.self.now c.args.entries.now c.
 pub returns-in_err-take-clause-begins : goal.returns-in_err-take-clause-begins
 returns-in_err-take-clause-begins c =
     subst (λ taken. IsPrefix taken (c.args.self.now ++ c.args.entries.now)) (sym c.in_err-take.ensures.err) (taken_begins c.args.self.now c.args.entries.now c.loop-entry.self c.loop-entry.entry-index c.loop-entry.invariant)
+
+pub returns-in_err-take-clause-kept : goal.returns-in_err-take-clause-kept
+returns-in_err-take-clause-kept c =
+    subst (IsPrefix c.args.self.now) (sym c.in_err-take.ensures.err) (take c.loop-entry.entry-index c.args.entries.now, sym c.loop-entry.invariant)
+
+pub returns-clause-kept : goal.returns-clause-kept
+returns-clause-kept c = (take c.loop-entry.entry-index c.args.entries.now, sym c.loop-entry.invariant)

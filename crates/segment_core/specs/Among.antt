@@ -1,0 +1,18 @@
+-- The tokens of a segment that have keys of a query, found key by key.
+use Rattle.std.specs.Prelude.{ℕ, ◌<◌, List, [], ◌∷◌, get_or, length, map}
+use Rattle.std.specs.List.{flat_map}
+use Rattle.lake_model.specs.Texts.{Text}
+use Rattle.search_model.specs.Segment.{Token, tokens_in}
+use Rattle.segment_core.specs.declared.segment.Hit.{Hit}
+
+-- the tokens that these keys are, in the order of the keys
+abbrev pub found_by : List Token → List Text → List ℕ
+found_by tokens keys = flat_map (λ key. tokens_in tokens (key ∷ [])) keys
+
+-- the token and the key of a hit are there
+abbrev pub IsHit : List Token → List Text → Hit → Type 0
+IsHit tokens keys hit = (hit.token < length tokens) × (hit.index < length keys)
+
+-- the keys of hits
+abbrev pub hit_keys : List Text → List Hit → List Text
+hit_keys keys hits = map (λ hit. get_or keys hit.index []) hits

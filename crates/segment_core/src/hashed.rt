@@ -1,0 +1,57 @@
+//! A query with the hashes of its keys.
+ghost use Rattle.std.specs.Prelude.{◌≡◌, ◌<◌, [], get_or, length, IfOk};
+ghost use Rattle.segment_core.specs.Hashes.{hash_of};
+
+use crate::hashes::hash_key;
+use column_set::QuerySet;
+use no_memory::NoMemory;
+use std::alloc::Global;
+use std::marker::Model;
+
+/// A query with the hash of each of its keys, so that a key is hashed once for all parts that it is looked up in. A contract sees the
+/// keys.
+#[derive(Drop)]
+pub struct HashedQuery<'q> {
+    query: &'q QuerySet,
+    hashes: Vec<u32>,
+}
+
+impl<'q> Model for HashedQuery<'q> {
+    ghost use Rattle.std.specs.Prelude.{◌≡◌, List, map};
+    ghost use Rattle.lake_model.specs.Texts.{Text};
+    ghost use Rattle.segment_core.specs.Hashes.{hash_of};
+
+    ghost Value = { List Text };
+
+    ghost view = { λ h. h.query.now };
+
+    ghost invariant = { λ h. h.hashes.items ≡ map hash_of h.query.now };
+}
+
+impl<'q> HashedQuery<'q> {
+    /// The query, and the hashes of its keys. It takes the time to read each key once, and 4 bytes for each.
+    pub fn new(alloc: Global, query: &'q QuerySet) -> Result<HashedQuery<'q>, NoMemory>
+        ensures { IfOk result (λ hashed. hashed ≡ query.now) }
+    {
+        let mut hashes = Vec::with_capacity(alloc, query.len() as usize)?;
+        for i in 0..query.len() {
+            hashes.push(hash_key(query.key(i)))?;
+        }
+        Ok(HashedQuery { query, hashes })
+    }
+
+    /// The query.
+    pub(crate) fn query(&self) -> &QuerySet
+        ensures { result.now ≡ self.now }
+    {
+        self.query
+    }
+
+    /// The hash of the key at an index, from 0.
+    pub(crate) fn hash(&self, i: u32) -> u32
+        requires { i < length self.now }
+        ensures { result ≡ hash_of (get_or self.now i []) }
+    {
+        self.hashes[i as usize]
+    }
+}
