@@ -10,7 +10,7 @@ some lie in a block that is not whole. The time of a question is the CPU time of
 the least of N whole runs, over their number; the first search of the past is one question alone, and the later ones are all but this one. It ends with 1 if a later
 search of the past costs more than twice as much as a search of the merged lake.
 """
-import os
+import functools
 import random
 import sys
 import tempfile
@@ -50,13 +50,7 @@ def main():
     chance = random.Random(1)
     is_slow = False
     with tempfile.TemporaryDirectory() as folder:
-        path = os.path.join(folder, "script")
-
-        def measured(script):
-            with open(path, "w", encoding="utf-8") as file:
-                file.write(script)
-            return least_time(given.times, given.josie, path)
-
+        measured = functools.partial(least_time, given, folder)
         for tables in SIZES:
             loads, columns = made_loads(chance, tables)
             queries = list(made_queries(chance, columns))

@@ -9,6 +9,7 @@ of ten are of one column; or they are the queries of the script SEARCHES. They a
 time of a question is the CPU time of the run with all of them less that without, each the least of N whole runs, over their number: it has the reading of
 the query and the writing of the reply. The merged lake is asked them twenty times over, since its answers take little beside the loads.
 """
+import functools
 import os
 import random
 import re
@@ -48,17 +49,20 @@ def questions(front, queries):
     return "".join(question + ("sync\n" if number % 100 == 0 else "") for number, question in enumerate(asked, 1))
 
 
-def least_time(times, josie, path):
+def least_time(given, folder, script):
     """The least CPU time of some runs over a script, in seconds. A script of which a command is refused measures nothing."""
+    path = os.path.join(folder, "script")
+    with open(path, "w", encoding="utf-8") as file:
+        file.write(script)
     best = None
-    for _ in range(times):
-        with open(path, "rb") as script, tempfile.TemporaryFile() as out:
+    for _ in range(given.times):
+        with open(path, "rb") as source, tempfile.TemporaryFile() as out:
             before = resource.getrusage(resource.RUSAGE_CHILDREN)
-            subprocess.run([josie, "run"], stdin=script, stdout=out, check=True)
+            subprocess.run([given.josie, "run"], stdin=source, stdout=out, check=True)
             after = resource.getrusage(resource.RUSAGE_CHILDREN)
             out.seek(0)
             if any(b" refused " in line or b" no memory" in line for line in out):
-                sys.exit("contain_speed: a command was refused")
+                sys.exit("least_time: a command was refused")
         taken = after.ru_utime + after.ru_stime - before.ru_utime - before.ru_stime
         best = taken if best is None else min(best, taken)
     return best
@@ -81,13 +85,7 @@ def main():
         loads, columns = made_lake(chance)
         sets = {f"{size:5} values": list(made_queries(chance, columns, size)) for size in QUERIES}
     with tempfile.TemporaryDirectory() as folder:
-        path = os.path.join(folder, "script")
-
-        def measured(script):
-            with open(path, "w", encoding="utf-8") as file:
-                file.write(script)
-            return least_time(given.times, given.josie, path)
-
+        measured = functools.partial(least_time, given, folder)
         for state, lake in (("as loaded", loads + "sync\n"), ("merged", loads + "sync\nmerge all\nsync\n")):
             loaded = measured(lake)
             for name, asked in sets.items():
