@@ -1,22 +1,22 @@
 -- What is counted for each query and each column, and the rows that follow.
-use Rattle.std.proofs.Common.{◌≡◌, refl, ap, sym, ◌∙◌, subst, ℕ, zero, suc, ◌+◌, ◌-◌, ◌<◌, ◌≤◌, List, [], ◌∷◌, ◌++◌, Bool, true, false, length, get_or, arith, take, drop, map, replicate, nat_eq, Option, Some, None}
+use Rattle.std.proofs.Common.{◌≡◌, refl, ap, sym, ◌∙◌, subst, ℕ, zero, suc, ◌+◌, ◌-◌, ◌<◌, ◌≤◌, List, [], ◌∷◌, ◌++◌, Bool, true, false, length, get_or, arith, take, drop, map, replicate, Option, Some, None}
 use Rattle.std.specs.Prelude.{bytes_eq, count_by}
-use Rattle.std.specs.List.{All, AllByRecursion, IsDistinct}
+use Rattle.std.specs.Int.{bit_at}
+use Rattle.std.specs.List.{All, IsDistinct}
 use Rattle.std.specs.Global.{Vec}
 use Rattle.std.proofs.Math.Seq.{take-append_seam, take-suc}
 use Rattle.std.proofs.lemmas.Grind.{same_number_lists}
 use Rattle.std.proofs.lemmas.List.{get_or-map, length-map, map-append}
-use Rattle.std.proofs.lemmas.List.Elements.{All-from_recursion, All-map}
+use Rattle.std.proofs.lemmas.List.Elements.{All-map}
 use Rattle.std.proofs.lemmas.List.Sums.{sum_by-append, sum_by-cons}
-use Rattle.list_laws.proofs.ListLemmas.{all_unmap}
 use Rattle.column_set.proofs.OverlapLemmas.{overlap_both_ways}
 use Rattle.lake_model.specs.Texts.{Text}
 use Rattle.lake_model.specs.Tables.{Column, Table, Titles, has_key, keys_at, overlap, sets_of, titles_of}
 use Rattle.lake_model.specs.Answer.{Row, row_at, rows_from}
 use Rattle.lake_model.proofs.AnswerLemmas.{rows_from_skipped, rows_from_taken}
-use Rattle.column_watch.specs.Held.{HasColumns, IsColumn, IsCounted, holders_from}
-use Rattle.column_watch.specs.declared.holders.KeyAt.{KeyAt}
-use Rattle.column_watch.proofs.HolderLemmas.{holders_count, holders_few, holders_within, once}
+use Rattle.column_watch.specs.Held.{HasColumns, IsColumn, IsCounted}
+use Rattle.column_watch.specs.Index.{has_query}
+use Rattle.column_watch.proofs.HolderLemmas.{bit_once, once}
 
 pub count_more : {X : Type 0} (p : X → Bool) (xs : List X) (i : ℕ) (d : X) → i < length xs → count_by p (take (i + 1) xs) ≡ count_by p (take i xs) + once (p (get_or xs i d))
 count_more p xs i d h =
@@ -50,11 +50,11 @@ zero_at (suc n) (suc w) = zero_at n w
 
 -- what is counted over the keys of a column is the overlap of each query
 pub counted_all : (queries : List (List Text)) (keys : List Text) (counts : List ℕ) → length counts ≡ length queries → All (IsDistinct bytes_eq) queries → IsDistinct bytes_eq keys
-    → ((w : ℕ) → get_or counts w 0 ≡ count_by (has_key (get_or queries w [])) keys) → counts ≡ map (λ (query : List Text). overlap query keys) queries
+    → ((w : ℕ) → w < length queries → get_or counts w 0 ≡ count_by (has_key (get_or queries w [])) keys) → counts ≡ map (λ (query : List Text). overlap query keys) queries
 counted_all queries keys counts same different distinct counted =
     same_number_lists counts (map (λ (query : List Text). overlap query keys) queries) (same ∙ sym (length-map queries (λ (query : List Text). overlap query keys)))
     (λ k h. let within : k < length queries = omega arith in
-    counted k ∙ overlap_both_ways keys (get_or queries k []) distinct (different k [] within) ∙ sym (get_or-map (λ (query : List Text). overlap query keys) queries k [] 0 within))
+    counted k within ∙ overlap_both_ways keys (get_or queries k []) distinct (different k [] within) ∙ sym (get_or-map (λ (query : List Text). overlap query keys) queries k [] 0 within))
 
 -- the keys of the column at index i
 pub column_keys : (table : Table) (i : ℕ) (d : Column) → i < length table.columns → keys_at table (i + 1) ≡ (get_or table.columns i d).keys
@@ -99,29 +99,13 @@ number_at counts table w keys i d h k e =
     let c : Column = record { name = []; keys = [] } in
     sym (get_or-map (λ (numbers : List ℕ). get_or numbers w 0) counts i d 0 k) ∙ ap (λ (us : List ℕ). get_or us i 0) e ∙ get_or-map (λ (column : Column). overlap keys column.keys) table.columns i c 0 h ∙ ap (overlap keys) (sym (column_keys table i c h))
 
--- how often a query is among those of some keys
-count_mapped : (p : ℕ → Bool) (xs : List KeyAt) → count_by (λ at. p at.query) xs ≡ count_by p (map (λ at. at.query) xs)
-count_mapped p [] = refl
-count_mapped p (x ∷ xs) = omega (arith, sum_by-cons (λ (at : KeyAt). once (p at.query)) x xs, sum_by-cons (λ y. once (p y)) x.query (map (λ at. at.query) xs), count_mapped p xs)
-
--- the queries that hold a key are some of the queries
-module _ (holders : List KeyAt) (queries : List (List Text)) (key : Text) (held : map (λ at. at.query) holders ≡ holders_from 0 queries key) where
-  pub few_holders : length holders ≤ length queries
-  few_holders = omega (arith, ap length held, length-map holders (λ at. at.query), holders_few 0 queries key)
-
-  pub holders_below : (n : ℕ) → length queries ≤ n → All (λ at. at.query < n) holders
-  holders_below n h =
-      All-from_recursion (λ at. at.query < n) holders
-      (all_unmap (λ w. w < n) (λ at. at.query) holders (subst (AllByRecursion (λ w. w < n)) (sym held) (holders_within 0 n queries key (omega (arith, h)))))
-
--- one key more
-pub counted_more : (queries : List (List Text)) (keys : List Text) (i : ℕ) (key : Text) (olds news : List ℕ) (holders : List KeyAt) → i < length keys → key ≡ get_or keys i [] → map (λ at. at.query) holders ≡ holders_from 0 queries key
-    → ((w : ℕ) → get_or olds w 0 ≡ count_by (has_key (get_or queries w [])) (take i keys)) → ((w : ℕ) → get_or news w 0 ≡ get_or olds w 0 + count_by (λ at. nat_eq w at.query) holders)
-    → (w : ℕ) → get_or news w 0 ≡ count_by (has_key (get_or queries w [])) (take (i + 1) keys)
-counted_more queries keys i key olds news holders h e f before raised w =
-    let once_more : count_by (λ at. nat_eq w at.query) holders ≡ once (has_key (get_or queries w []) (get_or keys i [])) =
-    count_mapped (nat_eq w) holders ∙ ap (count_by (nat_eq w)) f ∙ holders_count queries key w ∙ ap (λ k. once (has_key (get_or queries w []) k)) e in
-    omega (arith, raised w, before w, once_more, count_more (has_key (get_or queries w [])) keys i [] h)
+-- one key more, of which a mask says which queries hold it
+pub counted_more : (queries : List (List Text)) (keys : List Text) (i : ℕ) (key : Text) (mask : ℕ) (olds news : List ℕ) → i < length keys → key ≡ get_or keys i [] → ((w : ℕ) → has_query mask w ≡ has_key (get_or queries w []) key)
+    → ((w : ℕ) → w < length queries → get_or olds w 0 ≡ count_by (has_key (get_or queries w [])) (take i keys)) → ((w : ℕ) → w < length queries → get_or news w 0 ≡ get_or olds w 0 + bit_at mask w)
+    → (w : ℕ) → w < length queries → get_or news w 0 ≡ count_by (has_key (get_or queries w [])) (take (i + 1) keys)
+counted_more queries keys i key mask olds news h e held before raised w within =
+    let once_more : bit_at mask w ≡ once (has_key (get_or queries w []) (get_or keys i [])) = bit_once mask w ∙ ap once (held w) ∙ ap (λ k. once (has_key (get_or queries w []) k)) e in
+    omega (arith, raised w within, before w within, once_more, count_more (has_key (get_or queries w [])) keys i [] h)
 
 -- what is written over the whole of a list
 pub written : {X : Type 0} (n : ℕ) (news rest : List X) → n ≡ length news → take n (news ++ rest) ≡ news

@@ -1,6 +1,6 @@
 pub mod OrderLemmas
 pub mod HolderLemmas
-pub mod RunLemmas
 pub mod IndexLemmas
+pub mod PartLemmas
 pub mod CountLemmas
 pub mod StateLemmas

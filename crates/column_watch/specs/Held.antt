@@ -1,8 +1,8 @@
 -- What is held of the watched queries beside the journal.
-use Rattle.std.specs.Prelude.{◌≡◌, ◌+◌, ◌<◌, ◌≤◌, ⊤, ℕ, Bool, not, List, [], ◌∷◌, ◌++◌, bytes_eq, filter, get_or, if◌then◌else◌, length, map, take, Option, Some, None}
+use Rattle.std.specs.Prelude.{◌≡◌, ◌<◌, ◌≤◌, ⊤, ℕ, Bool, not, List, [], ◌++◌, bytes_eq, filter, get_or, length, map, take, Option, Some, None}
 use Rattle.std.specs.List.{All, IsDistinct}
 use Rattle.lake_model.specs.Texts.{Text}
-use Rattle.lake_model.specs.Tables.{Table, has_key, overlap}
+use Rattle.lake_model.specs.Tables.{Table, overlap}
 use Rattle.lake_model.specs.Sorting.{in_order}
 use Rattle.lake_model.specs.Answer.{Row, row_cmp, rows_of_table}
 use Rattle.lake_model.specs.Journal.{Entry, What, Loaded, Dropped, Replaced, Swapped}
@@ -69,11 +69,6 @@ pub record IsCurrent (journal : List Entry) (state : StateOf) : Type 0 where
   pub different : IsDistinct bytes_eq state.keys
   pub rows : state.rows ≡ in_order row_cmp (rows_of journal (watch_of state))
   pub told : Tells state.changed (answer_of (before_last journal) (watch_of state)) (answer_of journal (watch_of state))
-
--- the queries that hold a key, by their numbers from n on
-abbrev pub holders_from : ℕ → List (List Text) → Text → List ℕ
-holders_from n [] key = []
-holders_from n (keys ∷ queries) key = (if has_key keys key then n ∷ [] else []) ++ holders_from (n + 1) queries key
 
 -- Each query is current; and once an entry was taken, there is an index of the keys of all queries.
 pub record IsKept (journal : List Entry) (states : List StateOf) (index : List KeyAt) : Type 0 where

@@ -1,42 +1,74 @@
--- The keys of all watched queries, put in the order of their hashes.
-use Rattle.std.specs.Prelude.{◌≡◌, ℕ, ◌+◌, Bool, true, false, List, [], ◌∷◌, ◌++◌, get_or, length}
+-- The keys of all watched queries, each once, in the order of their hashes, and the queries that hold them.
+use Rattle.std.specs.Prelude.{◌≡◌, ◌+◌, ◌/◌, ◌^◌, ◌<◌, ◌≤◌, ◌&&◌, ℕ, Bool, List, [], ◌∷◌, ◌++◌, bytes_eq, get_or, length, nat_eq}
 use Rattle.std.specs.Cmp.Lexicographic.{slice_cmp}
-use Rattle.std.specs.List.{AllWithin}
-use Rattle.std.specs.List.Sorted.{IsPermutation, IsSortedBy}
-use Rattle.std.specs.Ordering.{is_lt, nat_cmp, ordering_then}
+use Rattle.std.specs.Int.{bit_at}
+use Rattle.std.specs.List.{AllByRecursion, list_any}
+use Rattle.std.specs.List.Sorted.{IsPartitionPoint, IsStrictlySortedBy}
+use Rattle.std.specs.Ordering.{nat_cmp}
 use Rattle.std.specs.declared.cmp.Ordering.{Ordering}
 use Rattle.lake_model.specs.Texts.{Text}
+use Rattle.lake_model.specs.Tables.{has_key}
 use Rattle.segment_core.specs.Hashes.{hash_of}
 use Rattle.column_watch.specs.declared.holders.KeyAt.{KeyAt}
 
-abbrev pub key_with : ℕ → ℕ → ℕ → KeyAt
-key_with hash query index = record { hash = hash; query = query; index = index }
+abbrev pub key_with : ℕ → ℕ → ℕ → ℕ → KeyAt
+key_with hash query index holders = record { hash = hash; query = query; index = index; holders = holders }
+
+-- whether the query of the index w is one of those of a mask
+abbrev pub has_query : ℕ → ℕ → Bool
+has_query mask w = nat_eq (bit_at mask w) 1
 
 -- the key that stands there, and an empty text where none does
 abbrev pub text_of : List (List Text) → KeyAt → Text
 text_of queries at = get_or (get_or queries at.query []) at.index []
 
--- by the hashes of the keys, then by the keys, and then by the queries
-abbrev pub key_cmp : List (List Text) → KeyAt → KeyAt → Ordering
-key_cmp queries a b = ordering_then (nat_cmp a.hash b.hash) (ordering_then (slice_cmp nat_cmp (text_of queries a) (text_of queries b)) (nat_cmp a.query b.query))
+-- what keys are sorted by: the hash, and then the bytes of the key
+abbrev pub sorted_by : List (List Text) → KeyAt → List ℕ
+sorted_by queries at = at.hash ∷ text_of queries at
 
--- the keys of the query of the number w, of which the first has the index i
+abbrev pub key_cmp : List (List Text) → KeyAt → KeyAt → Ordering
+key_cmp queries a b = slice_cmp nat_cmp (sorted_by queries a) (sorted_by queries b)
+
+abbrev pub IsHashed : List (List Text) → KeyAt → Type 0
+IsHashed queries at = at.hash ≡ hash_of (text_of queries at)
+
+-- whether it says of this key that the query of the index w holds it
+abbrev pub says : List (List Text) → Text → ℕ → KeyAt → Bool
+says queries key w at = bytes_eq key (text_of queries at) && has_query at.holders w
+
+-- keys with their hashes, which say of each key which of the queries hold it
+pub record AreKeysOf (queries : List (List Text)) (keys : List KeyAt) : Type 0 where
+  pub hashed : AllByRecursion (IsHashed queries) keys
+  pub held : (key : Text) (w : ℕ) → list_any (says queries key w) keys ≡ has_key (get_or queries w []) key
+
+-- such keys, each once, in that order
+pub record IsIndexOf (queries : List (List Text)) (index : List KeyAt) : Type 0 where
+  pub rising : IsStrictlySortedBy (key_cmp queries) index
+  pub keys : AreKeysOf queries index
+
+-- the keys of the query of the index w, of which the first has the index i
 abbrev pub keys_from : ℕ → ℕ → List Text → List KeyAt
 keys_from w i [] = []
-keys_from w i (key ∷ keys) = key_with (hash_of key) w i ∷ keys_from w (i + 1) keys
+keys_from w i (key ∷ keys) = key_with (hash_of key) w i (2 ^ w) ∷ keys_from w (i + 1) keys
 
--- the keys of the queries, of which the first has the number w
+-- the keys of the queries, of which the first has the index w
 abbrev pub all_from : ℕ → List (List Text) → List KeyAt
 all_from w [] = []
 all_from w (keys ∷ queries) = keys_from w 0 keys ++ all_from (w + 1) queries
 
--- each key of each query, in that order
-pub record IsIndexOf (queries : List (List Text)) (index : List KeyAt) : Type 0 where
-  pub rising : IsSortedBy (λ a b. is_lt (key_cmp queries a b)) index
-  pub same : IsPermutation (all_from 0 queries) index
+-- the part of the range of hashes that a hash lies in
+abbrev pub part_of : ℕ → ℕ → ℕ
+part_of shift hash = hash / 2 ^ shift
 
--- the elements that pass a test are those from one place up to another
-pub record IsRun {X : Type 0} (p : X → Bool) (xs : List X) (from to : ℕ) : Type 0 where
-  pub before : AllWithin (λ x. p x ≡ false) xs 0 from
-  pub inside : AllWithin (λ x. p x ≡ true) xs from to
-  pub behind : AllWithin (λ x. p x ≡ false) xs to (length xs)
+-- for each part the first of the keys that are not of a part before it
+pub record AreStarts (shift : ℕ) (keys : List KeyAt) (starts : List ℕ) : Type 0 where
+  pub within : (part : ℕ) → get_or starts part 0 ≤ length keys
+  pub points : (part : ℕ) → part < length starts → IsPartitionPoint (λ at. part_of shift at.hash < part) (λ at. part ≤ part_of shift at.hash) keys (get_or starts part 0)
+
+-- a stretch of keys outside which none has a hash
+pub record IsStretch (hash : ℕ) (keys stretch : List KeyAt) : Type 0 where
+  pub front : List KeyAt
+  pub back : List KeyAt
+  pub whole : keys ≡ front ++ (stretch ++ back)
+  pub before : AllByRecursion (λ at. at.hash ≡ hash → ⊥) front
+  pub behind : AllByRecursion (λ at. at.hash ≡ hash → ⊥) back

@@ -1,52 +1,54 @@
-//! The keys of all queries, in an order in which the queries that hold a key are found.
-ghost use Rattle.std.specs.Prelude.{◌≡◌, ◌≤◌, ◌<◌, ◌*◌, ◌++◌, [], List, bytes_eq, filter, length, map, false, nat_eq, nat_lt, true, IfOk, OnOk};
+//! The keys of all queries, each once, in an order in which it is found with the queries that hold it.
+ghost use Rattle.std.specs.Prelude.{◌≡◌, ◌≤◌, ◌<◌, ◌+◌, ◌*◌, ◌^◌, ◌∷◌, ◌++◌, [], ℕ, List, bytes_eq, get_or, length, map, IfOk, OnOk};
 ghost use Rattle.std.specs.Cmp.Lexicographic.{slice_cmp};
-ghost use Rattle.std.specs.List.{All, IsDistinct};
-ghost use Rattle.std.specs.List.Sorted.{IsNonDecreasingBy, IsPartitionPoint, IsSortedByKey};
+ghost use Rattle.std.specs.List.{AllByRecursion, list_any};
+ghost use Rattle.std.specs.List.Sorted.{IsNonDecreasingBy, IsSorted, IsStrictlySortedBy};
 ghost use Rattle.std.specs.Ordering.{nat_cmp};
-ghost use Rattle.column_watch.specs.Held.{holders_from};
-ghost use Rattle.column_watch.specs.Index.{all_from, key_cmp, keys_from, text_of, IsIndexOf, IsRun};
+ghost use Rattle.lake_model.specs.Tables.{has_key};
+ghost use Rattle.segment_core.specs.Hashes.{hash_of};
+ghost use Rattle.column_watch.specs.Index.{has_query, key_cmp, keys_from, says, sorted_by, text_of, AreKeysOf, AreStarts, IsHashed, IsIndexOf, IsStretch};
 
 use crate::watched::Watched;
 use column_set::QuerySet;
 use no_memory::NoMemory;
-use segment_core::{count_below, hash_key, starts_of};
+use segment_core::hash_key;
 use std::alloc::Global;
 use std::cmp::Ordering;
 use std::marker::Model;
 
-// How many keys of one hash are looked at one by one.
-const NEAR: usize = 32;
-
-/// A key of a query: its hash, the index of the query, and the index of the key among those of the query.
+/// A key that queries hold: its hash, one of these queries, the index of the key among those of that query, and a mask in which bit w
+/// says whether the query of the index w holds it.
 #[derive(Clone, Copy)]
 pub(crate) struct KeyAt {
     hash: u32,
-    pub(crate) query: u32,
+    query: u32,
     index: u32,
+    holders: u32,
 }
 
-/// Each key of each query, by the hashes of the keys, then by the bytes of the keys, and then by the queries; and these hashes, which
-/// rise, so that a search for one reads no text, with a directory over them. A contract sees the list of the keys.
+/// Each key that a query holds, once, by the hashes of the keys and then by their bytes. The range of all hashes is cut into equal parts,
+/// more than there are keys and at most twice as many: `starts` says where the keys of each part begin, so that a search for a key that
+/// no query holds mostly ends there, at a part that has none, and else at a hash. A contract sees the list of the keys.
 ///
-/// It takes 17 bytes for each key. Where keys share a hash, a search compares texts; since these lie in order, no choice of keys makes
-/// it more than logarithmic.
+/// It takes 16 bytes for each key that is not another's equal, and 4 to 8 for the parts. A search is a binary one among the keys of one
+/// part, few as a rule; so no choice of keys makes it more than logarithmic.
 #[derive(Drop)]
 pub(crate) struct Holders {
-    hashes: Vec<u32>,
     keys: Vec<KeyAt>,
     starts: Vec<u32>,
+    shift: u32,
 }
 
 impl Model for Holders {
-    ghost use Rattle.std.specs.Prelude.{◌≡◌, List, map};
+    ghost use Rattle.std.specs.Prelude.{◌<◌, List};
+    ghost use Rattle.column_watch.specs.Index.{AreStarts};
     ghost use Rattle.column_watch.specs.declared.holders.KeyAt.{KeyAt as KeyOf};
 
     ghost Value = { List KeyOf };
 
     ghost view = { λ h. h.keys.items };
 
-    ghost invariant = { λ h. h.hashes.items ≡ map (λ at. at.hash) h.keys.items };
+    ghost invariant = { λ h. (h.shift < 32) × AreStarts h.shift h.keys.items h.starts.items };
 }
 
 impl Holders {
@@ -55,52 +57,63 @@ impl Holders {
         ensures { result ≡ [] }
     {
         Holders {
-            hashes: Vec::new(alloc),
             keys: Vec::new(alloc),
             starts: Vec::new(alloc),
+            shift: 0,
         }
     }
 
-    // The keys that have the hash.
-    fn of_hash(&self, hash: u32) -> &[KeyAt]
-        requires { IsNonDecreasingBy (λ at. at.hash) self.now }
-        ensures { result.now ≡ filter (λ at. nat_eq at.hash hash) self.now }
+    // Keys outside which none has the hash.
+    fn near(&self, hash: u32) -> &[KeyAt]
+        ensures { IsStretch hash self.now result.now }
     {
-        let (from, to) = bounds_of_hash(&self.hashes, &self.starts, hash);
-        &self.keys[from..to]
+        stretch_of(&self.keys, &self.starts, self.shift, hash)
     }
 }
 
-/// Each key of each query, in order. It takes the time to read each key once and to sort them; keys are compared only where their
-/// hashes are equal.
+/// Each key of the queries, once, in order. It takes the time to read each key of each query once and to sort them; keys are compared
+/// only where their hashes are equal. For a while it takes a few times 16 bytes for each key of each query.
 pub(crate) fn index_queries(alloc: Global, queries: &[Watched]) -> Result<Holders, NoMemory>
     requires { length queries.now ≤ 16 }
     ensures { IfOk result (λ holders. IsIndexOf (map (λ state. state.keys) queries.now) holders) }
 {
-    let mut keys = all_keys(alloc, queries)?;
-    keys.sort_unstable_by(|a, b| key_order(queries, *a, *b));
-    let hashes = hashes_of(alloc, &keys)?;
-    let starts = starts_of(alloc, &hashes)?;
+    let keys = index_keys(alloc, queries)?;
+    let shift = (keys.len() as u32).leading_zeros().min(31);
+    let starts = starts_of(alloc, &keys, shift)?;
     Ok(Holders {
-        hashes,
         keys,
         starts,
+        shift,
     })
 }
 
-/// The queries that hold a key, as keys that are this one.
-pub(crate) fn holders_of<'a>(holders: &'a Holders, queries: &[Watched], key: &str) -> &'a [KeyAt]
-    requires indexed { IsIndexOf (map (λ state. state.keys) queries.now) holders.now }
-    requires different { All (λ state. IsDistinct bytes_eq state.keys) queries.now }
-    ensures { map (λ at. at.query) result.now ≡ holders_from 0 (map (λ state. state.keys) queries.now) key.now }
+/// The queries that hold a key: bit w says whether the query of the index w does.
+pub(crate) fn holders_of(holders: &Holders, queries: &[Watched], key: &str) -> u32
+    requires { IsIndexOf (map (λ state. state.keys) queries.now) holders.now }
+    ensures { (w : ℕ) → has_query result w ≡ has_key (get_or (map (λ state. state.keys) queries.now) w []) key.now }
 {
-    run_of_key(queries, holders.of_hash(hash_key(key)), key)
+    let hash = hash_key(key);
+    holders_among(queries, holders.near(hash), hash, key)
+}
+
+// The keys of the queries, each once, in order.
+fn index_keys(alloc: Global, queries: &[Watched]) -> Result<Vec<KeyAt>, NoMemory>
+    requires { length queries.now ≤ 16 }
+    ensures index { IfOk result (λ keys. IsIndexOf (map (λ state. state.keys) queries.now) keys.items) }
+    ensures few { IfOk result (λ keys. length keys.items < 2 ^ 32) }
+{
+    let mut keys = all_keys(alloc, queries)?;
+    // The sort is stable, so that a key is read where the first query has it: fewer queries' texts are in use.
+    keys.sort_by(|a, b| key_order(queries, *a, *b))?;
+    let mut index = merge_equal(alloc, queries, &keys)?;
+    index.shrink_to_fit();
+    Ok(index)
 }
 
 // The keys of the queries, one query behind another.
 fn all_keys(alloc: Global, queries: &[Watched]) -> Result<Vec<KeyAt>, NoMemory>
     requires { length queries.now ≤ 16 }
-    ensures keys { IfOk result (λ keys. keys.items ≡ all_from 0 (map (λ state. state.keys) queries.now)) }
+    ensures keys { IfOk result (λ keys. AreKeysOf (map (λ state. state.keys) queries.now) keys.items) }
     ensures few { IfOk result (λ keys. length keys.items ≤ length queries.now * 4194304) }
 {
     let mut keys = Vec::new(alloc);
@@ -112,6 +125,7 @@ fn all_keys(alloc: Global, queries: &[Watched]) -> Result<Vec<KeyAt>, NoMemory>
 
 // Adds the keys of a query behind others.
 fn add_keys(keys: &mut Vec<KeyAt>, query: &QuerySet, w: u32) -> Result<(), NoMemory>
+    requires { w < 16 }
     ensures keys { OnOk result (keys.new.items ≡ keys.old.items ++ keys_from w 0 query.now) }
     ensures few { OnOk result (length query.now ≤ 4194304) }
 {
@@ -122,110 +136,144 @@ fn add_keys(keys: &mut Vec<KeyAt>, query: &QuerySet, w: u32) -> Result<(), NoMem
             hash,
             query: w,
             index,
+            holders: 1 << w,
         })?;
     }
     Ok(())
 }
 
-// By the hash, then by the key, which is read only where the hashes are equal, and then by the query.
+// By the hash, and then by the key, which is read only where the hashes are equal.
 fn key_order(queries: &[Watched], a: KeyAt, b: KeyAt) -> Ordering
     ensures { result ≡ key_cmp (map (λ state. state.keys) queries.now) a b }
 {
     match a.hash.cmp(&b.hash) {
-        Ordering::Equal => text_at(queries, a)
-            .cmp(text_at(queries, b))
-            .then(a.query.cmp(&b.query)),
+        Ordering::Equal => text_at(queries, a).cmp(text_at(queries, b)),
         unequal => unequal,
     }
 }
 
-// The hashes of these.
-fn hashes_of(alloc: Global, keys: &[KeyAt]) -> Result<Vec<u32>, NoMemory>
-    ensures { IfOk result (λ hashes. hashes.items ≡ map (λ at. at.hash) keys.now) }
+// Keys that are in order, each once, with all queries that hold it.
+fn merge_equal(alloc: Global, queries: &[Watched], keys: &[KeyAt]) -> Result<Vec<KeyAt>, NoMemory>
+    requires sorted { IsSorted (key_cmp (map (λ state. state.keys) queries.now)) keys.now }
+    requires whole { AreKeysOf (map (λ state. state.keys) queries.now) keys.now }
+    ensures index { IfOk result (λ index. IsIndexOf (map (λ state. state.keys) queries.now) index.items) }
+    ensures few { IfOk result (λ index. length index.items ≤ length keys.now) }
 {
-    let mut hashes = Vec::with_capacity(alloc, keys.len())?;
-    for at in keys {
-        hashes.push(at.hash)?;
+    match keys {
+        [first, rest @ ..] => merge_rest(alloc, queries, *first, rest),
+        [] => Ok(Vec::new(alloc)),
     }
-    Ok(hashes)
 }
 
-// Where those of the hashes, which rise, that are this one begin and end.
-fn bounds_of_hash(hashes: &[u32], starts: &[u32], hash: u32) -> (usize, usize)
-    requires { IsNonDecreasingBy (λ n. n) hashes.now }
-    ensures rising { result.0 ≤ result.1 }
-    ensures within { result.1 ≤ length hashes.now }
-    ensures run { IsRun (λ n. nat_eq n hash) hashes.now result.0 result.1 }
+// A key and those behind it, of which each is there once.
+fn merge_rest(
+    alloc: Global,
+    queries: &[Watched],
+    first: KeyAt,
+    rest: &[KeyAt],
+) -> Result<Vec<KeyAt>, NoMemory>
+    requires sorted { IsSorted (key_cmp (map (λ state. state.keys) queries.now)) (first ∷ rest.now) }
+    requires whole { AreKeysOf (map (λ state. state.keys) queries.now) (first ∷ rest.now) }
+    ensures index { IfOk result (λ index. IsIndexOf (map (λ state. state.keys) queries.now) index.items) }
+    ensures few { IfOk result (λ index. length index.items ≤ length rest.now + 1) }
 {
-    let from = count_below(hashes, starts, hash);
-    if from >= hashes.len() || hashes[from] != hash {
-        return (0, 0);
-    }
-    (from, count_from(hashes, starts, hash, from))
-}
-
-// How many of the hashes, which rise, are not above one, where so many are below it. Few keys share a hash, so that the first above it is
-// mostly near.
-fn count_from(hashes: &[u32], starts: &[u32], hash: u32, below: usize) -> usize
-    requires rising { IsNonDecreasingBy (λ n. n) hashes.now }
-    requires below { IsPartitionPoint (λ n. nat_lt n hash ≡ true) (λ n. nat_lt n hash ≡ false) hashes.now below }
-    ensures within { result ≤ length hashes.now }
-    ensures point { IsPartitionPoint (λ n. n ≤ hash) (λ n. hash < n) hashes.now result }
-{
-    for at in below..hashes.len().min(below.saturating_add(NEAR)) {
-        if hashes[at] != hash {
-            return at;
+    let mut index = Vec::new(alloc);
+    let mut last = first;
+    for at in rest {
+        if key_order(queries, last, *at).is_eq() {
+            last.holders |= at.holders;
+        } else {
+            index.push(last)?;
+            last = *at;
         }
     }
-    count_up_to(hashes, starts, hash)
+    index.push(last)?;
+    Ok(index)
 }
 
-// How many of the hashes, which rise, are not above one.
-fn count_up_to(hashes: &[u32], starts: &[u32], hash: u32) -> usize
-    requires { IsNonDecreasingBy (λ n. n) hashes.now }
-    ensures within { result ≤ length hashes.now }
-    ensures point { IsPartitionPoint (λ n. n ≤ hash) (λ n. hash < n) hashes.now result }
+// Where the keys of each part of the range of hashes begin, where a part has the hashes that differ in their last bits alone, as many as
+// the shift. It takes a binary search for each part.
+fn starts_of(alloc: Global, keys: &[KeyAt], shift: u32) -> Result<Vec<u32>, NoMemory>
+    requires narrow { shift < 32 }
+    requires few { length keys.now < 2 ^ 32 }
+    requires rising { IsNonDecreasingBy (λ at. at.hash) keys.now }
+    ensures { IfOk result (λ starts. AreStarts shift keys.now starts.items) }
 {
-    match hash.checked_add(1) {
-        Some(next) => count_below(hashes, starts, next),
-        None => hashes.partition_point(|other| *other <= hash),
+    let parts = 1u64 << (32 - shift);
+    let mut starts = Vec::with_capacity(alloc, parts as usize)?;
+    for part in 0..parts {
+        starts.push(keys.partition_point(|at| u64::from(at.hash >> shift) < part) as u32)?;
     }
+    Ok(starts)
 }
 
-// Those of the keys, which rise, that are this one.
-fn run_of_key<'a>(queries: &[Watched], keys: &'a [KeyAt], key: &str) -> &'a [KeyAt]
-    requires { IsSortedByKey (text_of (map (λ state. state.keys) queries.now)) (slice_cmp nat_cmp) keys.now }
-    ensures { result.now ≡ filter (λ at. bytes_eq (text_of (map (λ state. state.keys) queries.now) at) key.now) keys.now }
+// The keys of the part of the range that the hash lies in.
+fn stretch_of<'a>(keys: &'a [KeyAt], starts: &[u32], shift: u32, hash: u32) -> &'a [KeyAt]
+    requires narrow { shift < 32 }
+    requires starts { AreStarts shift keys.now starts.now }
+    ensures { IsStretch hash keys.now result.now }
 {
-    // Few keys share a hash with another key, so two comparisons are mostly enough.
-    if are_all(queries, keys, key) {
-        return keys;
-    }
-    let (from, to) = bounds_of_key(queries, keys, key);
+    let part = (hash >> shift) as usize;
+    let from = start_at(starts, part, 0);
+    let to = start_at(starts, part + 1, keys.len());
     &keys[from..to]
 }
 
-// Where those of the keys, which rise, that are this one begin and end.
-fn bounds_of_key(queries: &[Watched], keys: &[KeyAt], key: &str) -> (usize, usize)
-    requires { IsSortedByKey (text_of (map (λ state. state.keys) queries.now)) (slice_cmp nat_cmp) keys.now }
-    ensures rising { result.0 ≤ result.1 }
-    ensures within { result.1 ≤ length keys.now }
-    ensures run { IsRun (λ at. bytes_eq (text_of (map (λ state. state.keys) queries.now) at) key.now) keys.now result.0 result.1 }
+// Where a part begins, and another place where there is no such part.
+fn start_at(starts: &[u32], part: usize, other: usize) -> usize
+    ensures { result ≡ get_or starts.now part other }
 {
-    let from = keys.partition_point(|at| text_at(queries, *at).cmp(key).is_lt());
-    let to = keys.partition_point(|at| text_at(queries, *at).cmp(key).is_le());
-    (from, to)
+    match starts.get(part) {
+        Some(start) => *start as usize,
+        None => other,
+    }
 }
 
-// Whether the keys, which rise, are all this one.
-fn are_all(queries: &[Watched], keys: &[KeyAt], key: &str) -> bool
-    requires { IsSortedByKey (text_of (map (λ state. state.keys) queries.now)) (slice_cmp nat_cmp) keys.now }
-    ensures { result ≡ true → All (λ at. bytes_eq (text_of (map (λ state. state.keys) queries.now) at) key.now ≡ true) keys.now }
+// The queries that hold a key, by keys that rise, among which it is if any query holds it. It is mostly the first of them; a text is read
+// only where its hash is that of the key.
+fn holders_among(queries: &[Watched], keys: &[KeyAt], hash: u32, key: &str) -> u32
+    requires own { hash ≡ hash_of key.now }
+    requires rising { IsStrictlySortedBy (key_cmp (map (λ state. state.keys) queries.now)) keys.now }
+    requires hashed { AllByRecursion (IsHashed (map (λ state. state.keys) queries.now)) keys.now }
+    ensures { (w : ℕ) → has_query result w ≡ list_any (says (map (λ state. state.keys) queries.now) key.now w) keys.now }
 {
-    if keys.is_empty() {
-        return true;
+    let [first, rest @ ..] = keys else {
+        return 0;
+    };
+    if is_key(queries, *first, hash, key) {
+        return first.holders;
     }
-    text_at(queries, keys[0]) == key && text_at(queries, keys[keys.len() - 1]) == key
+    search_holders(queries, rest, hash, key)
+}
+
+// Whether one of the keys is a key of this hash.
+fn is_key(queries: &[Watched], at: KeyAt, hash: u32, key: &str) -> bool
+    ensures { result ≡ bytes_eq (sorted_by (map (λ state. state.keys) queries.now) at) (hash ∷ key.now) }
+{
+    at.hash == hash && text_at(queries, at) == key
+}
+
+// The same by a binary search.
+fn search_holders(queries: &[Watched], keys: &[KeyAt], hash: u32, key: &str) -> u32
+    requires own { hash ≡ hash_of key.now }
+    requires rising { IsStrictlySortedBy (key_cmp (map (λ state. state.keys) queries.now)) keys.now }
+    requires hashed { AllByRecursion (IsHashed (map (λ state. state.keys) queries.now)) keys.now }
+    ensures { (w : ℕ) → has_query result w ≡ list_any (says (map (λ state. state.keys) queries.now) key.now w) keys.now }
+{
+    match keys.binary_search_by(|at| order_to(queries, *at, hash, key)) {
+        Ok(i) => keys[i].holders,
+        Err(_) => 0,
+    }
+}
+
+// How one of the keys stands to a key of this hash.
+fn order_to(queries: &[Watched], at: KeyAt, hash: u32, key: &str) -> Ordering
+    ensures { result ≡ slice_cmp nat_cmp (sorted_by (map (λ state. state.keys) queries.now) at) (hash ∷ key.now) }
+{
+    match at.hash.cmp(&hash) {
+        Ordering::Equal => text_at(queries, at).cmp(key),
+        unequal => unequal,
+    }
 }
 
 // The key that stands there, and the empty text where none does.

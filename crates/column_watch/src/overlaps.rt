@@ -1,5 +1,6 @@
 //! How many keys each query shares with each column of a table, and the rows that follow. Each key of the table is looked at once.
-ghost use Rattle.std.specs.Prelude.{◌≡◌, ◌<◌, ◌≤◌, ◌+◌, ◌^◌, ℕ, List, bytes_eq, count_by, get_or, length, map, nat_eq, IfOk};
+ghost use Rattle.std.specs.Prelude.{◌≡◌, ◌<◌, ◌≤◌, ◌+◌, ◌^◌, ℕ, List, bytes_eq, get_or, length, map, IfOk};
+ghost use Rattle.std.specs.Int.{bit_at};
 ghost use Rattle.std.specs.List.{All, IsDistinct};
 ghost use Rattle.lake_model.specs.Answer.{rows_of_table};
 ghost use Rattle.lake_model.specs.Tables.{keys_at, overlap as overlap_of};
@@ -8,7 +9,7 @@ ghost use Rattle.column_watch.specs.Held.{overlaps_of};
 ghost use Rattle.column_watch.specs.Index.{IsIndexOf};
 
 use crate::held::Held;
-use crate::holders::{Holders, KeyAt, holders_of};
+use crate::holders::{Holders, holders_of};
 use crate::watched::Watched;
 use column_set::{Row, TableSets};
 use no_memory::NoMemory;
@@ -58,15 +59,18 @@ fn count_column(
     Ok(counts)
 }
 
-// Raises the counts of the queries of these keys by one.
-fn raise(counts: &mut [u32], holders: &[KeyAt])
-    requires within { All (λ at. at.query < length counts.old) holders.now }
-    requires small { (w : ℕ) → get_or counts.old w 0 + length holders.now < 2 ^ 32 }
+// Raises the counts of the queries of a mask by one. Most keys are of no query, and then there is nothing to walk over.
+fn raise(counts: &mut [u32], holders: u32)
+    requires few { length counts.old ≤ 16 }
+    requires small { (w : ℕ) → w < length counts.old → get_or counts.old w 0 + 1 < 2 ^ 32 }
     ensures len { length counts.new ≡ length counts.old }
-    ensures raised { (w : ℕ) → get_or counts.new w 0 ≡ get_or counts.old w 0 + count_by (λ at. nat_eq w at.query) holders.now }
+    ensures raised { (w : ℕ) → w < length counts.old → get_or counts.new w 0 ≡ get_or counts.old w 0 + bit_at holders w }
 {
-    for at in holders {
-        counts[at.query as usize] += 1;
+    if holders == 0 {
+        return;
+    }
+    for w in 0..counts.len() {
+        counts[w] += holders >> w & 1;
     }
 }
 

@@ -1,8 +1,10 @@
-use Rattle.std.proofs.Common.{◌≡◌, ◌+◌, ℕ, count_by, get_or, length, nat_eq, take}
+use Rattle.std.proofs.Common.{◌≡◌, ◌<◌, ◌≤◌, ◌+◌, ℕ, get_or, length}
+use Rattle.std.specs.Int.{bit_at}
 use Rattle.column_watch.proofs.overlaps.raise.Given as goal
 
-abbrev pub invariant-loop-at : goal.invariant-loop-at
-invariant-loop-at l = record {
+abbrev pub invariant-loop-w : goal.invariant-loop-w
+invariant-loop-w l = record {
   len : length l.counts ≡ length l.initial.counts;
-  raised : (w : ℕ) → get_or l.counts w 0 ≡ get_or l.initial.counts w 0 + count_by (λ at. nat_eq w at.query) (take l.at-index l.holders);
+  raised : (v : ℕ) → v < l.w → get_or l.counts v 0 ≡ get_or l.initial.counts v 0 + bit_at l.holders v;
+  left : (v : ℕ) → l.w ≤ v → get_or l.counts v 0 ≡ get_or l.initial.counts v 0;
 }
