@@ -1,21 +1,24 @@
 -- What is counted for each query and each column, and the rows that follow.
 use Rattle.std.proofs.Common.{◌≡◌, refl, ap, sym, ◌∙◌, subst, ℕ, zero, suc, ◌+◌, ◌-◌, ◌<◌, ◌≤◌, List, [], ◌∷◌, ◌++◌, Bool, true, false, length, get_or, arith, take, drop, map, replicate, Option, Some, None}
-use Rattle.std.specs.Prelude.{bytes_eq, count_by}
+use Rattle.std.specs.Prelude.{count_by}
 use Rattle.std.specs.Int.{bit_at}
-use Rattle.std.specs.List.{All, IsDistinct}
+use Rattle.std.specs.List.{All}
 use Rattle.std.specs.Global.{Vec}
+use Rattle.std.specs.Result.{IfOk}
+use Rattle.std.proofs.Common.{Result, Ok, Err}
 use Rattle.std.proofs.Math.Seq.{take-append_seam, take-suc}
 use Rattle.std.proofs.lemmas.Grind.{same_number_lists}
 use Rattle.std.proofs.lemmas.List.{get_or-map, length-map, map-append}
 use Rattle.std.proofs.lemmas.List.Elements.{All-map}
 use Rattle.std.proofs.lemmas.List.Sums.{sum_by-append, sum_by-cons}
-use Rattle.column_set.proofs.OverlapLemmas.{overlap_both_ways}
 use Rattle.lake_model.specs.Texts.{Text}
 use Rattle.lake_model.specs.Tables.{Column, Table, Titles, has_key, keys_at, overlap, sets_of, titles_of}
 use Rattle.lake_model.specs.Answer.{Row, row_at, rows_from}
 use Rattle.lake_model.proofs.AnswerLemmas.{rows_from_skipped, rows_from_taken}
 use Rattle.column_watch.specs.Held.{HasColumns, IsColumn, IsCounted}
+use Rattle.column_watch.specs.Hits.{hit_keys}
 use Rattle.column_watch.specs.Index.{has_query}
+use Rattle.column_watch.specs.declared.overlaps.Hit.{Hit}
 use Rattle.column_watch.proofs.HolderLemmas.{bit_once, once}
 
 pub count_more : {X : Type 0} (p : X → Bool) (xs : List X) (i : ℕ) (d : X) → i < length xs → count_by p (take (i + 1) xs) ≡ count_by p (take i xs) + once (p (get_or xs i d))
@@ -48,13 +51,12 @@ zero_at zero w = refl
 zero_at (suc n) zero = refl
 zero_at (suc n) (suc w) = zero_at n w
 
--- what is counted over the keys of a column is the overlap of each query
-pub counted_all : (queries : List (List Text)) (keys : List Text) (counts : List ℕ) → length counts ≡ length queries → All (IsDistinct bytes_eq) queries → IsDistinct bytes_eq keys
-    → ((w : ℕ) → w < length queries → get_or counts w 0 ≡ count_by (has_key (get_or queries w [])) keys) → counts ≡ map (λ (query : List Text). overlap query keys) queries
-counted_all queries keys counts same different distinct counted =
+-- what is counted for each query is its overlap
+pub counted_all : (queries : List (List Text)) (keys : List Text) (counts : List ℕ) → length counts ≡ length queries → ((w : ℕ) → w < length queries → get_or counts w 0 ≡ overlap (get_or queries w []) keys) → counts ≡ map (λ (query : List Text). overlap query keys) queries
+counted_all queries keys counts same counted =
     same_number_lists counts (map (λ (query : List Text). overlap query keys) queries) (same ∙ sym (length-map queries (λ (query : List Text). overlap query keys)))
-    (λ k h. let within : k < length queries = omega arith in
-    counted k within ∙ overlap_both_ways keys (get_or queries k []) distinct (different k [] within) ∙ sym (get_or-map (λ (query : List Text). overlap query keys) queries k [] 0 within))
+    (λ k h. let within : k < length queries = omega (arith, h, length-map queries (λ (query : List Text). overlap query keys)) in
+    counted k within ∙ sym (get_or-map (λ (query : List Text). overlap query keys) queries k [] 0 within))
 
 -- the keys of the column at index i
 pub column_keys : (table : Table) (i : ℕ) (d : Column) → i < length table.columns → keys_at table (i + 1) ≡ (get_or table.columns i d).keys
@@ -106,6 +108,27 @@ pub counted_more : (queries : List (List Text)) (keys : List Text) (i : ℕ) (ke
 counted_more queries keys i key mask olds news h e held before raised w within =
     let once_more : bit_at mask w ≡ once (has_key (get_or queries w []) (get_or keys i [])) = bit_once mask w ∙ ap once (held w) ∙ ap (λ k. once (has_key (get_or queries w []) k)) e in
     omega (arith, raised w within, before w within, once_more, count_more (has_key (get_or queries w [])) keys i [] h)
+
+-- the key of a hit
+pub hit_key : (keys : List Text) (hits : List Hit) (i : ℕ) (d : Hit) (key : Text) → i < length hits → key ≡ get_or keys (get_or hits i d).index [] → key ≡ get_or (hit_keys keys hits) i []
+hit_key keys hits i d key h e = e ∙ sym (get_or-map (λ (hit : Hit). get_or keys hit.index []) hits i d [] h)
+
+-- what is counted over the hits of a column, where it is over all its keys
+pub counted_hits : {E : Type 0} (queries : List (List Text)) (keys hits : List Text) (result : Result (Vec ℕ) E) → ((w : ℕ) → w < length queries → count_by (has_key (get_or queries w [])) hits ≡ overlap (get_or queries w []) keys)
+    → IfOk result (λ counts. length counts.items ≡ length queries) → IfOk result (λ counts. (w : ℕ) → w < length queries → get_or counts.items w 0 ≡ count_by (has_key (get_or queries w [])) hits) → IfOk result (λ counts. counts.items ≡ map (λ (query : List Text). overlap query keys) queries)
+counted_hits queries keys hits (Ok counts) all same counted = counted_all queries keys counts.items same (λ w h. counted w h ∙ all w h)
+counted_hits queries keys hits (Err e) all same counted = tt
+
+-- a hit behind others, and a key that no query holds
+pub hits_more : (p : Text → Bool) (keys : List Text) (hits : List Hit) (hit : Hit) → hit.index < length keys → count_by p (hit_keys keys hits) ≡ count_by p (take hit.index keys) → count_by p (hit_keys keys (hits ++ hit ∷ [])) ≡ count_by p (take (hit.index + 1) keys)
+hits_more p keys hits hit h e =
+    let key : Hit → Text = λ h. get_or keys h.index [] in
+    let one : count_by p (key hit ∷ []) ≡ once (p (key hit)) = omega (arith, sum_by-cons (λ y. once (p y)) (key hit) []) in
+    let both : count_by p (hit_keys keys hits ++ key hit ∷ []) ≡ count_by p (hit_keys keys hits) + count_by p (key hit ∷ []) = sum_by-append (λ y. once (p y)) (hit_keys keys hits) (key hit ∷ []) in
+    ap (count_by p) (map-append key hits (hit ∷ [])) ∙ omega (arith, both, one, e, count_more p keys hit.index [] h)
+
+pub hits_same : (p : Text → Bool) (keys : List Text) (n i : ℕ) → i < length keys → p (get_or keys i []) ≡ false → n ≡ count_by p (take i keys) → n ≡ count_by p (take (i + 1) keys)
+hits_same p keys n i h none e = omega (arith, e, count_more p keys i [] h, ap once none)
 
 -- what is written over the whole of a list
 pub written : {X : Type 0} (n : ℕ) (news rest : List X) → n ≡ length news → take n (news ++ rest) ≡ news

@@ -396,6 +396,10 @@ module _ (queries : List (List Text)) (key : Text) (hash : ℕ) (own : hash ≡ 
       head [] = 0
       head (n ∷ ns) = n
 
+  -- where no key has the hash, no query holds the key
+  pub none_holds : (keys : List KeyAt) → IsIndexOf queries keys → AllByRecursion (λ at. at.hash ≡ hash → ⊥) keys → (w : ℕ) → has_key (get_or queries w []) key ≡ false
+  none_holds keys index apart w = sym (index.keys.held key w) ∙ any_none (says queries key w) keys (other_hash w keys index.keys.hashed apart)
+
   -- what a stretch says of it, all keys say
   pub stretch_says : (keys stretch : List KeyAt) → AllByRecursion (IsHashed queries) keys → IsStretch hash keys stretch → (w : ℕ) → list_any (says queries key w) stretch ≡ list_any (says queries key w) keys
   stretch_says keys stretch hashed cut w =

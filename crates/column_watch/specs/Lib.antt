@@ -1,3 +1,4 @@
 pub mod Watching
 pub mod Held
 pub mod Index
+pub mod Hits

@@ -1,5 +1,5 @@
 //! The keys of all queries, each once, in an order in which it is found with the queries that hold it.
-ghost use Rattle.std.specs.Prelude.{◌≡◌, ◌≤◌, ◌<◌, ◌+◌, ◌*◌, ◌^◌, ◌∷◌, ◌++◌, [], ℕ, List, bytes_eq, get_or, length, map, IfOk, OnOk};
+ghost use Rattle.std.specs.Prelude.{◌≡◌, ◌≤◌, ◌<◌, ◌+◌, ◌*◌, ◌^◌, ◌∷◌, ◌++◌, [], ℕ, List, bytes_eq, false, get_or, length, map, IfOk, OnOk};
 ghost use Rattle.std.specs.Cmp.Lexicographic.{slice_cmp};
 ghost use Rattle.std.specs.List.{AllByRecursion, list_any};
 ghost use Rattle.std.specs.List.Sorted.{IsNonDecreasingBy, IsSorted, IsStrictlySortedBy};
@@ -63,6 +63,13 @@ impl Holders {
         }
     }
 
+    /// Whether one of the keys may have the hash. It reads no text.
+    pub(crate) fn has_hash(&self, hash: u32) -> bool
+        ensures { result ≡ false → AllByRecursion (λ at. at.hash ≡ hash → ⊥) self.now }
+    {
+        self.near(hash).iter().any(|at| at.hash == hash)
+    }
+
     // Keys outside which none has the hash.
     fn near(&self, hash: u32) -> &[KeyAt]
         ensures { IsStretch hash self.now result.now }
@@ -87,12 +94,12 @@ pub(crate) fn index_queries(alloc: Global, queries: &[Watched]) -> Result<Holder
     })
 }
 
-/// The queries that hold a key: bit w says whether the query of the index w does.
-pub(crate) fn holders_of(holders: &Holders, queries: &[Watched], key: &str) -> u32
-    requires { IsIndexOf (map (λ state. state.keys) queries.now) holders.now }
+/// The queries that hold a key of this hash: bit w says whether the query of the index w does.
+pub(crate) fn holders_of(holders: &Holders, queries: &[Watched], hash: u32, key: &str) -> u32
+    requires own { hash ≡ hash_of key.now }
+    requires indexed { IsIndexOf (map (λ state. state.keys) queries.now) holders.now }
     ensures { (w : ℕ) → has_query result w ≡ has_key (get_or (map (λ state. state.keys) queries.now) w []) key.now }
 {
-    let hash = hash_key(key);
     holders_among(queries, holders.near(hash), hash, key)
 }
 

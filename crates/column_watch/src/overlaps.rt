@@ -1,11 +1,12 @@
 //! How many keys each query shares with each column of a table, and the rows that follow. Each key of the table is looked at once.
-ghost use Rattle.std.specs.Prelude.{◌≡◌, ◌<◌, ◌≤◌, ◌+◌, ◌^◌, ℕ, List, bytes_eq, get_or, length, map, IfOk};
+ghost use Rattle.std.specs.Prelude.{◌≡◌, ◌<◌, ◌≤◌, ◌+◌, ◌^◌, ℕ, [], List, bytes_eq, count_by, get_or, length, map, IfOk};
 ghost use Rattle.std.specs.Int.{bit_at};
 ghost use Rattle.std.specs.List.{All, IsDistinct};
 ghost use Rattle.lake_model.specs.Answer.{rows_of_table};
-ghost use Rattle.lake_model.specs.Tables.{keys_at, overlap as overlap_of};
+ghost use Rattle.lake_model.specs.Tables.{has_key, keys_at, overlap as overlap_of};
 ghost use Rattle.lake_model.specs.Texts.{Text};
 ghost use Rattle.column_watch.specs.Held.{overlaps_of};
+ghost use Rattle.column_watch.specs.Hits.{hit_keys, IsHit};
 ghost use Rattle.column_watch.specs.Index.{IsIndexOf};
 
 use crate::held::Held;
@@ -13,7 +14,15 @@ use crate::holders::{Holders, holders_of};
 use crate::watched::Watched;
 use column_set::{Row, TableSets};
 use no_memory::NoMemory;
+use segment_core::hash_key;
 use std::alloc::Global;
+
+// A key of a column, by its index, from 0, and its hash.
+#[derive(Clone, Copy)]
+struct Hit {
+    hash: u32,
+    index: u32,
+}
 
 /// How many keys each of the queries shares with each column of the table: a list for each column, with a number for each query.
 pub(crate) fn overlaps(
@@ -49,12 +58,59 @@ fn count_column(
     requires high { place ≤ length table.now.columns }
     ensures { IfOk result (λ counts. counts.items ≡ map (λ keys. overlap_of keys (keys_at table.now place)) (map (λ state. state.keys) queries.now)) }
 {
+    let hits = column_hits(alloc, holders, queries, table, place)?;
+    count_hits(alloc, holders, queries, table, place, &hits)
+}
+
+// The keys of the column at a place that have the hash of a key of some query. No key of a query is read yet: the reads are misses of the
+// cache, which do not wait for one another where nothing else lies between them.
+fn column_hits(
+    alloc: Global,
+    holders: &Holders,
+    queries: &[Watched],
+    table: &TableSets,
+    place: u32,
+) -> Result<Vec<Hit>, NoMemory>
+    requires indexed { IsIndexOf (map (λ state. state.keys) queries.now) holders.now }
+    requires different { All (λ state. IsDistinct bytes_eq state.keys) queries.now }
+    requires low { 0 < place }
+    requires high { place ≤ length table.now.columns }
+    ensures hits { IfOk result (λ hits. All (IsHit (keys_at table.now place)) hits.items) }
+    ensures few { IfOk result (λ hits. length hits.items ≤ 4194304) }
+    ensures all { IfOk result (λ hits. (w : ℕ) → w < length (map (λ state. state.keys) queries.now) → count_by (has_key (get_or (map (λ state. state.keys) queries.now) w [])) (hit_keys (keys_at table.now place) hits.items) ≡ overlap_of (get_or (map (λ state. state.keys) queries.now) w []) (keys_at table.now place)) }
+{
+    let mut hits = Vec::new(alloc);
+    for index in 0..table.size(place) {
+        let hash = hash_key(table.key(place, index));
+        if holders.has_hash(hash) {
+            hits.push(Hit { hash, index })?;
+        }
+    }
+    Ok(hits)
+}
+
+// How many of these keys of the column at a place each of the queries holds.
+fn count_hits(
+    alloc: Global,
+    holders: &Holders,
+    queries: &[Watched],
+    table: &TableSets,
+    place: u32,
+    hits: &[Hit],
+) -> Result<Vec<u32>, NoMemory>
+    requires narrow { length queries.now ≤ 16 }
+    requires indexed { IsIndexOf (map (λ state. state.keys) queries.now) holders.now }
+    requires low { 0 < place }
+    requires high { place ≤ length table.now.columns }
+    requires hits { All (IsHit (keys_at table.now place)) hits.now }
+    requires few { length hits.now ≤ 4194304 }
+    ensures len { IfOk result (λ counts. length counts.items ≡ length queries.now) }
+    ensures counted { IfOk result (λ counts. (w : ℕ) → w < length (map (λ state. state.keys) queries.now) → get_or counts.items w 0 ≡ count_by (has_key (get_or (map (λ state. state.keys) queries.now) w [])) (hit_keys (keys_at table.now place) hits.now)) }
+{
     let mut counts = vec![in alloc; 0u32; queries.len()]?;
-    for i in 0..table.size(place) {
-        raise(
-            &mut counts,
-            holders_of(holders, queries, table.key(place, i)),
-        );
+    for hit in hits {
+        let key = table.key(place, hit.index);
+        raise(&mut counts, holders_of(holders, queries, hit.hash, key));
     }
     Ok(counts)
 }
