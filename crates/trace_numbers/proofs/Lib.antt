@@ -1,0 +1,5 @@
+mod ApartLemmas
+mod WithinLemmas
+mod SlotLemmas
+mod PassLemmas
+mod OrderLemmas
