@@ -41,3 +41,7 @@ returns-in-Ok-take_all-clause-answered g c =
     let all = c.in-Ok-take_all.ensures.ok ∙ caught past seen c.deref.result.now begins rest in
     asked_past rules c.args.number task c.args.pass.now (reply_of c.finish_past.result) seen c.requires.past c.journal-read.ensures.grows
     (subst (λ journal. Answers (reply_of c.finish_past.result) (answer_to rules task journal journal)) all (c.finish_past.ensures.answered g.B.Bounds.limits))
+
+pub returns-clause-answered : goal.returns-clause-answered
+returns-clause-answered g c =
+    asked_past (rules_with c.args.keys g.B.Bounds.limits) c.args.number (task_of c.args.task.now) c.args.pass.now NoMemory c.journal-read.new.pass.seen c.requires.past c.journal-read.ensures.grows (true, refl)
