@@ -1,0 +1,107 @@
+//! A directory of hashes that rise.
+ghost use Rattle.std.specs.Prelude.{◌≡◌, ◌<◌, ◌^◌, ℕ, List, IfOk, get_or, length};
+ghost use Rattle.std.specs.List.Sorted.{IsNonDecreasingBy};
+ghost use Rattle.hash_directory.specs.Buckets.{AreStarts, IsDirectoryOf, IsNear, IsStart};
+
+use crate::filter::HashFilter;
+use no_memory::NoMemory;
+use std::alloc::Global;
+use std::marker::Model;
+
+/// Places of a list, from 0: from the first to the one before `to`.
+#[derive(Clone, Copy, Debug, PartialEq, Eq)]
+pub struct Near {
+    pub from: usize,
+    pub to: usize,
+}
+
+/// Tells near which places of a list of hashes that rise a hash stands, if it does: mostly that it does not, by a filter, and else the
+/// places of a bucket of the range of all hashes, of which there are a quarter to half as many as hashes. A contract sees its arrays.
+///
+/// It takes 2 to 4 bytes for each hash, and at least 16. Whichever the hashes are, it answers rightly; where many are of one bucket, the
+/// places are many.
+#[derive(Drop)]
+pub struct HashDirectory {
+    filter: HashFilter,
+    starts: Vec<u32>,
+    shift: u32,
+    count: usize,
+}
+
+impl Model for HashDirectory {
+    ghost use Rattle.std.specs.Prelude.{◌<◌};
+    ghost use Rattle.hash_directory.specs.Buckets.{directory_with, DirectoryOf};
+
+    ghost Value = { DirectoryOf };
+
+    ghost view = { λ d. directory_with d.filter d.starts.items d.shift d.count };
+
+    ghost invariant = { λ d. d.shift < 32 };
+}
+
+impl HashDirectory {
+    /// The directory of these hashes. It takes a binary search for each bucket.
+    pub fn of(alloc: Global, hashes: &[u32]) -> Result<HashDirectory, NoMemory>
+        requires rising { IsNonDecreasingBy (λ n. n) hashes.now }
+        requires few { length hashes.now < 2 ^ 32 }
+        ensures { IfOk result (λ directory. IsDirectoryOf hashes.now directory) }
+    {
+        let filter = HashFilter::of(alloc, hashes)?;
+        let shift = ((hashes.len() as u32).leading_zeros() + 2).min(31);
+        let starts = starts_of(alloc, hashes, shift)?;
+        Ok(HashDirectory {
+            filter,
+            starts,
+            shift,
+            count: hashes.len(),
+        })
+    }
+
+    /// The places near which the hash stands, if it stands in the list at all.
+    pub fn near(&self, hash: u32) -> Near
+        ensures { (hashes : List ℕ) → IsDirectoryOf hashes self.now → IsNear hashes hash result.from result.to }
+    {
+        if !self.filter.may_have(hash) {
+            return Near { from: 0, to: 0 };
+        }
+        let bucket = (hash >> self.shift) as usize;
+        let from = start_at(&self.starts, bucket, 0);
+        let to = start_at(&self.starts, bucket + 1, self.count);
+        Near { from, to }
+    }
+}
+
+// For each bucket the first of the hashes that are not of a bucket before it.
+fn starts_of(alloc: Global, hashes: &[u32], shift: u32) -> Result<Vec<u32>, NoMemory>
+    requires narrow { shift < 32 }
+    requires few { length hashes.now < 2 ^ 32 }
+    requires rising { IsNonDecreasingBy (λ n. n) hashes.now }
+    ensures { IfOk result (λ starts. AreStarts shift hashes.now starts.items) }
+{
+    let buckets = 1u64 << (32 - shift);
+    let mut starts = Vec::with_capacity(alloc, buckets as usize)?;
+    for bucket in 0..buckets {
+        starts.push(start_of(hashes, shift, bucket))?;
+    }
+    Ok(starts)
+}
+
+// The first of the hashes that are not of a bucket before this one.
+fn start_of(hashes: &[u32], shift: u32, bucket: u64) -> u32
+    requires narrow { shift < 32 }
+    requires few { length hashes.now < 2 ^ 32 }
+    requires rising { IsNonDecreasingBy (λ n. n) hashes.now }
+    ensures { IsStart shift hashes.now bucket result }
+{
+    hashes.partition_point(|hash| u64::from(*hash >> shift) < bucket) as u32
+}
+
+// Where a bucket begins, and another place where there is no such bucket.
+fn start_at(starts: &[u32], bucket: usize, other: usize) -> usize
+    ensures { result ≡ get_or starts.now bucket other }
+{
+    match starts.get(bucket) {
+        Some(start) => *start as usize,
+        None => other,
+    }
+}
