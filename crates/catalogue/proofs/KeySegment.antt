@@ -15,6 +15,7 @@ use Rattle.search_model.specs.declared.Owner.{Owner}
 use Rattle.search_model.specs.declared.Posting.{Posting}
 use Rattle.search_model.specs.declared.TokenAt.{TokenAt}
 use Rattle.segment_core.specs.Hashes.{AreKept, AreKeys, IsByHash}
+use Rattle.segment_core.specs.declared.hashes.HashedToken.{HashedToken}
 use Rattle.segment_core.proofs.SegmentLemmas.{keys_kept}
 
 abbrev pub first_column : Owner
@@ -72,9 +73,9 @@ key_arrays t h k = by t.columns h k
 pub key_places : (t : Table) → length t.columns ≡ 1 → keys_at t 1 ≡ codes "key" ∷ [] → AreKeys (t ∷ []) (first_column ∷ []) (only_token ∷ [])
 key_places t h k = keys_kept _ _ _ _ _ _ _ _ (key_arrays t h k)
 
-pub key_kept : (t : Table) → length t.columns ≡ 1 → keys_at t 1 ≡ codes "key" ∷ [] → (hashes numbers : List ℕ) → IsByHash (segment (t ∷ [])).tokens hashes numbers
-    → AreKept (t ∷ []) (first_column ∷ []) (only_token ∷ []) hashes numbers (0 ∷ 1 ∷ []) (only_posting ∷ []) (0 ∷ 1 ∷ []) (0 ∷ [])
-key_kept t h k hashes numbers order = record { by_key = 0 ∷ []; arrays = key_arrays t h k; order = order }
+pub key_kept : (t : Table) → length t.columns ≡ 1 → keys_at t 1 ≡ codes "key" ∷ [] → (order : List HashedToken) → IsByHash (t ∷ []) order
+    → AreKept (t ∷ []) (first_column ∷ []) (only_token ∷ []) order (0 ∷ 1 ∷ []) (only_posting ∷ []) (0 ∷ 1 ∷ []) (0 ∷ [])
+key_kept t h k order is = record { by_key = 0 ∷ []; arrays = key_arrays t h k; order = is }
 
 -- the only column has the rank 0
 pub key_inverse : AreInverse (0 ∷ []) (0 ∷ [])

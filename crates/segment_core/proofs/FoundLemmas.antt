@@ -82,10 +82,10 @@ none_from key n (t ∷ tokens) h = tokens_from-cons n t tokens (key ∷ []) ∙ 
     by true e rest = absurd (let f : true ≡ false = e in cc)
     by false e rest = rest e
 
-itself : (x : Text) → bytes_eq x x ≡ true
+pub itself : (x : Text) → bytes_eq x x ≡ true
 itself x = (bytes_eq-Decides x x).1 refl
 
-flips : (x y : Text) → bytes_eq x y ≡ bytes_eq y x
+pub flips : (x y : Text) → bytes_eq x y ≡ bytes_eq y x
 flips x y = by (bytes_eq x y) (bytes_eq y x) refl refl
   where
     by : (a b : Bool) → bytes_eq x y ≡ a → bytes_eq y x ≡ b → a ≡ b

@@ -1,7 +1,7 @@
 pub mod ListsLemmas
 pub mod SegmentLemmas
 pub mod PartLemmas
-pub mod AmongLemmas
+pub mod AskedLemmas
 pub mod FoundLemmas
 pub mod HashLemmas
 pub mod ShownLemmas

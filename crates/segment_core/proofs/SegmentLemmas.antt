@@ -1,5 +1,5 @@
 -- What the arrays of a segment say of the lists and the sets of its tables.
-use Rattle.std.proofs.Common.{◌≡◌, ◌∙◌, sym, ap, subst, ℕ, ◌<◌, ◌≤◌, List, [], get_or, length, map, arith}
+use Rattle.std.proofs.Common.{◌≡◌, refl, ◌∙◌, sym, ap, subst, ℕ, ◌<◌, ◌≤◌, List, [], get_or, length, map, arith}
 use Rattle.std.proofs.lemmas.List.{length-map, get_or-map}
 use Rattle.std.proofs.lemmas.List.FromFn.{length-enumerate_from}
 use Rattle.lake_model.specs.Texts.{Text}
@@ -10,7 +10,7 @@ use Rattle.search_model.specs.declared.Owner.{Owner}
 use Rattle.search_model.specs.Segment.{Token, segment}
 use Rattle.search_model.proofs.ColumnLemmas.{stands, Stands}
 use Rattle.search_model.proofs.KeyLemmas.{key_here}
-use Rattle.search_model.specs.Arrays.{AreArrays, all_of, key_of, no_titled, owner_of, pointed, starts_of, table_at, titled_at}
+use Rattle.search_model.specs.Arrays.{AreArrays, IsAt, all_of, key_of, no_titled, owner_of, pointed, starts_of, table_at, titled_at}
 use Rattle.segment_core.specs.Hashes.{AreKeys}
 use Rattle.segment_core.proofs.ListsLemmas.{Bounds, bounds}
 
@@ -63,35 +63,41 @@ no_token = record { column = 0; index = 0 }
 abbrev pub no_owner : Owner
 no_owner = record { table = 0; place = 0 }
 
--- Where the key of a token is read: its place is one of the columns, this is one of a table, and that table has the key there.
-pub record IsRead (tables : List Table) (at : TokenAt) (owner : Owner) (token : ℕ) : Type 0 where
+-- Where a key is read: its place is one of the columns, this is one of a table, and that table has the key there.
+pub record IsRead (tables : List Table) (at : TokenAt) (owner : Owner) : Type 0 where
   pub table : owner.table < length tables
   pub low : 0 < owner.place
   pub high : owner.place ≤ length (table_at tables owner.table).columns
-  pub key : get_or (keys_at (table_at tables owner.table) owner.place) at.index [] ≡ key_of (segment tables).tokens token
+  pub key : get_or (keys_at (table_at tables owner.table) owner.place) at.index [] ≡ pointed tables at
 
-module _ (tables : List Table) (owners : List Owner) (tokens : List TokenAt) (keys : AreKeys tables owners tokens) (token : ℕ) (within : token < length tokens) (at : TokenAt) (is : at ≡ get_or tokens token at) where
+module _ (tables : List Table) (owners : List Owner) (owned : owners ≡ map owner_of (segment tables).columns) (at : TokenAt) (there : IsAt tables at) where
   column_there : at.column < length (segment tables).columns
   unfolding segment
-  column_there = subst (λ (t : TokenAt). t.column < length (segment tables).columns) (sym is) (keys.within token at within).column
+  column_there = there.column
 
   pub owner_there : at.column < length owners
-  owner_there = omega (arith, column_there, ap length keys.owned, length-map (segment tables).columns owner_of)
+  owner_there = omega (arith, column_there, ap length owned, length-map (segment tables).columns owner_of)
 
   keys_there : (owner : Owner) → owner ≡ get_or owners at.column owner → owner ≡ owner_of (titled_at (segment tables).columns at.column)
-  keys_there owner e = e ∙ ap (λ (os : List Owner). get_or os at.column owner) keys.owned ∙ get_or-map owner_of (segment tables).columns at.column no_titled owner column_there
+  keys_there owner e = e ∙ ap (λ (os : List Owner). get_or os at.column owner) owned ∙ get_or-map owner_of (segment tables).columns at.column no_titled owner column_there
 
-  named : get_or (titled_at (segment tables).columns at.column).column.keys at.index [] ≡ key_of (segment tables).tokens token
+  pointed_here : get_or (titled_at (segment tables).columns at.column).column.keys at.index [] ≡ pointed tables at
   unfolding segment
-  named = key_here (pointed tables) tokens (segment tables).tokens token at keys.named within is
+  pointed_here = refl
 
-  pub is_read : (owner : Owner) → owner ≡ get_or owners at.column owner → IsRead tables at owner token
+  pub is_read : (owner : Owner) → owner ≡ get_or owners at.column owner → IsRead tables at owner
   is_read owner e =
-      let c = titled_at (segment tables).columns at.column in
       let here = stands_there tables at.column column_there in
-      subst (λ (o : Owner). IsRead tables at o token) (sym (keys_there owner e)) (record {
+      subst (λ (o : Owner). IsRead tables at o) (sym (keys_there owner e)) (record {
         table = here.table;
         low = here.low;
         high = here.high;
-        key = ap (λ (ks : List Text). get_or ks at.index []) here.keys ∙ named;
+        key = ap (λ (ks : List Text). get_or ks at.index []) here.keys ∙ pointed_here;
       })
+
+-- the key of a token stands at the token's place
+pub key_pointed : (tables : List Table) (owners : List Owner) (tokens : List TokenAt) → AreKeys tables owners tokens → (token : ℕ) (at : TokenAt) → token < length tokens → at ≡ get_or tokens token at → pointed tables at ≡ key_of (segment tables).tokens token
+key_pointed tables owners tokens keys token at within is = key_here (pointed tables) tokens (segment tables).tokens token at keys.named within is
+
+pub place_there : (tables : List Table) (owners : List Owner) (tokens : List TokenAt) → AreKeys tables owners tokens → (token : ℕ) (at : TokenAt) → token < length tokens → at ≡ get_or tokens token at → IsAt tables at
+place_there tables owners tokens keys token at within is = subst (IsAt tables) (sym is) (keys.within token at within)

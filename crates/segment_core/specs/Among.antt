@@ -2,7 +2,9 @@
 use Rattle.std.specs.Prelude.{ℕ, ◌<◌, List, [], ◌∷◌, get_or, length, map}
 use Rattle.std.specs.List.{flat_map}
 use Rattle.lake_model.specs.Texts.{Text}
+use Rattle.lake_model.specs.Tables.{Table}
 use Rattle.search_model.specs.Segment.{Token, tokens_in}
+use Rattle.segment_core.specs.Hashes.{IsHashed}
 use Rattle.segment_core.specs.declared.segment.Hit.{Hit}
 
 -- the tokens that these keys are, in the order of the keys
@@ -10,8 +12,8 @@ abbrev pub found_by : List Token → List Text → List ℕ
 found_by tokens keys = flat_map (λ key. tokens_in tokens (key ∷ [])) keys
 
 -- the token and the key of a hit are there
-abbrev pub IsHit : List Token → List Text → Hit → Type 0
-IsHit tokens keys hit = (hit.token < length tokens) × (hit.index < length keys)
+abbrev pub IsHit : List Table → List Text → Hit → Type 0
+IsHit tables keys hit = IsHashed tables hit.entry × (hit.index < length keys)
 
 -- the keys of hits
 abbrev pub hit_keys : List Text → List Hit → List Text

@@ -1,35 +1,39 @@
 //! A query with the hashes of its keys.
 ghost use Rattle.std.specs.Prelude.{◌≡◌, ◌<◌, [], get_or, length, IfOk};
+ghost use Rattle.lake_model.specs.Tables.{has_key};
 ghost use Rattle.segment_core.specs.Hashes.{hash_of};
 
 use crate::hashes::hash_key;
 use column_set::QuerySet;
+use hash_directory::HashFilter;
 use no_memory::NoMemory;
 use std::alloc::Global;
 use std::marker::Model;
 
-/// A query with the hash of each of its keys, so that a key is hashed once for all parts that it is looked up in. A contract sees the
-/// keys.
+/// A query with the hash of each of its keys, so that a key is hashed once for all parts that it is looked up in, and a filter of these
+/// hashes. A contract sees the keys.
 #[derive(Drop)]
 pub struct HashedQuery<'q> {
     query: &'q QuerySet,
     hashes: Vec<u32>,
+    filter: HashFilter,
 }
 
 impl<'q> Model for HashedQuery<'q> {
     ghost use Rattle.std.specs.Prelude.{◌≡◌, List, map};
     ghost use Rattle.lake_model.specs.Texts.{Text};
+    ghost use Rattle.hash_directory.specs.Buckets.{AreIn};
     ghost use Rattle.segment_core.specs.Hashes.{hash_of};
 
     ghost Value = { List Text };
 
     ghost view = { λ h. h.query.now };
 
-    ghost invariant = { λ h. h.hashes.items ≡ map hash_of h.query.now };
+    ghost invariant = { λ h. (h.hashes.items ≡ map hash_of h.query.now) × AreIn h.filter h.hashes.items };
 }
 
 impl<'q> HashedQuery<'q> {
-    /// The query, and the hashes of its keys. It takes the time to read each key once, and 4 bytes for each.
+    /// The query, and the hashes of its keys. It takes the time to read each key once, and 5 to 6 bytes for each.
     pub fn new(alloc: Global, query: &'q QuerySet) -> Result<HashedQuery<'q>, NoMemory>
         ensures { IfOk result (λ hashed. hashed ≡ query.now) }
     {
@@ -37,7 +41,20 @@ impl<'q> HashedQuery<'q> {
         for i in 0..query.len() {
             hashes.push(hash_key(query.key(i)))?;
         }
-        Ok(HashedQuery { query, hashes })
+        let filter = HashFilter::of(alloc, &hashes)?;
+        Ok(HashedQuery {
+            query,
+            hashes,
+            filter,
+        })
+    }
+
+    /// Whether the query has the key, of which the hash is at hand. Mostly it reads no text where it has not.
+    pub(crate) fn has(&self, hash: u32, key: &str) -> bool
+        requires { hash ≡ hash_of key.now }
+        ensures { result ≡ has_key self.now key.now }
+    {
+        self.filter.may_have(hash) && self.query.has(key)
     }
 
     /// The query.

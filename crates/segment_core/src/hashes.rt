@@ -1,37 +1,87 @@
 //! The tokens of a segment in the order of the hashes of their keys.
-ghost use Rattle.std.specs.Prelude.{◌≡◌, ◌∷◌, ◌<◌, ◌≤◌, ◌^◌, [], false, length, map, nat_lt, true, IfOk};
+ghost use Rattle.std.specs.Prelude.{◌≡◌, ◌∷◌, ◌<◌, ◌^◌, length, map, IfNone, IfOk, IfSome};
 ghost use Rattle.std.specs.Cmp.Lexicographic.{slice_cmp};
-ghost use Rattle.std.specs.List.Sorted.{IsNonDecreasingBy, IsPartitionPoint, IsPermutation, IsSortedByKey};
+ghost use Rattle.std.specs.List.{All};
+ghost use Rattle.std.specs.List.Sorted.{IsNonDecreasingBy};
 ghost use Rattle.std.specs.Ordering.{nat_cmp};
-ghost use Rattle.search_model.specs.Arrays.{key_of, numbers_of};
+ghost use Rattle.search_model.specs.Arrays.{key_of, numbers_of, owner_of, pointed, IsAt};
 ghost use Rattle.search_model.specs.Segment.{segment};
-ghost use Rattle.segment_core.specs.Hashes.{hash_from, hash_of, hashed_with, sorted_by, AreKeys, IsAround, IsByHash};
+ghost use Rattle.segment_core.specs.Hashes.{hash_from, hash_of, sorted_by, token_hash, token_number, AreKeys, IsByHash, IsHashed, IsOneOf};
 
 use column_set::SharedTable;
+use hash_directory::HashDirectory;
 use no_memory::NoMemory;
 use search_model::{Owner, TokenAt};
 use std::alloc::Global;
 use std::cmp::Ordering;
+use std::marker::Model;
 
-/// The numbers of the tokens of a segment, by the hashes of their keys and then by the bytes of their keys; and these hashes, which
-/// rise, so that a search for one reads no text. The range of all hashes is cut into equal parts, a quarter as many as there are
-/// tokens: `starts` says where the hashes of each part begin. Nothing but speed rests on it.
+/// A token of a segment, with the hash of its key, and where its key stands.
+#[derive(Clone, Copy)]
+pub struct HashedToken {
+    pub hash: u32,
+    pub token: u32,
+    pub at: TokenAt,
+}
+
+/// The tokens of a segment by the hashes of their keys, and then by the bytes of their keys, with a directory of the hashes. A contract
+/// sees the list of the tokens.
 #[derive(Drop)]
 pub struct HashOrder {
-    pub hashes: Vec<u32>,
-    pub tokens: Vec<u32>,
-    pub starts: Vec<u32>,
+    entries: Vec<HashedToken>,
+    directory: HashDirectory,
 }
 
-// A token with the hash of its key.
-#[derive(Clone, Copy)]
-struct Hashed {
-    hash: u32,
-    token: u32,
+impl Model for HashOrder {
+    ghost use Rattle.std.specs.Prelude.{List, map};
+    ghost use Rattle.std.specs.List.Sorted.{IsNonDecreasingBy};
+    ghost use Rattle.hash_directory.specs.Buckets.{IsDirectoryOf};
+    ghost use Rattle.segment_core.specs.Hashes.{token_hash};
+    ghost use Rattle.segment_core.specs.declared.hashes.HashedToken.{HashedToken as HashedOf};
+
+    ghost Value = { List HashedOf };
+
+    ghost view = { λ o. o.entries.items };
+
+    ghost invariant = { λ o. IsDirectoryOf (map token_hash o.entries.items) o.directory × IsNonDecreasingBy token_hash o.entries.items };
 }
 
-/// The tokens in the order of the hashes of their keys. It takes the time to read each key once and to sort as many numbers, and 17
-/// bytes for each token, of which 9 are kept. Keys are compared only where their hashes are equal.
+impl HashOrder {
+    /// The tokens, in order.
+    pub(crate) fn entries(&self) -> &[HashedToken]
+        ensures { result.now ≡ self.now }
+    {
+        &self.entries
+    }
+
+    /// The first token of which the key has the hash. It reads no text, mostly a few numbers alone, and never more than the logarithm of
+    /// their number.
+    pub(crate) fn first(&self, hash: u32) -> Option<HashedToken>
+        ensures there { IfSome result (λ entry. IsOneOf self.now entry) }
+        ensures hash { IfSome result (λ entry. entry.hash ≡ hash) }
+        ensures lacking { IfNone result (All (λ entry. entry.hash ≡ hash → ⊥) self.now) }
+    {
+        let near = self.directory.near(hash);
+        first_of(&self.entries[near.from..near.to], hash)
+    }
+}
+
+// The first that has the hash.
+fn first_of(entries: &[HashedToken], hash: u32) -> Option<HashedToken>
+    requires { IsNonDecreasingBy token_hash entries.now }
+    ensures there { IfSome result (λ entry. IsOneOf entries.now entry) }
+    ensures hash { IfSome result (λ entry. entry.hash ≡ hash) }
+    ensures lacking { IfNone result (All (λ entry. entry.hash ≡ hash → ⊥) entries.now) }
+{
+    let at = entries.partition_point(|entry| entry.hash < hash);
+    if at >= entries.len() || entries[at].hash != hash {
+        return None;
+    }
+    Some(entries[at])
+}
+
+/// The tokens in the order of the hashes of their keys. It takes the time to read each key once and to sort as many numbers, and for a while
+/// 22 bytes for each token, of which 18 to 20 are kept. Keys are compared only where their hashes are equal.
 pub fn order_by_hash(
     alloc: Global,
     tables: &[SharedTable],
@@ -40,17 +90,12 @@ pub fn order_by_hash(
 ) -> Result<HashOrder, NoMemory>
     requires keys { AreKeys tables.now owners.now tokens.now }
     requires few { length tokens.now < 2 ^ 32 }
-    ensures { IfOk result (λ order. IsByHash (segment tables.now).tokens order.hashes.items order.tokens.items) }
+    ensures { IfOk result (λ order. IsByHash tables.now order) }
 {
-    let hashed = sorted_tokens(alloc, tables, owners, tokens)?;
-    let hashes = hashes_of(alloc, &hashed)?;
-    let tokens = tokens_of(alloc, &hashed)?;
-    let starts = starts_of(alloc, &hashes)?;
-    Ok(HashOrder {
-        hashes,
-        tokens,
-        starts,
-    })
+    let entries = sorted_tokens(alloc, tables, owners, tokens)?;
+    let hashes = hashes_of(alloc, &entries)?;
+    let directory = HashDirectory::of(alloc, &hashes)?;
+    Ok(HashOrder { entries, directory })
 }
 
 // The tokens in that order, each with the hash of its key.
@@ -59,11 +104,11 @@ fn sorted_tokens(
     tables: &[SharedTable],
     owners: &[Owner],
     tokens: &[TokenAt],
-) -> Result<Vec<Hashed>, NoMemory>
+) -> Result<Vec<HashedToken>, NoMemory>
     requires keys { AreKeys tables.now owners.now tokens.now }
     requires few { length tokens.now < 2 ^ 32 }
-    ensures same { IfOk result (λ hashed. IsPermutation (map (hashed_with (segment tables.now).tokens) (numbers_of (segment tables.now).tokens)) hashed.items) }
-    ensures sorted { IfOk result (λ hashed. IsSortedByKey (sorted_by (segment tables.now).tokens) (slice_cmp nat_cmp) hashed.items) }
+    ensures order { IfOk result (λ hashed. IsByHash tables.now hashed.items) }
+    ensures few { IfOk result (λ hashed. length hashed.items < 2 ^ 32) }
 {
     let mut hashed = hashed_tokens(alloc, tables, owners, tokens)?;
     hashed.sort_unstable_by(|a, b| hashed_order(tables, owners, tokens, *a, *b));
@@ -76,15 +121,20 @@ fn hashed_tokens(
     tables: &[SharedTable],
     owners: &[Owner],
     tokens: &[TokenAt],
-) -> Result<Vec<Hashed>, NoMemory>
+) -> Result<Vec<HashedToken>, NoMemory>
     requires keys { AreKeys tables.now owners.now tokens.now }
     requires few { length tokens.now < 2 ^ 32 }
-    ensures { IfOk result (λ hashed. hashed.items ≡ map (hashed_with (segment tables.now).tokens) (numbers_of (segment tables.now).tokens)) }
+    ensures hashed { IfOk result (λ hashed. All (IsHashed tables.now) hashed.items) }
+    ensures numbers { IfOk result (λ hashed. map token_number hashed.items ≡ numbers_of (segment tables.now).tokens) }
 {
     let mut hashed = Vec::with_capacity(alloc, tokens.len())?;
-    for token in 0..tokens.len() as u32 {
-        let hash = hash_key(key_at(tables, owners, tokens, token));
-        hashed.push(Hashed { hash, token })?;
+    for (token, at) in tokens.iter().enumerate() {
+        let hash = hash_key(key_there(tables, owners, *at));
+        hashed.push(HashedToken {
+            hash,
+            token: token as u32,
+            at: *at,
+        })?;
     }
     Ok(hashed)
 }
@@ -94,8 +144,8 @@ fn hashed_order(
     tables: &[SharedTable],
     owners: &[Owner],
     tokens: &[TokenAt],
-    a: Hashed,
-    b: Hashed,
+    a: HashedToken,
+    b: HashedToken,
 ) -> Ordering
     requires { AreKeys tables.now owners.now tokens.now }
     ensures { result ≡ slice_cmp nat_cmp (sorted_by (segment tables.now).tokens a) (sorted_by (segment tables.now).tokens b) }
@@ -109,76 +159,14 @@ fn hashed_order(
 }
 
 // The hashes of these.
-fn hashes_of(alloc: Global, hashed: &[Hashed]) -> Result<Vec<u32>, NoMemory>
-    ensures { IfOk result (λ hashes. hashes.items ≡ map (λ h. h.hash) hashed.now) }
+fn hashes_of(alloc: Global, entries: &[HashedToken]) -> Result<Vec<u32>, NoMemory>
+    ensures { IfOk result (λ hashes. hashes.items ≡ map token_hash entries.now) }
 {
-    let mut hashes = Vec::with_capacity(alloc, hashed.len())?;
-    for one in hashed {
-        hashes.push(one.hash)?;
+    let mut hashes = Vec::with_capacity(alloc, entries.len())?;
+    for entry in entries {
+        hashes.push(entry.hash)?;
     }
     Ok(hashes)
-}
-
-// The numbers of these.
-fn tokens_of(alloc: Global, hashed: &[Hashed]) -> Result<Vec<u32>, NoMemory>
-    ensures { IfOk result (λ numbers. numbers.items ≡ map (λ h. h.token) hashed.now) }
-{
-    let mut numbers = Vec::with_capacity(alloc, hashed.len())?;
-    for one in hashed {
-        numbers.push(one.token)?;
-    }
-    Ok(numbers)
-}
-
-/// How many of the hashes, which rise, lie below each part of the range of hashes, of which there are a quarter as many as hashes.
-/// It takes 4 bytes for each part.
-pub fn starts_of(alloc: Global, hashes: &[u32]) -> Result<Vec<u32>, NoMemory>
-    requires { length hashes.now < 2 ^ 32 }
-{
-    let parts = hashes.len() as u64 / 4;
-    let mut starts = Vec::with_capacity(alloc, parts as usize)?;
-    for part in 0..parts {
-        let least = (part << 32) / parts;
-        starts.push(hashes.partition_point(|hash| u64::from(*hash) < least) as u32)?;
-    }
-    Ok(starts)
-}
-
-/// How many of the hashes, which rise, are below one. It compares those of its part of the range alone where `starts` says truly where
-/// these are, and all else.
-pub fn count_below(hashes: &[u32], starts: &[u32], hash: u32) -> usize
-    requires { IsNonDecreasingBy (λ n. n) hashes.now }
-    ensures { IsPartitionPoint (λ n. nat_lt n hash ≡ true) (λ n. nat_lt n hash ≡ false) hashes.now result }
-{
-    let part = (u64::from(hash).wrapping_mul(starts.len() as u64) >> 32) as usize;
-    let from = start_of(starts, part, hashes.len());
-    let to = start_of(starts, part + 1, hashes.len());
-    if !is_around(hashes, from, to, hash) {
-        return hashes.partition_point(|other| *other < hash);
-    }
-    from + hashes[from..to].partition_point(|other| *other < hash)
-}
-
-// Where a part begins, and the end where there is no such part.
-fn start_of(starts: &[u32], part: usize, end: usize) -> usize
-    ensures { result ≤ end }
-{
-    match starts.get(part) {
-        Some(start) => (*start as usize).min(end),
-        None => end,
-    }
-}
-
-// Whether the hash at `from` has none before it that is not below a hash, and the one at `to` is not below it.
-fn is_around(hashes: &[u32], from: usize, to: usize, hash: u32) -> bool
-    requires from { from ≤ length hashes.now }
-    requires to { to ≤ length hashes.now }
-    ensures { result ≡ true → IsAround hashes.now from to hash }
-{
-    if from > to || (from > 0 && hashes[from - 1] >= hash) {
-        return false;
-    }
-    to == hashes.len() || hashes[to] >= hash
 }
 
 /// The key of a token, and the empty text where there is no such token.
@@ -194,7 +182,15 @@ pub(crate) fn key_at<'a>(
     if token as usize >= tokens.len() {
         return "";
     }
-    let at = tokens[token as usize];
+    key_there(tables, owners, tokens[token as usize])
+}
+
+/// The key of a column that stands at a place.
+pub(crate) fn key_there<'a>(tables: &'a [SharedTable], owners: &[Owner], at: TokenAt) -> &'a str
+    requires owned { owners.now ≡ map owner_of (segment tables.now).columns }
+    requires there { IsAt tables.now at }
+    ensures { result.now ≡ pointed tables.now at }
+{
     let owner = owners[at.column as usize];
     tables[owner.table as usize]
         .table()

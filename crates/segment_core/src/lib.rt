@@ -17,7 +17,7 @@ mod version;
 
 pub use column::ColumnRefused;
 pub use hashed::HashedQuery;
-pub use hashes::{HashOrder, count_below, hash_key, order_by_hash, starts_of};
+pub use hashes::{HashOrder, HashedToken, hash_key, order_by_hash};
 pub use layout::{Layout, Places, TableLines};
 pub use looks::Looks;
 pub use numbers::{Marks, Numbers};

@@ -10,7 +10,7 @@ ghost use Rattle.segment_core.specs.LiveColumn.{fault_in, keys_in};
 
 use crate::column::ColumnRefused;
 use crate::hashed::HashedQuery;
-use crate::hashes::{HashOrder, count_below, hash_key, key_at};
+use crate::hashes::{HashOrder, HashedToken, hash_key, key_at, key_there};
 use crate::order::ColumnOrder;
 use column_set::{QuerySet, SharedTable};
 use no_memory::NoMemory;
@@ -23,7 +23,7 @@ use std::sync::atomic::{AtomicU64, Ordering};
 /// A token of which the key may be that of a query at an index, from 0: they have the same hash.
 #[derive(Clone, Copy)]
 struct Hit {
-    token: u32,
+    entry: HashedToken,
     index: u32,
 }
 
@@ -60,11 +60,12 @@ impl Model for Segment {
 
     ghost view = { λ s. s.tables.items };
 
-    ghost invariant = { λ s. AreKept s.tables.items s.owners.items s.tokens.items s.by_hash.hashes.items s.by_hash.tokens.items s.list_starts.items s.postings.items s.set_starts.items s.set_tokens.items × AreRanks (segment s.tables.items).columns s.ranks.items × AreInverse s.ranks.items s.by_rank.items };
+    ghost invariant = { λ s. AreKept s.tables.items s.owners.items s.tokens.items s.by_hash s.list_starts.items s.postings.items s.set_starts.items s.set_tokens.items × AreRanks (segment s.tables.items).columns s.ranks.items × AreInverse s.ranks.items s.by_rank.items };
 }
 
 impl Segment {
-    ghost use Rattle.segment_core.specs.Hashes.{hash_at, hash_of, hashed_key, AreKept};
+    ghost use Rattle.search_model.specs.Arrays.{pointed, IsAt};
+    ghost use Rattle.segment_core.specs.Hashes.{hash_at, hash_of, sorted_by, AreKept, IsHashed};
 
     /// The segment of these tables, from its arrays: where each column stands; where each token's key stands, in the order of the
     /// tokens; the tokens in the order of their hashes; the posting lists, one behind another, with where each begins and one more for
@@ -82,7 +83,7 @@ impl Segment {
         ranks: Vec<u32>,
         by_rank: Vec<u32>,
     ) -> Segment
-        requires arrays { AreKept tables.items owners.items tokens.items by_hash.hashes.items by_hash.tokens.items list_starts.items postings.items set_starts.items set_tokens.items }
+        requires arrays { AreKept tables.items owners.items tokens.items by_hash list_starts.items postings.items set_starts.items set_tokens.items }
         requires ranks { AreRanks (segment tables.items).columns ranks.items }
         requires inverse { AreInverse ranks.items by_rank.items }
         ensures { result ≡ tables.items }
@@ -122,24 +123,28 @@ impl Segment {
         ensures { IsToken (segment self.now).tokens key.now result }
     {
         let hash = hash_key(key);
-        let token = self.first_hashed(hash)?;
-        if self.key(token) == key {
-            return Some(token);
-        }
-        self.lookup_colliding(hash, key)
+        let entry = self.first_hashed(hash)?;
+        self.token_at(entry, hash, key)
     }
 
     // The first token of which the key has the hash, in the order of the keys' bytes.
-    fn first_hashed(&self, hash: u32) -> Option<u32>
-        ensures there { IfSome result (λ token. token < length (segment self.now).tokens) }
+    fn first_hashed(&self, hash: u32) -> Option<HashedToken>
+        ensures there { IfSome result (λ entry. IsHashed self.now entry) }
         ensures lacking { IfNone result ((n : ℕ) → n < length (segment self.now).tokens → hash_at (segment self.now).tokens n ≡ hash → ⊥) }
     {
-        let hashes = &self.by_hash.hashes;
-        let at = count_below(hashes, &self.by_hash.starts, hash);
-        if at >= hashes.len() || hashes[at] != hash {
-            return None;
+        self.by_hash.first(hash)
+    }
+
+    // The token that a key is, where the first that has the key's hash is at hand.
+    fn token_at(&self, first: HashedToken, hash: u32, key: &str) -> Option<u32>
+        requires hashed { IsHashed self.now first }
+        requires own { hash ≡ hash_of key.now }
+        ensures { IsToken (segment self.now).tokens key.now result }
+    {
+        if self.key_there(first.at) == key {
+            return Some(first.token);
         }
-        Some(self.by_hash.tokens[at])
+        self.lookup_colliding(hash, key)
     }
 
     // The token that the key is, where another key may have its hash too.
@@ -147,23 +152,19 @@ impl Segment {
         requires { hash ≡ hash_of key.now }
         ensures { IsToken (segment self.now).tokens key.now result }
     {
-        match self
-            .by_hash
-            .tokens
-            .binary_search_by(|token| self.hash_order(*token, hash, key))
-        {
-            Ok(at) => Some(self.by_hash.tokens[at]),
+        let entries = self.by_hash.entries();
+        match entries.binary_search_by(|entry| self.hash_order(*entry, hash, key)) {
+            Ok(at) => Some(entries[at].token),
             Err(_) => None,
         }
     }
 
     // How a token stands to a key: by their hashes, and then by the bytes of the keys.
-    fn hash_order(&self, token: u32, hash: u32, key: &str) -> Comparison
-        ensures { result ≡ slice_cmp nat_cmp (hashed_key (segment self.now).tokens token) (hash ∷ key.now) }
+    fn hash_order(&self, entry: HashedToken, hash: u32, key: &str) -> Comparison
+        ensures { result ≡ slice_cmp nat_cmp (sorted_by (segment self.now).tokens entry) (hash ∷ key.now) }
     {
-        let own = self.key(token);
-        match hash_key(own).cmp(&hash) {
-            Comparison::Equal => own.cmp(key),
+        match entry.hash.cmp(&hash) {
+            Comparison::Equal => self.key(entry.token).cmp(key),
             unequal => unequal,
         }
     }
@@ -257,11 +258,21 @@ impl Segment {
     {
         key_at(&self.tables, &self.owners, &self.tokens, token)
     }
+
+    // The key of a column that stands at a place.
+    fn key_there(&self, at: TokenAt) -> &str
+        requires { IsAt self.now at }
+        ensures { result.now ≡ pointed self.now at }
+    {
+        key_there(&self.tables, &self.owners, at)
+    }
 }
 
 impl Segment {
     ghost use Rattle.std.specs.List.{All};
+    ghost use Rattle.lake_model.specs.Tables.{has_key};
     ghost use Rattle.segment_core.specs.Among.{found_by, hit_keys, IsHit};
+    ghost use Rattle.segment_core.specs.Hashes.{IsHashed};
 
     /// The tokens of which the keys are the query's, rising. It walks the smaller of the two: the tokens, or the keys of the query.
     pub(crate) fn tokens_among(
@@ -272,23 +283,40 @@ impl Segment {
         ensures { IfOk result (λ tokens. tokens.items ≡ tokens_in (segment self.now).tokens query.now) }
     {
         if self.tokens.len() < query.query().len() as usize {
-            self.asked_tokens(alloc, query.query())
+            self.asked_tokens(alloc, query)
         } else {
             self.found_tokens(alloc, query)
         }
     }
 
-    // The same, where the query is asked for the key of each token.
-    fn asked_tokens(&self, alloc: Global, query: &QuerySet) -> Result<Vec<u32>, NoMemory>
+    // The same, where the query is asked for the key of each token, token after token as they lie by their hashes.
+    fn asked_tokens(&self, alloc: Global, query: &HashedQuery<'_>) -> Result<Vec<u32>, NoMemory>
         ensures { IfOk result (λ tokens. tokens.items ≡ tokens_in (segment self.now).tokens query.now) }
     {
+        let mut tokens = self.tokens_asked(alloc, query)?;
+        tokens.sort_unstable();
+        Ok(tokens)
+    }
+
+    // The tokens of which the query has the keys, by the hashes of the keys.
+    fn tokens_asked(&self, alloc: Global, query: &HashedQuery<'_>) -> Result<Vec<u32>, NoMemory>
+        ensures { IfOk result (λ tokens. IsPermutation (tokens_in (segment self.now).tokens query.now) tokens.items) }
+    {
         let mut tokens = Vec::new(alloc);
-        for token in 0..self.tokens.len() as u32 {
-            if query.has(self.key(token)) {
-                tokens.push(token)?;
+        for entry in self.by_hash.entries() {
+            if self.is_asked(query, *entry) {
+                tokens.push(entry.token)?;
             }
         }
         Ok(tokens)
+    }
+
+    // Whether the query has the key of a token.
+    fn is_asked(&self, query: &HashedQuery<'_>, entry: HashedToken) -> bool
+        requires { IsHashed self.now entry }
+        ensures { result ≡ has_key query.now (key_of (segment self.now).tokens entry.token) }
+    {
+        query.has(entry.hash, self.key_there(entry.at))
     }
 
     // The same, where each key of the query is looked up.
@@ -304,13 +332,13 @@ impl Segment {
     // For each key of the query of which some token has the hash, the first such token. No key of a token is read yet: the reads are misses
     // of the cache, which do not wait for one another where nothing else lies between them.
     fn hits(&self, alloc: Global, query: &HashedQuery<'_>) -> Result<Vec<Hit>, NoMemory>
-        ensures hits { IfOk result (λ hits. All (IsHit (segment self.now).tokens query.now) hits.items) }
+        ensures hits { IfOk result (λ hits. All (IsHit self.now query.now) hits.items) }
         ensures all { IfOk result (λ hits. IsPermutation (tokens_in (segment self.now).tokens query.now) (found_by (segment self.now).tokens (hit_keys query.now hits.items))) }
     {
         let mut hits = Vec::new(alloc);
         for index in 0..query.query().len() {
-            if let Some(token) = self.first_hashed(query.hash(index)) {
-                hits.push(Hit { token, index })?;
+            if let Some(entry) = self.first_hashed(query.hash(index)) {
+                hits.push(Hit { entry, index })?;
             }
         }
         Ok(hits)
@@ -323,28 +351,17 @@ impl Segment {
         query: &HashedQuery<'_>,
         hits: &[Hit],
     ) -> Result<Vec<u32>, NoMemory>
-        requires { All (IsHit (segment self.now).tokens query.now) hits.now }
+        requires { All (IsHit self.now query.now) hits.now }
         ensures { IfOk result (λ tokens. tokens.items ≡ found_by (segment self.now).tokens (hit_keys query.now hits.now)) }
     {
         let mut tokens = Vec::with_capacity(alloc, hits.len())?;
         for hit in hits {
-            if let Some(token) = self.token_of_hit(query, *hit) {
+            let key = query.query().key(hit.index);
+            if let Some(token) = self.token_at(hit.entry, query.hash(hit.index), key) {
                 tokens.push(token)?;
             }
         }
         Ok(tokens)
-    }
-
-    // The token that the key of a hit is.
-    fn token_of_hit(&self, query: &HashedQuery<'_>, hit: Hit) -> Option<u32>
-        requires { IsHit (segment self.now).tokens query.now hit }
-        ensures { IsToken (segment self.now).tokens (get_or query.now hit.index []) result }
-    {
-        let key = query.query().key(hit.index);
-        if self.key(hit.token) == key {
-            return Some(hit.token);
-        }
-        self.lookup_colliding(query.hash(hit.index), key)
     }
 }
 

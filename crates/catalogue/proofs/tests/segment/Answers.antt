@@ -1,6 +1,5 @@
 use Rattle.std.proofs.Common.{◌∙◌, subst, List, lit<}
 use Rattle.lake_model.specs.Tables.{Table}
-use Rattle.search_model.specs.Segment.{segment}
 use Rattle.segment_core.specs.Hashes.{IsByHash}
 use Rattle.catalogue.proofs.KeySegment.{key_inverse, key_kept, key_places, key_ranks}
 use Rattle.catalogue.proofs.tests.segment.Goals as goal
@@ -14,11 +13,9 @@ order_by_hash-requires-clause-few c = rw (c.deref-3.ensures.value, c.in_ok-token
 
 pub new-segment-requires-clause-arrays : goal.new-segment-requires-clause-arrays
 new-segment-requires-clause-arrays c =
-    let hashes = c.in_ok-by_hash.by_hash.hashes.items in
-    let numbers = c.in_ok-by_hash.by_hash.tokens.items in
-    let order = subst (λ (ts : List Table). IsByHash (segment ts).tokens hashes numbers) (c.deref.ensures.value ∙ c.in_ok-tables.ensures.items) c.in_ok-by_hash.ensures in
+    let order = subst (λ (ts : List Table). IsByHash ts c.in_ok-by_hash.by_hash) (c.deref.ensures.value ∙ c.in_ok-tables.ensures.items) c.in_ok-by_hash.ensures in
     rw (c.in_ok-tables.ensures.items, c.in_ok-owners.ensures.items, c.in_ok-tokens.ensures.items, c.in_ok-list_starts.ensures.items, c.in_ok-postings.ensures.items, c.in_ok-set_starts.ensures.items, c.in_ok-set_tokens.ensures.items)
-    (key_kept c.args.table c.requires.columns c.requires.keys hashes numbers order)
+    (key_kept c.args.table c.requires.columns c.requires.keys c.in_ok-by_hash.by_hash order)
 
 pub new-segment-requires-clause-ranks : goal.new-segment-requires-clause-ranks
 new-segment-requires-clause-ranks c = rw (c.in_ok-tables.ensures.items, c.in_ok-ranks.ensures.items) (key_ranks c.args.table c.requires.columns)

@@ -1,23 +1,37 @@
-use Rattle.std.proofs.Common.{◌≡◌, ◌∙◌, sym, ap, ℕ, ◌<◌, List, [], ◌∷◌, ◌++◌, map, length, take, arith}
-use Rattle.std.proofs.Math.Seq.{take-length}
-use Rattle.search_model.specs.Arrays.{numbers_of}
+use Rattle.std.proofs.Common.{◌≡◌, refl, ◌∙◌, ap, ◌<◌, length, get_or, arith}
+use Rattle.std.proofs.lemmas.List.{get_or_default}
 use Rattle.search_model.specs.Segment.{segment}
-use Rattle.segment_core.specs.Hashes.{hash_of, hashed_with}
-use Rattle.segment_core.specs.declared.hashes.Hashed.{Hashed}
-use Rattle.segment_core.proofs.HashLemmas.{hashed_more, hashed_made, length-numbers}
-use Rattle.segment_core.proofs.SegmentLemmas.{key_count}
+use Rattle.segment_core.specs.Hashes.{hash_of, hashed_from, IsHashed}
+use Rattle.segment_core.proofs.HashLemmas.{hashed_more, numbers_all, numbers_more}
+use Rattle.segment_core.proofs.SegmentLemmas.{key_count, key_pointed, no_token, place_there}
 use Rattle.segment_core.proofs.hashes.hashed_tokens.Goals as goal
 
 pub loop-token-preserved : goal.loop-token-preserved
 loop-token-preserved c =
-    let tokens = (segment c.args.tables.now).tokens in
+    let tables = c.args.tables.now in
+    let owners = c.args.owners.now in
+    let places = c.args.tokens.now in
+    let tokens = (segment tables).tokens in
     let i = c.loop-token.token in
+    let at = get_or places i no_token in
+    let inside : i < length places = omega arith in
     let within : i < length tokens = omega (arith, key_count _ _ _ c.requires.keys) in
-    let one = hashed_made tokens i c.hash_key-hash.result (c.hash_key-hash.ensures ∙ ap hash_of c.key_at.ensures) in
-    c.in_ok-push.ensures.items ∙ ap (λ (h : Hashed). c.loop-token.hashed.items ++ h ∷ []) one ∙ ap (λ (hs : List Hashed). hs ++ hashed_with tokens i ∷ []) c.loop-token.invariant ∙ sym (hashed_more tokens i within)
+    let is = get_or_default places i no_token at inside in
+    let key = key_pointed tables owners places c.requires.keys i at inside is in
+    let entry = hashed_from c.hash_key-hash.result i at in
+    let one : IsHashed tables entry = record {
+      there = within;
+      hash = c.hash_key-hash.ensures ∙ ap hash_of (c.key_there.ensures ∙ key);
+      at = place_there tables owners places c.requires.keys i at inside is;
+      key = key;
+    } in
+    record {
+      hashed = hashed_more tables c.loop-token.hashed.items c.push.new.self.items entry c.loop-token.invariant.hashed one c.in_ok-push.ensures.items;
+      numbers = numbers_more tokens c.loop-token.hashed.items c.push.new.self.items i entry within refl c.loop-token.invariant.numbers c.in_ok-push.ensures.items;
+    }
 
 pub returns : goal.returns
 returns c =
     let tokens = (segment c.args.tables.now).tokens in
-    let all : c.loop-token.token ≡ length (numbers_of tokens) = omega (arith, key_count _ _ _ c.requires.keys, length-numbers tokens) in
-    c.loop-token.invariant ∙ ap (λ (n : ℕ). map (hashed_with tokens) (take n (numbers_of tokens))) all ∙ ap (map (hashed_with tokens)) (take-length (numbers_of tokens))
+    let all : c.loop-token.token ≡ length tokens = omega (arith, key_count _ _ _ c.requires.keys) in
+    record { hashed = c.loop-token.invariant.hashed; numbers = c.loop-token.invariant.numbers ∙ numbers_all tokens c.loop-token.token all }

@@ -1,11 +1,10 @@
-use Rattle.std.proofs.Common.{◌≡◌, ◌∙◌, sym, ap, subst, ℕ, ◌+◌, ◌<◌, List, [], ◌∷◌, ◌++◌, None, map, length, get_or, take, arith}
+use Rattle.std.proofs.Common.{◌≡◌, ◌∙◌, sym, ap, subst, ℕ, ◌<◌, List, [], ◌∷◌, ◌++◌, None, length, get_or, take, arith}
 use Rattle.std.proofs.Math.Seq.{take-length}
 use Rattle.std.specs.Prelude.{bytes_eq}
 use Rattle.std.specs.List.{All, IsDistinct}
 use Rattle.std.specs.List.Sorted.{IsPermutation}
 use Rattle.std.proofs.lemmas.List.{map-append}
 use Rattle.std.proofs.lemmas.List.Elements.{All-append, All-from_recursion}
-use Rattle.lake_model.specs.Texts.{Text}
 use Rattle.search_model.specs.Arrays.{IsToken}
 use Rattle.search_model.specs.Segment.{segment, tokens_in}
 use Rattle.segment_core.specs.Among.{found_by, hit_keys, IsHit}
@@ -18,7 +17,8 @@ use Rattle.segment_core.proofs.segment.Segment.hits.Goals.{in-Some+in_ok-push, i
 
 pub loop-index-preserved : goal.loop-index-preserved
 loop-index-preserved c =
-    let tokens = (segment c.args.self.now).tokens in
+    let tables = c.args.self.now in
+    let tokens = (segment tables).tokens in
     let keys = c.args.query.now in
     let i = c.loop-index.index in
     let before = c.loop-index.hits.items in
@@ -26,19 +26,19 @@ loop-index-preserved c =
     let within : i < length keys = omega (arith, ap length same) in
     elim c.match-first_hashed.branch [
       | in-Some+in_ok-push w ↦
-          let hit : Hit = record { token = w.in-Some.token; index = i } in
+          let hit : Hit = record { entry = w.in-Some.entry; index = i } in
           let is = ap (λ v. v.items) w.hits-is ∙ w.in_ok-push.ensures.items in
-          let one : All (IsHit tokens keys) (hit ∷ []) = All-from_recursion (IsHit tokens keys) (hit ∷ []) ((w.in-Some.ensures.there, within), tt) in
+          let one : All (IsHit tables keys) (hit ∷ []) = All-from_recursion (IsHit tables keys) (hit ∷ []) ((w.in-Some.ensures.there, within), tt) in
           let keyed : hit_keys keys (before ++ hit ∷ []) ≡ hit_keys keys before ++ get_or keys i [] ∷ [] = map-append (λ (h : Hit). get_or keys h.index []) before (hit ∷ []) in
           record {
-            hits = subst (All (IsHit tokens keys)) (sym is) (All-append (IsHit tokens keys) before (hit ∷ []) c.loop-index.invariant.hits one);
+            hits = subst (All (IsHit tables keys)) (sym is) (All-append (IsHit tables keys) before (hit ∷ []) c.loop-index.invariant.hits one);
             all = ap (λ (hs : List Hit). found_by tokens (hit_keys keys hs)) is ∙ ap (found_by tokens) keyed ∙ found_more tokens keys (hit_keys keys before) i within c.loop-index.invariant.all;
           }
       | in_default w ↦
           let is = ap (λ v. v.items) w.hits-is in
           let none : IsToken tokens (get_or keys i []) None = none_of tokens (get_or keys i []) (λ n h e. w.in_default.ensures.lacking n h (ap hash_of e ∙ sym c.hash.ensures)) in
           record {
-            hits = subst (All (IsHit tokens keys)) (sym is) c.loop-index.invariant.hits;
+            hits = subst (All (IsHit tables keys)) (sym is) c.loop-index.invariant.hits;
             all = ap (λ (hs : List Hit). found_by tokens (hit_keys keys hs)) is ∙ found_none tokens keys (hit_keys keys before) i within (tokens_differ c.args.self.now) none c.loop-index.invariant.all;
           }
     ]

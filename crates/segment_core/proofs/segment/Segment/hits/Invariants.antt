@@ -6,6 +6,6 @@ use Rattle.segment_core.proofs.segment.Segment.hits.Given as goal
 
 abbrev pub invariant-loop-index : goal.invariant-loop-index
 invariant-loop-index l = record {
-  hits : All (IsHit (segment l.fn.self).tokens l.query) l.hits.items;
+  hits : All (IsHit l.fn.self l.query) l.hits.items;
   all : found_by (segment l.fn.self).tokens (hit_keys l.query l.hits.items) ≡ found_by (segment l.fn.self).tokens (take l.index l.query);
 }
