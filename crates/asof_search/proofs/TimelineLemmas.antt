@@ -1,19 +1,19 @@
 -- What is held beside a journal, when an entry is taken and when an earlier position is pinned.
-use Rattle.std.proofs.Common.{◌≡◌, refl, ap, sym, ◌∙◌, subst, ℕ, ◌+◌, ◌^◌, ◌<◌, ◌≤◌, List, [], ◌∷◌, ◌++◌, true, ◌&&◌, length, arith, drop, take, map, lit<}
+use Rattle.std.proofs.Common.{◌≡◌, refl, ap, sym, ◌∙◌, subst, ℕ, ◌+◌, ◌^◌, ◌<◌, ◌≤◌, List, [], ◌∷◌, ◌++◌, true, ◌&&◌, length, arith, drop, take, map, lit<, Option, Some, None}
 use Rattle.std.specs.Prelude.{sum_by}
 use Rattle.std.specs.List.{filter}
-use Rattle.std.proofs.lemmas.List.{length-map, take-append-drop}
+use Rattle.std.proofs.lemmas.List.{length-append, length-map, take-append-drop}
 use Rattle.lake_model.specs.Tables.{Table, members}
 use Rattle.lake_model.specs.Journal.{Entry, counts, live, loads_of}
 use Rattle.lake_model.specs.Layout.{Part, Place, is_legal, may_follow, unmarked_of}
 use Rattle.layout_laws.proofs.LaidLemmas.{legal_behind-append, legal_laid_out}
 use Rattle.list_laws.proofs.ListLemmas.{both}
 use Rattle.segment_core.specs.Distinct.{AreDistinct, unmarked_names}
-use Rattle.segment_core.specs.Versions.{live_of}
+use Rattle.segment_core.specs.Versions.{VersionOf, live_of}
 use Rattle.asof_search.specs.Puts.{AreBlocks, PutOf, puts_after, tables_put, was_live}
-use Rattle.asof_search.specs.History.{IsHistory, IsTimeline}
+use Rattle.asof_search.specs.History.{IsHistory, IsPast, IsTimeline}
 use Rattle.asof_search.proofs.BlockLemmas.{blocks_none, blocks_stay}
-use Rattle.asof_search.proofs.HistoryLemmas.{history_more, history_none, loads_split}
+use Rattle.asof_search.proofs.HistoryLemmas.{history_more, history_none, loads_split, past_stays}
 
 follows : (journal : List Entry) (entry : Entry) → is_legal (journal ++ entry ∷ []) ≡ true → may_follow journal entry.what ≡ true
 follows journal entry legal = (both (may_follow journal entry.what) true ((both (is_legal journal) (may_follow journal entry.what && true) (sym (legal_behind-append [] journal (entry ∷ [])) ∙ legal)).1)).0
@@ -85,3 +85,10 @@ module _ (journal now last : List Entry) (entry : Entry) (puts after : List PutO
 
   pub taken_view : last ≡ now ++ entry ∷ []
   taken_view = more ∙ longer
+
+-- what is kept of an earlier position stays so behind an entry more
+pub past_more : (journal after : List Entry) (entry : Entry) (last : Option VersionOf) → IsPast journal last → after ≡ journal ++ entry ∷ [] → IsPast after last
+past_more journal after entry None past is = tt
+past_more journal after entry (Some version) past is =
+    subst (λ (entries : List Entry). IsPast entries (Some version)) (sym is)
+    (omega (arith, past.0, length-append journal (entry ∷ [])), past.1 ∙ sym (past_stays journal (entry ∷ []) version.at past.0))

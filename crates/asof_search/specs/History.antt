@@ -5,6 +5,7 @@ use Rattle.lake_model.specs.Tables.{Table, members}
 use Rattle.lake_model.specs.Journal.{Entry, live, loads_of}
 use Rattle.lake_model.specs.Layout.{is_legal}
 use Rattle.list_laws.specs.Distinct.{Rises}
+use Rattle.segment_core.specs.Versions.{VersionOf, live_of}
 use Rattle.asof_search.specs.Puts.{PutOf, AreBlocks, positions_put, tables_put, was_live}
 
 -- an end that is none, or a position of the first so many entries
@@ -34,6 +35,11 @@ pub record IsTimeline (journal : List Entry) (puts : List PutOf) (blocks : List 
   pub few : length (loads_of journal) < 2 ^ 32
   pub light : sum_by members (loads_of journal) < 2 ^ 32
   pub kept : AreBlocks 256 (tables_put puts) blocks
+
+-- a version of an earlier position, if any
+abbrev pub IsPast : List Entry → Option VersionOf → Type 0
+IsPast journal None = ⊤
+IsPast journal (Some version) = (version.at ≤ length journal) × (live_of version.parts ≡ live (take version.at journal))
 
 -- what comes later changes nothing of the tables that were live after the first so many entries
 abbrev pub PastStays : Type 0

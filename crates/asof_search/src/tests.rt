@@ -196,6 +196,22 @@ fn order_and_a_merge(rt: HostRuntime) -> Result<(), Fail> {
     expect(&rt, &mut timeline, 6, &[("a", 1, 1), ("b", 1, 1)])
 }
 
+// One position twice in a row, and again behind another.
+#[test]
+fn one_position_again(rt: HostRuntime) -> Result<(), Fail> {
+    let alloc = rt.alloc();
+    let mut lake = lake(alloc)?;
+    load(&mut lake, alloc, "a", "x\nkey\n")?;
+    drop_table(&mut lake, "a")?;
+    load(&mut lake, alloc, "b", "x\none\ntwo\n")?;
+    let mut timeline = retell(alloc, &lake)?;
+    expect(&rt, &mut timeline, 1, &[("a", 1, 1)])?;
+    expect(&rt, &mut timeline, 1, &[("a", 1, 1)])?;
+    expect(&rt, &mut timeline, 3, &[("b", 1, 2)])?;
+    expect(&rt, &mut timeline, 3, &[("b", 1, 2)])?;
+    expect(&rt, &mut timeline, 1, &[("a", 1, 1)])
+}
+
 // The lake of three hundred tables of one value, n0 to n299.
 fn large_lake(alloc: Global) -> Result<Catalogue, Fail> {
     let mut lake = lake(alloc)?;

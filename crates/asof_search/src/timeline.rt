@@ -1,5 +1,5 @@
 //! The timeline of a lake.
-ghost use Rattle.std.specs.Prelude.{◌≡◌, ◌⊎◌, ◌≤◌, ◌<◌, ◌^◌, ◌∷◌, ◌++◌, [], ℕ, List, length, take, true, IfErr, IfOk, None, OnErr, OnOk, Option, Some};
+ghost use Rattle.std.specs.Prelude.{◌≡◌, ◌⊎◌, ◌≤◌, ◌<◌, ◌^◌, ◌∷◌, ◌++◌, [], ℕ, List, length, take, true, IfErr, IfOk, IfSome, None, OnErr, OnOk, Option, Some};
 ghost use mathlib.Core.List.{IsPrefix};
 ghost use Rattle.lake_model.specs.Answer.{answer};
 ghost use Rattle.lake_model.specs.Journal.{counts, live, loads_of};
@@ -26,25 +26,26 @@ const BLOCK: usize = 256;
 /// sees the entries that were taken.
 ///
 /// Beside the entries it keeps what their loads and replaces put, with where each was taken away; and, once an earlier position is asked
-/// for, the segments of these tables in blocks of 256.
+/// for, the segments of these tables in blocks of 256, and the version of the position that was asked for last.
 #[derive(Drop)]
 pub struct Timeline {
     alloc: Global,
     journal: Vec<Entry>,
     puts: Puts,
     blocks: Vec<Arc<Segment>>,
+    last: Option<Arc<Version>>,
 }
 
 impl Model for Timeline {
-    ghost use Rattle.std.specs.Prelude.{List, map};
+    ghost use Rattle.std.specs.Prelude.{List, map, option_map};
     ghost use Rattle.lake_model.specs.Journal.{Entry as EntryOf};
-    ghost use Rattle.asof_search.specs.History.{IsTimeline};
+    ghost use Rattle.asof_search.specs.History.{IsPast, IsTimeline};
 
     ghost Value = { List EntryOf };
 
     ghost view = { λ t. t.journal.items };
 
-    ghost invariant = { λ t. IsTimeline t.journal.items t.puts (map (λ b. b.value) t.blocks.items) };
+    ghost invariant = { λ t. IsTimeline t.journal.items t.puts (map (λ b. b.value) t.blocks.items) × IsPast t.journal.items (option_map (λ v. v.value) t.last) };
 }
 
 impl Timeline {
@@ -57,6 +58,7 @@ impl Timeline {
             journal: Vec::new(alloc),
             puts: Puts::new(alloc),
             blocks: Vec::new(alloc),
+            last: None,
         }
     }
 
@@ -107,7 +109,8 @@ impl Timeline {
     ///
     /// A position within a block of 256 loads and replaces is searched in the whole block, of which what was not live is marked. The first
     /// pin that needs a block builds its segment, which is kept; that of the last block is built again for the first pin behind a further
-    /// load or replace. Beside that a pin costs a walk over the loads and replaces of its blocks.
+    /// load or replace. Beside that a pin costs a walk over the loads and replaces of its blocks, and nothing where it is of the position
+    /// of the pin before.
     ///
     /// It is refused where more entries are asked for than were taken, and else only where memory is wanting.
     pub fn pin(&mut self, asked: u64) -> Result<Pin, PastRefused>
@@ -132,8 +135,37 @@ impl Timeline {
         ensures at { IfOk result (λ pin. pin.at ≡ asked) }
         ensures live { IfOk result (λ pin. live_of pin.parts ≡ live (take asked self.old)) }
     {
+        match self.last_pin(asked)? {
+            Some(pin) => Ok(pin),
+            None => self.new_pin(asked),
+        }
+    }
+
+    // The pin before again, if it is of this position.
+    fn last_pin(&self, asked: u64) -> Result<Option<Pin>, NoMemory>
+        ensures at { IfOk result (λ last. IfSome last (λ pin. pin.at ≡ asked)) }
+        ensures live { IfOk result (λ last. IfSome last (λ pin. live_of pin.parts ≡ live (take asked self.now))) }
+    {
+        let Some(version) = &self.last else {
+            return Ok(None);
+        };
+        if version.at() != asked {
+            return Ok(None);
+        }
+        Ok(Some(Pin::new(Arc::try_clone(version)?)))
+    }
+
+    // A pin made of the blocks of the position, which is kept for the next.
+    fn new_pin(&mut self, asked: u64) -> Result<Pin, NoMemory>
+        requires { asked ≤ length self.old }
+        ensures same { self.new ≡ self.old }
+        ensures at { IfOk result (λ pin. pin.at ≡ asked) }
+        ensures live { IfOk result (λ pin. live_of pin.parts ≡ live (take asked self.old)) }
+    {
         let parts = past_parts(self.alloc, BLOCK, &mut self.blocks, self.puts.list(), asked)?;
-        Ok(Pin::new(Arc::new(self.alloc, Version::new(asked, parts))?))
+        let version = Arc::new(self.alloc, Version::new(asked, parts))?;
+        self.last = Some(Arc::try_clone(&version)?);
+        Ok(Pin::new(version))
     }
 }
 
