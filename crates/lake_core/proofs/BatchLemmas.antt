@@ -18,7 +18,7 @@ use Rattle.lake_core.specs.Lanes.{LaneOf, played, play_of, AreHeld, AreNew, AreS
 use Rattle.lake_core.specs.Plays.{state_with, IsReady, Goes}
 use Rattle.lake_core.proofs.GatherLemmas.{with_answers, lists_of}
 use Rattle.lake_core.proofs.WorkLemmas.{lanes_shared}
-use Rattle.lake_core.specs.declared.lane.Held.{Held}
+use Rattle.command_replies.specs.declared.answering.Held.{Held}
 use Rattle.lake_core.proofs.TurnLemmas.{goes_on}
 
 -- ---- orders

@@ -10,17 +10,18 @@ use Rattle.script_model.specs.Commands.{Command, Task, Load, LoadFile, DropTable
 use Rattle.record_model.specs.Replies.{Reply, NoMemory}
 use Rattle.record_model.specs.Answered.{answer_to, adds, change_of, has_pin, is_accepted, policy_of, standing}
 use Rattle.record_model.specs.Play.{done_with, lane_with, play_with, reply_or_denied, entries_of, lane_step, step_of, step}
-use Rattle.lake_core.specs.declared.lane.Held.{Held}
-use Rattle.lake_core.specs.declared.lane.Held.TheVariants.{At, Swap, Denied}
-use Rattle.lake_core.specs.Searches.{IsPinOf}
-use Rattle.lake_core.proofs.LoadLemmas.{Answers, added_none}
-use Rattle.lake_core.proofs.MergeLemmas.{planned_change, planned_later, planned_reply}
-use Rattle.lake_core.specs.declared.merging.Planned.{Planned}
-use Rattle.lake_core.specs.Loads.{with_added}
-use Rattle.lake_core.specs.Merging.{CanSwap, swap_reply, swapped_by}
+use Rattle.command_replies.specs.declared.answering.Held.{Held}
+use Rattle.command_replies.specs.Held.{position_of}
+use Rattle.command_replies.proofs.HeldLemmas.{held_at_grows}
+use Rattle.command_replies.specs.Searches.{IsPinOf}
+use Rattle.command_replies.proofs.LoadLemmas.{Answers, added_none}
+use Rattle.command_replies.proofs.MergeLemmas.{planned_change, planned_later, planned_reply}
+use Rattle.command_replies.specs.declared.merging.Planned.{Planned}
+use Rattle.command_replies.specs.Loads.{with_added}
+use Rattle.command_replies.specs.Merging.{CanSwap, swap_reply, swapped_by}
 use Rattle.batch_work.specs.Works.{merge_policy}
 use Rattle.record_model.specs.Record.{RunRecord}
-use Rattle.lake_core.specs.Lanes.{LaneOf, lane_from, position_of, pin_of, played, alone, IsHeldAt, IsHeld}
+use Rattle.lake_core.specs.Lanes.{LaneOf, lane_from, pin_of, played, alone, IsHeld}
 use Rattle.record_model.proofs.LegalLemmas.{either_none}
 
 -- a lane that has nothing to do
@@ -49,23 +50,6 @@ begun rules journal command todo held lane new first kind none here is =
     ∙ sym (ap (λ b. step_of rules false journal (played lane ∷ []) 0 lane.done command todo b (pin_of lane.held)) kind)
     ∙ sym (ap (λ (cs : List Command). lane_step rules false journal (played lane ∷ []) 0 cs (played lane)) first)
 
--- a search and a like add nothing
-no_change : (rules : Rules) (task : Task) (pinned : List Entry) → has_pin task ≡ true → merge_policy task ≡ None → change_of rules task pinned ≡ []
-no_change rules (Load name body) pinned kind plain = absurd (let f : false ≡ true = kind in cc)
-no_change rules (LoadFile name file) pinned kind plain = absurd (let f : false ≡ true = kind in cc)
-no_change rules (DropTable name) pinned kind plain = absurd (let f : false ≡ true = kind in cc)
-no_change rules (Replace name body) pinned kind plain = absurd (let f : false ≡ true = kind in cc)
-no_change rules Tables pinned kind plain = absurd (let f : false ≡ true = kind in cc)
-no_change rules (Search k body) pinned kind plain = refl
-no_change rules (Like k name place) pinned kind plain = refl
-no_change rules (Contain a b body) pinned kind plain = refl
-no_change rules (AsOf asked k body) pinned kind plain = absurd (let f : false ≡ true = kind in cc)
-no_change rules (Merge all) pinned kind plain = absurd (let f : Some (policy_of all) ≡ None = plain in cc)
-
-none_added : (rules : Rules) (task : Task) (pinned : List Entry) (reply : Reply) → has_pin task ≡ true → merge_policy task ≡ None → adds rules task pinned reply ≡ []
-none_added rules task pinned reply kind plain =
-    ap (λ (whats : List What). cond (is_accepted (standing reply)) whats []) (no_change rules task pinned kind plain) ∙ either_none (is_accepted (standing reply))
-
 -- the first command, where its pin was taken
 pub answered_then : (rules : Rules) (denied : Bool) (journal after : List Entry) (command : Command) (todo : List Command) (held : Held) (reply : Reply) (lane new : LaneOf)
     → lane.todo ≡ command ∷ todo → has_pin command.task ≡ true → lane.held ≡ Some held
@@ -80,101 +64,13 @@ answered_then rules denied journal after command todo held reply lane new first 
     ∙ sym (ap (λ b. step_of rules denied journal (played lane ∷ []) 0 lane.done command todo b (pin_of lane.held)) kind)
     ∙ sym (ap (λ (cs : List Command). lane_step rules denied journal (played lane ∷ []) 0 cs (played lane)) first)
 
--- what a search and a like add to a record
-pub pinned_adds : (rules : Rules) (who : Who) (task : Task) (pinned : List Entry) (reply : Reply) (made : RunRecord) → has_pin task ≡ true → merge_policy task ≡ None → made ≡ with_added who (adds rules task pinned reply) made
-pinned_adds rules who task pinned reply made kind plain = added_none who made ∙ ap (λ (whats : List What). with_added who whats made) (sym (none_added rules task pinned reply kind plain))
-
--- want of memory adds nothing
-pub denied_adds : (rules : Rules) (who : Who) (task : Task) (pinned : List Entry) (made : RunRecord) → made ≡ with_added who (adds rules task pinned NoMemory) made
-denied_adds rules who task pinned made = added_none who made
-
 -- ---- what is held
-
--- what is answered at a pin alone
-pub pinned_alone : (rules : Rules) (task : Task) (pinned now : List Entry) → has_pin task ≡ true → merge_policy task ≡ None → answer_to rules task pinned now ≡ answer_to rules task pinned pinned
-pinned_alone rules (Load name body) pinned now kind plain = absurd (let f : false ≡ true = kind in cc)
-pinned_alone rules (LoadFile name file) pinned now kind plain = absurd (let f : false ≡ true = kind in cc)
-pinned_alone rules (DropTable name) pinned now kind plain = absurd (let f : false ≡ true = kind in cc)
-pinned_alone rules (Replace name body) pinned now kind plain = absurd (let f : false ≡ true = kind in cc)
-pinned_alone rules Tables pinned now kind plain = absurd (let f : false ≡ true = kind in cc)
-pinned_alone rules (Search k body) pinned now kind plain = refl
-pinned_alone rules (Like k name place) pinned now kind plain = refl
-pinned_alone rules (Contain a b body) pinned now kind plain = refl
-pinned_alone rules (AsOf asked k body) pinned now kind plain = absurd (let f : false ≡ true = kind in cc)
-pinned_alone rules (Merge all) pinned now kind plain = absurd (let f : Some (policy_of all) ≡ None = plain in cc)
-
-held_at_grows : (journal more : List Entry) (policy : Option Policy) (held : Held) → IsHeldAt journal policy held → IsHeldAt (journal ++ more) policy held
-held_at_grows journal more None (At version) is =
-    let long : version.at ≤ length (journal ++ more) = omega (arith, is.0, length-append journal more) in
-    let same : take version.at journal ≡ take version.at (journal ++ more) = sym (take-append-le version.at journal more is.0) in
-    (long, subst (λ (j : List Entry). IsPinOf j version) same is.1)
-held_at_grows journal more None (Swap planned) is = is
-held_at_grows journal more None (Denied at) is = is
-held_at_grows journal more (Some policy) (At version) is = is
-held_at_grows journal more (Some policy) (Swap planned) is = planned_later policy journal more planned is
-held_at_grows journal more (Some policy) (Denied at) is = is
 
 -- what is held stays so when entries follow
 pub held_grows : (journal more : List Entry) (todo : List Command) (held : Option Held) → IsHeld journal todo held → IsHeld (journal ++ more) todo held
 held_grows journal more todo None is = is
 held_grows journal more [] (Some held) is = is
 held_grows journal more (command ∷ todo) (Some held) is = held_at_grows journal more (merge_policy command.task) held is
-
--- the newest version
-pub held_newest : (journal : List Entry) (version : VersionOf) → IsPinOf journal version → IsHeldAt journal None (At version)
-held_newest journal version is =
-    let here : version.at ≡ length journal = ap (λ (v : VersionOf). v.at) is.current in
-    let whole : take version.at journal ≡ journal = ap (λ (n : ℕ). take n journal) here ∙ take_all (length journal) journal (omega arith) in
-    (omega (arith, here), subst (λ (j : List Entry). IsPinOf j version) (sym whole) is)
-
--- A version is held for no merge, and a plan for one alone.
-pub at_no_merge : (journal : List Entry) (policy : Option Policy) (version : VersionOf) → IsHeldAt journal policy (At version) → policy ≡ None
-at_no_merge journal None version is = refl
-at_no_merge journal (Some policy) version is = absurd is
-
--- what is answered at a pin that is held
-pub held_answer : (rules : Rules) (task : Task) (journal : List Entry) (version : VersionOf) (reply : Reply) → has_pin task ≡ true → IsHeldAt journal (merge_policy task) (At version)
-    → ((pinned : List Entry) → IsPinOf pinned version → Answers reply (answer_to rules task pinned pinned)) → Answers reply (answer_to rules task (take version.at journal) journal)
-held_answer rules task journal version reply kind holds answers =
-    let plain = at_no_merge journal (merge_policy task) version holds in
-    let here : IsHeldAt journal None (At version) = subst (λ (policy : Option Policy). IsHeldAt journal policy (At version)) plain holds in
-    let there : Answers reply (answer_to rules task (take version.at journal) (take version.at journal)) = answers (take version.at journal) here.1 in
-    (there.0, there.1 ∙ ap (reply_or_denied there.0) (sym (pinned_alone rules task (take version.at journal) journal kind plain)))
-
--- what is held for a merge can be swapped
-pub held_can : (journal : List Entry) (policy : Option Policy) (planned : Planned) → IsHeldAt journal policy (Swap planned) → CanSwap journal planned.merged
-held_can journal None planned is = absurd is
-held_can journal (Some policy) planned is = is.swaps
-
--- what the swap is answered
-pub held_swap : (rules : Rules) (task : Task) (journal : List Entry) (planned : Planned) (reply : Reply) → IsHeldAt journal (merge_policy task) (Swap planned)
-    → Answers reply (swap_reply planned.layout planned.merged journal) → Answers reply (answer_to rules task (take planned.layout.at journal) journal)
-held_swap rules (Merge all) journal planned reply is answers = (answers.0, answers.1 ∙ ap (reply_or_denied answers.0) (planned_reply (policy_of all) journal planned is))
-held_swap rules (Load name body) journal planned reply is answers = absurd is
-held_swap rules (LoadFile name file) journal planned reply is answers = absurd is
-held_swap rules (DropTable name) journal planned reply is answers = absurd is
-held_swap rules (Replace name body) journal planned reply is answers = absurd is
-held_swap rules Tables journal planned reply is answers = absurd is
-held_swap rules (Search k body) journal planned reply is answers = absurd is
-held_swap rules (Like k name place) journal planned reply is answers = absurd is
-held_swap rules (Contain a b body) journal planned reply is answers = absurd is
-held_swap rules (AsOf asked k body) journal planned reply is answers = absurd is
-
--- and what it adds
-pub held_adds : (rules : Rules) (task : Task) (journal made : List Entry) (planned : Planned) (reply : Reply) → IsHeldAt journal (merge_policy task) (Swap planned) → made ≡ journal
-    → swapped_by planned.merged reply ≡ adds rules task (take planned.layout.at made) reply
-held_adds rules (Merge all) journal made planned reply is same =
-    ap (λ (whats : List What). cond (is_accepted (standing reply)) whats []) (planned_change (policy_of all) journal planned is)
-    ∙ ap (λ (j : List Entry). adds rules (Merge all) (take planned.layout.at j) reply) (sym same)
-held_adds rules (Load name body) journal made planned reply is same = absurd is
-held_adds rules (LoadFile name file) journal made planned reply is same = absurd is
-held_adds rules (DropTable name) journal made planned reply is same = absurd is
-held_adds rules (Replace name body) journal made planned reply is same = absurd is
-held_adds rules Tables journal made planned reply is same = absurd is
-held_adds rules (Search k body) journal made planned reply is same = absurd is
-held_adds rules (Like k name place) journal made planned reply is same = absurd is
-held_adds rules (Contain a b body) journal made planned reply is same = absurd is
-held_adds rules (AsOf asked k body) journal made planned reply is same = absurd is
 
 -- ---- what a step leaves to do
 

@@ -1,14 +1,11 @@
 -- The lanes of a batch as the code holds them, and the play that they are at.
-use Rattle.std.specs.Prelude.{◌≡◌, ◌≤◌, ℕ, ◌+◌, ⊤, List, [], ◌∷◌, length, map, take, sum_by, Option, Some, None}
+use Rattle.std.specs.Prelude.{◌≡◌, ℕ, ◌+◌, ⊤, List, [], ◌∷◌, length, map, sum_by, Option, Some, None}
 use Rattle.std.specs.List.{AllByRecursion, range_with_len}
-use Rattle.lake_model.specs.declared.Policy.{Policy}
 use Rattle.lake_model.specs.Journal.{Entry}
 use Rattle.script_model.specs.Commands.{Command}
 use Rattle.record_model.specs.Play.{Done, Lane, lane_with, lane_of, Play, play_with}
-use Rattle.lake_core.specs.declared.lane.Held.{Held}
-use Rattle.lake_core.specs.declared.lane.Held.TheVariants.{At, Swap, Denied}
-use Rattle.lake_core.specs.Merging.{IsPlanned}
-use Rattle.lake_core.specs.Searches.{IsPinOf}
+use Rattle.command_replies.specs.Held.{IsHeldAt, position_of}
+use Rattle.command_replies.specs.declared.answering.Held.{Held}
 use Rattle.batch_work.specs.Works.{merge_policy}
 
 -- a lane: the commands still to do, what is held for the first of them, and what is done
@@ -20,12 +17,6 @@ pub record LaneOf : Type 0 where
 abbrev pub lane_from : List Command → Option Held → List Done → LaneOf
 lane_from todo held done = record { todo = todo; held = held; done = done }
 
--- the position that is held
-abbrev pub position_of : Held → ℕ
-position_of (At version) = version.at
-position_of (Swap planned) = planned.layout.at
-position_of (Denied at) = at
-
 abbrev pub pin_of : Option Held → Option ℕ
 pin_of None = None
 pin_of (Some held) = Some (position_of held)
@@ -36,15 +27,6 @@ played lane = lane_with lane.todo (pin_of lane.held) lane.done
 
 abbrev pub play_of : List Entry → List LaneOf → Play
 play_of journal lanes = play_with journal (map played lanes)
-
--- What is held is of the beginning of the journal: a version, or for a merge of a policy what was planned.
-abbrev pub IsHeldAt : List Entry → Option Policy → Held → Type 0
-IsHeldAt journal None (At version) = (version.at ≤ length journal) × IsPinOf (take version.at journal) version
-IsHeldAt journal None (Swap planned) = ⊥
-IsHeldAt journal None (Denied at) = ⊤
-IsHeldAt journal (Some policy) (At version) = ⊥
-IsHeldAt journal (Some policy) (Swap planned) = IsPlanned policy journal planned
-IsHeldAt journal (Some policy) (Denied at) = ⊤
 
 -- what is held, if anything, is for the first of these commands
 abbrev pub IsHeld : List Entry → List Command → Option Held → Type 0

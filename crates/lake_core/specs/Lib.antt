@@ -1,8 +1,2 @@
-pub mod Merging
-pub mod Loads
-pub mod Drops
-pub mod Replaces
-pub mod Searches
-pub mod Pasts
 pub mod Lanes
 pub mod Plays

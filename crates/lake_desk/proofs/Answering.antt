@@ -26,15 +26,15 @@ use Rattle.segment_core.specs.Plans.{MergedOf}
 use Rattle.segment_core.specs.Versions.{VersionOf, version_with}
 use Rattle.segment_merge.specs.Planned.{plan_at}
 use Rattle.batch_work.specs.Works.{merge_policy}
-use Rattle.lake_core.specs.Loads.{IsRefusal, loaded_by}
-use Rattle.lake_core.specs.Pasts.{is_past}
-use Rattle.lake_core.specs.Replaces.{replaced_by}
-use Rattle.lake_core.proofs.PastLemmas.{none_taken, prefix_on}
-use Rattle.lake_core.proofs.LoadLemmas.{Answers, refused_answer, refused_nowhere}
-use Rattle.lake_core.proofs.ReplaceLemmas.{refused_replace_answer}
-use Rattle.lake_core.proofs.MergeLemmas.{planned_later, planned_now, planned_reply, planned_change}
-use Rattle.lake_core.specs.Merging.{IsPlanned, merge_of, swap_reply, swapped_by}
-use Rattle.lake_core.specs.declared.merging.Planned.{Planned}
+use Rattle.command_replies.specs.Loads.{IsRefusal, loaded_by}
+use Rattle.command_replies.specs.Pasts.{is_past}
+use Rattle.command_replies.specs.Replaces.{replaced_by}
+use Rattle.command_replies.proofs.PastLemmas.{none_taken, prefix_on}
+use Rattle.command_replies.proofs.LoadLemmas.{Answers, refused_answer, refused_nowhere}
+use Rattle.command_replies.proofs.ReplaceLemmas.{refused_replace_answer}
+use Rattle.command_replies.proofs.MergeLemmas.{planned_later, planned_now, planned_reply, planned_change}
+use Rattle.command_replies.specs.Merging.{IsPlanned, merge_of, swap_reply, swapped_by}
+use Rattle.command_replies.specs.declared.merging.Planned.{Planned}
 use Rattle.lake_desk.proofs.Lanes.{none_right, not_own}
 use Rattle.lake_desk.specs.Answering.{IsMade, IsAnswered, IsStep}
 use Rattle.lake_desk.specs.Pasts.{Begins}

@@ -10,7 +10,7 @@ use Rattle.turn_lock.specs.Passes.{Known, after_seeing, callers_of}
 use Rattle.turn_lock.proofs.Histories.{grows_self, grows_trans}
 use Rattle.lake.specs.Lawful.{caller_of}
 use Rattle.atomic_table.specs.Seated.{TableId}
-use Rattle.lake_core.proofs.PastLemmas.{prefix_on}
+use Rattle.command_replies.proofs.PastLemmas.{prefix_on}
 use Rattle.lake_desk.specs.Gathered.{AllBegin, AreFree, AreOfOneLock, IsGathered}
 
 pub begin_on : (whole more : List Entry) (lanes : List (Known Entry)) → IsPrefix whole more → AllBegin whole lanes → AllBegin more lanes

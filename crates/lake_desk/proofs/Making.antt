@@ -15,12 +15,12 @@ use Rattle.catalogue.specs.declared.refusal.ReplaceRefused.TheVariants as replac
 use Rattle.catalogue.specs.Refusals.{load_refusal, drop_refusal, replace_refusal}
 use Rattle.lake.specs.Lawful.{caller_of, IsAccepted}
 use Rattle.record_model.specs.Replies.{Reply, Loaded, Dropped, Replaced, load_reply, drop_reply, replace_reply}
-use Rattle.lake_core.specs.Loads.{loaded_by, refusal_reply}
-use Rattle.lake_core.specs.Drops.{drop_refusal_reply}
-use Rattle.lake_core.specs.Replaces.{replace_refusal_reply, replaced_by}
-use Rattle.lake_core.proofs.LoadLemmas.{Answers, refused_load, accepted_load, refused_drop, accepted_drop}
-use Rattle.lake_core.proofs.ReplaceLemmas.{refused_replace, accepted_replace}
-use Rattle.lake_core.specs.Drops.{dropped_by}
+use Rattle.command_replies.specs.Loads.{loaded_by, refusal_reply}
+use Rattle.command_replies.specs.Drops.{drop_refusal_reply}
+use Rattle.command_replies.specs.Replaces.{replace_refusal_reply, replaced_by}
+use Rattle.command_replies.proofs.LoadLemmas.{Answers, refused_load, accepted_load, refused_drop, accepted_drop}
+use Rattle.command_replies.proofs.ReplaceLemmas.{refused_replace, accepted_replace}
+use Rattle.command_replies.specs.Drops.{dropped_by}
 use Rattle.lake_desk.specs.Answering.{IsMade}
 
 -- the position of an accepted entry

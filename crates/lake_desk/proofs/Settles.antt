@@ -11,7 +11,7 @@ use Rattle.lake.specs.Lawful.{caller_of}
 use Rattle.record_model.specs.Record.{Answered, RunRecord}
 use Rattle.lake_desk.specs.Gathered.{AllBegin, AllMeet, AreApart, AreFree, AreHandedOut, AreOfOneLock, IsBehindAll, IsGathered}
 use Rattle.lake_desk.specs.Together.{with_batch}
-use Rattle.lake_core.proofs.PastLemmas.{prefix_on, rest_of}
+use Rattle.command_replies.proofs.PastLemmas.{prefix_on, rest_of}
 use Rattle.lake_desk.proofs.Gathers.{begin_on}
 use Rattle.lake_desk.proofs.Places.{all_at}
 

@@ -9,7 +9,7 @@ ghost use Rattle.catalogue.specs.Kept.{IsWithin};
 ghost use Rattle.run_record.specs.Replies.{reply_of};
 ghost use Rattle.commands.specs.Tasks.{file_of, task_of, IsTaskInRange};
 ghost use Rattle.batch_work.specs.Works.{merge_policy};
-ghost use Rattle.lake_core.specs.Pasts.{is_past};
+ghost use Rattle.command_replies.specs.Pasts.{is_past};
 ghost use Rattle.lake_desk.specs.Answering.{IsAnswered};
 
 use crate::changing::{drop_table, load, replace};
@@ -17,7 +17,7 @@ use asof_search::Timeline;
 use column_set::{Keys, Name};
 use commands::{Body, FileBody, Task};
 use lake::{Bounds, Lake, Pass};
-use lake_core::{Loadable, finish, finish_past, make_table, make_table_of_file};
+use command_replies::{Loadable, finish, finish_past, make_table, make_table_of_file};
 use lake_io::{Gate, Point};
 use no_memory::NoMemory;
 use run_record::Reply;

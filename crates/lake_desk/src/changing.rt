@@ -3,14 +3,14 @@ ghost use Rattle.std.specs.Prelude.{◌≡◌, ◌∷◌, [], false};
 ghost use Rattle.turn_lock.specs.Passes.{after_seeing};
 ghost use Rattle.record_model.specs.Replies.{drop_reply, load_reply, replace_reply};
 ghost use Rattle.run_record.specs.Replies.{reply_of};
-ghost use Rattle.lake_core.specs.Loads.{loaded_by};
-ghost use Rattle.lake_core.specs.Replaces.{replaced_by};
-ghost use Rattle.lake_core.specs.Drops.{dropped_by};
+ghost use Rattle.command_replies.specs.Loads.{loaded_by};
+ghost use Rattle.command_replies.specs.Replaces.{replaced_by};
+ghost use Rattle.command_replies.specs.Drops.{dropped_by};
 ghost use Rattle.lake_desk.specs.Answering.{IsMade};
 
 use column_set::{Name, SharedTable};
 use lake::{Bounds, Lake, Pass};
-use lake_core::{reply_to_drop, reply_to_load, reply_to_replace};
+use command_replies::{reply_to_drop, reply_to_load, reply_to_replace};
 use run_record::Reply;
 use segment_core::Segment;
 use std::sync::{Arc, Wait};

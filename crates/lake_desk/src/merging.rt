@@ -9,12 +9,12 @@ ghost use Rattle.lake.specs.Lawful.{caller_of};
 ghost use Rattle.record_model.specs.Answered.{policy_of};
 ghost use Rattle.script_model.specs.Commands.{command_with, Merge};
 ghost use Rattle.run_record.specs.Replies.{reply_of};
-ghost use Rattle.lake_core.specs.Merging.{swap_reply, swapped_by, CanSwap, IsPlanned};
+ghost use Rattle.command_replies.specs.Merging.{swap_reply, swapped_by, CanSwap, IsPlanned};
 ghost use Rattle.lake_desk.specs.Answering.{IsAnswered, IsMade};
 
 use catalogue::SwapRefused;
 use lake::{Bounds, Lake, Pass};
-use lake_core::{Planned, plan_pinned};
+use command_replies::{Planned, plan_pinned};
 use lake_io::{Gate, Point};
 use lake_model::Policy;
 use no_memory::NoMemory;

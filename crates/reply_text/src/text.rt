@@ -135,8 +135,9 @@ fn push_plain_answer(answer: &Answered, into: &mut Vec<u8>) -> Result<(), NoMemo
     push_more_lines(&answer.reply, into)
 }
 
-// The lines of an answer with what a trace adds to them.
-fn push_traced_answer(answer: &Answered, into: &mut Vec<u8>) -> Result<(), NoMemory>
+/// Puts the lines of an answer, with those that a trace adds, behind others. It is refused only where memory is wanting; then what was there
+/// is still in front.
+pub fn push_traced_answer(answer: &Answered, into: &mut Vec<u8>) -> Result<(), NoMemory>
     ensures ok { OnOk result (into.new.items ≡ into.old.items ++ flat_map line_text (answer_lines true answer.now)) }
     ensures kept { Keeps into.old.items into.new.items }
 {

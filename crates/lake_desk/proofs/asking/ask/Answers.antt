@@ -1,5 +1,5 @@
 use Rattle.record_model.specs.Rules.{rules_with}
-use Rattle.lake_core.specs.Searches.{IsPinOf}
+use Rattle.command_replies.specs.Searches.{IsPinOf}
 use Rattle.commands.specs.Tasks.{task_of}
 use Rattle.run_record.specs.Replies.{reply_of}
 use Rattle.lake_desk.proofs.Answering.{asked}

@@ -5,8 +5,8 @@ use Rattle.record_model.specs.Answered.{answer_to}
 use Rattle.record_model.specs.Replies.{NoMemory}
 use Rattle.record_model.specs.Rules.{rules_with}
 use Rattle.run_record.specs.Replies.{reply_of}
-use Rattle.lake_core.proofs.LoadLemmas.{Answers}
-use Rattle.lake_core.proofs.PastLemmas.{all_taken, caught, caught_few, prefix_on}
+use Rattle.command_replies.proofs.LoadLemmas.{Answers}
+use Rattle.command_replies.proofs.PastLemmas.{all_taken, caught, caught_few, prefix_on}
 use Rattle.lake_desk.proofs.Answering.{asked_past}
 use Rattle.lake_desk.proofs.asking.ask_past.Goals as goal
 

@@ -2,7 +2,7 @@ use Rattle.std.proofs.Common.{◌≡◌, ap, ◌∙◌, rules, length}
 use Rattle.lake_model.specs.Tables.{members}
 use Rattle.record_model.specs.Replies.{Loaded}
 use Rattle.run_record.specs.Replies.{reply_of}
-use Rattle.lake_core.specs.Loads.{refusal_reply}
+use Rattle.command_replies.specs.Loads.{refusal_reply}
 use Rattle.lake_desk.proofs.Making.{load_made, load_unmade}
 use Rattle.lake_desk.proofs.changing.load.Goals as goal
 

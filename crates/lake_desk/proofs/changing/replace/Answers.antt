@@ -2,7 +2,7 @@ use Rattle.std.proofs.Common.{◌≡◌, ap, ◌∙◌, rules, length}
 use Rattle.lake_model.specs.Tables.{members}
 use Rattle.record_model.specs.Replies.{Replaced}
 use Rattle.run_record.specs.Replies.{reply_of}
-use Rattle.lake_core.specs.Replaces.{replace_refusal_reply}
+use Rattle.command_replies.specs.Replaces.{replace_refusal_reply}
 use Rattle.lake_desk.proofs.Making.{replace_made, replace_unmade}
 use Rattle.lake_desk.proofs.changing.replace.Goals as goal
 

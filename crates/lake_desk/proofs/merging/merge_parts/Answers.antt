@@ -2,7 +2,7 @@ use Rattle.record_model.specs.Rules.{rules_with}
 use Rattle.std.proofs.Common.{subst}
 use Rattle.lake_model.specs.declared.Policy.{Policy}
 use Rattle.run_record.specs.Replies.{reply_of}
-use Rattle.lake_core.specs.Merging.{IsPlanned}
+use Rattle.command_replies.specs.Merging.{IsPlanned}
 use Rattle.lake_desk.proofs.Answering.{merged_answered, merge_denied}
 use Rattle.lake_desk.proofs.merging.merge_parts.Goals as goal
 

@@ -1,7 +1,7 @@
 use Rattle.std.proofs.Common.{sym, ap, ◌∙◌}
 use Rattle.record_model.specs.Rules.{wide_limits}
 use Rattle.segment_merge.specs.Planned.{plan_at}
-use Rattle.lake_core.proofs.MergeLemmas.{plan_small}
+use Rattle.command_replies.proofs.MergeLemmas.{plan_small}
 use Rattle.lake_desk.proofs.Answering.{plans_on_ok}
 use Rattle.lake_desk.proofs.merging.plan_newest.Goals as goal
 

@@ -5,7 +5,8 @@ use Rattle.record_model.specs.Answered.{adds, has_pin}
 use Rattle.record_model.specs.Play.{Done, done_with, entries_of, who_of}
 use Rattle.record_model.specs.Record.{RunRecord}
 use Rattle.run_record.specs.Replies.{reply_of}
-use Rattle.lake_core.specs.Lanes.{LaneOf, lane_from, IsHeld, position_of}
+use Rattle.lake_core.specs.Lanes.{LaneOf, lane_from, IsHeld}
+use Rattle.command_replies.specs.Held.{position_of}
 use Rattle.batch_work.specs.Works.{work_of}
 use Rattle.lake_core.proofs.LaneLemmas.{answered_now, answered_then, one_less}
 use Rattle.lake_core.proofs.lane.Lane.step.Goals as goal

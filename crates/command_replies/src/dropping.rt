@@ -1,0 +1,57 @@
+//! Drops: the entry that takes a table out of the lake.
+ghost use Rattle.std.specs.Prelude.{◌≡◌, ◌<◌, ◌+◌, ◌≤◌, Bool};
+ghost use Rattle.record_model.specs.Replies.{drop_reply};
+ghost use Rattle.record_model.specs.Play.{reply_or_denied};
+ghost use Rattle.run_record.specs.Replies.{reply_of};
+ghost use Rattle.command_replies.specs.Drops.{drop_refusal_reply, dropped_by};
+ghost use Rattle.command_replies.specs.Loads.{Adds};
+
+use catalogue::{Catalogue, DropRefused, Entry, Who};
+use column_set::Name;
+use run_record::{Reply, RunRecord};
+
+/// The reply to the drop of this name that the catalogue refuses.
+pub fn reply_to_drop(refused: DropRefused, name: Name) -> Reply
+    ensures { reply_of result ≡ drop_refusal_reply name refused }
+{
+    match refused {
+        DropRefused::Unknown { at } => Reply::Unknown { name, at },
+        DropRefused::Full {
+            which,
+            count,
+            more,
+            at,
+        } => Reply::Full {
+            which,
+            count,
+            more,
+            at,
+        },
+        DropRefused::NoMemory => Reply::NoMemory,
+    }
+}
+
+/// Answers a drop: the live table of the name leaves the lake, with an entry of this caller and command in the catalogue's journal and
+/// in the record's.
+pub(crate) fn drop_table(
+    catalogue: &mut Catalogue,
+    who: Who,
+    name: &Name,
+    out: &mut RunRecord,
+) -> Reply
+    requires journal { out.old.made.journal ≡ catalogue.old.journal }
+    requires room { 0 < out.old.entries_room }
+    ensures answered { (denied : Bool) × (reply_of result ≡ reply_or_denied denied (drop_reply catalogue.old.limits name.now catalogue.old.journal)) }
+    ensures adds { Adds who (dropped_by name.now (reply_of result)) catalogue.old catalogue.new out.old out.new }
+{
+    match catalogue.drop_table(who, name) {
+        Ok(at) => {
+            out.add_entry(Entry::dropped(who, name.copy()));
+            Reply::Dropped {
+                name: name.copy(),
+                at,
+            }
+        }
+        Err(refused) => reply_to_drop(refused, name.copy()),
+    }
+}

@@ -1,0 +1,135 @@
+//! Searches of the tables that were live at an earlier position of the journal.
+ghost use Rattle.std.specs.Prelude.{◌≡◌, ◌≤◌, Bool, IfOk, None, OnOk, true};
+ghost use mathlib.Core.List.{IsPrefix};
+ghost use Rattle.asof_search.specs.declared.refusal.PastRefused.{PastRefused};
+ghost use Rattle.catalogue.specs.Kept.{IsWithin};
+ghost use Rattle.commands.specs.Tasks.{IsTaskInRange, task_of};
+ghost use Rattle.command_replies.specs.Pasts.{is_past, past_refusal_reply};
+ghost use Rattle.lake_model.specs.declared.Counts.{Counts};
+ghost use Rattle.lake_model.specs.Answer.{answer};
+ghost use Rattle.record_model.specs.Answered.{answer_to, past_answer, query_read};
+ghost use Rattle.record_model.specs.Play.{reply_or_denied};
+ghost use Rattle.record_model.specs.Rules.{rules_with, wide_limits};
+ghost use Rattle.run_record.specs.Replies.{reply_of};
+ghost use Rattle.segment_core.specs.Versions.{live_of};
+
+use crate::searching::reply_to_query;
+use asof_search::{PastRefused, Timeline};
+use catalogue::Catalogue;
+use column_set::{KeptRows, Keys, QuerySet};
+use commands::{Body, Task};
+use cost_model::Profile;
+use josie_search::prepare;
+use no_memory::NoMemory;
+use run_record::Reply;
+use segment_core::Pin;
+use std::alloc::Global;
+
+// The reply to a position that there is no pin of.
+fn reply_to_position(refused: PastRefused, asked: u64) -> Reply
+    ensures { reply_of result ≡ past_refusal_reply asked refused }
+{
+    match refused {
+        PastRefused::Later { at } => Reply::Later { asked, at },
+        PastRefused::NoMemory => Reply::NoMemory,
+    }
+}
+
+// The k columns of the live tables of a pin that share most keys with a query.
+fn rows_at(alloc: Global, pin: &Pin, query: &QuerySet, k: u32) -> Result<KeptRows, NoMemory>
+    requires low { 1 ≤ k }
+    requires high { k ≤ 10000 }
+    ensures { IfOk result (λ rows. rows ≡ answer (live_of pin.now.parts) query.now k None) }
+{
+    let prepared = prepare(alloc, pin.looks(alloc), query, k, None)?;
+    prepared.run(&Profile).rows.keep_all(alloc)
+}
+
+// The reply to a search of the tables that were live after the first `asked` entries of those taken.
+fn search_past(
+    alloc: Global,
+    keys: Keys,
+    past: &mut Timeline,
+    asked: u64,
+    k: u32,
+    body: &Body,
+) -> Reply
+    requires low { 1 ≤ k }
+    requires high { k ≤ 10000 }
+    ensures same { past.new ≡ past.old }
+    ensures answered { (denied : Bool) × (reply_of result ≡ reply_or_denied denied (past_answer asked k (query_read keys body.now) past.old)) }
+{
+    let query = match QuerySet::read(alloc, keys, body.bytes()) {
+        Ok(query) => query,
+        Err(refused) => return reply_to_query(refused),
+    };
+    let pin = match past.pin(asked) {
+        Ok(pin) => pin,
+        Err(refused) => return reply_to_position(refused, asked),
+    };
+    match rows_at(alloc, &pin, &query, k) {
+        Ok(rows) => Reply::Past {
+            query: query.len(),
+            rows,
+            asked,
+            at: past.taken(),
+        },
+        Err(NoMemory) => Reply::NoMemory,
+    }
+}
+
+/// Answers a search of an earlier position, where the timeline has taken the journal that it is answered at: the reply is that at this
+/// journal, or that memory is wanting.
+pub fn finish_past(alloc: Global, keys: Keys, past: &mut Timeline, task: &Task) -> Reply
+    requires past { is_past (task_of task.now) ≡ true }
+    requires in_range { IsTaskInRange task.now }
+    ensures same { past.new ≡ past.old }
+    ensures answered { (limits : Counts) → (denied : Bool) × (reply_of result ≡ reply_or_denied denied (answer_to (rules_with keys limits) (task_of task.now) past.old past.old)) }
+{
+    match task {
+        Task::AsOf { asked, k, body } => search_past(alloc, keys, past, *asked, *k, body),
+        Task::Load { .. }
+        | Task::LoadFile { .. }
+        | Task::Drop { .. }
+        | Task::Replace { .. }
+        | Task::Tables
+        | Task::Search { .. }
+        | Task::Like { .. }
+        | Task::Contain { .. }
+        | Task::Merge { .. } => unreachable!(),
+    }
+}
+
+// Takes what the journal of the catalogue has behind what the timeline took.
+fn catch_up(catalogue: &Catalogue, past: &mut Timeline) -> Result<(), NoMemory>
+    requires begins { IsPrefix past.old catalogue.now.journal }
+    requires limits { IsWithin wide_limits catalogue.now.limits }
+    ensures ok { OnOk result (past.new ≡ catalogue.now.journal) }
+    ensures begins { IsPrefix past.new catalogue.now.journal }
+{
+    let _counted = catalogue.counts();
+    let journal = catalogue.journal();
+    past.take_all(&journal[past.taken() as usize..])
+}
+
+/// Answers a search of an earlier position at the newest one. The timeline takes what it has not taken of the journal, and out of memory
+/// the first of that.
+pub(crate) fn search_past_now(
+    alloc: Global,
+    catalogue: &Catalogue,
+    keys: Keys,
+    past: &mut Timeline,
+    task: &Task,
+) -> Reply
+    requires past { is_past (task_of task.now) ≡ true }
+    requires in_range { IsTaskInRange task.now }
+    requires begins { IsPrefix past.old catalogue.now.journal }
+    requires limits { IsWithin wide_limits catalogue.now.limits }
+    ensures begins { IsPrefix past.new catalogue.now.journal }
+    ensures answered { (limits : Counts) → (denied : Bool) × (reply_of result ≡ reply_or_denied denied (answer_to (rules_with keys limits) (task_of task.now) catalogue.now.journal catalogue.now.journal)) }
+{
+    match catch_up(catalogue, past) {
+        Ok(()) => finish_past(alloc, keys, past, task),
+        Err(NoMemory) => Reply::NoMemory,
+    }
+}
