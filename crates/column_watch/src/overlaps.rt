@@ -1,4 +1,4 @@
-//! How many keys each query shares with each column of a table, and the rows that follow. Each key of the table is looked at once.
+//! How many keys each query shares with each column of a table, and the rows that follow. Each key of the table is looked up once.
 ghost use Rattle.std.specs.Prelude.{◌≡◌, ◌<◌, ◌≤◌, ◌+◌, ◌^◌, ℕ, [], List, bytes_eq, count_by, get_or, length, map, IfOk};
 ghost use Rattle.std.specs.Int.{bit_at};
 ghost use Rattle.std.specs.List.{All, IsDistinct};
@@ -58,7 +58,7 @@ fn count_column(
     requires high { place ≤ length table.now.columns }
     ensures { IfOk result (λ counts. counts.items ≡ map (λ keys. overlap_of keys (keys_at table.now place)) (map (λ state. state.keys) queries.now)) }
 {
-    let hits = column_hits(alloc, holders, queries, table, place)?;
+    let hits = column_hits(alloc, holders, table, place)?;
     count_hits(alloc, holders, queries, table, place, &hits)
 }
 
@@ -67,17 +67,14 @@ fn count_column(
 fn column_hits(
     alloc: Global,
     holders: &Holders,
-    queries: &[Watched],
     table: &TableSets,
     place: u32,
 ) -> Result<Vec<Hit>, NoMemory>
-    requires indexed { IsIndexOf (map (λ state. state.keys) queries.now) holders.now }
-    requires different { All (λ state. IsDistinct bytes_eq state.keys) queries.now }
     requires low { 0 < place }
     requires high { place ≤ length table.now.columns }
     ensures hits { IfOk result (λ hits. All (IsHit (keys_at table.now place)) hits.items) }
     ensures few { IfOk result (λ hits. length hits.items ≤ 4194304) }
-    ensures all { IfOk result (λ hits. (w : ℕ) → w < length (map (λ state. state.keys) queries.now) → count_by (has_key (get_or (map (λ state. state.keys) queries.now) w [])) (hit_keys (keys_at table.now place) hits.items) ≡ overlap_of (get_or (map (λ state. state.keys) queries.now) w []) (keys_at table.now place)) }
+    ensures all { IfOk result (λ hits. (queries : List (List Text)) (w : ℕ) → IsIndexOf queries holders.now → IsDistinct bytes_eq (get_or queries w []) → count_by (has_key (get_or queries w [])) (hit_keys (keys_at table.now place) hits.items) ≡ overlap_of (get_or queries w []) (keys_at table.now place)) }
 {
     let mut hits = Vec::new(alloc);
     for index in 0..table.size(place) {
@@ -115,16 +112,13 @@ fn count_hits(
     Ok(counts)
 }
 
-// Raises the counts of the queries of a mask by one. Most keys are of no query, and then there is nothing to walk over.
+// Raises the counts of the queries of a mask by one.
 fn raise(counts: &mut [u32], holders: u32)
     requires few { length counts.old ≤ 16 }
     requires small { (w : ℕ) → w < length counts.old → get_or counts.old w 0 + 1 < 2 ^ 32 }
     ensures len { length counts.new ≡ length counts.old }
     ensures raised { (w : ℕ) → w < length counts.old → get_or counts.new w 0 ≡ get_or counts.old w 0 + bit_at holders w }
 {
-    if holders == 0 {
-        return;
-    }
     for w in 0..counts.len() {
         counts[w] += holders >> w & 1;
     }

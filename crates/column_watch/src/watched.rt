@@ -1,7 +1,7 @@
 //! One watched query, with its rows.
-ghost use Rattle.std.specs.Prelude.{◌≡◌, ◌<◌, ◌+◌, ◌≤◌, ◌++◌, [], ℕ, List, false, get_or, length, map, option_map, take, IfOk, OnErr, OnOk};
+ghost use Rattle.std.specs.Prelude.{◌≡◌, ◌<◌, ◌+◌, ◌≤◌, [], ℕ, List, false, get_or, length, map, option_map, take, IfOk, OnErr, OnOk};
 ghost use Rattle.lake_model.specs.Texts.{Text};
-ghost use Rattle.column_watch.specs.Held.{HasColumns, IsColumn, IsCounted, Settles, StateOf, ready, rows_left, rows_put, state_with, still};
+ghost use Rattle.column_watch.specs.Held.{HasColumns, IsColumn, IsCounted, Settles, StateOf, ready, rows_put, state_with, still};
 
 use crate::held::{Held, differ, first_of, put_all, share_all, take_gone};
 use crate::overlaps::table_rows;

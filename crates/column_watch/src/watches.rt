@@ -71,7 +71,7 @@ impl Watches {
         Ok(self.queries.len() as u32)
     }
 
-    /// Takes the next entry of the journal. A load or a replace costs its own table, each key of which is looked at once for all queries,
+    /// Takes the next entry of the journal. A load or a replace costs its own table, each key of which is looked up once for all queries,
     /// and, for each row that it gives a query, a binary search and a move of the rows behind it; a drop or a replace costs a walk over
     /// the rows of the queries; a swap changes no answer. To know what changed costs the first k rows of each query.
     ///

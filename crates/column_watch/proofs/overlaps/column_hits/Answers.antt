@@ -1,23 +1,19 @@
 use Rattle.std.proofs.Common.{◌≡◌, ◌∙◌, sym, ap, subst, ℕ, ◌<◌, List, [], ◌∷◌, length, length-append, get_or, count_by, take, arith}
-use Rattle.std.specs.Prelude.{bytes_eq}
-use Rattle.std.specs.List.{All, IsDistinct}
+use Rattle.std.specs.List.{All}
 use Rattle.std.proofs.Math.Seq.{take-length}
-use Rattle.std.proofs.lemmas.List.Elements.{All-append, All-from_recursion, All-map}
+use Rattle.std.proofs.lemmas.List.Elements.{All-append, All-from_recursion}
 use Rattle.column_set.proofs.OverlapLemmas.{overlap_both_ways}
 use Rattle.lake_model.specs.Tables.{has_key, keys_at}
 use Rattle.segment_core.specs.Hashes.{hash_of}
-use Rattle.column_watch.specs.Held.{StateOf}
 use Rattle.column_watch.specs.Hits.{hit_keys, IsHit}
 use Rattle.column_watch.specs.declared.overlaps.Hit.{Hit}
 use Rattle.column_watch.proofs.CountLemmas.{hits_more, hits_same}
-use Rattle.column_watch.proofs.HolderLemmas.{keys_of}
 use Rattle.column_watch.proofs.IndexLemmas.{none_holds}
 use Rattle.column_watch.proofs.overlaps.column_hits.Goals as goal
 use Rattle.column_watch.proofs.overlaps.column_hits.Goals.{then-has_hash+in_ok-push, else-has_hash}
 
 pub loop-index-preserved : goal.loop-index-preserved
 loop-index-preserved c =
-    let queries = keys_of c.args.queries.now in
     let keys = keys_at c.args.table.now c.args.place in
     let i = c.loop-index.index in
     let before = c.loop-index.hits.items in
@@ -33,23 +29,22 @@ loop-index-preserved c =
           record {
             hits = subst (All (IsHit keys)) (sym is) (All-append (IsHit keys) before (hit ∷ []) kept.hits one);
             few = omega (arith, kept.few, w.in_ok-push.ensures.len, ap length is, length-append before (hit ∷ []));
-            all = λ w. ap (λ (hs : List Hit). count_by (has_key (get_or queries w [])) (hit_keys keys hs)) is ∙ hits_more (has_key (get_or queries w [])) keys before hit within (kept.all w);
+            all = λ queries v indexed. ap (λ (hs : List Hit). count_by (has_key (get_or queries v [])) (hit_keys keys hs)) is ∙ hits_more (has_key (get_or queries v [])) keys before hit within (kept.all queries v indexed);
           }
       | else-has_hash w ↦
           let is = ap (λ v. v.items) w.hits-is in
-          let none = none_holds queries (get_or keys i []) hash own c.args.holders.now c.requires.indexed (c.has_hash.ensures w.if-has_hash.false) in
           record {
             hits = subst (All (IsHit keys)) (sym is) kept.hits;
             few = omega (arith, kept.few, ap length is);
-            all = λ w. ap (λ (hs : List Hit). count_by (has_key (get_or queries w [])) (hit_keys keys hs)) is ∙ hits_same (has_key (get_or queries w [])) keys (count_by (has_key (get_or queries w [])) (hit_keys keys before)) i within (none w) (kept.all w);
+            all = λ queries v indexed.
+                let none = none_holds queries (get_or keys i []) hash own c.args.holders.now indexed (c.has_hash.ensures w.if-has_hash.false) v in
+                ap (λ (hs : List Hit). count_by (has_key (get_or queries v [])) (hit_keys keys hs)) is ∙ hits_same (has_key (get_or queries v [])) keys (count_by (has_key (get_or queries v [])) (hit_keys keys before)) i within none (kept.all queries v indexed);
           }
     ]
 
 pub returns-clause-all : goal.returns-clause-all
-returns-clause-all c = λ w h.
-    let queries = keys_of c.args.queries.now in
+returns-clause-all c = λ queries w indexed different.
     let keys = keys_at c.args.table.now c.args.place in
     let end : c.loop-index.index ≡ length keys = omega (arith, c.size-index-end.ensures.value) in
     let all : take c.loop-index.index keys ≡ keys = ap (λ (n : ℕ). take n keys) end ∙ take-length keys in
-    let different = All-map (IsDistinct bytes_eq) (λ (state : StateOf). state.keys) c.args.queries.now c.requires.different w [] h in
-    c.loop-index.invariant.all w ∙ ap (count_by (has_key (get_or queries w []))) all ∙ overlap_both_ways keys (get_or queries w []) c.size-index-end.ensures.different different
+    c.loop-index.invariant.all queries w indexed ∙ ap (count_by (has_key (get_or queries w []))) all ∙ overlap_both_ways keys (get_or queries w []) c.size-index-end.ensures.different different
