@@ -202,7 +202,7 @@ same_standing_self (Added at) = eq-eqb at at refl
 same_standing_self (PlannedAndSaw pinned at) = ap (λ (b : Bool). b && (at == at)) (eq-eqb pinned pinned refl) ∙ eq-eqb at at refl
 same_standing_self (PlannedAndAdded pinned at) = ap (λ (b : Bool). b && (at == at)) (eq-eqb pinned pinned refl) ∙ eq-eqb at at refl
 
-same_hint_self : (h : Hint) → same_hint h h ≡ true
+pub same_hint_self : (h : Hint) → same_hint h h ≡ true
 same_hint_self Wanting = refl
 same_hint_self (Stands s) = same_standing_self s
 

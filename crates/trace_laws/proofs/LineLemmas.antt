@@ -310,10 +310,10 @@ written_all (a ∷ answers) = ap (λ (ls : List Text). written_lines true a ++ l
     by true = refl
     by false = refl
 
-pub all_lines_of : RunRecord → List Text
+unfoldable pub all_lines_of : RunRecord → List Text
 all_lines_of made = flat_map (answer_lines true) made.answers ++ journal_lines made.journal
 
-text_lines : (made : RunRecord) → made.options.trace ≡ true → made.ended ≡ true → text made ≡ flat_map line_text (all_lines_of made)
+pub text_lines : (made : RunRecord) → made.options.trace ≡ true → made.ended ≡ true → text made ≡ flat_map line_text (all_lines_of made)
 unfolding all_lines_of
 text_lines made traced ended =
     ap (λ (b : Bool). answers_text b made.answers ++ journal_text (b && made.ended) made.journal) traced

@@ -43,14 +43,14 @@ low_all to (x ∷ lows) h = ap (λ (b : Bool). b && list_all (λ low. nat_le low
 
 -- ---- one more answer
 
-abbrev mine : List Hinted → ℕ → List Moment
+abbrev pub mine : List Hinted → ℕ → List Moment
 mine hinted lane = flat_map (λ (h : Hinted). moments_of h.hint) (filter (λ (h : Hinted). h.command.lane == lane) hinted)
 
 -- a lane's positions, where the first answer is its own
-own_first : (h : Hinted) (hinted : List Hinted) (lane : ℕ) → (h.command.lane == lane) ≡ true → mine (h ∷ hinted) lane ≡ moments_of h.hint ++ mine hinted lane
+pub own_first : (h : Hinted) (hinted : List Hinted) (lane : ℕ) → (h.command.lane == lane) ≡ true → mine (h ∷ hinted) lane ≡ moments_of h.hint ++ mine hinted lane
 own_first h hinted lane e = ap (λ (b : Bool). flat_map (λ (h : Hinted). moments_of h.hint) (cond b (h ∷ filter (λ (h : Hinted). h.command.lane == lane) hinted) (filter (λ (h : Hinted). h.command.lane == lane) hinted))) e
 
-other_first : (h : Hinted) (hinted : List Hinted) (lane : ℕ) → (h.command.lane == lane) ≡ false → mine (h ∷ hinted) lane ≡ mine hinted lane
+pub other_first : (h : Hinted) (hinted : List Hinted) (lane : ℕ) → (h.command.lane == lane) ≡ false → mine (h ∷ hinted) lane ≡ mine hinted lane
 other_first h hinted lane e = ap (λ (b : Bool). flat_map (λ (h : Hinted). moments_of h.hint) (cond b (h ∷ filter (λ (h : Hinted). h.command.lane == lane) hinted) (filter (λ (h : Hinted). h.command.lane == lane) hinted))) e
 
 own_goes : (h : Hinted) (hinted : List Hinted) (lows : List ℕ) (to lane low : ℕ) → (h.command.lane == lane) ≡ true → lane < length lows → climbed (get_or lows h.command.lane 0) (moments_of h.hint) ≡ Some low

@@ -40,7 +40,7 @@ standing_is (PlannedAndSaw p a) (PlannedAndSaw q b) h = let k = both (p == q) (a
 standing_is (PlannedAndAdded p a) (PlannedAndAdded q b) h = let k = both (p == q) (a == b) h in ap (λ (n : ℕ). PlannedAndAdded n a) (eqb-true p q k.0) ∙ ap (PlannedAndAdded q) (eqb-true a b k.1)
 standing_is s t h = cc
 
-hint_is : (h k : Hint) → same_hint h k ≡ true → h ≡ k
+pub hint_is : (h k : Hint) → same_hint h k ≡ true → h ≡ k
 hint_is Wanting Wanting e = refl
 hint_is (Stands s) (Stands t) e = ap Stands (standing_is s t e)
 hint_is h k e = cc

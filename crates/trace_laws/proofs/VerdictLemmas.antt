@@ -43,7 +43,7 @@ zip_hints [] answers = refl
 zip_hints (c ∷ commands) [] = refl
 zip_hints (c ∷ commands) (a ∷ answers) = ap (λ (hs : List Hinted). hinted_with c (hint_of a.reply) ∷ hs) (zip_hints commands answers)
 
-zip_append : (commands more : List Command) (hints : List Hint) → hinted_zip commands (take (length commands) hints) ++ hinted_zip more (drop (length commands) hints) ≡ hinted_zip (commands ++ more) hints
+pub zip_append : (commands more : List Command) (hints : List Hint) → hinted_zip commands (take (length commands) hints) ++ hinted_zip more (drop (length commands) hints) ≡ hinted_zip (commands ++ more) hints
 zip_append [] more hints = refl
 zip_append (c ∷ commands) more [] = none more
   where

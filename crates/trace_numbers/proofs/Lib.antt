@@ -1,5 +1,5 @@
-mod ApartLemmas
+pub mod ApartLemmas
 mod WithinLemmas
 mod SlotLemmas
-mod PassLemmas
+pub mod PassLemmas
 mod OrderLemmas

@@ -53,7 +53,7 @@ zip_parts (c ∷ commands) more [] later size = let none : 0 ≡ suc (length com
 zip_parts (c ∷ commands) more (h ∷ hints) later size =
     let same : suc (length hints) ≡ suc (length commands) = size in ap (λ (hs : List Hinted). hinted_with c h ∷ hs) (zip_parts commands more hints later (omega (arith, same)))
 
-zip_lanes : (lanes : ℕ) (commands : List Command) (hints : List Hint) → AllByRecursion (λ (c : Command). c.lane ≤ lanes) commands → AllByRecursion (λ (h : Hinted). h.command.lane ≤ lanes) (hinted_zip commands hints)
+pub zip_lanes : (lanes : ℕ) (commands : List Command) (hints : List Hint) → AllByRecursion (λ (c : Command). c.lane ≤ lanes) commands → AllByRecursion (λ (h : Hinted). h.command.lane ≤ lanes) (hinted_zip commands hints)
 zip_lanes lanes [] hints h = tt
 zip_lanes lanes (c ∷ commands) [] h = tt
 zip_lanes lanes (c ∷ commands) (x ∷ hints) h = (h.0, zip_lanes lanes commands hints h.1)
@@ -146,7 +146,7 @@ pub merger_size : (merge : Bool) (next : ℕ) (batch : Batch) → length (merger
 merger_size false next batch = refl
 merger_size true next batch = length-map (range_with_len next (updates batch)) (λ n. command_with n 0 (Merge false)) ∙ length-range_with_len next (updates batch)
 
-low_lanes : (lanes : ℕ) (batch : Batch) → IsOfLanes lanes batch → AllByRecursion (λ (c : Command). c.lane ≤ lanes) batch
+pub low_lanes : (lanes : ℕ) (batch : Batch) → IsOfLanes lanes batch → AllByRecursion (λ (c : Command). c.lane ≤ lanes) batch
 low_lanes lanes [] h = tt
 low_lanes lanes (c ∷ batch) h = (h.0.1, low_lanes lanes batch h.1)
 
@@ -154,7 +154,7 @@ pub below_lanes : (lanes size : ℕ) (batch : Batch) → size ≡ lanes + 1 → 
 below_lanes lanes size [] e h = tt
 below_lanes lanes size (c ∷ batch) e h = let low : c.lane ≤ lanes = h.0.1 in (omega (arith, low, e), below_lanes lanes size batch e h.1)
 
-zero_lanes : (lanes : ℕ) (commands : List Command) → AllByRecursion (λ (c : Command). c.lane ≡ 0) commands → AllByRecursion (λ (c : Command). c.lane ≤ lanes) commands
+pub zero_lanes : (lanes : ℕ) (commands : List Command) → AllByRecursion (λ (c : Command). c.lane ≡ 0) commands → AllByRecursion (λ (c : Command). c.lane ≤ lanes) commands
 zero_lanes lanes [] h = tt
 zero_lanes lanes (c ∷ commands) h = let none : c.lane ≡ 0 = h.0 in (omega (arith, none), zero_lanes lanes commands h.1)
 

@@ -10,7 +10,7 @@ mod owners;
 mod rising;
 
 pub use numbers::find_owners;
-pub use order::{Plan, Turn, plans_of, turns_of};
+pub use order::{Plan, Turn, planned_at, plans_of, turns_of};
 pub use owners::Owners;
 
 #[cfg(test)]

@@ -99,8 +99,8 @@ fn adds(hint: Hint) -> bool
     matches!(hint, Hint::Added { .. } | Hint::PlannedAndAdded { .. })
 }
 
-// How long the journal is that a merge is planned at.
-fn planned_at(hint: Hint) -> Option<u64>
+/// How long the journal is that a merge is planned at; `None` for what was not planned.
+pub fn planned_at(hint: Hint) -> Option<u64>
     ensures { result ≡ planned_at (hint_as hint) }
 {
     match hint {

@@ -1,0 +1,4 @@
+pub mod WithinLemmas
+pub mod EndLemmas
+pub mod FrontLemmas
+mod WorkedReplay
