@@ -1,0 +1,4 @@
+mod StretchLemmas
+mod TurnLemmas
+mod LakeLemmas
+mod ReplayLemmas

@@ -1,0 +1,294 @@
+//! The lake in which the answers of a trace are made again, one after another.
+ghost use Rattle.std.specs.Prelude.{◌≡◌, ◌<◌, ◌+◌, ◌⊎◌, Bool, IfOk, OnOk, None, [], ℕ, false, length, true};
+ghost use Rattle.std.specs.List.{Contains};
+ghost use Rattle.lake_model.specs.Layout.{is_legal};
+ghost use Rattle.catalogue.specs.Kept.{IsWithin};
+ghost use Rattle.record_model.specs.Answered.{has_pin};
+ghost use Rattle.record_model.specs.Play.{reply_or_denied};
+ghost use Rattle.record_model.specs.Replies.{Reply as ReplyOf};
+ghost use Rattle.record_model.specs.Rules.{wide_limits};
+ghost use Rattle.record_model.specs.Texts.{journal_lines};
+ghost use Rattle.run_record.specs.Replies.{reply_of};
+ghost use Rattle.command_replies.specs.declared.answering.Held.{Held as HeldOf};
+ghost use Rattle.command_replies.specs.declared.answering.Held.TheVariants.{Denied};
+ghost use Rattle.command_replies.specs.Held.{IsHeldAt, position_of};
+ghost use Rattle.batch_work.specs.Works.{merge_policy};
+ghost use Rattle.trace_laws.specs.Rebuilt.{pinned_of};
+ghost use Rattle.trace_groups.specs.Pieces.{group_text};
+ghost use Rattle.trace_numbers.specs.Positions.{IsOwner, own_of};
+ghost use Rattle.trace_numbers.specs.Turns.{made_at};
+ghost use Rattle.trace_ends.specs.Fronts.{reply_at};
+ghost use Rattle.trace_replay.specs.Lakes.{AnswersNow, AreTold, IsAfter, IsAt, IsLeft, IsTold, LooksAreTold, command_at, hint_at};
+ghost use Rattle.trace_replay.specs.Stretches.{ArePlansOf, AreTurnsOf, IsPlanOf, IsTurnOf};
+
+use crate::telling::{is_told, is_wanting};
+use crate::trace::Trace;
+use crate::turns::{plans_at, turns_at};
+use asof_search::Timeline;
+use catalogue::{Catalogue, Limits};
+use command_replies::{Held, begin, reply_now, reply_when_held};
+use no_memory::NoMemory;
+use reply_text::push_journal;
+use run_record::{Reply, RunRecord};
+use std::alloc::Global;
+use std::marker::Model;
+use trace_ends::fronts_law;
+use trace_numbers::{Plan, Turn, planned_at};
+
+/// A lake that answers the commands of a trace again. It holds the merges that were planned and are not swapped in yet: in the trace of a
+/// right run one for each lane at most, in another perhaps many.
+#[derive(Drop)]
+pub(crate) struct Lake {
+    alloc: Global,
+    catalogue: Catalogue,
+    past: Timeline,
+    run: RunRecord,
+    held: Vec<(usize, Held)>,
+    text: Vec<u8>,
+}
+
+impl Model for Lake {
+    ghost use Rattle.std.specs.Prelude.{◌≡◌};
+    ghost use mathlib.Core.List.{IsPrefix};
+    ghost use Rattle.catalogue.specs.Kept.{IsWithin};
+    ghost use Rattle.record_model.specs.Rules.{wide_limits};
+    ghost use Rattle.trace_replay.specs.Lakes.{LakeOf, lake_with};
+
+    ghost Value = { LakeOf };
+
+    ghost view = { λ l. lake_with l.catalogue.limits l.catalogue.journal l.held.items l.run.entries_room };
+
+    ghost invariant = { λ l. IsWithin wide_limits l.catalogue.limits × (l.run.made.journal ≡ l.catalogue.journal) × IsPrefix l.past l.catalogue.journal };
+}
+
+// A reply, where it is not want of memory.
+fn known(reply: Reply) -> Result<Reply, NoMemory>
+    ensures same { IfOk result (λ known. known ≡ reply) }
+    ensures known { (denied : Bool) (wanted : ReplyOf) → reply_of reply ≡ reply_or_denied denied wanted → IfOk result (λ known. reply_of known ≡ wanted) }
+{
+    match reply {
+        Reply::NoMemory => Err(NoMemory),
+        _ => Ok(reply),
+    }
+}
+
+// Takes out what is held for the merge of an index, which was planned where the journal was so long. All plans up to the position of the
+// replay are held until their answers, but no invariant says so yet: where one were not, the replay would end as if out of memory.
+fn take_held(held: &mut Vec<(usize, Held)>, index: usize, at: u64) -> Held
+    ensures taken { Contains held.old.items (index, result) ⊎ (result ≡ Denied at) }
+    ensures left { (one : ℕ × HeldOf) → Contains held.new.items one → Contains held.old.items one }
+{
+    match held.iter().position(|one| one.0 == index) {
+        Some(place) => held.swap_remove(place).1,
+        None => Held::Denied { at },
+    }
+}
+
+impl Lake {
+    /// A lake with an empty journal.
+    pub(crate) fn new(alloc: Global, limits: Limits) -> Result<Lake, NoMemory>
+        requires { IsWithin wide_limits limits }
+        ensures limits { IfOk result (λ lake. lake.limits ≡ limits) }
+        ensures journal { IfOk result (λ lake. lake.journal ≡ []) }
+        ensures held { IfOk result (λ lake. lake.held ≡ []) }
+    {
+        Ok(Lake {
+            alloc,
+            catalogue: Catalogue::new(alloc, limits)?,
+            past: Timeline::new(alloc),
+            run: RunRecord::new(alloc),
+            held: Vec::new(alloc),
+            text: Vec::new(alloc),
+        })
+    }
+
+    // What is held for the work of an index: what was planned for it before, or else the newest version, or a plan in that.
+    fn held_for(&mut self, trace: &Trace<'_>, index: usize) -> Held
+        requires index { index < length trace.now.commands }
+        requires at { IsAt trace.now (made_at (hint_at trace.now index)) self.old }
+        ensures holds { IsHeldAt self.old.journal (merge_policy (command_at trace.now index).task) result }
+        ensures position { position_of result ≡ pinned_of (hint_at trace.now index) }
+        ensures left { IsLeft self.old self.new }
+    {
+        trace.positions();
+        match planned_at(trace.hint(index)) {
+            Some(at) => take_held(&mut self.held, index, at),
+            None => begin(self.alloc, &self.catalogue, &trace.work(index)),
+        }
+    }
+
+    // The reply to work that has a pin.
+    fn reply_pinned(&mut self, trace: &Trace<'_>, index: usize) -> Reply
+        requires index { index < length trace.now.commands }
+        requires at { IsAt trace.now (made_at (hint_at trace.now index)) self.old }
+        requires pins { has_pin (command_at trace.now index).task ≡ true }
+        requires room { 0 < self.old.room }
+        ensures answered { AnswersNow trace.now index self.old.journal (reply_of result) }
+        ensures after { IsAfter trace.now index (reply_of result) self.old self.new }
+    {
+        let held = self.held_for(trace, index);
+        reply_when_held(
+            self.alloc,
+            &mut self.catalogue,
+            trace.keys(),
+            &trace.work(index),
+            held,
+            &mut self.run,
+        )
+    }
+
+    // The reply to work that has no pin.
+    fn reply_unpinned(&mut self, trace: &Trace<'_>, index: usize) -> Reply
+        requires index { index < length trace.now.commands }
+        requires at { IsAt trace.now (made_at (hint_at trace.now index)) self.old }
+        requires pins { has_pin (command_at trace.now index).task ≡ false }
+        requires room { 0 < self.old.room }
+        ensures answered { AnswersNow trace.now index self.old.journal (reply_of result) }
+        ensures after { IsAfter trace.now index (reply_of result) self.old self.new }
+    {
+        reply_now(
+            self.alloc,
+            &mut self.catalogue,
+            trace.keys(),
+            &mut self.past,
+            &trace.work(index),
+            &mut self.run,
+        )
+    }
+
+    // The reply to work.
+    fn reply(&mut self, trace: &Trace<'_>, index: usize) -> Reply
+        requires index { index < length trace.now.commands }
+        requires at { IsAt trace.now (made_at (hint_at trace.now index)) self.old }
+        requires room { 0 < self.old.room }
+        ensures answered { AnswersNow trace.now index self.old.journal (reply_of result) }
+        ensures after { IsAfter trace.now index (reply_of result) self.old self.new }
+    {
+        if trace.work(index).has_pin() {
+            self.reply_pinned(trace, index)
+        } else {
+            self.reply_unpinned(trace, index)
+        }
+    }
+
+    // Makes room for one more entry.
+    fn make_room(&mut self) -> Result<(), NoMemory>
+        ensures same { (self.new.limits ≡ self.old.limits) × (self.new.journal ≡ self.old.journal) × (self.new.held ≡ self.old.held) }
+        ensures room { OnOk result (0 < self.new.room) }
+    {
+        self.run.room(0, 1)
+    }
+
+    // The reply to work as its hint says. Want of memory is a reply only where the hint says so, and is else that of the replay.
+    fn reply_again(&mut self, trace: &Trace<'_>, index: usize) -> Result<Reply, NoMemory>
+        requires index { index < length trace.now.commands }
+        requires at { IsAt trace.now (made_at (hint_at trace.now index)) self.old }
+        ensures answered { IfOk result (λ reply. reply_of reply ≡ reply_at trace.now.rules self.old.journal (command_at trace.now index) (hint_at trace.now index)) }
+        ensures after { IfOk result (λ reply. IsAfter trace.now index (reply_of reply) self.old self.new) }
+    {
+        if is_wanting(trace.hint(index)) {
+            return Ok(Reply::NoMemory);
+        }
+        self.make_room()?;
+        known(self.reply(trace, index))
+    }
+
+    /// Makes the answer of an index again, where its hint says that it was made, and says whether it is as the trace tells: it tells that
+    /// hint, and has those lines. What it adds is then in the lake.
+    pub(crate) fn answer(&mut self, trace: &Trace<'_>, index: usize) -> Result<bool, NoMemory>
+        requires index { index < length trace.now.commands }
+        requires at { IsAt trace.now (made_at (hint_at trace.now index)) self.old }
+        ensures sound { IfOk result (λ yes. yes ≡ true → IsTold trace.now index) }
+        ensures complete { IfOk result (λ yes. IsTold trace.now index → yes ≡ true) }
+        ensures looks { IfOk result (λ yes. yes ≡ true → own_of (hint_at trace.now index) ≡ None → IsAt trace.now (made_at (hint_at trace.now index)) self.new) }
+        ensures owns { IfOk result (λ yes. yes ≡ true → IsOwner trace.now.hints (made_at (hint_at trace.now index) + 1) index → IsAt trace.now (made_at (hint_at trace.now index) + 1) self.new) }
+    {
+        trace.positions();
+        fronts_law();
+        let reply = self.reply_again(trace, index)?;
+        is_told(
+            trace.work(index).by(),
+            reply,
+            trace.hint(index),
+            trace.text(index),
+            &mut self.text,
+        )
+    }
+
+    // Makes the answer of a turn again where it only looks, and says whether it is as the trace tells; of one that adds an entry it says nothing.
+    fn look(&mut self, trace: &Trace<'_>, turn: Turn) -> Result<bool, NoMemory>
+        requires at { IsAt trace.now turn.at self.old }
+        requires turn { IsTurnOf trace.now.hints turn }
+        ensures sound { IfOk result (λ yes. yes ≡ true → turn.adds ≡ false → IsTold trace.now turn.index) }
+        ensures complete { IfOk result (λ yes. AreTold trace.now → yes ≡ true) }
+        ensures at { IfOk result (λ yes. yes ≡ true → IsAt trace.now turn.at self.new) }
+    {
+        if turn.adds {
+            return Ok(true);
+        }
+        trace.positions();
+        self.answer(trace, turn.index)
+    }
+
+    /// Makes those answers again that are made where the journal is so long and only look, and says whether they are as the trace tells.
+    pub(crate) fn look_at(
+        &mut self,
+        trace: &Trace<'_>,
+        turns: &[Turn],
+        at: u64,
+    ) -> Result<bool, NoMemory>
+        requires at { IsAt trace.now at self.old }
+        requires turns { AreTurnsOf trace.now.hints turns.now }
+        ensures sound { IfOk result (λ yes. yes ≡ true → LooksAreTold trace.now at) }
+        ensures complete { IfOk result (λ yes. AreTold trace.now → yes ≡ true) }
+        ensures at { IfOk result (λ yes. yes ≡ true → IsAt trace.now at self.new) }
+    {
+        trace.positions();
+        for turn in turns_at(turns, at) {
+            if !self.look(trace, *turn)? {
+                return Ok(false);
+            }
+        }
+        Ok(true)
+    }
+
+    // Plans a merge where the journal is as long as its hint says, and holds it.
+    fn plan_one(&mut self, trace: &Trace<'_>, plan: Plan) -> Result<(), NoMemory>
+        requires at { IsAt trace.now plan.at self.old }
+        requires plan { IsPlanOf trace.now.hints plan }
+        ensures { OnOk result (IsAt trace.now plan.at self.new) }
+    {
+        trace.positions();
+        let held = begin(self.alloc, &self.catalogue, &trace.work(plan.index));
+        self.held.push((plan.index, held))?;
+        Ok(())
+    }
+
+    /// Plans those merges that are planned where the journal is so long.
+    pub(crate) fn plan_at(
+        &mut self,
+        trace: &Trace<'_>,
+        plans: &[Plan],
+        at: u64,
+    ) -> Result<(), NoMemory>
+        requires at { IsAt trace.now at self.old }
+        requires plans { ArePlansOf trace.now.hints plans.now }
+        ensures at { OnOk result (IsAt trace.now at self.new) }
+    {
+        for plan in plans_at(plans, at) {
+            self.plan_one(trace, *plan)?;
+        }
+        Ok(())
+    }
+
+    /// Whether the lines of the journal are these.
+    pub(crate) fn has_journal(&mut self, text: &[u8]) -> Result<bool, NoMemory>
+        ensures sound { IfOk result (λ yes. yes ≡ true → text.now ≡ group_text (journal_lines self.old.journal)) }
+        ensures complete { IfOk result (λ yes. text.now ≡ group_text (journal_lines self.old.journal) → yes ≡ true) }
+        ensures legal { is_legal self.old.journal ≡ true }
+    {
+        self.text.clear();
+        push_journal(self.catalogue.journal(), &mut self.text)?;
+        Ok(self.text.as_slice() == text)
+    }
+}

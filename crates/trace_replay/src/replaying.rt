@@ -1,0 +1,175 @@
+//! The replay from the first position to the last.
+ghost use Rattle.std.specs.Prelude.{◌≡◌, ◌+◌, ◌≤◌, IfOk, length, map, take, true};
+ghost use Rattle.catalogue.specs.Kept.{IsWithin};
+ghost use Rattle.record_model.specs.Rules.{rules_with, wide_limits};
+ghost use Rattle.trace_hints.specs.Told.{hint_as};
+ghost use Rattle.trace_numbers.specs.Positions.{AreOwners, IsOwner};
+ghost use Rattle.trace_ends.specs.Within.{ArePositions};
+ghost use Rattle.batch_work.specs.Works.{works_of};
+ghost use Rattle.trace_replay.specs.Lakes.{AreTold, IsAt, IsTold, LooksAreTold};
+ghost use Rattle.trace_replay.specs.Replays.{IsReplayed};
+ghost use Rattle.trace_replay.specs.Stretches.{ArePlansOf, AreTurnsOf};
+
+use crate::lake::Lake;
+use crate::trace::Trace;
+use batch_work::Work;
+use catalogue::Limits;
+use lake_model::Keys;
+use no_memory::NoMemory;
+use std::alloc::Global;
+use trace_ends::within_law;
+use trace_groups::Group;
+use trace_hints::Hint;
+use trace_numbers::{Owners, Plan, Turn, plans_of, turns_of};
+
+/// The hints of the first groups.
+pub(crate) fn hints_of(
+    alloc: Global,
+    groups: &[Group<'_>],
+    many: usize,
+) -> Result<Vec<Hint>, NoMemory>
+    requires { many ≤ length groups.now }
+    ensures { IfOk result (λ hints. map hint_as hints.items ≡ take many (map (λ group. hint_as group.hint) groups.now)) }
+{
+    let mut hints = Vec::with_capacity(alloc, many)?;
+    for group in &groups[..many] {
+        hints.push(group.hint)?;
+    }
+    Ok(hints)
+}
+
+// The turns of answers.
+fn all_turns(alloc: Global, hints: &[Hint]) -> Result<Vec<Turn>, NoMemory>
+    ensures { IfOk result (λ turns. AreTurnsOf (map hint_as hints.now) turns.items) }
+{
+    turns_of(alloc, hints)
+}
+
+// The plans of merges.
+fn all_plans(alloc: Global, hints: &[Hint]) -> Result<Vec<Plan>, NoMemory>
+    ensures { IfOk result (λ plans. ArePlansOf (map hint_as hints.now) plans.items) }
+{
+    plans_of(alloc, hints)
+}
+
+// Plans the merges and makes the answers of one position, but that of the next entry. It says whether these are as the trace tells.
+fn replay_at(
+    lake: &mut Lake,
+    trace: &Trace<'_>,
+    turns: &[Turn],
+    plans: &[Plan],
+    at: u64,
+) -> Result<bool, NoMemory>
+    requires at { IsAt trace.now at lake.old }
+    requires turns { AreTurnsOf trace.now.hints turns.now }
+    requires plans { ArePlansOf trace.now.hints plans.now }
+    ensures sound { IfOk result (λ yes. yes ≡ true → LooksAreTold trace.now at) }
+    ensures complete { IfOk result (λ yes. AreTold trace.now → yes ≡ true) }
+    ensures at { IfOk result (λ yes. yes ≡ true → IsAt trace.now at lake.new) }
+{
+    lake.plan_at(trace, plans, at)?;
+    lake.look_at(trace, turns, at)
+}
+
+// The same, and then the answer that adds the next entry.
+fn replay_and_add(
+    lake: &mut Lake,
+    trace: &Trace<'_>,
+    turns: &[Turn],
+    plans: &[Plan],
+    owner: usize,
+    at: u64,
+) -> Result<bool, NoMemory>
+    requires at { IsAt trace.now at lake.old }
+    requires turns { AreTurnsOf trace.now.hints turns.now }
+    requires plans { ArePlansOf trace.now.hints plans.now }
+    requires owner { IsOwner trace.now.hints (at + 1) owner }
+    ensures sound { IfOk result (λ yes. yes ≡ true → LooksAreTold trace.now at × IsTold trace.now owner) }
+    ensures complete { IfOk result (λ yes. AreTold trace.now → yes ≡ true) }
+    ensures at { IfOk result (λ yes. yes ≡ true → IsAt trace.now (at + 1) lake.new) }
+{
+    trace.positions();
+    within_law();
+    if !replay_at(lake, trace, turns, plans, at)? {
+        return Ok(false);
+    }
+    lake.answer(trace, owner)
+}
+
+// All positions, from the first to the last. It says whether all answers are as the trace tells.
+fn replay_all(
+    lake: &mut Lake,
+    trace: &Trace<'_>,
+    turns: &[Turn],
+    plans: &[Plan],
+    owners: &[usize],
+) -> Result<bool, NoMemory>
+    requires at { IsAt trace.now 0 lake.old }
+    requires turns { AreTurnsOf trace.now.hints turns.now }
+    requires plans { ArePlansOf trace.now.hints plans.now }
+    requires owners { AreOwners trace.now.hints owners.now }
+    ensures sound { IfOk result (λ yes. yes ≡ true → AreTold trace.now) }
+    ensures complete { IfOk result (λ yes. AreTold trace.now → yes ≡ true) }
+    ensures at { IfOk result (λ yes. yes ≡ true → IsAt trace.now (length owners.now) lake.new) }
+{
+    trace.positions();
+    within_law();
+    for (at, owner) in owners.iter().enumerate() {
+        if !replay_and_add(lake, trace, turns, plans, *owner, at as u64)? {
+            return Ok(false);
+        }
+    }
+    replay_at(lake, trace, turns, plans, owners.len() as u64)
+}
+
+// All positions, and the journal behind them. It says whether the trace is that of what was made.
+fn replay_in(
+    lake: &mut Lake,
+    trace: &Trace<'_>,
+    turns: &[Turn],
+    plans: &[Plan],
+    owners: &[usize],
+) -> Result<bool, NoMemory>
+    requires at { IsAt trace.now 0 lake.old }
+    requires turns { AreTurnsOf trace.now.hints turns.now }
+    requires plans { ArePlansOf trace.now.hints plans.now }
+    requires owners { AreOwners trace.now.hints owners.now }
+    ensures sound { IfOk result (λ yes. yes ≡ true → IsReplayed trace.now.rules trace.now.commands trace.now.hints trace.now.texts) }
+    ensures complete { IfOk result (λ yes. IsReplayed trace.now.rules trace.now.commands trace.now.hints trace.now.texts → yes ≡ true) }
+{
+    trace.positions();
+    if !replay_all(lake, trace, turns, plans, owners)? {
+        return Ok(false);
+    }
+    lake.has_journal(trace.text(trace.last()))
+}
+
+/// Whether each answer of a trace, made again at the position that its hint tells, has the lines of its group, and the journal has those of
+/// the last group. The groups are those of the answers to `works`, in their order, and behind them that of the journal. `owners` has the
+/// answer that made each entry, and the positions of the hints have passed the tests on numbers.
+///
+/// The first answer that differs says no, and what comes behind it is not made again. An answer that tells of want of memory is right if it has
+/// those lines; all others are made, each at the cost of its command, and want of memory for that is an error and never a verdict.
+pub fn replay(
+    alloc: Global,
+    keys: Keys,
+    limits: Limits,
+    works: &[Work<'_>],
+    groups: &[Group<'_>],
+    owners: &Owners,
+) -> Result<bool, NoMemory>
+    // the limits are at most those of a lake as it is shipped
+    requires limits { IsWithin wide_limits limits }
+    requires many { length groups.now ≡ length works.now + 1 }
+    requires owners { AreOwners (take (length works.now) (map (λ group. hint_as group.hint) groups.now)) owners.now.indices.items }
+    requires positions { ArePositions (works_of works.now) (take (length works.now) (map (λ group. hint_as group.hint) groups.now)) }
+    ensures sound { IfOk result (λ yes. yes ≡ true → IsReplayed (rules_with keys limits) (works_of works.now) (take (length works.now) (map (λ group. hint_as group.hint) groups.now)) (map (λ group. group.text.now) groups.now)) }
+    ensures complete { IfOk result (λ yes. IsReplayed (rules_with keys limits) (works_of works.now) (take (length works.now) (map (λ group. hint_as group.hint) groups.now)) (map (λ group. group.text.now) groups.now) → yes ≡ true) }
+{
+    let hints = hints_of(alloc, groups, works.len())?;
+    let turns = all_turns(alloc, &hints)?;
+    let plans = all_plans(alloc, &hints)?;
+    let trace = Trace::new(keys, limits, works, &hints, groups);
+    let mut lake = Lake::new(alloc, limits)?;
+    replay_in(&mut lake, &trace, &turns, &plans, &owners.indices)
+}

@@ -1,0 +1,206 @@
+//! Traces of small runs, as the checks of the repository have them, and with one thing changed.
+ghost use Rattle.std.specs.Prelude.{◌≡◌, ◌≤◌, IfOk};
+ghost use Rattle.script_model.specs.Lanes.{IsOfLanes};
+ghost use Rattle.commands.specs.Tasks.{IsTaskInRange};
+
+use crate::replay;
+use crate::replaying::hints_of;
+use batch_work::works_of;
+use catalogue::Limits;
+use column_set::Name;
+use commands::{Batch, Body, Command, Task};
+use lake_model::Keys;
+use std::alloc::Global;
+use std::test::Fail;
+use trace_ends::within_law;
+use trace_groups::cut_trace;
+use trace_numbers::find_owners;
+
+// The name that a text is.
+fn name(text: &str) -> Result<Name, Fail> {
+    Ok(Name::read(text.as_bytes()).ok_or("no name")?)
+}
+
+// A body of these bytes.
+fn body(alloc: Global, text: &str) -> Result<Body, Fail> {
+    Ok(Body::new(Vec::from_slice(alloc, text.as_bytes())?).ok_or("no body")?)
+}
+
+// A command.
+fn command(number: u64, lane: u32, task: Task) -> Command
+    requires lane { 1 ≤ lane }
+    requires task { IsTaskInRange task }
+    ensures { result.lane ≡ lane }
+{
+    Command { number, lane, task }
+}
+
+// The load of a table of one column with the key x, on lane 1.
+fn load(alloc: Global, number: u64, table: &str) -> Result<Command, Fail>
+    ensures { IfOk result (λ command. command.lane ≡ 1) }
+{
+    let task = Task::Load {
+        name: name(table)?,
+        body: body(alloc, "c\nx\n")?,
+    };
+    Ok(command(number, 1, task))
+}
+
+// A search for that key, on lane 1.
+fn search(alloc: Global, number: u64) -> Result<Command, Fail>
+    ensures { IfOk result (λ command. command.lane ≡ 1) }
+{
+    let task = Task::Search {
+        k: 9,
+        body: body(alloc, "x\n")?,
+    };
+    Ok(command(number, 1, task))
+}
+
+// Lane 1 loads two tables, searches them and drops the first.
+fn drops(alloc: Global) -> Result<Batch, Fail>
+    ensures { IfOk result (λ batch. IsOfLanes 2 batch) }
+{
+    let task = Task::Drop { name: name("a")? };
+    let commands = [
+        load(alloc, 1, "a")?,
+        load(alloc, 2, "b")?,
+        search(alloc, 3)?,
+        command(4, 1, task),
+    ];
+    Ok(Batch::new(Vec::from_array(alloc, commands)?))
+}
+
+// Lane 1 loads two tables, merges all and searches; lane 2 replaces the first.
+fn merges(alloc: Global) -> Result<Batch, Fail>
+    ensures { IfOk result (λ batch. IsOfLanes 2 batch) }
+{
+    let task = Task::Replace {
+        name: name("a")?,
+        body: body(alloc, "c\ny\n")?,
+    };
+    let commands = [
+        load(alloc, 1, "a")?,
+        load(alloc, 2, "b")?,
+        command(3, 1, Task::Merge { all: true }),
+        command(4, 2, task),
+        search(alloc, 5)?,
+    ];
+    Ok(Batch::new(Vec::from_array(alloc, commands)?))
+}
+
+// Whether these groups are a trace of a batch. There are as many as the batch wants, and their positions are those of a run.
+fn replays(alloc: Global, batch: &Batch, groups: &[&str]) -> Result<bool, Fail>
+    requires { IsOfLanes 2 batch.now }
+{
+    let mut trace = Vec::new(alloc);
+    for group in groups {
+        trace.extend_from_slice(group.as_bytes())?;
+    }
+    let works = works_of(alloc, batch, None)?;
+    let groups = cut_trace(alloc, &trace)?.ok_or("no groups")?;
+    if groups.len() != works.len() + 1 {
+        return Err(Fail::from("other groups"));
+    }
+    let hints = hints_of(alloc, &groups, works.len())?;
+    let batches = std::slice::from_ref(batch);
+    let owners = find_owners(alloc, 2, false, batches, &hints)?.ok_or("no owners")?;
+    within_law();
+    let keys = Keys::Canonical;
+    let limits = Limits::standard();
+    Ok(replay(alloc, keys, limits, &works, &groups, &owners)?)
+}
+
+const LOADED_A: &str = "1 loaded a columns 1 members 1 at 1\n";
+
+const LOADED_B: &str = "2 loaded b columns 1 members 1 at 2\n";
+
+const FOUND: &str =
+    "3 answer 2 of 1 at 2\n  1 a 1 \"c\"\n  1 b 1 \"c\"\n  work reads 2 probes 0\n  layout at 2 parts 1:1 2:2\n";
+
+const DROPPED: &str = "4 dropped a at 3\n";
+
+const JOURNAL: &str =
+    "journal 3\n  1 load lane 1 command 1 a\n  2 load lane 1 command 2 b\n  3 drop lane 1 command 4 a\n";
+
+#[test]
+fn a_trace_as_it_is_written(rt: HostRuntime) -> Result<(), Fail> {
+    let alloc = rt.alloc();
+    let trace = [LOADED_A, LOADED_B, FOUND, DROPPED, JOURNAL];
+    assert!(rt; replays(alloc, &drops(alloc)?, &trace)?);
+    Ok(())
+}
+
+#[test]
+fn another_number_in_an_answer(rt: HostRuntime) -> Result<(), Fail> {
+    let alloc = rt.alloc();
+    let loaded = "2 loaded b columns 1 members 2 at 2\n";
+    let trace = [LOADED_A, loaded, FOUND, DROPPED, JOURNAL];
+    assert!(rt; !replays(alloc, &drops(alloc)?, &trace)?);
+    Ok(())
+}
+
+// The tables are listed before the load or behind it.
+#[test]
+fn an_answer_of_another_position(rt: HostRuntime) -> Result<(), Fail> {
+    let alloc = rt.alloc();
+    let commands = [load(alloc, 1, "a")?, command(2, 2, Task::Tables)];
+    let batch = Batch::new(Vec::from_array(alloc, commands)?);
+    let journal = "journal 1\n  1 load lane 1 command 1 a\n";
+    let listed = "2 tables 1 at 1\n  a columns 1 members 1\n";
+    assert!(rt; replays(alloc, &batch, &[LOADED_A, listed, journal])?);
+    let early = "2 tables 1 at 0\n  a columns 1 members 1\n";
+    assert!(rt; !replays(alloc, &batch, &[LOADED_A, early, journal])?);
+    assert!(rt; replays(alloc, &batch, &[LOADED_A, "2 tables 0 at 0\n", journal])?);
+    Ok(())
+}
+
+#[test]
+fn a_journal_that_lacks_a_line(rt: HostRuntime) -> Result<(), Fail> {
+    let alloc = rt.alloc();
+    let journal = "journal 3\n  1 load lane 1 command 1 a\n  2 load lane 1 command 2 b\n";
+    let trace = [LOADED_A, LOADED_B, FOUND, DROPPED, journal];
+    assert!(rt; !replays(alloc, &drops(alloc)?, &trace)?);
+    Ok(())
+}
+
+// Memory may have been wanting for any command. The drop then adds no entry.
+#[test]
+fn want_of_memory(rt: HostRuntime) -> Result<(), Fail> {
+    let alloc = rt.alloc();
+    let batch = drops(alloc)?;
+    let trace = [LOADED_A, LOADED_B, "3 no memory\n", DROPPED, JOURNAL];
+    assert!(rt; replays(alloc, &batch, &trace)?);
+    let journal = "journal 2\n  1 load lane 1 command 1 a\n  2 load lane 1 command 2 b\n";
+    let trace = [LOADED_A, LOADED_B, FOUND, "4 no memory\n", journal];
+    assert!(rt; replays(alloc, &batch, &trace)?);
+    let trace = [LOADED_A, LOADED_B, FOUND, "4 no memory at all\n", journal];
+    assert!(rt; !replays(alloc, &batch, &trace)?);
+    Ok(())
+}
+
+const REPLACED: &str = "4 replaced a columns 1 members 1 at 3\n";
+
+// The merge is planned before the replace and swapped in behind it, or planned behind it as well.
+#[test]
+fn a_merge_that_was_planned_before(rt: HostRuntime) -> Result<(), Fail> {
+    let alloc = rt.alloc();
+    let batch = merges(alloc)?;
+    let before = "3 merged 2 parts into 2 tables at 4\n  layout at 2 parts 1:1 2:2\n";
+    let found =
+        "5 answer 1 of 1 at 4\n  1 b 1 \"c\"\n  work reads 1 probes 0\n  layout at 4 parts 4:1-,2 3:3\n";
+    let journal =
+        "journal 4\n  1 load lane 1 command 1 a\n  2 load lane 1 command 2 b\n  3 replace lane 2 command 4 a\n  4 swap lane 1 command 3 from 1,2 kept 1,2\n";
+    let trace = [LOADED_A, LOADED_B, before, REPLACED, found, journal];
+    assert!(rt; replays(alloc, &batch, &trace)?);
+    let behind = "3 merged 3 parts into 2 tables at 4\n  layout at 3 parts 1:1- 2:2 3:3\n";
+    let trace = [LOADED_A, LOADED_B, behind, REPLACED, found, journal];
+    assert!(rt; !replays(alloc, &batch, &trace)?);
+    let found =
+        "5 answer 1 of 1 at 4\n  1 b 1 \"c\"\n  work reads 1 probes 0\n  layout at 4 parts 4:2,3\n";
+    let journal =
+        "journal 4\n  1 load lane 1 command 1 a\n  2 load lane 1 command 2 b\n  3 replace lane 2 command 4 a\n  4 swap lane 1 command 3 from 1,2,3 kept 2,3\n";
+    let trace = [LOADED_A, LOADED_B, behind, REPLACED, found, journal];
+    assert!(rt; replays(alloc, &batch, &trace)?);
+    Ok(())
+}
