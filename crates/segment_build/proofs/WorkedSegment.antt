@@ -15,6 +15,7 @@ use Rattle.search_model.specs.Segment.{columns_of, segment, Token, tokens_of}
 use Rattle.search_model.proofs.RankLemmas.{ranks_are}
 use Rattle.search_model.specs.declared.TokenAt.{TokenAt}
 use Rattle.segment_core.specs.Hashes.{AreKept, AreKeys, IsByHash}
+use Rattle.segment_core.specs.declared.hashes.HashedToken.{HashedToken}
 use Rattle.segment_core.proofs.SegmentLemmas.{keys_kept}
 use Rattle.segment_build.specs.Worked.{worked_owners, worked_postings, worked_table, worked_tokens}
 
@@ -75,8 +76,8 @@ worked_arrays = record {
 pub worked_keys : AreKeys (worked_table ∷ []) worked_owners worked_tokens
 worked_keys = keys_kept _ _ _ _ _ _ _ _ worked_arrays
 
-pub worked_kept : (hashes numbers : List ℕ) → IsByHash (segment (worked_table ∷ [])).tokens hashes numbers → AreKept (worked_table ∷ []) worked_owners worked_tokens hashes numbers (0 ∷ 1 ∷ 3 ∷ []) worked_postings (0 ∷ 2 ∷ 3 ∷ []) (0 ∷ 1 ∷ 1 ∷ [])
-worked_kept hashes numbers order = record { by_key = 1 ∷ 0 ∷ []; arrays = worked_arrays; order = order }
+pub worked_kept : (order : List HashedToken) → IsByHash (worked_table ∷ []) order → AreKept (worked_table ∷ []) worked_owners worked_tokens order (0 ∷ 1 ∷ 3 ∷ []) worked_postings (0 ∷ 2 ∷ 3 ∷ []) (0 ∷ 1 ∷ 1 ∷ [])
+worked_kept order is = record { by_key = 1 ∷ 0 ∷ []; arrays = worked_arrays; order = is }
 
 -- each column has its number for its rank
 pub worked_inverse : AreInverse (0 ∷ 1 ∷ []) (0 ∷ 1 ∷ [])

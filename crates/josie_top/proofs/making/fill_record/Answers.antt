@@ -8,7 +8,7 @@ use Rattle.option_model.specs.Generator.{made_options}
 use Rattle.record_model.specs.Play.{batch_after}
 use Rattle.record_model.specs.Record.{empty, with_end}
 use Rattle.script_model.specs.Options.{plain}
-use Rattle.lake_core.proofs.PastLemmas.{none_taken}
+use Rattle.command_replies.proofs.PastLemmas.{none_taken}
 use Rattle.josie_top.proofs.MakingFacts.{lake_made}
 use Rattle.josie_top.proofs.StreamFacts.{on_err, on_ok}
 use Rattle.josie_top.proofs.making.fill_record.Goals as goal

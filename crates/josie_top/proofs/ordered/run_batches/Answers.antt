@@ -5,7 +5,7 @@ use Rattle.record_model.specs.Rules.{rules_with}
 use Rattle.record_model.specs.Record.{Answered, RunRecord}
 use Rattle.script_model.specs.Options.{Options}
 use Rattle.lake_model.specs.declared.Counts.{Counts}
-use Rattle.lake_core.proofs.PastLemmas.{none_taken}
+use Rattle.command_replies.proofs.PastLemmas.{none_taken}
 use Rattle.josie_top.specs.Progress.{HasOneMore, IsUnderWay}
 use Rattle.josie_top.specs.World.{World, with_sink, world_of}
 use Rattle.josie_top.proofs.RunFacts.{starts, ends_between, is_answered, stands_still, moves_since, memory_moves, moved_on}

@@ -17,7 +17,7 @@ use Rattle.record_model.specs.Watched.{watch_text_behind}
 use Rattle.column_watch.specs.Watching.{WatchesOf, watches_with}
 use Rattle.josie_top.specs.Given.{all_watched}
 use Rattle.josie_top.specs.Progress.{HasOneMore}
-use Rattle.lake_core.proofs.PastLemmas.{none_taken}
+use Rattle.command_replies.proofs.PastLemmas.{none_taken}
 use Rattle.josie_top.specs.Watching.{IsWatched, unwritten}
 use Rattle.josie_top.specs.World.{World, world_of}
 use Rattle.josie_top.proofs.RunFacts.{answered_ends, answered_goes, answered_stops, done_moves, ends_between, is_answered, moves_since, moved_on, stands_still, starts}

@@ -1,6 +1,5 @@
 use Rattle.std.proofs.Common.{◌≡◌, ◌∙◌, ap, subst, List, [], ◌∷◌, lit<}
 use Rattle.lake_model.specs.Tables.{Table}
-use Rattle.search_model.specs.Segment.{segment}
 use Rattle.segment_core.specs.Hashes.{IsByHash}
 use Rattle.segment_build.specs.Worked.{worked_table}
 use Rattle.segment_build.proofs.WorkedSegment.{worked_inverse, worked_kept, worked_keys, worked_ranks}
@@ -17,10 +16,8 @@ order_by_hash-requires-clause-few c = rw (c.deref-3.ensures.value, c.in_ok-token
 pub new-requires-clause-arrays : goal.new-requires-clause-arrays
 new-requires-clause-arrays c =
     let tables : c.in_ok-tables.tables.items ≡ worked_table ∷ [] = c.in_ok-tables.ensures.items ∙ ap (λ (t : Table). t ∷ []) c.in_ok-table.ensures in
-    let hashes = c.in_ok-by_hash.by_hash.hashes.items in
-    let numbers = c.in_ok-by_hash.by_hash.tokens.items in
-    let order = subst (λ (ts : List Table). IsByHash (segment ts).tokens hashes numbers) (c.deref.ensures.value ∙ tables) c.in_ok-by_hash.ensures in
-    rw (tables, c.in_ok-owners.ensures, c.in_ok-tokens.ensures, c.in_ok-list_starts.ensures.items, c.in_ok-postings.ensures, c.in_ok-set_starts.ensures.items, c.in_ok-set_tokens.ensures.items) (worked_kept hashes numbers order)
+    let order = subst (λ (ts : List Table). IsByHash ts c.in_ok-by_hash.by_hash) (c.deref.ensures.value ∙ tables) c.in_ok-by_hash.ensures in
+    rw (tables, c.in_ok-owners.ensures, c.in_ok-tokens.ensures, c.in_ok-list_starts.ensures.items, c.in_ok-postings.ensures, c.in_ok-set_starts.ensures.items, c.in_ok-set_tokens.ensures.items) (worked_kept c.in_ok-by_hash.by_hash order)
 
 pub new-requires-clause-ranks : goal.new-requires-clause-ranks
 new-requires-clause-ranks c =

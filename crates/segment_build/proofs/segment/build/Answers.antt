@@ -54,7 +54,7 @@ new-requires-clause-arrays c =
     record {
       by_key = by_key;
       arrays = subst (λ (ns : List ℕ). AreArrays c.args.tables.items c.in_ok-sets.sets.owners.items tokens by_key ns postings c.in_ok-sets.sets.starts.items c.in_ok-sets.sets.tokens.items) (sym c.in_ok-starts.ensures.starts) are;
-      order = subst (λ (ts : List Table). IsByHash (segment ts).tokens c.in_ok-by_hash.by_hash.hashes.items c.in_ok-by_hash.by_hash.tokens.items) c.deref-5.ensures.value c.in_ok-by_hash.ensures;
+      order = subst (λ (ts : List Table). IsByHash ts c.in_ok-by_hash.by_hash) c.deref-5.ensures.value c.in_ok-by_hash.ensures;
     }
 
 pub new-requires-clause-ranks : goal.new-requires-clause-ranks
