@@ -12,8 +12,8 @@ use Rattle.clap.specs.ValueTests.{is_numeral}
 use Rattle.std.specs.Char.{digit_value}
 use Rattle.lake_model.specs.Texts.{Text}
 use Rattle.script_model.specs.Options.{Options}
-use Rattle.option_model.specs.Plain.{Mode, NoValue, Run, Taken, make_mode, nothing_given, plain_mode, run_mode, run_options, take_words, watch_mode}
-use Rattle.command_line.specs.Words.{make_words, mode_of, mode_read, number_read, run_words, watch_words}
+use Rattle.option_model.specs.Plain.{Mode, NoValue, Run, Taken, make_mode, nothing_given, plain_mode, run_mode, check_mode, check_with, run_options, take_words, watch_mode}
+use Rattle.command_line.specs.Words.{check_words, make_words, mode_of, mode_read, number_read, run_words, watch_words}
 use Rattle.command_line.specs.declared.words.Mode.{Mode as Given}
 use Rattle.command_line.specs.declared.words.WordsRefused.{WordsRefused}
 use Rattle.command_line.specs.declared.words.WordsRefused.TheVariants as refused
@@ -21,10 +21,23 @@ use Rattle.command_line.proofs.MakeLemmas.{make_is_read}
 use Rattle.command_line.proofs.OptionLemmas.{run_is_read}
 use Rattle.command_line.proofs.WatchLemmas.{watch_is_read}
 
+-- the mode that plain words behind `check` say
+check_is_read : (words : List Text) (mode : Mode) → check_mode words ≡ Some mode → check_words words ≡ Some mode
+check_is_read [] mode e = cc e
+check_is_read (trace ∷ words) mode e = by (run_options taken.given taken.awaited) refl e
+  where
+    taken : Taken
+    taken = take_words nothing_given NoValue words
+
+    by : (said : Option Options) → run_options taken.given taken.awaited ≡ said → check_with trace said ≡ Some mode → check_with trace (run_words words) ≡ Some mode
+    by None is e = absurd (nothing (is_path trace) e)
+    by (Some options) is e = ap (check_with trace) (run_is_read words options is) ∙ e
+
 -- The mode that plain words say is the one that is read in them
 pub plain_is_read : (words : List Text) (mode : Mode) → plain_mode words ≡ Some mode → mode_read words ≡ Some mode
 plain_is_read [] mode e = cc e
-plain_is_read (word ∷ words) mode e = by (bytes_eq word (codes "run")) (bytes_eq word (codes "make")) (bytes_eq word (codes "watch")) e
+plain_is_read (word ∷ words) mode e =
+    by (bytes_eq word (codes "run")) (bytes_eq word (codes "make")) (bytes_eq word (codes "watch")) (bytes_eq word (codes "check")) e
   where
     taken : Taken
     taken = take_words nothing_given NoValue words
@@ -33,12 +46,14 @@ plain_is_read (word ∷ words) mode e = by (bytes_eq word (codes "run")) (bytes_
     run None is e = cc e
     run (Some options) is e = ap (option_map Run) (run_is_read words options is) ∙ e
 
-    by : (b c d : Bool) → cond b (run_mode (take_words nothing_given NoValue words)) (cond c (make_mode words) (cond d (watch_mode words) None)) ≡ Some mode
-        → cond b (option_map Run (run_words words)) (cond c (make_words words) (cond d (watch_words words) None)) ≡ Some mode
-    by true c d e = run (run_options taken.given taken.awaited) refl e
-    by false true d e = make_is_read words mode e
-    by false false true e = watch_is_read words mode e
-    by false false false e = cc e
+    by : (b c d a : Bool)
+        → cond b (run_mode (take_words nothing_given NoValue words)) (cond c (make_mode words) (cond d (watch_mode words) (cond a (check_mode words) None))) ≡ Some mode
+        → cond b (option_map Run (run_words words)) (cond c (make_words words) (cond d (watch_words words) (cond a (check_words words) None))) ≡ Some mode
+    by true c d a e = run (run_options taken.given taken.awaited) refl e
+    by false true d a e = make_is_read words mode e
+    by false false true a e = watch_is_read words mode e
+    by false false false true e = check_is_read words mode e
+    by false false false false e = cc e
 
 -- what `get_one` reads of the text of a flag
 pub flag_read : (E : Type 0) (text : Option Text) (value : Option Bool) → (text ≡ None → value ≡ None) → ((t : Text) → text ≡ Some t → ReadsOne {E = E} ParsesBool t value)

@@ -17,7 +17,7 @@ use Rattle.script_model.specs.Options.{Options, options_with}
 use Rattle.option_model.specs.Ranges.{AreInRange}
 use Rattle.option_model.specs.Plain as model
 use Rattle.command_line.specs.declared.words.Mode.{Mode}
-use Rattle.command_line.specs.declared.words.Mode.TheVariants.{Run, Make, Watch}
+use Rattle.command_line.specs.declared.words.Mode.TheVariants.{Run, Make, Watch, Check}
 use Rattle.command_line.specs.declared.words.WordsRefused.{WordsRefused}
 use Rattle.command_line.specs.declared.words.WordsRefused.TheVariants as refused
 
@@ -25,11 +25,13 @@ abbrev pub mode_of : Mode → model.Mode
 mode_of (Run options) = model.Run options
 mode_of (Make seed tables rows) = model.Make seed tables rows
 mode_of (Watch k paths) = model.Watch k (map string_bytes paths.items)
+mode_of (Check trace options) = model.Check (string_bytes trace) options
 
 abbrev pub IsModeInRange : model.Mode → Type 0
 IsModeInRange (model.Run options) = AreInRange options
 IsModeInRange (model.Make seed tables rows) = (seed < 2 ^ 32) × (1 ≤ tables) × (tables ≤ 1000) × (1 ≤ rows) × (rows ≤ 5000)
 IsModeInRange (model.Watch k paths) = (1 ≤ k) × (k ≤ 10000) × (1 ≤ length paths) × (length paths ≤ 16)
+IsModeInRange (model.Check trace options) = AreInRange options × (options.trace ≡ true)
 
 abbrev pub refusal_by : ErrorKind → WordsRefused
 refusal_by kind.OutOfMemory = refused.NoMemory
@@ -133,16 +135,27 @@ watch_held matches = watch_of (number_held (codes "k") matches) (paths_held matc
 abbrev pub watch_words : List Text → Option model.Mode
 watch_words words = held_without (fault_of watch_command words) (watch_held (matches_of watch_command words))
 
+-- the path of the trace comes first; the words behind it are read as those of `run`, but neither an order nor a trace is asked for
+abbrev pub check_words : List Text → Option model.Mode
+check_words [] = None
+check_words (trace ∷ words) = model.check_with trace (run_words words)
+
 -- whether the first word is a mode
 abbrev pub names_mode : List Text → Bool
 names_mode [] = false
-names_mode (word ∷ words) = if bytes_eq word (codes "run") then true else if bytes_eq word (codes "make") then true else bytes_eq word (codes "watch")
+names_mode (word ∷ words) =
+    if bytes_eq word (codes "run") then true
+    else if bytes_eq word (codes "make") then true
+    else if bytes_eq word (codes "watch") then true
+    else bytes_eq word (codes "check")
 
--- the mode of the words: none where the first is no mode, clap refuses the words behind it, the order breaks its rule, or there are more than 16 paths
+-- the mode of the words: none where the first is no mode, clap refuses the words behind it, the order breaks its rule, there are more than 16 paths, or what
+-- follows `check` is no path or asks for an order or a trace
 abbrev pub mode_read : List Text → Option model.Mode
 mode_read [] = None
 mode_read (word ∷ words) =
     if bytes_eq word (codes "run") then option_map model.Run (run_words words)
     else if bytes_eq word (codes "make") then make_words words
     else if bytes_eq word (codes "watch") then watch_words words
+    else if bytes_eq word (codes "check") then check_words words
     else None

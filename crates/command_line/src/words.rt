@@ -2,9 +2,9 @@
 ghost use Rattle.std.specs.Prelude.{ℕ, ◌≡◌, ◌≤◌, ◌⊎◌, ◌&&◌, false, Some, None, Err, map, nat_le, pos, string_bytes, IfOk, IfErr, MatchResult, option_map};
 ghost use Rattle.clap.specs.Walk.{rule_of};
 ghost use Rattle.clap.specs.Words.{app_of, found_of, rows_of};
-ghost use Rattle.option_model.specs.Plain.{Mode as ModeOf, keys_of_profile, plain_mode};
+ghost use Rattle.option_model.specs.Plain.{Mode as ModeOf, is_path, keys_of_profile, plain_mode};
 ghost use Rattle.option_model.specs.Ranges.{AreInRange};
-ghost use Rattle.command_line.specs.Words.{IsModeInRange, bare, flag_of, flag_option, lanes_option, order_option, profile_option, make_command as make_app, make_held, make_words, mode_of, mode_read, names_mode, number_held, number_word, options_held, order_stated, path_words, paths_held, run_command as run_app, run_words, watch_command as watch_app, watch_held, watch_words};
+ghost use Rattle.command_line.specs.Words.{IsModeInRange, bare, check_words, flag_of, flag_option, lanes_option, order_option, profile_option, make_command as make_app, make_held, make_words, mode_of, mode_read, names_mode, number_held, number_word, options_held, order_stated, path_words, paths_held, run_command as run_app, run_words, watch_command as watch_app, watch_held, watch_words};
 
 use clap::builder::ValueParser;
 use clap::error::ErrorKind;
@@ -28,6 +28,9 @@ pub enum Mode {
     /// A script changes a lake, and the first `k` rows of the queries in the files at these paths are watched: 1 to 10,000 rows of each, and
     /// 1 to 16 paths.
     Watch { k: u32, paths: Vec<String> },
+    /// The trace in the file at this path is checked, as that of a run of the script with these options. Their trace is on, and they state no
+    /// order.
+    Check { trace: String, options: Options },
 }
 
 /// Why the words of a command line give no mode.
@@ -314,11 +317,45 @@ fn watch_mode(alloc: Global, words: &[String]) -> Result<Mode, WordsRefused>
     watch_held(alloc, &matches)
 }
 
+// Whether a word may be the path of the trace.
+fn is_path(word: &str) -> bool
+    ensures { result ≡ is_path word.now }
+{
+    word.as_bytes().first().is_some_and(|byte| *byte != b'-')
+}
+
+// The mode that the words behind `check` say.
+fn check_mode(alloc: Global, words: &[String]) -> Result<Mode, WordsRefused>
+    ensures read { IfOk result (λ mode. check_words (map string_bytes words.now) ≡ Some (mode_of mode)) }
+    ensures in_range { IfOk result (λ mode. IsModeInRange (mode_of mode)) }
+    ensures refused { IfErr result (λ e. (e ≡ WordsRefused.NoMemory) ⊎ (check_words (map string_bytes words.now) ≡ None)) }
+{
+    let [trace, arguments @ ..] = words else {
+        return Err(WordsRefused::Usage);
+    };
+    if !is_path(trace.as_str()) {
+        return Err(WordsRefused::Usage);
+    }
+    let options = run_options(alloc, arguments)?;
+    if options.order.is_some() || options.trace {
+        return Err(WordsRefused::Usage);
+    }
+    let trace = String::from_str(alloc, trace.as_str())?;
+    Ok(Mode::Check {
+        trace,
+        options: Options {
+            trace: true,
+            ..options
+        },
+    })
+}
+
 /// The mode that the words behind the program's name say. The first word is the mode, byte for byte, and clap reads the words behind
 /// it. `run` takes `--lanes N`, `--order LIST`, `--merge`, `--trace` and `--profile P`, each at most once and in any order: N is 1 to 16,
 /// and 1 where it is not said; LIST is pieces with `/` between, and a piece is empty, or numbers of lanes with `,` between, where 0 is the
 /// merger; P is 1 or 2, and 1 where it is not said, and by profile 2 values are compared by their compatibility forms. `make` takes a seed
 /// below 4,294,967,296, 1 to 1,000 tables, and 1 to 5,000 rows. `watch` takes a number of rows, 1 to 10,000, and 1 to 16 paths.
+/// `check` takes a path, which is not empty and does not begin with `-`, and behind it `--lanes N`, `--merge` and `--profile P`.
 #[tactic(auto, using(crate::proofs::ModeLemmas::plain_is_read, std::proofs::lemmas::Grind::common_steps))]
 pub fn read_words(alloc: Global, words: &[String]) -> Result<Mode, WordsRefused>
     // plain words give what they say, or memory is wanting
@@ -338,6 +375,7 @@ pub fn read_words(alloc: Global, words: &[String]) -> Result<Mode, WordsRefused>
         "run" => Ok(Mode::Run(run_options(alloc, arguments)?)),
         "make" => make_mode(alloc, arguments),
         "watch" => watch_mode(alloc, arguments),
+        "check" => check_mode(alloc, arguments),
         _ => Err(WordsRefused::Usage),
     }
 }

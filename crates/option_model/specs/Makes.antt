@@ -3,7 +3,7 @@
 use Rattle.std.specs.Prelude.{ℕ, ◌≡◌, ◌⊎◌, true, List, [], ◌∷◌}
 use Rattle.record_model.specs.Rules.{Rules}
 use Rattle.record_model.specs.declared.Status.{Status}
-use Rattle.record_model.specs.declared.Status.TheVariants.{Done, Script, Usage, Given, ReadFault, WriteFault, NoMemory}
+use Rattle.record_model.specs.declared.Status.TheVariants.{Done, Script, Usage, Given, ReadFault, WriteFault, Refuted, NoMemory}
 use Rattle.record_model.specs.Record.{RunRecord}
 use Rattle.record_model.specs.Statuses.{IsPrefix, IsRecordOf, NothingDone}
 use Rattle.option_model.specs.Generator.{made_batch, made_options, summary}
@@ -21,4 +21,5 @@ MakeRow rules seed tables rows Usage taken made = ⊥
 MakeRow rules seed tables rows (Given path why) taken made = ⊥
 MakeRow rules seed tables rows ReadFault taken made = ⊥
 MakeRow rules seed tables rows WriteFault taken made = IsLakeMade rules seed tables rows made × IsPrefix taken (summary made)
+MakeRow rules seed tables rows Refuted taken made = ⊥
 MakeRow rules seed tables rows NoMemory taken made = NothingDone taken made ⊎ (IsLakeMade rules seed tables rows made × IsPrefix taken (summary made))

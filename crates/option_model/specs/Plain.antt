@@ -1,5 +1,5 @@
 -- The plain words of a command line, behind the program's name, and the mode that they say.
-use Rattle.std.specs.Prelude.{ℕ, ◌==◌, Bool, true, false, ◌&&◌, not, if◌then◌else◌, List, [], ◌∷◌, length, map, bytes_eq, codes, nat_le, Option, Some, None, option_map, is_some}
+use Rattle.std.specs.Prelude.{ℕ, ◌==◌, Bool, true, false, ◌&&◌, ◌||◌, not, if◌then◌else◌, List, [], ◌∷◌, length, map, bytes_eq, codes, nat_le, Option, Some, None, option_and_then, option_map, is_some}
 use Rattle.std.specs.List.{list_all, slice_split}
 use Rattle.lake_model.specs.Texts.{Text}
 use Rattle.lake_model.specs.declared.Keys.{Keys}
@@ -8,11 +8,12 @@ use Rattle.script_model.specs.Words.{number, number_or_zero}
 use Rattle.script_model.specs.Options.{Options, options_with}
 
 -- a script is run with these options; or a lake is made of a seed, so many tables, and so many rows in each; or the first k rows of the queries in
--- these files are watched while a script changes a lake
+-- these files are watched while a script changes a lake; or the trace in a file is checked, as that of a run of a script with these options
 pub data Mode : Type 0 where
   Run : (options : Options) → Mode
   Make : (seed tables rows : ℕ) → Mode
   Watch : (k : ℕ) (paths : List Text) → Mode
+  Check : (trace : Text) (options : Options) → Mode
 
 -- all of them, where each is there
 abbrev pub all_there : {X : Type 0} → List (Option X) → Option (List X)
@@ -147,6 +148,19 @@ abbrev pub watch_mode : List Text → Option Mode
 watch_mode (k ∷ path ∷ paths) = watch_with (path ∷ paths) (number 10000 k)
 watch_mode words = None
 
+-- ---- the words behind `check`: the path of the file that holds the trace, and then options, of which neither an order nor a trace is one
+
+-- the options of a run whose trace is checked: it had no stated order, and wrote a trace
+abbrev pub checked_options : Options → Option Options
+checked_options options = if is_some options.order || options.trace then None else Some (record options { trace = true })
+
+abbrev pub check_with : Text → Option Options → Option Mode
+check_with trace options = if is_path trace then option_map (Check trace) (option_and_then checked_options options) else None
+
+abbrev pub check_mode : List Text → Option Mode
+check_mode (trace ∷ words) = let taken = take_words nothing_given NoValue words in check_with trace (run_options taken.given taken.awaited)
+check_mode words = None
+
 -- ---- the mode
 
 abbrev pub run_mode : Taken → Option Mode
@@ -159,4 +173,5 @@ plain_mode (word ∷ words) =
     if bytes_eq word (codes "run") then run_mode (take_words nothing_given NoValue words)
     else if bytes_eq word (codes "make") then make_mode words
     else if bytes_eq word (codes "watch") then watch_mode words
+    else if bytes_eq word (codes "check") then check_mode words
     else None

@@ -5,7 +5,7 @@ use Rattle.std.specs.Io.KnownBytes.{IsAtEnd}
 use Rattle.record_model.specs.Rules.{Rules}
 use Rattle.lake_model.specs.Texts.{Text, lines_of}
 use Rattle.record_model.specs.declared.Status.{Status}
-use Rattle.record_model.specs.declared.Status.TheVariants.{Done, Script, Usage, Given, ReadFault, WriteFault, NoMemory}
+use Rattle.record_model.specs.declared.Status.TheVariants.{Done, Script, Usage, Given, ReadFault, WriteFault, Refuted, NoMemory}
 use Rattle.script_model.specs.declared.Reason.{Reason}
 use Rattle.script_model.specs.Commands.{Batch, File, fetches, updates}
 use Rattle.script_model.specs.Reading.{Reached, Stands, AtFault, LinesRead, read, read_with}
@@ -98,4 +98,5 @@ Row rules options outcomes came Usage given left taken made = (given ≡ []) × 
 Row rules options outcomes came (Given path why) given left taken made = ⊥
 Row rules options outcomes came ReadFault given left taken made = IsBrokenOff rules options came (begun options outcomes given) taken made
 Row rules options outcomes came WriteFault given left taken made = IsCutOff rules options outcomes came (script_of options outcomes given left) left taken made
+Row rules options outcomes came Refuted given left taken made = ⊥
 Row rules options outcomes came NoMemory given left taken made = NothingDone taken made ⊎ IsCutOff rules options outcomes came (script_of options outcomes given left) left taken made

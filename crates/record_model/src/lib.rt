@@ -39,6 +39,8 @@ pub enum Status {
     ReadFault,
     /// The sink failed.
     WriteFault,
+    /// The source was read to its end, and the trace that was checked is that of no right run of the script. All text was written.
+    Refuted,
     /// Memory was wanting.
     NoMemory,
 }
