@@ -9,8 +9,8 @@ ghost use Rattle.command_replies.specs.Drops.{dropped_by};
 ghost use Rattle.lake_desk.specs.Answering.{IsMade};
 
 use column_set::{Name, SharedTable};
-use lake::{Bounds, Lake, Pass};
 use command_replies::{reply_to_drop, reply_to_load, reply_to_replace};
+use lake::{Bounds, Lake, Pass};
 use run_record::Reply;
 use segment_core::Segment;
 use std::sync::{Arc, Wait};

@@ -13,8 +13,8 @@ ghost use Rattle.command_replies.specs.Merging.{swap_reply, swapped_by, CanSwap,
 ghost use Rattle.lake_desk.specs.Answering.{IsAnswered, IsMade};
 
 use catalogue::SwapRefused;
-use lake::{Bounds, Lake, Pass};
 use command_replies::{Planned, plan_pinned};
+use lake::{Bounds, Lake, Pass};
 use lake_io::{Gate, Point};
 use lake_model::Policy;
 use no_memory::NoMemory;
