@@ -12,7 +12,7 @@ use Rattle.clap.specs.ValueTests.{is_numeral}
 use Rattle.std.specs.Char.{digit_value}
 use Rattle.lake_model.specs.Texts.{Text}
 use Rattle.script_model.specs.Options.{Options}
-use Rattle.option_model.specs.Plain.{Mode, NoValue, Run, Taken, make_mode, nothing_given, plain_mode, run_mode, check_mode, check_with, run_options, take_words, watch_mode}
+use Rattle.option_model.specs.Plain.{Mode, NoValue, Run, Taken, check_mode, check_with, is_path, make_mode, nothing_given, plain_mode, run_mode, run_options, take_words, watch_mode}
 use Rattle.command_line.specs.Words.{check_words, make_words, mode_of, mode_read, number_read, run_words, watch_words}
 use Rattle.command_line.specs.declared.words.Mode.{Mode as Given}
 use Rattle.command_line.specs.declared.words.WordsRefused.{WordsRefused}
@@ -20,6 +20,10 @@ use Rattle.command_line.specs.declared.words.WordsRefused.TheVariants as refused
 use Rattle.command_line.proofs.MakeLemmas.{make_is_read}
 use Rattle.command_line.proofs.OptionLemmas.{run_is_read}
 use Rattle.command_line.proofs.WatchLemmas.{watch_is_read}
+
+nothing : {mode : Mode} (b : Bool) → cond {A = Option Mode} b None None ≡ Some mode → ⊥
+nothing true e = cc e
+nothing false e = cc e
 
 -- the mode that plain words behind `check` say
 check_is_read : (words : List Text) (mode : Mode) → check_mode words ≡ Some mode → check_words words ≡ Some mode
@@ -144,13 +148,18 @@ module _ (words : List Text) (word : Text) (rest : List Text) (parts : words ≡
   pub watch_named : word ≡ codes "watch" → mode_read words ≡ watch_words rest
   watch_named named = ap mode_read parts ∙ ap (λ (w : Text). mode_read (w ∷ rest)) named
 
+  pub check_named : word ≡ codes "check" → mode_read words ≡ check_words rest
+  check_named named = ap mode_read parts ∙ ap (λ (w : Text). mode_read (w ∷ rest)) named
+
   is_not : (name : Text) → (word ≡ name → ⊥) → bytes_eq word name ≡ false
   is_not name other = false_from_ne_true (bytes_eq word name) (λ same. other ((bytes_eq-Decides word name).0 same))
 
   -- another first word is no plain mode
-  pub no_mode : (word ≡ codes "run" → ⊥) → (word ≡ codes "make" → ⊥) → (word ≡ codes "watch" → ⊥) → plain_mode words ≡ None
-  no_mode not_run not_make not_watch =
+  pub no_mode : (word ≡ codes "run" → ⊥) → (word ≡ codes "make" → ⊥) → (word ≡ codes "watch" → ⊥) → (word ≡ codes "check" → ⊥) → plain_mode words ≡ None
+  no_mode not_run not_make not_watch not_check =
       ap plain_mode parts
-      ∙ ap (λ (b : Bool). cond b (run_mode (take_words nothing_given NoValue rest)) (cond (bytes_eq word (codes "make")) (make_mode rest) (cond (bytes_eq word (codes "watch")) (watch_mode rest) None)))
-      (is_not (codes "run") not_run)
-      ∙ ap₂ (λ (b d : Bool). cond b (make_mode rest) (cond d (watch_mode rest) None)) (is_not (codes "make") not_make) (is_not (codes "watch") not_watch)
+      ∙ ap₂ (λ (b c : Bool). by b c (bytes_eq word (codes "watch")) (bytes_eq word (codes "check"))) (is_not (codes "run") not_run) (is_not (codes "make") not_make)
+      ∙ ap₂ (λ (d a : Bool). by false false d a) (is_not (codes "watch") not_watch) (is_not (codes "check") not_check)
+    where
+      by : (b c d a : Bool) → Option Mode
+      by b c d a = cond b (run_mode (take_words nothing_given NoValue rest)) (cond c (make_mode rest) (cond d (watch_mode rest) (cond a (check_mode rest) None)))

@@ -340,7 +340,9 @@ fn check_mode(alloc: Global, words: &[String]) -> Result<Mode, WordsRefused>
     if options.order.is_some() || options.trace {
         return Err(WordsRefused::Usage);
     }
-    let trace = String::from_str(alloc, trace.as_str())?;
+    let Ok(trace) = String::from_str(alloc, trace.as_str()) else {
+        return Err(WordsRefused::NoMemory);
+    };
     Ok(Mode::Check {
         trace,
         options: Options {
