@@ -10,7 +10,8 @@ use std::{env, io};
 
 /// How the program is called.
 const USAGE: &str = "josie run [--lanes N] [--order LIST] [--merge] [--trace] [--profile P] \
-    or josie make SEED TABLES ROWS or josie watch K PATH...";
+    or josie make SEED TABLES ROWS or josie watch K PATH... \
+    or josie check TRACE [--lanes N] [--merge] [--profile P]";
 
 /// What `--help` alone prints.
 const HELP: &str = "josie run [--lanes N] [--order LIST] [--merge] [--trace] [--profile P]
@@ -53,6 +54,10 @@ josie make SEED TABLES ROWS
 josie watch K PATH...
     Reads a query from each file, 1 to 16 of them, one value a line; then runs the script on standard
     input, and writes no replies, but the first K rows (1 to 10000) of a query whenever they change.
+josie check TRACE [--lanes N] [--merge] [--profile P]
+    Reads the trace of a run, as --trace wrote it, from a file, then the script from standard input;
+    and writes yes if some right run of the script has this trace, byte for byte, and no if none has.
+    The options are those of the run.
 josie --help     prints this text
 josie --version  prints the version
 See README.md, docs/FORMATS.md and the manual page docs/josie.1.";
@@ -89,6 +94,7 @@ fn code(status: Status) -> u8 {
         Status::WriteFault => 4,
         Status::NoMemory => 5,
         Status::Given { .. } => 6,
+        Status::Refuted => 7,
     }
 }
 
@@ -133,6 +139,7 @@ fn explain<R: Eprint>(rt: &R, status: Status) {
         Status::WriteFault => eprintln!(rt; "josie: write failed"),
         Status::NoMemory => eprintln!(rt; "josie: no memory"),
         Status::Given { path, why } => explain_given(rt, path, why),
+        Status::Refuted => eprintln!(rt; "josie: refuted"),
     };
 }
 

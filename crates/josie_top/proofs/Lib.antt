@@ -8,3 +8,4 @@ mod RunFacts
 pub mod MakingFacts
 mod GivenFacts
 mod WatchFacts
+mod CheckFacts

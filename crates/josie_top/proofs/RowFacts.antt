@@ -205,16 +205,22 @@ cut_at_end rules options outcomes came script left batches asked made taken part
 
 -- ---- faults of the script and of the source
 
+-- the script whose line is the first at fault
+pub script_refused : (options : Options) (before mid : World) (left : Option (List ℕ)) (gathering : Gathering) (batches : List Batch) (more : List ℕ) (paths : List Text) (others : List File) (line : ℕ) (why : Reason)
+    → (been : AreRead options before mid gathering batches) → IsGoingOn options gathering → IsFaulty gathering left more paths others line why
+    → script_of options (been.outcomes ++ others) (been.given ++ more) left ≡ commands_with (batches ++ []) (FaultAt line why) (been.asked ++ paths)
+script_refused options before mid left gathering batches more paths others line why been goes faulty =
+    let here : commands_from (grammar_of standard options.lanes) (reading_at gathering.reading [] others) ((gathering.held ++ more) ++ left_of left) ≡ commands_with [] (FaultAt line why) paths =
+    subst (λ (g : Grammar). commands_from g (reading_at gathering.reading [] others) ((gathering.held ++ more) ++ left_of left) ≡ commands_with [] (FaultAt line why) paths) (grammar_is options gathering goes) faulty.commands in
+    script_front options before mid left gathering batches been goes more others ∙ ap (given_before batches been.asked) here
+
 -- The line is the first at fault.
 pub refused : (rules : Rules) (options : Options) (before mid now : World) (gathering : Gathering) (batches : List Batch) (made : RunRecord) (taken more : List ℕ) (paths : List Text) (others : List File) (line : ℕ) (why : Reason)
     → HasMoved before mid → (been : AreRead options before mid gathering batches) → IsGoingOn options gathering → IsMade rules options batches made → taken ≡ answers_text options.trace made.answers
     → AreFetched mid.files mid.fetch_faults now.fetch_faults paths others → IsFaulty gathering now.left more paths others line why
     → IsRefused rules options (λ asked. AreFetched before.files before.fetch_faults now.fetch_faults asked (been.outcomes ++ others)) (script_of options (been.outcomes ++ others) (been.given ++ more) now.left) line why taken made
 refused rules options before mid now gathering batches made taken more paths others line why moved been goes is taken_is fetched faulty =
-    let here : commands_from (grammar_of standard options.lanes) (reading_at gathering.reading [] others) ((gathering.held ++ more) ++ left_of now.left) ≡ commands_with [] (FaultAt line why) paths =
-    subst (λ (g : Grammar). commands_from g (reading_at gathering.reading [] others) ((gathering.held ++ more) ++ left_of now.left) ≡ commands_with [] (FaultAt line why) paths) (grammar_is options gathering goes) faulty.commands in
-    let script : script_of options (been.outcomes ++ others) (been.given ++ more) now.left ≡ commands_with (batches ++ []) (FaultAt line why) (been.asked ++ paths) =
-    script_front options before mid now.left gathering batches been goes more others ∙ ap (given_before batches been.asked) here in
+    let script = script_refused options before mid now.left gathering batches more paths others line why been goes faulty in
     let same : (script_of options (been.outcomes ++ others) (been.given ++ more) now.left).batches ≡ batches = ap (λ (s : Commands). s.batches) script ∙ append-nil batches in
     let not_ended = is.unended in
     record {
@@ -236,18 +242,24 @@ begun_is options outcomes given held batches after asked lines_read no_feed late
     ap (λ (ls : Lines). ls.ended) (lines ∙ whole) ∙ ap (λ (ls : Lines). lines_read.lines ++ ls.ended) (lines_none held no_feed) ∙ append-nil lines_read.lines in
     ap (read (grammar_of standard options.lanes) (read_with [] (Stands (start (outcomes ++ later))))) ends ∙ lines_read.reads later
 
+-- what was begun, where the source failed
+pub begun_unfinished : (options : Options) (before mid : World) (gathering : Gathering) (batches : List Batch) (more : List ℕ) (paths : List Text) (others : List File)
+    → (been : AreRead options before mid gathering batches) → IsGoingOn options gathering → (unfinished : IsUnfinished gathering more paths others)
+    → begun options (been.outcomes ++ others) (been.given ++ more) ≡ read_with (batches ++ []) (Stands (reading_at unfinished.reading (been.asked ++ paths) []))
+begun_unfinished options before mid gathering batches more paths others been goes unfinished =
+    let here : ReadsOn (grammar_of standard options.lanes) gathering.reading (gathering.held ++ more) others [] unfinished.reading unfinished.held paths =
+    subst (λ (g : Grammar). ReadsOn g gathering.reading (gathering.held ++ more) others [] unfinished.reading unfinished.held paths) (grammar_is options gathering goes) unfinished.lines_read in
+    let all = reads_more (grammar_of standard options.lanes) (start []) gathering.reading unfinished.reading been.given more gathering.held unfinished.held been.outcomes others batches [] been.asked paths been.lines_read here in
+    ap (λ (o : List File). begun options o (been.given ++ more)) (sym (append-nil (been.outcomes ++ others)))
+    ∙ begun_is options (been.outcomes ++ others) (been.given ++ more) unfinished.held (batches ++ []) unfinished.reading (been.asked ++ paths) all unfinished.rest []
+
 -- The source failed behind these batches.
 pub broken_off : (rules : Rules) (options : Options) (before mid now : World) (gathering : Gathering) (batches : List Batch) (made : RunRecord) (taken more : List ℕ) (paths : List Text) (others : List File)
     → HasMoved before mid → (been : AreRead options before mid gathering batches) → IsGoingOn options gathering → IsMade rules options batches made → taken ≡ answers_text options.trace made.answers
     → AreFetched mid.files mid.fetch_faults now.fetch_faults paths others → IsUnfinished gathering more paths others
     → IsBrokenOff rules options (λ asked. AreFetched before.files before.fetch_faults now.fetch_faults asked (been.outcomes ++ others)) (begun options (been.outcomes ++ others) (been.given ++ more)) taken made
 broken_off rules options before mid now gathering batches made taken more paths others moved been goes is taken_is fetched unfinished =
-    let here : ReadsOn (grammar_of standard options.lanes) gathering.reading (gathering.held ++ more) others [] unfinished.reading unfinished.held paths =
-    subst (λ (g : Grammar). ReadsOn g gathering.reading (gathering.held ++ more) others [] unfinished.reading unfinished.held paths) (grammar_is options gathering goes) unfinished.lines_read in
-    let all = reads_more (grammar_of standard options.lanes) (start []) gathering.reading unfinished.reading been.given more gathering.held unfinished.held been.outcomes others batches [] been.asked paths been.lines_read here in
-    let begun_here : begun options (been.outcomes ++ others) (been.given ++ more) ≡ read_with (batches ++ []) (Stands (reading_at unfinished.reading (been.asked ++ paths) [])) =
-    ap (λ (o : List File). begun options o (been.given ++ more)) (sym (append-nil (been.outcomes ++ others)))
-    ∙ begun_is options (been.outcomes ++ others) (been.given ++ more) unfinished.held (batches ++ []) unfinished.reading (been.asked ++ paths) all unfinished.rest [] in
+    let begun_here = begun_unfinished options before mid gathering batches more paths others been goes unfinished in
     let not_ended = is.unended in
     let row : IsBrokenOff rules options (λ asked. AreFetched before.files before.fetch_faults now.fetch_faults asked (been.outcomes ++ others)) (read_with (batches ++ []) (Stands (reading_at unfinished.reading (been.asked ++ paths) []))) taken made =
     record {

@@ -16,7 +16,7 @@ use Rattle.record_model.specs.declared.Status.{Status}
 use Rattle.record_model.specs.declared.Status.TheVariants as status
 use Rattle.script_model.specs.Commands.{File, Batch, is_update_task, updates, fetches}
 use Rattle.script_model.specs.Reading.{read}
-use Rattle.option_model.specs.Plain.{Mode, Run, Make, Watch}
+use Rattle.option_model.specs.Plain.{Mode, Run, Make, Watch, Check}
 use Rattle.script_model.specs.Script.{Commands, Whole, FaultAt, commands, commands_with, standard, start, left_of}
 use Rattle.script_model.specs.Options.{Options, plain}
 use Rattle.record_model.specs.Record.{Answered, RunRecord, empty, with_end}
@@ -155,6 +155,7 @@ finished rules options status.NoMemory before mid written faults given outcomes 
 finished rules options status.Usage before mid written faults given outcomes asked batches made now gave at_end fetched script is writ closed none = absurd none
 finished rules options (status.Given path why) before mid written faults given outcomes asked batches made now gave at_end fetched script is writ closed none = absurd none
 finished rules options status.ReadFault before mid written faults given outcomes asked batches made now gave at_end fetched script is writ closed none = absurd none
+finished rules options status.Refuted before mid written faults given outcomes asked batches made now gave at_end fetched script is writ closed none = absurd none
 finished rules options (status.Script line why) before mid written faults given outcomes asked batches made now gave at_end fetched script is writ closed none = absurd none
 
 -- what was written before stands, where nothing was written since
@@ -206,15 +207,15 @@ batch_written rules options first mid written faults batches before now new writ
       text_is = ap (λ (t : List ℕ). t ++ text) writ.text_is ∙ sym (text_more options.trace before now new are (is.unended));
     }
 
-goes_on : (options : Options) (before now : Gathering) → IsGoingOn options before → now.limits ≡ before.limits → now.lanes ≡ before.lanes → now.reading.used ≤ now.limits.input → IsGoingOn options now
+pub goes_on : (options : Options) (before now : Gathering) → IsGoingOn options before → now.limits ≡ before.limits → now.lanes ≡ before.lanes → now.reading.used ≤ now.limits.input → IsGoingOn options now
 goes_on options before now goes limits_are lanes_are within = record { limits_are = limits_are ∙ goes.limits_are; lanes_are = lanes_are ∙ goes.lanes_are; within = within }
 
-not_whole : (before now : Gathering) (left : Option (List ℕ)) (given : List ℕ) (asked : List Text) (outcomes : List File) (batch : Batch) → now.ended ≡ false
+pub not_whole : (before now : Gathering) (left : Option (List ℕ)) (given : List ℕ) (asked : List Text) (outcomes : List File) (batch : Batch) → now.ended ≡ false
     → IsSynced before now given asked outcomes batch ⊎ IsWhole before now left given asked outcomes (batch ∷ []) → IsSynced before now given asked outcomes batch
 not_whole before now left given asked outcomes batch on (inl synced) = synced
 not_whole before now left given asked outcomes batch on (inr whole) = absurd (let no : true ≡ false = sym whole.ended ∙ on in cc)
 
-not_synced : (before now : Gathering) (left : Option (List ℕ)) (given : List ℕ) (asked : List Text) (outcomes : List File) (batch : Batch) → now.ended ≡ true
+pub not_synced : (before now : Gathering) (left : Option (List ℕ)) (given : List ℕ) (asked : List Text) (outcomes : List File) (batch : Batch) → now.ended ≡ true
     → IsSynced before now given asked outcomes batch ⊎ IsWhole before now left given asked outcomes (batch ∷ []) → IsWhole before now left given asked outcomes (batch ∷ [])
 not_synced before now left given asked outcomes batch over (inr whole) = whole
 not_synced before now left given asked outcomes batch over (inl synced) = absurd (let no : true ≡ false = sym over ∙ synced.goes_on in cc)
@@ -548,6 +549,7 @@ pub nothing_made : (mode : Mode) (world : World) (made : RunRecord) → made ≡
 nothing_made (Run options) world made is = nothing_done (standard_rules options.keys) options world made is
 nothing_made (Make seed tables rows) world made is = record { taken = []; took = Appends-nil world.written; row = inl (refl, is) }
 nothing_made (Watch k paths) world made is = inl (record { unread = refl; unwritten_is = refl; empty_is = is })
+nothing_made (Check trace options) world made is = inl (record { unread = refl; unwritten_is = refl; empty_is = is })
 
 -- The mode that the words say; any, where they say none.
 record Said (said : Option Mode) (result : Status) (world : World) (made : RunRecord) : Type 0 where
@@ -594,6 +596,7 @@ ends_well rules options status.Usage before now made met moves = λ script told 
 ends_well rules options (status.Given path why) before now made met moves = λ script told whole quiet still. absurd met.row
 ends_well rules options status.ReadFault before now made met moves = λ script told whole quiet still. absurd (quiet (moves.read_fault refl))
 ends_well rules options status.WriteFault before now made met moves = λ script told whole quiet still. absurd (still (moves.write_fault refl))
+ends_well rules options status.Refuted before now made met moves = λ script told whole quiet still. absurd met.row
 ends_well rules options (status.Script line why) before now made met moves = λ script told whole quiet still. absurd (not_refused rules options line why before now made script met told whole)
 
 -- Words that are refused say no mode, or memory ran out for them.
@@ -604,6 +607,7 @@ refused_ends_well said words.NoMemory world why result same mode says = subst (�
     memory_ends_well (Run options) = λ script told whole quiet still. inr refl
     memory_ends_well (Make seed tables rows) = λ still. inr refl
     memory_ends_well (Watch k paths) = λ reads writes fetches. tt
+    memory_ends_well (Check trace options) = λ reads writes fetches. tt
 refused_ends_well said words.Usage world (inl same_word) result same mode says = absurd (let e : words.Usage ≡ words.NoMemory = same_word in cc)
 refused_ends_well said words.Usage world (inr none) result same mode says = absurd (let no : None ≡ Some mode = sym none ∙ says in cc)
 

@@ -93,6 +93,7 @@ module _ (k : ℕ) (queries : List (List Text)) (before now : World) (made : Run
       record { beneath = status.ReadFault; ends = refl; ran = ran; taken = told.taken; took = told.took; told = told_whole k queries before now made told ran.row.ended }
   watched_unended status.WriteFault undone ran usage told =
       record { beneath = status.WriteFault; ends = inr refl; ran = ran; taken = told.taken; took = told.took; told = told_begins k queries before now made told }
+  watched_unended status.Refuted undone ran usage told = absurd ran.row
   watched_unended status.NoMemory undone ran usage told = watched_memory ran told
 
 -- memory ran out before the script was read
@@ -148,6 +149,7 @@ done_status status.Usage done = absurd (let f : false ≡ true = done in cc)
 done_status (status.Given path why) done = absurd (let f : false ≡ true = done in cc)
 done_status status.ReadFault done = absurd (let f : false ≡ true = done in cc)
 done_status status.WriteFault done = absurd (let f : false ≡ true = done in cc)
+done_status status.Refuted done = absurd (let f : false ≡ true = done in cc)
 done_status status.NoMemory done = absurd (let f : false ≡ true = done in cc)
 
 module _ (k : ℕ) (queries : List (List Text)) (before mid now : World) (made : RunRecord) (same : unwritten now ≡ unwritten mid)
@@ -243,6 +245,7 @@ watched_all k paths result before begun now files queries made are read watched 
     by (status.Given path why) w = absurd w.ends
     by status.ReadFault w = all status.ReadFault w
     by status.WriteFault w = all status.WriteFault w
+    by status.Refuted w = absurd w.ends
     by status.NoMemory w = inr (all status.NoMemory w)
 
 -- without a fault it ends for its own words and files, or memory runs out
@@ -258,4 +261,5 @@ watch_ends_well k paths (status.Given path (given.NotUtf8 line)) before now made
 watch_ends_well k paths (status.Given path given.TooManyValues) before now made met moves reads writes fetches = tt
 watch_ends_well k paths status.ReadFault before now made met moves reads writes fetches = absurd (reads (moves.read_fault refl))
 watch_ends_well k paths status.WriteFault before now made met moves reads writes fetches = absurd (writes (moves.write_fault refl))
+watch_ends_well k paths status.Refuted before now made met moves reads writes fetches = absurd met
 watch_ends_well k paths status.NoMemory before now made met moves reads writes fetches = tt

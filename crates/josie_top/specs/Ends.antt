@@ -32,6 +32,7 @@ IsWritten status.Usage before now text = ⊥
 IsWritten (status.Given path why) before now text = ⊥
 IsWritten status.ReadFault before now text = ⊥
 IsWritten status.WriteFault before now text = (part : List ℕ) × IsPrefix part text × Appends before now part
+IsWritten status.Refuted before now text = ⊥
 IsWritten status.NoMemory before now text = (part : List ℕ) × IsPrefix part text × Appends before now part
 
 -- whether the script was read to its end and answered
@@ -42,4 +43,5 @@ is_done status.Usage = false
 is_done (status.Given path why) = false
 is_done status.ReadFault = false
 is_done status.WriteFault = false
+is_done status.Refuted = false
 is_done status.NoMemory = false

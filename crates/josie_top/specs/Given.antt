@@ -69,3 +69,4 @@ IsRefusedBy told before now paths (status.Script line reason) = ⊥
 IsRefusedBy told before now paths status.Usage = ⊥
 IsRefusedBy told before now paths status.ReadFault = ⊥
 IsRefusedBy told before now paths status.WriteFault = ⊥
+IsRefusedBy told before now paths status.Refuted = ⊥

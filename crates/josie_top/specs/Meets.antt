@@ -5,7 +5,7 @@ use Rattle.lake_io.specs.Causes.{Rose}
 use Rattle.record_model.specs.Rules.{Rules}
 use Rattle.lake_model.specs.Texts.{Text}
 use Rattle.record_model.specs.declared.Status.{Status}
-use Rattle.record_model.specs.declared.Status.TheVariants.{Done, Script, Usage, Given, ReadFault, WriteFault, NoMemory}
+use Rattle.record_model.specs.declared.Status.TheVariants.{Done, Script, Usage, Given, ReadFault, WriteFault, Refuted, NoMemory}
 use Rattle.script_model.specs.Commands.{File}
 use Rattle.script_model.specs.Script.{Commands, Whole, commands, standard}
 use Rattle.script_model.specs.Options.{Options}
@@ -23,6 +23,7 @@ FetchedBy Usage before now asked outcomes = AreFetched before.files before.fetch
 FetchedBy (Given path why) before now asked outcomes = AreFetched before.files before.fetch_faults now.fetch_faults asked outcomes
 FetchedBy ReadFault before now asked outcomes = AreFetched before.files before.fetch_faults now.fetch_faults asked outcomes
 FetchedBy WriteFault before now asked outcomes = AreFetched before.files before.fetch_faults now.fetch_faults asked outcomes
+FetchedBy Refuted before now asked outcomes = AreFetched before.files before.fetch_faults now.fetch_faults asked outcomes
 FetchedBy NoMemory before now asked outcomes = AreFetchedSoFar before.files before.fetch_faults now.fetch_faults asked outcomes
 
 -- The bytes that came before the last read, of at most 65,536 bytes, have fewer whole batches than were answered: the replies to a batch are written before
@@ -42,6 +43,7 @@ ReadsLate Usage options given outcomes made = ⊤
 ReadsLate (Given path why) options given outcomes made = ⊤
 ReadsLate ReadFault options given outcomes made = ⊤
 ReadsLate WriteFault options given outcomes made = made.ended ≡ false → IsReadLate options given outcomes made
+ReadsLate Refuted options given outcomes made = ⊤
 ReadsLate NoMemory options given outcomes made = ⊤
 
 -- The bytes that the source gave and those that the sink took, where they tell their content, and what came of the fetches; and of these the row of the

@@ -8,7 +8,7 @@ use Rattle.script_model.specs.Options.{plain}
 use Rattle.record_model.specs.declared.GivenWhy.{GivenWhy}
 use Rattle.record_model.specs.declared.GivenWhy.TheVariants as given
 use Rattle.record_model.specs.declared.Status.{Status}
-use Rattle.record_model.specs.declared.Status.TheVariants.{Done, Script, Usage, Given, ReadFault, WriteFault, NoMemory}
+use Rattle.record_model.specs.declared.Status.TheVariants.{Done, Script, Usage, Given, ReadFault, WriteFault, Refuted, NoMemory}
 use Rattle.record_model.specs.Record.{RunRecord, empty}
 use Rattle.record_model.specs.Rules.{standard_rules}
 use Rattle.record_model.specs.Statuses.{IsPrefix}
@@ -50,6 +50,7 @@ EndsAs Usage beneath = ⊥
 EndsAs (Given path why) beneath = ⊥
 EndsAs ReadFault beneath = beneath ≡ ReadFault
 EndsAs WriteFault beneath = (beneath ≡ Done) ⊎ (beneath ≡ WriteFault)
+EndsAs Refuted beneath = ⊥
 EndsAs NoMemory beneath = (beneath ≡ Done) ⊎ (beneath ≡ NoMemory)
 
 -- the text that tells of a record's journal, with its last line where the source was read to its end
@@ -64,6 +65,7 @@ IsTold Usage text taken = ⊥
 IsTold (Given path why) text taken = ⊥
 IsTold ReadFault text taken = taken ≡ text
 IsTold WriteFault text taken = IsPrefix taken text
+IsTold Refuted text taken = ⊥
 IsTold NoMemory text taken = IsPrefix taken text
 
 -- The script was run in an order of two empty pieces, as a run whose replies are not written; and the text that tells of its journal was written, or its first
@@ -115,6 +117,7 @@ Watches k paths Usage before now made = ⊥
 Watches k paths (Given path why) before now made = IsNotGiven paths path why before now made
 Watches k paths ReadFault before now made = AreWatched k paths ReadFault before now made
 Watches k paths WriteFault before now made = AreWatched k paths WriteFault before now made
+Watches k paths Refuted before now made = ⊥
 Watches k paths NoMemory before now made = IsNotBegun before now made ⊎ AreWatched k paths NoMemory before now made
 
 -- what may come where no fault is counted
@@ -126,4 +129,5 @@ EndsQuietly (Given path given.Failed) = ⊥
 EndsQuietly (Given path why) = ⊤
 EndsQuietly ReadFault = ⊥
 EndsQuietly WriteFault = ⊥
+EndsQuietly Refuted = ⊥
 EndsQuietly NoMemory = ⊤

@@ -19,7 +19,7 @@ use script_text::{Gather, ScriptEnd};
 use std::alloc::Global;
 
 /// The status of a run whose gatherer gives no batch.
-fn status_of_end(end: ScriptEnd) -> Status
+pub(crate) fn status_of_end(end: ScriptEnd) -> Status
     ensures { result ≡ status_of_end end }
 {
     match end {

@@ -11,6 +11,7 @@ ghost use Rattle.josie_top.specs.Ends.{status_of_refused};
 ghost use Rattle.josie_top.specs.Modes.{EndsModeWell, IsMaking, IsOrdered, IsSaid, MeetsMode};
 ghost use Rattle.josie_top.specs.World.{Moves, world_of};
 
+use checking::check;
 use command_line::{Mode, WordsRefused, read_words};
 pub use lake_desk::LakeDesk;
 use lake_io::{Gate, Shelf, Sink, Source};
@@ -26,6 +27,7 @@ use std::thread::Threads;
 use watching::watch;
 
 mod batches;
+mod checking;
 mod given;
 mod lanes;
 mod limits;
@@ -35,7 +37,7 @@ mod script;
 mod watching;
 mod writing;
 
-/// Runs a script whose lanes take turns in a stated order, makes a lake, or watches queries, as the mode says, on one thread. Of a script it reads batch
+/// Runs a script whose lanes take turns in a stated order, makes a lake, watches queries, or checks a trace, as the mode says, on one thread. Of a script it reads batch
 /// by batch from the source, answers the commands of each in the record, and writes the replies to the sink before the next batch is
 /// read; of a lake that is made it writes the summary. The statuses and what follows from each are the table of statuses, for the
 /// bytes that the source gave, the results of the fetches, and the bytes that the sink took.
@@ -69,10 +71,11 @@ pub fn run_ordered<S: Source, K: Sink, F: Shelf>(
         Mode::Run(options) => run_in_order(alloc, options, source, sink, shelf, out),
         Mode::Make { seed, tables, rows } => make_lake(alloc, seed, tables, rows, sink, out),
         Mode::Watch { k, paths } => watch(alloc, k, &paths, source, sink, shelf, out),
+        Mode::Check { trace, options } => check(alloc, trace.as_str(), options, source, sink, shelf),
     }
 }
 
-/// Runs a script, makes a lake, or watches queries, as the mode says; a script without a stated order on threads.
+/// Runs a script, makes a lake, watches queries, or checks a trace, as the mode says; a script without a stated order on threads.
 fn run_mode<R: Threads + Wait + Sync, S: Source, K: Sink, F: Shelf, G: Gate + Sync>(
     rt: &R,
     alloc: Global,
@@ -104,6 +107,7 @@ fn run_mode<R: Threads + Wait + Sync, S: Source, K: Sink, F: Shelf, G: Gate + Sy
         Mode::Run(options) => run_script(rt, alloc, options, source, sink, shelf, gate, out),
         Mode::Make { seed, tables, rows } => make_lake(alloc, seed, tables, rows, sink, out),
         Mode::Watch { k, paths } => watch(alloc, k, &paths, source, sink, shelf, out),
+        Mode::Check { trace, options } => check(alloc, trace.as_str(), options, source, sink, shelf),
     }
 }
 

@@ -15,7 +15,7 @@ const WRITTEN: &str =
     "1 loaded stations columns 3 members 9 at 1\n2 answer 1 of 3 at 1\n  2 stations 2 \"city\"\n3 answer 1 of 2 at 1\n  2 stations 3 \"country\"\n";
 
 // Streams in memory: the source gives pieces of so many bytes and the sink takes such; and of each stream and of the store the number of the call that fails, or 0.
-// The store has one file.
+// The store has one file, `here.csv`, which holds this text.
 #[derive(Clone, Copy)]
 struct Streams {
     piece: usize,
@@ -23,15 +23,17 @@ struct Streams {
     sink_piece: usize,
     failing_write: u64,
     failing_fetch: u64,
+    file: &'static str,
 }
 
-// None of the calls fails.
+// None of the calls fails, and the file holds the values `c` and `x`.
 const SOUND: Streams = Streams {
     piece: 64,
     failing_read: 0,
     sink_piece: 64,
     failing_write: 0,
     failing_fetch: 0,
+    file: "c\nx\n",
 };
 
 // A gate that holds lane 1 at its pin until a command of lane 2 has ended, and lane 2 at the beginning of one until lane 1 has its pin. It
@@ -121,7 +123,10 @@ fn ends_at<R: Threads + Wait + Sync, G: Gate + Sync>(
     .ok()
     .ok_or("memory")?;
     let mut shelf = MemoryShelf::new(alloc);
-    shelf.add("here.csv", b"c\nx\n").ok().ok_or("memory")?;
+    shelf
+        .add("here.csv", streams.file.as_bytes())
+        .ok()
+        .ok_or("memory")?;
     shelf.fail_at(streams.failing_fetch).ok().ok_or("memory")?;
     let mut record = RunRecord::new(alloc);
     let status = run(
@@ -395,7 +400,6 @@ fn compares_values_by_the_profile(rt: HostRuntime) -> Result<(), Fail> {
     Ok(())
 }
 
-// The one file holds the values `c` and `x`.
 #[test]
 fn tells_what_changes_for_a_watched_query(rt: HostRuntime) -> Result<(), Fail> {
     let script = "load a\nd\nx\n.\nload b\nd\ny\n.\nsync\nload e\nd\nx\nc\n.\ndrop a\ndrop e\n";
@@ -428,6 +432,69 @@ fn names_the_path_that_gives_no_query(rt: HostRuntime) -> Result<(), Fail> {
         };
         let (status, same) = ends_with(&rt, rt.alloc(), &words, "", streams, "")?;
         assert!(rt; status == Status::Given { path, why } && same);
+    }
+    Ok(())
+}
+
+// A load and a search, and the trace of a run of them.
+const AUDITED: &str = "load a\nc\nx\n.\nsearch 1\nx\n.\n";
+
+const AUDIT: &str =
+    "1 loaded a columns 1 members 1 at 1\n2 answer 1 of 1 at 1\n  1 a 1 \"c\"\n  work reads 1 probes 0\n  layout at 1 parts 1:1\njournal 1\n  1 load lane 1 command 1 a\n";
+
+#[test]
+fn checks_a_trace(rt: HostRuntime) -> Result<(), Fail> {
+    let forged =
+        "1 loaded a columns 1 members 1 at 1\n2 answer 1 of 1 at 1\n  2 a 1 \"c\"\n  work reads 1 probes 0\n  layout at 1 parts 1:1\njournal 1\n  1 load lane 1 command 1 a\n";
+    for (script, file, wanted, written) in [
+        (AUDITED, AUDIT, Status::Done, "yes\n"),
+        (AUDITED, forged, Status::Refuted, "no\n"),
+        (AUDITED, "journal 0\n", Status::Refuted, "no\n"),
+        ("", "journal 0\n", Status::Done, "yes\n"),
+        ("", "", Status::Refuted, "no\n"),
+    ] {
+        let streams = Streams { file, ..SOUND };
+        let words = ["check", "here.csv"];
+        let (status, same) = ends_with(&rt, rt.alloc(), &words, script, streams, written)?;
+        assert!(rt; status == wanted && same);
+    }
+    Ok(())
+}
+
+// A fault of the trace's file, of the script, of the source or of the sink, and what was written before it.
+#[test]
+fn ends_at_what_fails_in_a_check(rt: HostRuntime) -> Result<(), Fail> {
+    let fault = Status::Script {
+        line: 1,
+        reason: Reason::Unknown,
+    };
+    let missing = Status::Given {
+        path: 1,
+        why: GivenWhy::Missing,
+    };
+    let failed = Status::Given {
+        path: 1,
+        why: GivenWhy::Failed,
+    };
+    for (path, script, [fetch, read, write], wanted, written) in [
+        ("there.csv", AUDITED, [0u64, 1, 1], missing, ""),
+        ("here.csv", AUDITED, [1, 1, 1], failed, ""),
+        ("here.csv", "what\n", [0, 0, 0], fault, ""),
+        ("here.csv", AUDITED, [0, 1, 0], Status::ReadFault, ""),
+        ("here.csv", AUDITED, [0, 0, 1], Status::WriteFault, ""),
+        ("here.csv", AUDITED, [0, 0, 2], Status::WriteFault, "ye"),
+    ] {
+        let streams = Streams {
+            sink_piece: 2,
+            failing_read: read,
+            failing_write: write,
+            failing_fetch: fetch,
+            file: AUDIT,
+            ..SOUND
+        };
+        let words = ["check", path];
+        let (status, same) = ends_with(&rt, rt.alloc(), &words, script, streams, written)?;
+        assert!(rt; status == wanted && same);
     }
     Ok(())
 }
