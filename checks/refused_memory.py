@@ -4,10 +4,9 @@
     checks/refused_memory.py [JOSIE]
 
 The scripts are worked runs and examples, on one lane or on several in a stated order, each run with a trace. A command that has no memory is answered `no memory`
-and changes nothing: every other reply, and the journal, have to be right by the model of `plain_lake.py`, as `random_lanes.py` compares them, with that
-command left out. A run that has no memory itself ends with status 5, and what it wrote has to be the right replies to its first batches. The library that
-refuses is made of `refuse_allocation.c` by the C compiler `cc`, and loaded before the C library. It prints one line, and ends with 0 if everything is
-right.
+and changes nothing: every other reply, and the journal, have to be right by the model of `plain_trace.py`, with that command left out. A run that has no
+memory itself ends with status 5, and what it wrote has to be the right replies to its first batches. The library that refuses is made of
+`refuse_allocation.c` by the C compiler `cc`, and loaded before the C library. It prints one line, and ends with 0 if everything is right.
 """
 import os
 import shlex
@@ -17,7 +16,7 @@ import tempfile
 from collections import Counter
 
 from check import HERE, Wrong, main
-from random_lanes import checked, numbered, parted, placed
+from plain_trace import NO_MEMORY, checked, numbered, parted, placed
 
 RUNS = ["runs/one_read_and_one_probe", "runs/drop_between_plan_and_swap", "runs/real_tables"]
 EXAMPLES = ["refresh", "race.2", "contain", "asof"]
@@ -78,7 +77,7 @@ def check_ended(ended, batches):
     commands = [command for batch in written for command in batch]
     if list(lines) != [command.number for command in commands] or journal is not None and len(written) != len(batches):
         raise Wrong(f"replies to {list(lines)}")
-    refused = [command for command in commands if lines[command.number] == ["no memory"]]
+    refused = [command for command in commands if lines[command.number] == NO_MEMORY]
     checked([placed(command, lines[command.number]) for command in commands if command not in refused], journal, len(written))
     return len(refused), ended.returncode == 5
 
