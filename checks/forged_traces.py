@@ -3,12 +3,17 @@
 
     checks/forged_traces.py [JOSIE] [--count=N] [--seed=S]
 
-Random scripts of loads, drops, replaces, lists, searches, likes, contains, asofs and merges on one to five lanes, with a merger and without, by either profile, are
-run with a trace, once on threads and once in a random stated order. josie has to say `yes` to each trace. Then one thing of the trace is changed: a byte
-(another in its place, often a digit for a digit, none, or two), a line (removed, doubled, moved, swapped with the next, its line feed changed), or a reply
-(that of the same command at other positions, or `no memory`). josie has to say `yes` exactly where the model of `plain_trace.py` finds the changed trace
-right; the model decides each. There are N changes (10,000), twenty-five of each trace. Last, runs on four lanes with a merger are checked. The
-seeds are fixed, the threads are not. It prints one line, and ends with 0 if all is as the model says.
+Random scripts of loads, drops, replaces, lists, searches, likes, contains, asofs and merges on one to five lanes, with a merger and without, by either
+profile, are run with a trace, once on threads and once in a random stated order. josie has to say `yes` to each trace. Then one thing of it is changed:
+
+- a byte: another stands in its place, often a digit for a digit, or none, or it is there twice;
+- a line: it is removed, doubled, moved, or swapped with the next one, or its line feed is changed;
+- a reply: it is the one that its command would have at other positions, or `no memory`;
+- the history: an entry stands elsewhere in it, and every reply is made again at the positions that it shows.
+
+josie has to say `yes` exactly where the model of `plain_trace.py` finds the changed trace right; the model decides each. There are N changes (10,000),
+twenty-five of each trace. Last, runs on four lanes with a merger are checked. The seeds are fixed, the threads are not. It prints one line, and ends with 0 if
+all is as the model says.
 """
 import argparse
 import multiprocessing
@@ -35,12 +40,12 @@ class Script(NamedTuple):
     batches: list  # of commands, each a lane, its words and its block
     words: list  # the options of its run, of which neither an order nor a trace is one
 
-    def bytes(self):
+    def encoded(self):
         return script_of(self.batches).encode("utf-8", "surrogateescape")
 
     def shown(self, mode):
         """The words of a command line and the script, for a person."""
-        return f"josie {mode} {' '.join(self.words)}\n{self.bytes().decode(errors='backslashreplace')}"
+        return f"josie {mode} {' '.join(self.words)}\n{self.encoded().decode(errors='backslashreplace')}"
 
     def numbered(self):
         """The commands as the model takes them: by profile 2 their values are in their compatibility forms."""
@@ -138,24 +143,49 @@ def another_line(chance, trace):
 class Written(NamedTuple):
     """A right trace, and what was read of it."""
     trace: bytes
-    commands: list
-    lines: dict  # the lines of each reply, by the number of its command
+    replies: list
     journal: list  # its lines
     versions: list  # of the lake, by position
 
 
 def read_again(trace, batches):
-    commands = [command for batch in batches for command in batch]
     lines, journal = parted(trace.decode())
-    return Written(trace, commands, lines, journal, replayed([placed(command, lines[command.number]) for command in commands], journal))
+    replies = [placed(command, lines[command.number]) for batch in batches for command in batch]
+    return Written(trace, replies, journal, replayed(replies, journal))
+
+
+def written_again(replies, journal):
+    """The trace of some replies, each a command and its lines, and of the lines of a journal."""
+    return joined({command.number: lines for command, lines in replies}, journal).encode()
 
 
 def another_reply(chance, written):
-    """A command has the reply that it would have at other positions, or had no memory."""
-    command = chance.choice(written.commands)
-    before, now = sorted(chance.choices(written.versions, k=2), key=lambda version: version.position)
-    reply = NO_MEMORY if chance.random() < 0.2 else made_again(command, chance.choice([before, now]), now)[0]
-    return joined({**written.lines, command.number: reply}, written.journal).encode()
+    """A command has the reply that it would have at other positions, most often next to its own, or had no memory."""
+    told = chance.choice(written.replies)
+    last = len(written.versions) - 1
+    at = min(max((told.at or 0) + chance.choice([-1, 1]), 0), last) if chance.random() < 0.6 else chance.randint(0, last)
+    pinned = chance.choice([at, chance.randint(0, at)])
+    lines = NO_MEMORY if chance.random() < 0.2 else made_again(told.command, written.versions[pinned], written.versions[at])[0]
+    return written_again([(reply.command, lines if reply is told else reply.lines) for reply in written.replies], written.journal)
+
+
+def another_history(chance, written):
+    """An entry stands elsewhere in the journal, and each reply is made again at the positions that it shows. Whether its lane could come to these is open."""
+    owners = sorted((reply for reply in written.replies if reply.is_entry), key=lambda reply: reply.at)
+    if not owners:
+        return written.trace
+    owners.insert(chance.randrange(len(owners)), owners.pop(chance.randrange(len(owners))))
+    versions, journal, lines = [plain_lake.EMPTY], [], {}
+    for at, (command, _, pinned, _, _) in enumerate(owners, 1):
+        lines[command.number], version, change = made_again(command, versions[min(pinned or 0, at - 1)], versions[-1])
+        if not change:
+            return written.trace
+        versions.append(version)
+        journal.append(plain_lake.journal_line(at, change, command.lane, command.number.removeprefix("m")))
+    for command, _, pinned, at, is_entry in written.replies:
+        if not is_entry and at is not None:
+            lines[command.number] = made_again(command, versions[pinned or 0], versions[at])[0]
+    return written_again([(reply.command, lines.get(reply.command.number, reply.lines)) for reply in written.replies], journal)
 
 
 def changed(chance, written):
@@ -163,10 +193,12 @@ def changed(chance, written):
     other = written.trace
     while other == written.trace:
         pick = chance.random()
-        if pick < 0.5 or not written.commands:
+        if pick < 0.3 or not written.replies:
             other = chance.choice([another_byte, another_digit])(chance, written.trace)
+        elif pick < 0.55:
+            other = another_line(chance, written.trace)
         else:
-            other = another_line(chance, written.trace) if pick < 0.75 else another_reply(chance, written)
+            other = chance.choice([another_reply, another_history])(chance, written)
     return other
 
 
@@ -175,7 +207,7 @@ def changed(chance, written):
 
 def run(josie, script, order):
     """The trace of a run."""
-    ended = subprocess.run([josie, "run", *script.words, *order, "--trace"], input=script.bytes(), capture_output=True, timeout=60)
+    ended = subprocess.run([josie, "run", *script.words, *order, "--trace"], input=script.encoded(), capture_output=True, timeout=60)
     if ended.returncode != 0:
         raise Wrong(f"{script.shown('run')}status {ended.returncode}: {ended.stderr.decode()}")
     return ended.stdout
@@ -186,7 +218,7 @@ def check_said(josie, folder, script, trace, change):
     path = os.path.join(folder, "trace")
     with open(path, "wb") as file:
         file.write(trace)
-    ended = subprocess.run([josie, "check", path, *script.words], input=script.bytes(), capture_output=True, timeout=60)
+    ended = subprocess.run([josie, "check", path, *script.words], input=script.encoded(), capture_output=True, timeout=60)
     right = is_right(trace, script.numbered())
     got = (ended.returncode, ended.stdout, ended.stderr)
     if got != SAID[right]:
