@@ -12,8 +12,8 @@ profile, are run with a trace, once on threads and once in a random stated order
 - the history: an entry stands elsewhere in it, and every reply is made again at the positions that it shows.
 
 josie has to say `yes` exactly where the model of `plain_trace.py` finds the changed trace right; the model decides each. There are N changes (10,000),
-twenty-five of each trace. Last, runs on four lanes with a merger are checked. The seeds are fixed, the threads are not. It prints one line, and ends with 0 if
-all is as the model says.
+twenty-five of each trace. Last, josie has to say `yes` to runs of a larger script on four lanes with a merger. The seeds are fixed, the threads are not. It
+prints one line, and ends with 0 if all is as the model says.
 """
 import argparse
 import multiprocessing
@@ -32,7 +32,7 @@ from random_orders import VALUES, random_batches, script_of
 COUNT, CHANGES = 10_000, 25
 FOUR_LANES = 20
 TITLES = ["c", "c", "two words", '"a ""quoted"" one"', r"back\slash"]
-WIDE = 0xFEE0  # from an ASCII sign to its full-width form
+WIDE = 0xFEE0  # from an ASCII sign to its full-width form, which `str.casefold` leaves full-width, as profile 1 does
 SAID = {True: (0, b"yes\n", b""), False: (7, b"no\n", b"josie: refuted\n")}
 
 
@@ -222,7 +222,7 @@ def check_said(josie, folder, script, trace, change):
     right = is_right(trace, script.numbered())
     got = (ended.returncode, ended.stdout, ended.stderr)
     if got != SAID[right]:
-        raise Wrong(f"{script.shown('check')}{change}the trace\n{trace.decode(errors='backslashreplace')}wanted {SAID[right]}, got {got}")
+        raise Wrong(f"{script.shown('check TRACE')}{change}the trace\n{trace.decode(errors='backslashreplace')}wanted {SAID[right]}, got {got}")
     return right
 
 
@@ -252,7 +252,7 @@ def check_script(job):
 
 
 def four_lanes(chance):
-    """Twenty loads, and behind a sync five drops, two replaces and ten searches, on four lanes with a merger."""
+    """Twenty loads, five drops, two replaces and ten searches on four lanes with a merger, in one batch, or in two of which the first has the loads."""
     names = [f"t{number}" for number in range(20)]
 
     def table():
