@@ -4,8 +4,8 @@
     checks/limits.py [JOSIE]
 
 Each limit is tried at its size, which is accepted, and one past it, which is refused at its line: a line of 4,096 bytes, a comment line and a
-line of spaces of the same length, a block and a file of 67,108,864 bytes, 4,096 commands of a batch, and 536,870,912 bytes of the blocks and files of
-a batch. (The limit of a script, 68,719,476,736 bytes, is tried at a smaller size by the tests of `script_text`.) It needs two gigabytes of
+line of spaces of the same length, a block, a file and a trace of 67,108,864 bytes, 4,096 commands of a batch, and 536,870,912 bytes of the blocks and files
+of a batch. (The limit of a script, 68,719,476,736 bytes, is tried at a smaller size by the tests of `script_text`.) It needs two gigabytes of
 memory and a minute, so `.ci/run` does not run it. Its last line is `N passed, M failed`.
 """
 import os
@@ -26,9 +26,9 @@ def block(size):
     return b"search 1\n" + body(size) + b".\n"
 
 
-def run(josie, pieces, folder):
+def run(josie, pieces, folder, words=("run",)):
     """The status of a run over these pieces, the text that it wrote, and its line on standard error."""
-    ended = subprocess.Popen([josie, "run"], stdin=subprocess.PIPE, stdout=subprocess.PIPE, stderr=subprocess.PIPE, cwd=folder)
+    ended = subprocess.Popen([josie, *words], stdin=subprocess.PIPE, stdout=subprocess.PIPE, stderr=subprocess.PIPE, cwd=folder)
     try:
         for piece in pieces:
             ended.stdin.write(piece)
@@ -68,6 +68,14 @@ def trials(folder):
     yield "files of more bytes", [b"loadfile t most.csv\n"] * 9, "josie: line 9: too many bytes in a batch"
 
 
+def trace_trials(folder):
+    """Traces of the greatest size and of one byte more: a name, the words of a check, and what it ends with."""
+    for name, size, wanted in (("most", BLOCK, (7, b"no\n", "josie: refuted")), ("more", BLOCK + 1, (6, b"", "josie: given file 1: longer"))):
+        with open(os.path.join(folder, f"{name}.trace"), "wb") as file:
+            file.write(b"1 tables 0 at 0\n" + b"x" * (size - 16))
+        yield f"a trace of {size} bytes", ["check", f"{name}.trace"], wanted
+
+
 def check(josie, _words):
     wrong = []
     count = 0
@@ -83,6 +91,11 @@ def check(josie, _words):
                 well = status == 1 and err == wanted
             if not well:
                 wrong.append(f"{name}: wanted {wanted!r}, got status {status}, {err!r}, {out[:80]!r}")
+        for name, words, wanted in trace_trials(folder):
+            count += 1
+            got = run(josie, [b"tables\n"], folder, words)
+            if got != wanted:
+                wrong.append(f"{name}: wanted {wanted!r}, got {got!r}")
     if wrong:
         raise Wrong("\n".join(wrong))
     return f"{count} trials, as the limits say"

@@ -3,169 +3,21 @@
 
     checks/random_lanes.py [--all] [JOSIE]
 
-Random scripts of loads, drops, replaces, lists, searches and merges on two to sixteen lanes, with a merger and without, run without a stated order. The journal of each
-trace is replayed on the model of `plain_lake.py`: each entry is that of one command, which was accepted at its position, and the version after it is the
-model's. Then each reply is the model's reply at the positions that it shows, with its work and its layout; along a lane the positions never fall, and an
-entry's position is greater than all before it; each position lies between the ends of the batch before and of its own; each accepted command has one entry.
-Last, the order of the steps that the trace shows is stated by `--order`, and that run, on one thread, gives the same bytes. The seeds are fixed, the threads
-are not. With `--all` there are twenty thousand scripts. It prints one line, and ends with 0 if everything is right.
+Random scripts of loads, drops, replaces, lists, searches and merges on two to sixteen lanes, with a merger and without, run without a stated order. Each trace
+is right by the model of `plain_trace.py`: its replies, its journal, and the positions along each lane. Then the order of the steps that the trace shows is
+stated by `--order`, and that run, on one thread, gives the same bytes. The seeds are fixed, the threads are not. With `--all` there are twenty thousand
+scripts. It prints one line, and ends with 0 if everything is right.
 """
 import random
-import re
 import subprocess
 import sys
-from typing import NamedTuple
 
 from check import Wrong, main
-import plain_lake
+from plain_trace import checked, numbered, parted, placed
 from random_orders import random_batches, script_of
 
 SCRIPTS = 400
 ALL_SCRIPTS = 20000
-
-
-class Command(NamedTuple):
-    batch: int
-    lane: int
-    number: str
-    words: str
-    block: list | None
-
-
-class Reply(NamedTuple):
-    command: Command
-    lines: list
-    pinned: int | None  # the position of the version that was taken or planned at
-    at: int | None  # the position at which the reply was made
-    is_entry: bool  # whether that is the position of its own entry
-
-
-def numbered(batches, merger):
-    """The commands with their numbers, batch by batch, each batch's merges last."""
-    commands, number, merge_number = [], 0, 0
-    for place, batch in enumerate(batches):
-        commands.append([])
-        for lane, words, block in batch:
-            number += 1
-            commands[-1].append(Command(place, lane, str(number), words, block))
-        for _ in range(sum(words.split(" ")[0] in ("load", "drop", "replace") for _, words, _ in batch) if merger else 0):
-            merge_number += 1
-            commands[-1].append(Command(place, 0, f"m{merge_number}", "merge", None))
-    return commands
-
-
-def parted(text):
-    """The lines of each reply, under its command's number, and the lines of the journal, or None if it is not there."""
-    replies, journal, lines = {}, None, text.splitlines()
-    for at, line in enumerate(lines):
-        if line.startswith("journal "):
-            journal = lines[at + 1:]
-            if line != f"journal {len(journal)}":
-                raise Wrong(f"{line}, with {len(journal)} lines")
-            break
-        if line.startswith("  "):
-            replies[list(replies)[-1]].append(line)
-        else:
-            number, _, rest = line.partition(" ")
-            if number in replies:
-                raise Wrong(f"two replies to command {number}")
-            replies[number] = [rest]
-    return replies, journal
-
-
-def placed(command, lines):
-    """A reply with the positions that it shows."""
-    at = re.search(r" at (\d+)$", lines[0])
-    at = int(at[1]) if at else None
-    pinned = None
-    if command.words.startswith(("search", "like", "contain", "merge")) and at is not None:
-        planned = re.search(r"^  layout at (\d+) ", lines[-1])
-        pinned = int(planned[1]) if planned else at
-    return Reply(command, lines, pinned, at, lines[0].startswith(("loaded ", "dropped ", "replaced ", "merged ")))
-
-
-def made_again(command, pinned, now):
-    """The model's reply to a command that was pinned at one version and answered at another, the version after it, and its change."""
-    kind, *more = command.words.split(" ")
-    if kind == "load":
-        return plain_lake.load(now, more[0], plain_lake.records(command.block))
-    if kind == "drop":
-        return plain_lake.drop(now, more[0])
-    if kind == "replace":
-        return plain_lake.replace(now, more[0], plain_lake.records(command.block))
-    if kind == "merge":
-        return plain_lake.merge(pinned, now, more == ["all"])
-    if kind == "tables":
-        return plain_lake.list_tables(now), now, None
-    if kind == "search":
-        return plain_lake.search(pinned, int(more[0]), command.block), now, None
-    if kind == "contain":
-        return plain_lake.contain(pinned, int(more[0]), int(more[1]), command.block), now, None
-    if kind == "asof":
-        return plain_lake.as_of(now, int(more[0]), int(more[1]), command.block), now, None
-    return plain_lake.like(pinned, int(more[0]), more[1], int(more[2])), now, None
-
-
-def replayed(replies, journal):
-    """The versions of the lake, each made again by the command of its entry, whose line in the journal is compared if there is a journal."""
-    by_entry = {reply.at: reply for reply in replies if reply.is_entry}
-    entries = sum(reply.is_entry for reply in replies)
-    if sorted(by_entry) != list(range(1, entries + 1)) or journal is not None and len(journal) != entries:
-        raise Wrong("the accepted commands do not have one entry each")
-    versions = [plain_lake.EMPTY]
-    for position in range(1, entries + 1):
-        reply = by_entry[position]
-        pinned = versions[reply.pinned] if reply.pinned is not None else versions[-1]
-        lines, version, change = made_again(reply.command, pinned, versions[-1])
-        want = change and plain_lake.journal_line(position, change, reply.command.lane, reply.command.number.removeprefix("m"))
-        line = journal[position - 1] if journal is not None else want
-        if line != want or lines != reply.lines:
-            raise Wrong(f"entry {position}: wanted {want} by {lines}, got {line} by {reply.lines}")
-        versions.append(version)
-    return versions
-
-
-def check_replies(replies, versions):
-    for reply in replies:
-        if reply.is_entry:
-            continue
-        now = versions[reply.at if reply.at is not None else 0]
-        pinned = versions[reply.pinned if reply.pinned is not None else 0]
-        lines, _, change = made_again(reply.command, pinned, now)
-        if change or lines != reply.lines:
-            raise Wrong(f"command {reply.command.number}: wanted {lines}, got {reply.lines}")
-
-
-def ends_of(replies, batches):
-    """The length of the journal at the end of each batch."""
-    owners = [reply.command.batch for reply in sorted((reply for reply in replies if reply.is_entry), key=lambda reply: reply.at)]
-    if owners != sorted(owners):
-        raise Wrong("a batch has an entry after one of a later batch")
-    return [sum(owner <= batch for owner in owners) for batch in range(batches)]
-
-
-def check_positions(replies, ends):
-    low = {}
-    for reply in replies:
-        lane, batch = reply.command.lane, reply.command.batch
-        last = max(low.get(lane, 0), ends[batch - 1] if batch else 0)
-        for position in (reply.pinned, reply.at):
-            if position is None:
-                continue
-            if not last <= position <= ends[batch]:
-                raise Wrong(f"command {reply.command.number}: position {position} after {last}, in a batch that ends at {ends[batch]}")
-            if reply.is_entry and position is reply.at and position == last:
-                raise Wrong(f"command {reply.command.number}: its entry {position} does not follow all that its lane had seen")
-            last = position
-        low[lane] = last
-
-
-def checked(replies, journal, batches):
-    """The length of the journal at the end of each batch, if all replies and the journal, if there is one, are right."""
-    check_replies(replies, replayed(replies, journal))
-    ends = ends_of(replies, batches)
-    check_positions(replies, ends)
-    return ends
 
 
 def steps_of(reply):

@@ -1,13 +1,13 @@
 #!/usr/bin/env python3
-"""Runs of josie in which one allocation is refused: the first, the second, and so on, until a run makes fewer.
+"""Runs and checks of josie in which one allocation is refused: the first, the second, and so on, until there are fewer.
 
     checks/refused_memory.py [JOSIE]
 
 The scripts are worked runs and examples, on one lane or on several in a stated order, each run with a trace. A command that has no memory is answered `no memory`
-and changes nothing: every other reply, and the journal, have to be right by the model of `plain_lake.py`, as `random_lanes.py` compares them, with that
-command left out. A run that has no memory itself ends with status 5, and what it wrote has to be the right replies to its first batches. The library that
-refuses is made of `refuse_allocation.c` by the C compiler `cc`, and loaded before the C library. It prints one line, and ends with 0 if everything is
-right.
+and changes nothing: every other reply, and the journal, have to be right by the model of `plain_trace.py`, with that command left out. A run that has no
+memory itself ends with status 5, and what it wrote has to be the right replies to its first batches. Then the trace of each run is checked in the same way: a
+check that has no memory ends with status 5 and without a verdict. The library that refuses is made of `refuse_allocation.c` by the C compiler `cc`, and
+loaded before the C library. It prints one line, and ends with 0 if everything is right.
 """
 import os
 import shlex
@@ -17,7 +17,7 @@ import tempfile
 from collections import Counter
 
 from check import HERE, Wrong, main
-from random_lanes import checked, numbered, parted, placed
+from plain_trace import NO_MEMORY, checked, numbered, parted, placed
 
 RUNS = ["runs/one_read_and_one_probe", "runs/drop_between_plan_and_swap", "runs/real_tables"]
 EXAMPLES = ["refresh", "race.2", "contain", "asof"]
@@ -78,7 +78,7 @@ def check_ended(ended, batches):
     commands = [command for batch in written for command in batch]
     if list(lines) != [command.number for command in commands] or journal is not None and len(written) != len(batches):
         raise Wrong(f"replies to {list(lines)}")
-    refused = [command for command in commands if lines[command.number] == ["no memory"]]
+    refused = [command for command in commands if lines[command.number] == NO_MEMORY]
     checked([placed(command, lines[command.number]) for command in commands if command not in refused], journal, len(written))
     return len(refused), ended.returncode == 5
 
@@ -101,6 +101,28 @@ def check_case(josie, library, name, words, script):
         counts.update(allocations=1, commands=commands, runs=run)
 
 
+def options_of(words):
+    """The options of a run that its check has too: neither an order nor a trace."""
+    order = words.index("--order") if "--order" in words else len(words)
+    return [word for word in words[1:order] + words[order + 2:] if word != "--trace"]
+
+
+def check_verdicts(josie, library, folder, case):
+    """How many allocations were refused to a check of the trace of a case. Each of these ends without a verdict, or with the right one."""
+    name, words, script = case
+    path = os.path.join(folder, "trace")
+    with open(path, "wb") as trace:
+        subprocess.run([josie, *words, *([] if "--trace" in words else ["--trace"])], input=script.encode(), stdout=trace, check=True, timeout=60)
+    number, was_refused = 0, True
+    while was_refused:
+        number += 1
+        ended, was_refused = refused_run(josie, library, ["check", path, *options_of(words)], script, number)
+        got = (ended.returncode, ended.stdout)
+        if got != (0, b"yes\n") and (got != (5, b"") or not was_refused):
+            raise Wrong(f"{name}: the check of its trace, allocation {number}: {got}, {ended.stderr}")
+    return number - 1
+
+
 def check(josie, _words):
     compiler = shutil.which("cc")
     if compiler is None:
@@ -109,9 +131,10 @@ def check(josie, _words):
         library = os.path.join(folder, "refuse_allocation.so")
         subprocess.run([compiler, "-O1", "-shared", "-fPIC", "-o", library, os.path.join(HERE, "refuse_allocation.c")], check=True)
         counts = sum((check_case(josie, library, *case) for case in cases()), Counter())
+        verdicts = sum(check_verdicts(josie, library, folder, case) for case in cases())
     return (
         f"{counts['allocations']} allocations refused, of which {counts['commands']} were answered by a command and {counts['runs']} ended the run; "
-        "nothing else was lost"
+        f"nothing else was lost; {verdicts} refused to checks of the traces, none of which changed a verdict"
     )
 
 
