@@ -24,7 +24,7 @@ use Rattle.trace_laws.specs.Hints.{Hint, Wanting, hint_of, reply_by}
 use Rattle.trace_laws.specs.Named.{IsBatchNamed}
 use Rattle.trace_laws.specs.Passing.{are_apart, batches_rise, is_filled, passes, same_hint, tells, verdict}
 use Rattle.trace_laws.specs.Reading.{groups_of, is_cut}
-use Rattle.trace_laws.specs.Rebuilt.{Hinted, answer_again, hinted_with, rebuilt}
+use Rattle.trace_laws.specs.Rebuilt.{Hinted, answer_again, hinted_with}
 use Rattle.trace_laws.specs.Verdict.{all_commands, counted, hinted_zip, hints_of, remade_of}
 use Rattle.trace_laws.proofs.DecidingLemmas.{same_hint_self, verdict_decides, verdict_groups}
 use Rattle.trace_laws.proofs.LineLemmas.{all_lines_of, text_lines}
@@ -32,7 +32,7 @@ use Rattle.trace_laws.proofs.PassingLemmas.{hint_is}
 use Rattle.trace_groups.specs.Pieces.{group_text}
 use Rattle.trace_numbers.specs.Positions.{PassesNumbers, numbers_pass}
 use Rattle.trace_numbers.proofs.PassLemmas.{all_at, told_zip}
-use Rattle.trace_ends.specs.Ends.{EndsDecide, IsWhole}
+use Rattle.trace_ends.specs.Ends.{EndsDecide, IsWhole, journal_of}
 
 -- ---- commands with their hints
 
@@ -134,13 +134,8 @@ enough_hints lanes merge batches hints passed =
     eqb-true (length hints) (length (all_commands merge 1 batches))
     (both (length hints == length (all_commands merge 1 batches)) (are_apart hinted && (is_filled hinted (counted hinted) && batches_rise lanes merge 1 0 batches hints)) passed).0
 
--- the journal that the hints of a trace make
-abbrev journal_of : Rules → Options → List Batch → Text → List Entry
-journal_of rules options batches trace = let hinted = hinted_zip (all_commands options.merge 1 batches) (hints_of batches options.merge trace) in rebuilt rules hinted (counted hinted)
-
 abbrev Facts : Rules → Options → List Batch → Text → Type 0
-Facts rules options batches trace =
-    IsWhole rules options batches trace (all_commands options.merge 1 batches) (hints_of batches options.merge trace) (map group_text (groups_of trace)) (journal_of rules options batches trace)
+Facts rules options batches trace = IsWhole rules options batches trace (all_commands options.merge 1 batches) (hints_of batches options.merge trace) (map group_text (groups_of trace))
 
 facts_of : PassesNumbers → (rules : Rules) (options : Options) (batches : List Batch) (trace : Text) → AllByRecursion (IsOfLanes options.lanes) batches → AllByRecursion IsBatchNamed batches
     → options.trace ≡ true → length (all_commands options.merge 1 batches) < 2 ^ 64 → verdict rules options batches trace ≡ true → (is_cut trace ≡ true) × Facts rules options batches trace
@@ -148,7 +143,7 @@ facts_of law rules options batches trace of names traced few said =
     let commands : List Command = all_commands options.merge 1 batches in
     let hints : List Hint = hints_of batches options.merge trace in
     let hinted : List Hinted = hinted_zip commands hints in
-    let journal : List Entry = rebuilt rules hinted (counted hinted) in
+    let journal : List Entry = journal_of rules commands hints in
     let made : RunRecord = remade_of rules options batches hints in
     let last : Text = group_text (journal_lines journal) in
     let passed = both (passes rules options batches hints) (bytes_eq (text made) trace) said in
@@ -163,12 +158,14 @@ facts_of law rules options batches trace of names traced few said =
         whole = ap (λ (gs : List (List Text)). flat_map (λ text. text) (map group_text gs)) groups.1 ∙ text_joined made traced refl ∙ is.is;
         many = ap (λ (ts : List Text). length ts) texts ∙ length-append (map (text_again rules journal) hinted) (last ∷ []) ∙ ap (λ (n : ℕ). n + 1) (again_length rules journal commands hints size);
         numbers = numbers.0;
-        answers = λ i c low. record {
-          tells = let h : Hinted = hinted_with (get_or commands i c) (get_or hints i Wanting) in hint_is (hint_of (reply_by rules journal h.command h.hint)) h.hint (tested_at (tells rules journal) commands hints i c size low replies.0);
-          is = ap (λ (ts : List Text). get_or ts i []) texts ∙ again_at rules journal commands hints i c last size low;
+        replayed = record {
+          answers = λ i c low. record {
+            tells = let h : Hinted = hinted_with (get_or commands i c) (get_or hints i Wanting) in hint_is (hint_of (reply_by rules journal h.command h.hint)) h.hint (tested_at (tells rules journal) commands hints i c size low replies.0);
+            is = ap (λ (ts : List Text). get_or ts i []) texts ∙ again_at rules journal commands hints i c last size low;
+          };
+          last = ap (λ (ts : List Text). get_or ts (length commands) []) texts ∙ last_at rules journal commands hints last size;
+          legal = replies.1;
         };
-        last = ap (λ (ts : List Text). get_or ts (length commands) []) texts ∙ last_at rules journal commands hints last size;
-        legal = replies.1;
       },
     )
 
@@ -199,25 +196,23 @@ verdict_of law rules options batches trace traced facts =
     let commands : List Command = all_commands options.merge 1 batches in
     let hints : List Hint = hints_of batches options.merge trace in
     let hinted : List Hinted = hinted_zip commands hints in
-    let journal : List Entry = rebuilt rules hinted (counted hinted) in
+    let journal : List Entry = journal_of rules commands hints in
     let made : RunRecord = remade_of rules options batches hints in
     let size : length hints ≡ length commands = enough_hints options.lanes options.merge batches hints facts.numbers in
-    let told : list_all (tells rules journal) hinted ≡ true = tested_by (tells rules journal) commands hints size (λ i c low. let a = facts.answers i c low in ap (λ (h : Hint). same_hint h (get_or hints i Wanting)) a.tells ∙ same_hint_self (get_or hints i Wanting)) in
+    let told : list_all (tells rules journal) hinted ≡ true = tested_by (tells rules journal) commands hints size (λ i c low. let a = facts.replayed.answers i c low in ap (λ (h : Hint). same_hint h (get_or hints i Wanting)) a.tells ∙ same_hint_self (get_or hints i Wanting)) in
     let passing : passes rules options batches hints ≡ true =
     law rules options batches hints
-    ∙ joined (numbers_pass options.lanes options.merge batches hints) (list_all (tells rules journal) hinted && is_legal journal) facts.numbers (joined (list_all (tells rules journal) hinted) (is_legal journal) told facts.legal) in
+    ∙ joined (numbers_pass options.lanes options.merge batches hints) (list_all (tells rules journal) hinted && is_legal journal) facts.numbers (joined (list_all (tells rules journal) hinted) (is_legal journal) told facts.replayed.legal) in
     let texts : map group_text (groups_of trace) ≡ map (text_again rules journal) hinted ++ group_text (journal_lines journal) ∷ [] =
-    texts_are rules journal commands hints (map group_text (groups_of trace)) size facts.many (λ i c low. let a = facts.answers i c low in a.is) facts.last in
+    texts_are rules journal commands hints (map group_text (groups_of trace)) size facts.many (λ i c low. let a = facts.replayed.answers i c low in a.is) facts.replayed.last in
     let is : text made ≡ trace = sym (text_joined made traced refl) ∙ ap (λ (ts : List Text). flat_map (λ text. text) ts) (texts_again rules journal hinted ∙ sym texts) ∙ facts.whole in
     joined (passes rules options batches hints) (bytes_eq (text made) trace) passing (texts_same (text made) trace is)
 
 -- the verdict and the facts of these commands, hints and texts
 abbrev Decide : Rules → Options → List Batch → Text → List Command → List Hint → List Text → Type 0
 Decide rules options batches trace commands hints texts =
-    let hinted = hinted_zip commands hints in
-    let journal = rebuilt rules hinted (counted hinted) in
-    (verdict rules options batches trace ≡ true → (is_cut trace ≡ true) × IsWhole rules options batches trace commands hints texts journal)
-    × (IsWhole rules options batches trace commands hints texts journal → verdict rules options batches trace ≡ true)
+    (verdict rules options batches trace ≡ true → (is_cut trace ≡ true) × IsWhole rules options batches trace commands hints texts)
+    × (IsWhole rules options batches trace commands hints texts → verdict rules options batches trace ≡ true)
 
 pub ends_decide : PassesNumbers → EndsDecide
 ends_decide law rules options batches trace commands hints texts of names traced few commands_are hints_are texts_are =

@@ -27,22 +27,31 @@ pub record IsAnswered (who : Who) (hint : Hint) (reply : Reply) (text : Text) : 
   pub tells : hint_of reply ≡ hint
   pub is : text ≡ group_text (answer_lines true (answered_with who reply))
 
--- The trace is one text for each command, and one for the journal. The hints pass the tests on numbers; each text is that of the command's
--- answer, made again where its hint says; and the last is that of the journal that the accepted ones make, which is legal.
-pub record IsWhole (rules : Rules) (options : Options) (batches : List Batch) (trace : Text) (commands : List Command) (hints : List Hint) (texts : List Text) (journal : List Entry) : Type 0 where
+-- the journal that the accepted answers make
+abbrev pub journal_of : Rules → List Command → List Hint → List Entry
+journal_of rules commands hints = rebuilt rules (hinted_zip commands hints) (counted (hinted_zip commands hints))
+
+-- Each text is that of the command's answer, made again where its hint says, and the answer tells its hint; the last text is that of the
+-- journal that the accepted answers make, which is legal.
+pub record IsReplayed (rules : Rules) (commands : List Command) (hints : List Hint) (texts : List Text) : Type 0 where
+  pub answers : (i : ℕ) (c : Command) → i < length commands
+      → let command = get_or commands i c in let hint = get_or hints i Wanting in
+      IsAnswered (who_of command) hint (reply_by rules (journal_of rules commands hints) command hint) (get_or texts i [])
+  pub last : get_or texts (length commands) [] ≡ group_text (journal_lines (journal_of rules commands hints))
+  pub legal : is_legal (journal_of rules commands hints) ≡ true
+
+-- The trace is one text for each command, and one for the journal. The hints pass the tests on numbers, and the texts are those of the answers
+-- that are made again, and of their journal.
+pub record IsWhole (rules : Rules) (options : Options) (batches : List Batch) (trace : Text) (commands : List Command) (hints : List Hint) (texts : List Text) : Type 0 where
   pub whole : flat_map (λ text. text) texts ≡ trace
   pub many : length texts ≡ length commands + 1
   pub numbers : numbers_pass options.lanes options.merge batches hints ≡ true
-  pub answers : (i : ℕ) (c : Command) → i < length commands
-      → let command = get_or commands i c in let hint = get_or hints i Wanting in IsAnswered (who_of command) hint (reply_by rules journal command hint) (get_or texts i [])
-  pub last : get_or texts (length commands) [] ≡ group_text (journal_lines journal)
-  pub legal : is_legal journal ≡ true
+  pub replayed : IsReplayed rules commands hints texts
 
--- The verdict is true exactly where the facts hold, of the texts of the groups of the trace and of the journal that its hints make; and then the trace is cut.
+-- The verdict is true exactly where the facts hold, of the texts of the groups of the trace; and then the trace is cut.
 abbrev pub EndsDecide : Type 0
 EndsDecide = (rules : Rules) (options : Options) (batches : List Batch) (trace : Text) (commands : List Command) (hints : List Hint) (texts : List Text) → AllByRecursion (IsOfLanes options.lanes) batches
     → AllByRecursion IsBatchNamed batches → options.trace ≡ true → length (all_commands options.merge 1 batches) < 2 ^ 64
     → commands ≡ all_commands options.merge 1 batches → hints ≡ hints_of batches options.merge trace → texts ≡ map group_text (groups_of trace)
-    → let hinted = hinted_zip commands hints in let journal = rebuilt rules hinted (counted hinted) in
-    (verdict rules options batches trace ≡ true → (is_cut trace ≡ true) × IsWhole rules options batches trace commands hints texts journal)
-    × (IsWhole rules options batches trace commands hints texts journal → verdict rules options batches trace ≡ true)
+    → (verdict rules options batches trace ≡ true → (is_cut trace ≡ true) × IsWhole rules options batches trace commands hints texts)
+    × (IsWhole rules options batches trace commands hints texts → verdict rules options batches trace ≡ true)

@@ -29,11 +29,10 @@ use Rattle.trace_laws.specs.Rebuilt.{pinned_of}
 use Rattle.trace_numbers.specs.declared.order.Plan.{Plan}
 use Rattle.trace_numbers.specs.Positions.{IsOwner, own_of}
 use Rattle.trace_numbers.specs.Turns.{made_at, planned_at}
-use Rattle.trace_ends.specs.Ends.{IsAnswered}
+use Rattle.trace_ends.specs.Ends.{IsAnswered, journal_of}
 use Rattle.trace_ends.specs.Fronts.{IsPut, NextIsPut, ReplyIsMade, reply_at}
 use Rattle.trace_ends.specs.Within.{ArePositions, IsWithin}
 use Rattle.trace_replay.specs.Lakes.{AnswersNow, AreHeldFor, IsAfter, IsAt, IsHeldFor, IsLeft, IsTold, LakeOf, TraceOf, answer_now, command_at, front_of, hint_at, lake_with}
-use Rattle.trace_replay.specs.Replays.{journal_of}
 use Rattle.trace_replay.specs.Stretches.{IsPlanOf}
 
 -- ---- what is held

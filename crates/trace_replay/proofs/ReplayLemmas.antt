@@ -17,10 +17,9 @@ use Rattle.trace_numbers.specs.declared.order.Plan.{Plan}
 use Rattle.trace_numbers.specs.declared.order.Turn.{Turn}
 use Rattle.trace_numbers.specs.Positions.{AreOwners, own_of}
 use Rattle.trace_numbers.specs.Turns.{made_at, turn_with}
-use Rattle.trace_ends.specs.Ends.{IsAnswered}
+use Rattle.trace_ends.specs.Ends.{IsAnswered, IsReplayed, journal_of}
 use Rattle.trace_ends.specs.Within.{AcceptedOwns, ArePositions, IsWithin}
 use Rattle.trace_replay.specs.Lakes.{AreTold, AreToldBefore, IsAt, IsTold, LakeOf, LooksAreTold, TraceOf, front_of, hint_at, trace_with}
-use Rattle.trace_replay.specs.Replays.{IsReplayed, journal_of}
 use Rattle.trace_replay.specs.Stretches.{ArePlansOf, AreTurnsOf, IsPlanOf, IsStretchAt, IsTurnOf}
 
 -- ---- one position

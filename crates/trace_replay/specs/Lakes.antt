@@ -14,11 +14,10 @@ use Rattle.trace_laws.specs.Rebuilt.{pinned_of, rebuilt}
 use Rattle.trace_laws.specs.Verdict.{hinted_zip}
 use Rattle.trace_numbers.specs.Positions.{own_of}
 use Rattle.trace_numbers.specs.Turns.{made_at, planned_at}
-use Rattle.trace_ends.specs.Ends.{IsAnswered}
+use Rattle.trace_ends.specs.Ends.{IsAnswered, journal_of}
 use Rattle.batch_work.specs.Works.{merge_policy}
 use Rattle.command_replies.specs.declared.answering.Held.{Held}
 use Rattle.command_replies.specs.Held.{IsHeldAt, position_of}
-use Rattle.trace_replay.specs.Replays.{journal_of}
 
 -- what is replayed: the rules of the run and its commands, and what the trace tells, the hint and the text of each answer
 pub record TraceOf : Type 0 where

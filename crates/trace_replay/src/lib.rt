@@ -7,7 +7,7 @@ mod telling;
 mod trace;
 mod turns;
 
-pub use replaying::replay;
+pub use replaying::{hints_of, replay};
 
 #[cfg(test)]
 mod tests;

@@ -4,10 +4,10 @@ ghost use Rattle.catalogue.specs.Kept.{IsWithin};
 ghost use Rattle.record_model.specs.Rules.{rules_with, wide_limits};
 ghost use Rattle.trace_hints.specs.Told.{hint_as};
 ghost use Rattle.trace_numbers.specs.Positions.{AreOwners, IsOwner};
+ghost use Rattle.trace_ends.specs.Ends.{IsReplayed};
 ghost use Rattle.trace_ends.specs.Within.{ArePositions};
 ghost use Rattle.batch_work.specs.Works.{works_of};
 ghost use Rattle.trace_replay.specs.Lakes.{AreTold, IsAt, IsTold, LooksAreTold};
-ghost use Rattle.trace_replay.specs.Replays.{IsReplayed};
 ghost use Rattle.trace_replay.specs.Stretches.{ArePlansOf, AreTurnsOf};
 
 use crate::lake::Lake;
@@ -22,12 +22,8 @@ use trace_groups::Group;
 use trace_hints::Hint;
 use trace_numbers::{Owners, Plan, Turn, plans_of, turns_of};
 
-/// The hints of the first groups.
-pub(crate) fn hints_of(
-    alloc: Global,
-    groups: &[Group<'_>],
-    many: usize,
-) -> Result<Vec<Hint>, NoMemory>
+/// The hints of the first `many` groups, in their order. The only error is want of memory.
+pub fn hints_of(alloc: Global, groups: &[Group<'_>], many: usize) -> Result<Vec<Hint>, NoMemory>
     requires { many ≤ length groups.now }
     ensures { IfOk result (λ hints. map hint_as hints.items ≡ take many (map (λ group. hint_as group.hint) groups.now)) }
 {

@@ -3,8 +3,7 @@ ghost use Rattle.std.specs.Prelude.{◌≡◌, ◌≤◌, IfOk};
 ghost use Rattle.script_model.specs.Lanes.{IsOfLanes};
 ghost use Rattle.commands.specs.Tasks.{IsTaskInRange};
 
-use crate::replay;
-use crate::replaying::hints_of;
+use crate::{hints_of, replay};
 use batch_work::works_of;
 use catalogue::Limits;
 use column_set::Name;

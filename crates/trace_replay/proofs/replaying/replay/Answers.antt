@@ -1,8 +1,8 @@
 use Rattle.std.proofs.Common.{ap, sym, map, subst}
 use Rattle.std.proofs.lemmas.Result.{IfOk-weaker}
 use Rattle.trace_hints.specs.Told.{hint_as}
+use Rattle.trace_ends.specs.Ends.{IsReplayed}
 use Rattle.trace_replay.specs.Lakes.{TraceOf}
-use Rattle.trace_replay.specs.Replays.{IsReplayed}
 use Rattle.trace_replay.proofs.ReplayLemmas.{trace_is}
 use Rattle.trace_replay.proofs.replaying.replay.Goals as goal
 

@@ -1,0 +1,97 @@
+-- The verdict, from what was found out of a trace.
+use Rattle.std.proofs.Common.{◌≡◌, refl, ap, sym, ◌∙◌, ℕ, ◌^◌, ◌<◌, List, Bool, true, false, flat_map, length, map, take, subst}
+use Rattle.std.specs.Prelude.{IfOk, Result, Ok, Err}
+use Rattle.std.specs.List.{AllByRecursion}
+use Rattle.lake_model.specs.Texts.{Text}
+use Rattle.script_model.specs.Commands.{Batch, Command}
+use Rattle.script_model.specs.Lanes.{IsOfLanes}
+use Rattle.script_model.specs.Options.{Options}
+use Rattle.record_model.specs.Rules.{Rules}
+use Rattle.trace_laws.specs.Hints.{Hint}
+use Rattle.trace_laws.specs.Named.{IsBatchNamed}
+use Rattle.trace_laws.specs.Passing.{VerdictDecides, verdict}
+use Rattle.trace_laws.specs.Reading.{groups_of, hint_read, is_cut}
+use Rattle.trace_laws.specs.Verdict.{all_commands, remade}
+use Rattle.trace_groups.specs.Pieces.{group_text}
+use Rattle.trace_numbers.specs.Positions.{numbers_pass}
+use Rattle.trace_ends.specs.Ends.{EndsDecide, IsWhole}
+use Rattle.trace_check.specs.Checking.{AreChecked, CheckerOf, HasRecord}
+use Rattle.trace_check.specs.Right.{AreOptionsOf, IsRight}
+
+-- two facts of a result, taken together
+pub ok_both : {X E : Type 0} (result : Result X E) (P Q R : X → Type 0) → IfOk result P → IfOk result Q → ((x : X) → P x → Q x → R x) → IfOk result R
+ok_both (Ok x) P Q R p q both = both x p q
+ok_both (Err e) P Q R p q both = tt
+
+same_truth : (a b : Bool) → (a ≡ true → b ≡ true) → (b ≡ true → a ≡ true) → a ≡ b
+same_truth true true there back = refl
+same_truth true false there back = sym (there refl)
+same_truth false true there back = back refl
+same_truth false false there back = refl
+
+-- what is known of the batches and of the options
+pub record AreGiven (lanes : ℕ) (merge : Bool) (batches : List Batch) (commands : List Command) : Type 0 where
+  pub of : AllByRecursion (IsOfLanes lanes) batches
+  pub named : AllByRecursion IsBatchNamed batches
+  pub are : commands ≡ all_commands merge 1 batches
+  pub few : length (all_commands merge 1 batches) < 2 ^ 64
+
+-- what was read from the trace
+pub record AreRead (trace : Text) (hints : List Hint) (texts : List Text) : Type 0 where
+  pub hints_are : hints ≡ map hint_read (groups_of trace)
+  pub texts_are : texts ≡ map group_text (groups_of trace)
+  pub whole : flat_map (λ text. text) texts ≡ trace
+
+decided : EndsDecide → (rules : Rules) (options : Options) (lanes : ℕ) (merge : Bool) (batches : List Batch) (trace : Text) (commands : List Command) (hints : List Hint) (texts : List Text) → AreGiven lanes merge batches commands → AreOptionsOf lanes merge options
+    → hints ≡ take (length commands) (map hint_read (groups_of trace)) → texts ≡ map group_text (groups_of trace)
+    → (verdict rules options batches trace ≡ true → (is_cut trace ≡ true) × IsWhole rules options batches trace commands hints texts)
+    × (IsWhole rules options batches trace commands hints texts → verdict rules options batches trace ≡ true)
+decided decide rules options lanes merge batches trace commands hints texts given are hints_are texts_are =
+    let same : commands ≡ all_commands options.merge 1 batches = given.are ∙ ap (λ (m : Bool). all_commands m 1 batches) (sym are.merge_is) in
+    decide rules options batches trace commands hints texts (subst (λ (n : ℕ). AllByRecursion (IsOfLanes n) batches) (sym are.lanes_are) given.of) given.named are.traced
+    (subst (λ (m : Bool). length (all_commands m 1 batches) < 2 ^ 64) (sym are.merge_is) given.few) same
+    (hints_are ∙ ap (λ (cs : List Command). take (length cs) (map hint_read (groups_of trace))) same) texts_are
+
+-- the verdict is true exactly where the groups are right
+pub judged : EndsDecide → (rules : Rules) (options : Options) (lanes : ℕ) (merge : Bool) (batches : List Batch) (trace : Text) (commands : List Command) (hints : List Hint) (texts : List Text) → AreGiven lanes merge batches commands → AreOptionsOf lanes merge options
+    → AreRead trace hints texts → (b : Bool) → (b ≡ true → IsRight rules lanes merge batches commands hints texts) → (IsRight rules lanes merge batches commands hints texts → b ≡ true) → b ≡ verdict rules options batches trace
+judged decide rules options lanes merge batches trace commands hints texts given are found b sound complete =
+    same_truth b (verdict rules options batches trace) (λ right. d.1 (whole_of (sound right))) (λ said. complete (right_of (d.0 said).1))
+  where
+    first : List Hint
+    first = take (length commands) hints
+
+    d : (verdict rules options batches trace ≡ true → (is_cut trace ≡ true) × IsWhole rules options batches trace commands first texts)
+        × (IsWhole rules options batches trace commands first texts → verdict rules options batches trace ≡ true)
+    d = decided decide rules options lanes merge batches trace commands first texts given are (ap (take (length commands)) found.hints_are) found.texts_are
+
+    numbers_are : numbers_pass options.lanes options.merge batches first ≡ numbers_pass lanes merge batches first
+    numbers_are = ap (λ (n : ℕ). numbers_pass n options.merge batches first) are.lanes_are ∙ ap (λ (m : Bool). numbers_pass lanes m batches first) are.merge_is
+
+    whole_of : IsRight rules lanes merge batches commands hints texts → IsWhole rules options batches trace commands first texts
+    whole_of right = record {
+      whole = found.whole;
+      many = right.many;
+      numbers = numbers_are ∙ right.numbers;
+      replayed = right.replayed;
+    }
+
+    right_of : IsWhole rules options batches trace commands first texts → IsRight rules lanes merge batches commands hints texts
+    right_of whole = record {
+      many = whole.many;
+      numbers = sym numbers_are ∙ whole.numbers;
+      replayed = whole.replayed;
+    }
+
+-- ---- the two halves of the verdict
+
+pub right_of : VerdictDecides → (checker : CheckerOf) (trace : Text) (b : Bool) → AreChecked checker.options checker.batches → length (all_commands checker.options.merge 1 checker.batches) < 2 ^ 64
+    → b ≡ verdict checker.rules checker.options checker.batches trace → b ≡ true → HasRecord checker trace
+right_of law checker trace b known few is said =
+    (remade checker.rules checker.options checker.batches trace, (law checker.rules checker.options checker.batches trace known.lanes known.named known.traced few).0 (sym is ∙ said))
+
+pub none_of : VerdictDecides → (checker : CheckerOf) (trace : Text) (b : Bool) → AreChecked checker.options checker.batches → length (all_commands checker.options.merge 1 checker.batches) < 2 ^ 64
+    → b ≡ verdict checker.rules checker.options checker.batches trace → b ≡ false → HasRecord checker trace → ⊥
+none_of law checker trace b known few is said has =
+    let right = (law checker.rules checker.options checker.batches trace known.lanes known.named known.traced few).1 has.0 has.1 in
+    let no : false ≡ true = sym said ∙ is ∙ right in cc

@@ -1,0 +1,12 @@
+//! The checker of a finished run: whether the bytes of a trace are the text of some right record of the batches of a script.
+#![tactic(auto)]
+
+mod checker;
+mod judging;
+mod names;
+mod works;
+
+pub use checker::Checker;
+
+#[cfg(test)]
+mod tests;

@@ -1,0 +1,31 @@
+//! What is to be done in a run: the work of all batches, one after another.
+ghost use Rattle.std.specs.Prelude.{◌≡◌, IfOk};
+ghost use Rattle.trace_laws.specs.Verdict.{all_commands};
+ghost use Rattle.batch_work.specs.Works.{works_of};
+
+use batch_work::{Work, works_of};
+use commands::Batch;
+use no_memory::NoMemory;
+use std::alloc::Global;
+
+/// The commands of all batches, behind those of each batch its merges, if there is a merger, which numbers them from 1 on through all
+/// batches. Numbers past 64 bits, for which no memory has room, count as want of memory.
+pub(crate) fn all_works<'a>(
+    alloc: Global,
+    merge: bool,
+    batches: &'a [Batch],
+) -> Result<Vec<Work<'a>>, NoMemory>
+    ensures { IfOk result (λ works. works_of works.items ≡ all_commands merge 1 batches.now) }
+{
+    let mut works = Vec::new(alloc);
+    let mut next = 1u64;
+    for batch in batches {
+        let Some(behind) = next.checked_add(batch.updates()) else {
+            return Err(NoMemory);
+        };
+        let mut more = works_of(alloc, batch, merge.then_some(next))?;
+        works.append(&mut more)?;
+        next = behind;
+    }
+    Ok(works)
+}
