@@ -1,5 +1,5 @@
 -- What the words of a command line say, as clap reads them.
-use Rattle.std.specs.Prelude.{ℕ, ◌^◌, ◌<◌, ◌≤◌, ◌&&◌, pos, Bool, true, false, if◌then◌else◌, List, [], ◌∷◌, bytes_eq, codes, length, map, nat_le, nat_lt, string_bytes, Option, Some, None, option_and_then, option_map, unwrap_or}
+use Rattle.std.specs.Prelude.{ℕ, ◌^◌, ◌≡◌, ◌<◌, ◌≤◌, ◌&&◌, pos, Bool, true, false, if◌then◌else◌, List, [], ◌∷◌, bytes_eq, codes, length, map, nat_le, nat_lt, string_bytes, Option, Some, None, option_and_then, option_map, unwrap_or}
 use Rattle.std.specs.Option.{option_map_or}
 use Rattle.std.specs.Str.Parse.{digits_value, without_leading_plus}
 use Rattle.clap.specs.Walk.{Row, Rule, all_of, first_of, one_of}
