@@ -2,7 +2,7 @@
 ghost use Rattle.std.specs.Prelude.{ℕ, ◌≡◌, ◌≤◌, ◌⊎◌, ◌&&◌, false, Some, None, Err, map, nat_le, pos, string_bytes, IfOk, IfErr, MatchResult, option_map};
 ghost use Rattle.clap.specs.Walk.{rule_of};
 ghost use Rattle.clap.specs.Words.{app_of, found_of, rows_of};
-ghost use Rattle.option_model.specs.Plain.{Mode as ModeOf, is_path, keys_of_profile, plain_mode};
+ghost use Rattle.option_model.specs.Plain.{Mode as ModeOf, checked_options, is_path, keys_of_profile, plain_mode};
 ghost use Rattle.option_model.specs.Ranges.{AreInRange};
 ghost use Rattle.command_line.specs.Words.{IsModeInRange, bare, check_words, flag_of, flag_option, lanes_option, order_option, profile_option, make_command as make_app, make_held, make_words, mode_of, mode_read, names_mode, number_held, number_word, options_held, order_stated, path_words, paths_held, run_command as run_app, run_words, watch_command as watch_app, watch_held, watch_words};
 
@@ -324,6 +324,19 @@ fn is_path(word: &str) -> bool
     word.as_bytes().first().is_some_and(|byte| *byte != b'-')
 }
 
+// The options of the run whose trace is checked, where these state no order and ask for no trace.
+fn checked_options(options: Options) -> Option<Options>
+    ensures { result ≡ checked_options options }
+{
+    if options.order.is_some() || options.trace {
+        return None;
+    }
+    Some(Options {
+        trace: true,
+        ..options
+    })
+}
+
 // The mode that the words behind `check` say.
 fn check_mode(alloc: Global, words: &[String]) -> Result<Mode, WordsRefused>
     ensures read { IfOk result (λ mode. check_words (map string_bytes words.now) ≡ Some (mode_of mode)) }
@@ -337,19 +350,13 @@ fn check_mode(alloc: Global, words: &[String]) -> Result<Mode, WordsRefused>
         return Err(WordsRefused::Usage);
     }
     let options = run_options(alloc, arguments)?;
-    if options.order.is_some() || options.trace {
+    let Some(options) = checked_options(options) else {
         return Err(WordsRefused::Usage);
-    }
+    };
     let Ok(trace) = String::from_str(alloc, trace.as_str()) else {
         return Err(WordsRefused::NoMemory);
     };
-    Ok(Mode::Check {
-        trace,
-        options: Options {
-            trace: true,
-            ..options
-        },
-    })
+    Ok(Mode::Check { trace, options })
 }
 
 /// The mode that the words behind the program's name say. The first word is the mode, byte for byte, and clap reads the words behind

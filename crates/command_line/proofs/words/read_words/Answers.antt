@@ -19,6 +19,15 @@ returns-in_ok-run_options-in-run-clause-plain c =
     ∙ ap (option_map Run) c.in_ok-run_options-in-run.ensures.read in
     λ mode plain. let same : Some (Run c.in_ok-run_options-in-run.field-0) ≡ Some mode = sym read ∙ plain_is_read texts mode plain in cc same
 
+pub returns-in_err-run_options-in-run-clause-refused : goal.returns-in_err-run_options-in-run-clause-refused
+returns-in_err-run_options-in-run-clause-refused c =
+    let texts = map (string_bytes {Z = Global}) c.args.words.now in
+    let rest = map (string_bytes {Z = Global}) (take (length c.args.words.now - 1) (drop 1 c.args.words.now)) in
+    let same : mode_read texts ≡ option_map Run (run_words rest) =
+    run_named _ _ _ (parted (string_bytes {Z = Global}) c.args.words.now c.mode-item.result c.in-len1-up.len_at_least c.mode-item.is) (sym c.as_str.ensures.value ∙ c.in-run.is) in
+    passed_up c.from_residual.result c.in_err-run_options-in-run.field-0.0 (λ e. (e ≡ refused.NoMemory) ⊎ (mode_read texts ≡ None)) c.from_residual.ensures.1
+    (run_refused c.in_err-run_options-in-run.field-0.0 (run_words rest) (mode_read texts) same c.in_err-run_options-in-run.ensures.refused)
+
 pub returns-in_err-run_options-in-run-clause-plain : goal.returns-in_err-run_options-in-run-clause-plain
 returns-in_err-run_options-in-run-clause-plain c =
     let texts = map (string_bytes {Z = Global}) c.args.words.now in

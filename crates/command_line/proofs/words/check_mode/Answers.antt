@@ -1,0 +1,14 @@
+use Rattle.std.proofs.Common.{rules, ◌≡◌, ◌⊎◌, ◌-◌, ◌∷◌, inr, drop, length, map, string_bytes, sym, take, true, false, Global, List, None}
+use Rattle.clap.proofs.TakesLemmas.{passed_up}
+use Rattle.lake_model.specs.Texts.{Text}
+use Rattle.option_model.specs.Plain.{is_path}
+use Rattle.command_line.specs.Words.{check_words}
+use Rattle.command_line.specs.declared.words.WordsRefused.TheVariants as refused
+use Rattle.command_line.proofs.ModeLemmas.{check_read, check_refused, no_path, not_checked, parted}
+use Rattle.command_line.proofs.words.check_mode.Goals as goal
+
+pub returns-in_err-options-clause-refused : goal.returns-in_err-options-clause-refused
+returns-in_err-options-clause-refused c =
+    let texts = map (string_bytes {Z = Global}) c.args.words.now in
+    passed_up c.from_residual.result c.in_err-options.field-0.0 (λ e. (e ≡ refused.NoMemory) ⊎ (check_words texts ≡ None)) c.from_residual.ensures.1
+    (check_refused _ _ texts (parted (string_bytes {Z = Global}) c.args.words.now c.trace-item.result c.in-len1-up.len_at_least c.trace-item.is) c.in_err-options.field-0.0 c.in_err-options.ensures.refused)
