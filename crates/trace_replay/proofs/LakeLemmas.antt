@@ -1,12 +1,12 @@
 -- The lake in which answers are made again: what is held in it, what is answered, and what it has after an answer.
-use Rattle.std.proofs.Common.{◌≡◌, refl, ap, sym, ◌∙◌, subst, ℕ, ◌+◌, inl, inr, List, [], ◌∷◌, ◌++◌, map, length, get_or, take, Bool, false, cond, Option, Some, None, arith}
+use Rattle.std.proofs.Common.{◌≡◌, refl, ap, sym, ◌∙◌, subst, ℕ, zero, suc, ◌+◌, ◌<◌, ◌≤◌, inl, inr, List, [], ◌∷◌, ◌++◌, map, length, get_or, take, Bool, false, cond, Option, None, arith}
 use Rattle.std.specs.Prelude.{is_some, ◌⊎◌}
-use Rattle.std.specs.List.{Contains}
+use Rattle.std.specs.List.{Contains, swap_remove}
 use Rattle.std.proofs.lemmas.List.{append-nil}
-use Rattle.std.proofs.lemmas.List.Elements.{Contains-push_cases}
+use Rattle.std.proofs.lemmas.List.Elements.{Contains-append_left, Contains-push, Contains-push_cases}
+use Rattle.std.proofs.lemmas.List.Sorted.{Contains-permutation, IsPermutation-swap_remove}
 use Rattle.lake_model.specs.declared.Counts.{Counts}
 use Rattle.lake_model.specs.declared.Keys.{Keys}
-use Rattle.lake_model.specs.declared.Policy.{Policy}
 use Rattle.lake_model.specs.declared.Who.{Who}
 use Rattle.lake_model.specs.Journal.{Entry, What, entry_with}
 use Rattle.lake_model.specs.Texts.{Text}
@@ -20,7 +20,6 @@ use Rattle.run_record.specs.Rooms.{RecordOf}
 use Rattle.catalogue.specs.Kept.{CatalogueOf}
 use Rattle.batch_work.specs.Works.{merge_policy}
 use Rattle.command_replies.specs.declared.answering.Held.{Held}
-use Rattle.command_replies.specs.declared.answering.Held.TheVariants.{Denied}
 use Rattle.command_replies.specs.Held.{IsHeldAt, position_of}
 use Rattle.command_replies.specs.Loads.{Adds}
 use Rattle.command_replies.proofs.HeldLemmas.{held_at_grows}
@@ -28,11 +27,11 @@ use Rattle.trace_laws.specs.Hints.{Hint, Stands, Wanting, hint_of, reply_by}
 use Rattle.trace_laws.specs.Rebuilt.{pinned_of}
 use Rattle.trace_numbers.specs.declared.order.Plan.{Plan}
 use Rattle.trace_numbers.specs.Positions.{IsOwner, own_of}
-use Rattle.trace_numbers.specs.Turns.{made_at, planned_at}
+use Rattle.trace_numbers.specs.Turns.{made_at}
 use Rattle.trace_ends.specs.Ends.{IsAnswered, journal_of}
 use Rattle.trace_ends.specs.Fronts.{IsPut, NextIsPut, ReplyIsMade, reply_at}
 use Rattle.trace_ends.specs.Within.{ArePositions, IsWithin}
-use Rattle.trace_replay.specs.Lakes.{AnswersNow, AreHeldFor, IsAfter, IsAt, IsHeldFor, IsLeft, IsTold, LakeOf, TraceOf, answer_now, command_at, front_of, hint_at, lake_with}
+use Rattle.trace_replay.specs.Lakes.{AnswersNow, AreHeldFor, IsAfter, IsAt, IsHeldFor, IsHeldIn, IsLeft, IsReady, IsTold, Keeps, LakeOf, TraceOf, answer_now, command_at, front_of, hint_at, lake_with}
 use Rattle.trace_replay.specs.Stretches.{IsPlanOf}
 
 -- ---- what is held
@@ -40,28 +39,27 @@ use Rattle.trace_replay.specs.Stretches.{IsPlanOf}
 pub held_grow : (trace : TraceOf) (journal more : List Entry) (all : List (ℕ × Held)) → AreHeldFor trace journal all → AreHeldFor trace (journal ++ more) all
 held_grow trace journal more all held one there =
     let h = held one there in
-    record { position = h.position; holds = held_at_grows journal more (merge_policy (command_at trace one.0).task) one.1 h.holds }
+    record { early = h.early; position = h.position; holds = held_at_grows journal more (merge_policy (command_at trace one.0).task) one.1 h.holds }
 
-denied_holds : (journal : List Entry) (policy : Option Policy) (at : ℕ) → IsHeldAt journal policy (Denied at)
-denied_holds journal None at = tt
-denied_holds journal (Some policy) at = tt
+-- what is taken out for an answer, where the list is that of the code
+pub taken_from : (trace : TraceOf) (lake : LakeOf) (all : List (ℕ × Held)) (index : ℕ) (held : Held) → AreHeldFor trace lake.journal lake.held → all ≡ lake.held → Contains all (index, held)
+    → IsHeldFor trace lake.journal index held
+taken_from trace lake all index held are same taken = are (index, held) (subst (λ (xs : List (ℕ × Held)). Contains xs (index, held)) same taken)
 
--- what is taken out for an answer that was planned
-pub taken_for : (trace : TraceOf) (journal : List Entry) (all : List (ℕ × Held)) (index at : ℕ) (held : Held) → AreHeldFor trace journal all → planned_at (hint_at trace index) ≡ Some at
-    → Contains all (index, held) ⊎ (held ≡ Denied at) → IsHeldFor trace journal index held
-taken_for trace journal all index at held are planned (inl there) = are (index, held) there
-taken_for trace journal all index at held are planned (inr none) =
-    subst (IsHeldFor trace journal index) (sym none) (record { position = planned; holds = denied_holds journal (merge_policy (command_at trace index).task) at })
+-- what is left where one was taken out
+pub others_left : (all after : List (ℕ × Held)) (place index : ℕ) (one : ℕ × Held) → place < length all → one ≡ get_or all place one → after ≡ swap_remove all place one → one.0 ≡ index → Keeps (λ i. i ≡ index) all after
+others_left all after place index one low is removed named i differs (held, there) =
+    by (Contains-permutation all (one ∷ swap_remove all place one) (i, held) (IsPermutation-swap_remove all place one low is) there)
+  where
+    by : Contains (one ∷ swap_remove all place one) (i, held) → IsHeldIn after i
+    by (zero, inside, first) = absurd (differs (sym (ap (λ (x : ℕ × Held). x.0) first) ∙ named))
+    by (suc k, inside, later) = (held, subst (λ (xs : List (ℕ × Held)). Contains xs (i, held)) (sym removed) (k, omega (arith, inside), later))
 
--- what is held for an answer is of the position that its hint tells
-pub held_position : (trace : TraceOf) (size index : ℕ) (journal : List Entry) (held : Held) → IsWithin size (hint_at trace index) → IsHeldFor trace journal index held → position_of held ≡ pinned_of (hint_at trace index)
-held_position trace size index journal held inside is = (inside.planned (position_of held) is.position).0
-
--- the same, where the list is that of the code
-pub taken_from : (trace : TraceOf) (lake : LakeOf) (all : List (ℕ × Held)) (index at : ℕ) (held : Held) → AreHeldFor trace lake.journal lake.held → all ≡ lake.held → planned_at (hint_at trace index) ≡ Some at
-    → Contains all (index, held) ⊎ (held ≡ Denied at) → IsHeldFor trace lake.journal index held
-taken_from trace lake all index at held are same planned taken =
-    taken_for trace lake.journal all index at held (subst (AreHeldFor trace lake.journal) (sym same) are) planned taken
+-- one is held for an answer that was planned before, where the list is that of the code
+pub held_early : (trace : TraceOf) (lake : LakeOf) (all : List (ℕ × Held)) (index : ℕ) (hint : Hint) → IsReady trace index lake → all ≡ lake.held → hint ≡ hint_at trace index → pinned_of hint < made_at hint
+    → IsHeldIn all index
+held_early trace lake all index hint ready same is early =
+    subst (λ (xs : List (ℕ × Held)). IsHeldIn xs index) (sym same) (ready (subst (λ (h : Hint). pinned_of h < made_at h) is early))
 
 -- what is held from now on
 pub begun_for : (trace : TraceOf) (index : ℕ) (command : Command) (journal now : List Entry) (held : Held) → command_at trace index ≡ command → journal ≡ now → IsHeldAt journal (merge_policy command.task) held
@@ -76,9 +74,12 @@ holds_here trace index command journal now held is same holds =
     subst (λ (j : List Entry). IsHeldAt j (merge_policy command.task) held) (sym same) (subst (λ (c : Command). IsHeldAt now (merge_policy c.task) held) is holds)
 
 -- its position, where nothing was planned before
-pub plain_position : (trace : TraceOf) (size index : ℕ) (lake : LakeOf) {position : ℕ} → IsWithin size (hint_at trace index) → IsAt trace (made_at (hint_at trace index)) lake → position ≡ length lake.journal
-    → planned_at (hint_at trace index) ≡ None → position ≡ pinned_of (hint_at trace index)
-plain_position trace size index lake inside at here none = here ∙ at.long ∙ sym (inside.unplanned none)
+pub plain_position : (trace : TraceOf) (size index : ℕ) (lake : LakeOf) (hint : Hint) {position : ℕ} → IsWithin size (hint_at trace index) → IsAt trace (made_at (hint_at trace index)) lake → position ≡ length lake.journal
+    → hint ≡ hint_at trace index → made_at hint ≤ pinned_of hint → position ≡ pinned_of (hint_at trace index)
+plain_position trace size index lake hint inside at here is late =
+    let behind : made_at (hint_at trace index) ≤ pinned_of (hint_at trace index) = subst (λ (h : Hint). made_at h ≤ pinned_of h) is late in
+    let same : made_at (hint_at trace index) ≡ pinned_of (hint_at trace index) = omega (arith, behind, inside.pinned) in
+    here ∙ at.long ∙ same
 
 pub push_held : (trace : TraceOf) (journal : List Entry) (all after : List (ℕ × Held)) (index : ℕ) (held : Held) → AreHeldFor trace journal all → IsHeldFor trace journal index held
     → after ≡ all ++ (index, held) ∷ [] → AreHeldFor trace journal after
@@ -88,14 +89,26 @@ push_held trace journal all after index held are is pushed one there = by (Conta
     by (inl old) = are one old
     by (inr same) = subst (λ (x : ℕ × Held). IsHeldFor trace journal x.0 x.1) same is
 
+-- what is held with one more
+pub pushed_in : (all after : List (ℕ × Held)) (index i : ℕ) (held : Held) → after ≡ all ++ (index, held) ∷ [] → IsHeldIn all i → IsHeldIn after i
+pushed_in all after index i held pushed (one, there) = (one, subst (λ (xs : List (ℕ × Held)). Contains xs (i, one)) (sym pushed) (Contains-append_left all ((index, held) ∷ []) (i, one) there))
+
+pub pushed_is : (all after : List (ℕ × Held)) (index : ℕ) (held : Held) → after ≡ all ++ (index, held) ∷ [] → IsHeldIn after index
+pushed_is all after index held pushed = (held, subst (λ (xs : List (ℕ × Held)). Contains xs (index, held)) (sym pushed) (Contains-push all (index, held)))
+
 -- the lake with one more merge that was planned
-pub planned_more : (trace : TraceOf) (plan : Plan) (before : LakeOf) (limits : Counts) (journal : List Entry) (all after : List (ℕ × Held)) (room : ℕ) (held : Held) → IsAt trace plan.at before → IsPlanOf trace.hints plan
+pub planned_more : (trace : TraceOf) (plan : Plan) (size : ℕ) (hint : Hint) (before : LakeOf) (limits : Counts) (journal : List Entry) (all after : List (ℕ × Held)) (room : ℕ) (held : Held) → IsAt trace plan.at before
+    → IsPlanOf trace.hints plan → IsWithin size (hint_at trace plan.index) → hint ≡ hint_at trace plan.index → pinned_of hint < made_at hint
     → lake_with limits journal all room ≡ before → IsHeldAt before.journal (merge_policy (command_at trace plan.index).task) held → position_of held ≡ length before.journal → after ≡ all ++ (plan.index, held) ∷ []
     → IsAt trace plan.at (lake_with limits journal after room)
-planned_more trace plan before limits journal all after room held at planned is holds position pushed =
+planned_more trace plan size hint before limits journal all after room held at planned inside told early is holds position pushed =
     let same : journal ≡ before.journal = ap (λ (l : LakeOf). l.journal) is in
     let kept = ap (λ (l : LakeOf). l.held) is in
-    let one : IsHeldFor trace before.journal plan.index held = record { position = planned.at ∙ ap Some (sym (position ∙ at.long)); holds = holds } in
+    let one : IsHeldFor trace before.journal plan.index held = record {
+      early = subst (λ (h : Hint). pinned_of h < made_at h) told early;
+      position = position ∙ at.long ∙ (inside.planned plan.at planned.at).0;
+      holds = holds;
+    } in
     record {
       limits = ap (λ (l : LakeOf). l.limits) is ∙ at.limits;
       is = same ∙ at.is;
@@ -103,6 +116,12 @@ planned_more trace plan before limits journal all after room held at planned is 
       held = subst (λ (j : List Entry). AreHeldFor trace j after) (sym same)
           (push_held trace before.journal before.held after plan.index held at.held one (pushed ∙ ap (λ (xs : List (ℕ × Held)). xs ++ (plan.index, held) ∷ []) kept));
     }
+
+-- what is answered where it is planned has to wait for nothing
+pub late_ready : (trace : TraceOf) (index : ℕ) (lake : LakeOf) (hint : Hint) → hint ≡ hint_at trace index → made_at hint ≤ pinned_of hint → IsReady trace index lake
+late_ready trace index lake hint is late early =
+    let behind : made_at (hint_at trace index) ≤ pinned_of (hint_at trace index) = subst (λ (h : Hint). made_at h ≤ pinned_of h) is late in
+    absurd (omega (arith, early, behind))
 
 -- ---- what has no pin does not depend on one
 
@@ -189,24 +208,31 @@ journal_unpinned trace i keys limits command reply before after record_before re
 -- the lake after a reply, of whose held merges some are left
 pub lake_after : (trace : TraceOf) (i : ℕ) (reply : Reply) (before : LakeOf) (limits : Counts) (journal : List Entry) (left : List (ℕ × Held)) (room : ℕ)
     → AreHeldFor trace before.journal before.held → ((held : ℕ × Held) → Contains left held → Contains before.held held) → limits ≡ before.limits
-    → journal ≡ before.journal ++ entries_of trace.rules (take (pinned_of (hint_at trace i)) before.journal) (command_at trace i) reply → IsAfter trace i reply before (lake_with limits journal left room)
-lake_after trace i reply before limits journal left room held some same adds = record {
+    → journal ≡ before.journal ++ entries_of trace.rules (take (pinned_of (hint_at trace i)) before.journal) (command_at trace i) reply → Keeps (λ j. j ≡ i) before.held left
+    → IsAfter trace i reply before (lake_with limits journal left room)
+lake_after trace i reply before limits journal left room held some same adds others = record {
   limits = same;
   adds = adds;
   held = subst (λ (j : List Entry). AreHeldFor trace j left) (sym adds) (held_grow trace before.journal (entries_of trace.rules (take (pinned_of (hint_at trace i)) before.journal) (command_at trace i) reply) left (λ one there. held one (some one there)));
+  others = others;
 }
 
 -- what is held after some was taken out
-pub left_of : (before : LakeOf) (limits : Counts) (journal : List Entry) (held left : List (ℕ × Held)) (room : ℕ) → lake_with limits journal held room ≡ before
-    → ((one : ℕ × Held) → Contains left one → Contains held one) → IsLeft before (lake_with limits journal left room)
-left_of before limits journal held left room is some = record {
+pub left_of : (i : ℕ) (before : LakeOf) (limits : Counts) (journal : List Entry) (held left : List (ℕ × Held)) (room : ℕ) → lake_with limits journal held room ≡ before
+    → ((one : ℕ × Held) → Contains left one → Contains held one) → Keeps (λ j. j ≡ i) held left → IsLeft i before (lake_with limits journal left room)
+left_of i before limits journal held left room is some others = record {
   is = ap (λ (l : LakeOf). lake_with l.limits l.journal left l.room) is;
   some = λ one there. subst (λ (l : LakeOf). Contains l.held one) is (some one there);
+  others = subst (λ (l : LakeOf). Keeps (λ j. j ≡ i) l.held left) is others;
 }
+
+-- all is left
+pub all_left : (i : ℕ) (lake : LakeOf) → IsLeft i lake lake
+all_left i lake = record { is = refl; some = λ one there. there; others = λ j differs there. there }
 
 -- a reply to work that has a pin, where some of what was held was taken out for it
 pub pinned_replied : (trace : TraceOf) (i at room : ℕ) (before mid : LakeOf) (keys : Keys) (command : Command) (held : Held) (reply : Reply) (catalogue catalogue_after : CatalogueOf) (made made_after : RecordOf) (left : List (ℕ × Held))
-    → IsAt trace at before → IsLeft before mid → lake_with catalogue.limits catalogue.journal left room ≡ mid → keys ≡ trace.rules.keys → command_at trace i ≡ command → position_of held ≡ pinned_of (hint_at trace i)
+    → IsAt trace at before → IsLeft i before mid → lake_with catalogue.limits catalogue.journal left room ≡ mid → keys ≡ trace.rules.keys → command_at trace i ≡ command → position_of held ≡ pinned_of (hint_at trace i)
     → made.made.journal ≡ catalogue.journal
     → (denied : Bool) × (reply ≡ reply_or_denied denied (answer_to (rules_with keys catalogue.limits) command.task (take (position_of held) catalogue.journal) catalogue.journal))
     → Adds (who_of command) (adds (rules_with keys catalogue.limits) command.task (take (position_of held) made.made.journal) reply) catalogue catalogue_after made made_after
@@ -223,7 +249,8 @@ pinned_replied trace i at room before mid keys command held reply catalogue cata
     let grown_here = grown ∙ ap (λ (j : List Entry). j ++ entries_of trace.rules (take (pinned_of (hint_at trace i)) j) (command_at trace i) reply) journal in (
       subst (λ (j : List Entry). AnswersNow trace i j reply) journal answered,
       lake_after trace i reply before catalogue_after.limits catalogue_after.journal left made_after.entries_room here.held
-          (λ one there. leaves.some one (subst (λ (xs : List (ℕ × Held)). Contains xs one) kept there)) (added.limits ∙ limits) grown_here,
+          (λ one there. leaves.some one (subst (λ (xs : List (ℕ × Held)). Contains xs one) kept there)) (added.limits ∙ limits) grown_here
+          (λ j differs there. subst (λ (xs : List (ℕ × Held)). IsHeldIn xs j) (sym kept) (leaves.others j differs there)),
     )
 
 -- a reply to work that has none
@@ -242,7 +269,8 @@ unpinned_replied trace i at room before keys command reply catalogue catalogue_a
     let grown_here = grown ∙ ap (λ (j : List Entry). j ++ entries_of trace.rules (take (pinned_of (hint_at trace i)) j) (command_at trace i) reply) journal in (
       subst (λ (j : List Entry). AnswersNow trace i j reply) journal answered,
       lake_after trace i reply before catalogue_after.limits catalogue_after.journal left made_after.entries_room here.held
-          (λ one there. subst (λ (xs : List (ℕ × Held)). Contains xs one) kept there) (added.limits ∙ limits) grown_here,
+          (λ one there. subst (λ (xs : List (ℕ × Held)). Contains xs one) kept there) (added.limits ∙ limits) grown_here
+          (λ j differs there. subst (λ (xs : List (ℕ × Held)). IsHeldIn xs j) (sym kept) there),
     )
 
 -- ---- the reply as the hint says
@@ -252,7 +280,7 @@ pub wanting_reply : (trace : TraceOf) (i : ℕ) (now : List Entry) → hint_at t
 wanting_reply trace i now wants = sym (ap (reply_at trace.rules now (command_at trace i)) wants)
 
 pub wanting_after : (trace : TraceOf) (i : ℕ) (lake : LakeOf) → AreHeldFor trace lake.journal lake.held → IsAfter trace i NoMemory lake lake
-wanting_after trace i lake held = record { limits = refl; adds = sym (append-nil lake.journal); held = held }
+wanting_after trace i lake held = record { limits = refl; adds = sym (append-nil lake.journal); held = held; others = λ j differs there. there }
 
 stands_now : (rules : Rules) (now : List Entry) (command : Command) (hint : Hint) → (hint ≡ Wanting → ⊥) → answer_to rules command.task (take (pinned_of hint) now) now ≡ reply_at rules now command hint
 stands_now rules now command Wanting some = absurd (some refl)

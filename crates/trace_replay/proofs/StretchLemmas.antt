@@ -39,7 +39,7 @@ rest_is xs from = let long = length-drop from xs in take_all (length xs - from) 
 pub stretch_found : {X : Type 0} (number : X → ℕ) (xs : List X) (at from to : ℕ) → from ≤ length xs → to ≤ length (drop from xs)
     → IsPartitionPoint (λ (x : X). ltb (number x) at ≡ true) (λ (x : X). ltb (number x) at ≡ false) xs from
     → IsPartitionPoint (λ (x : X). leb (number x) at ≡ true) (λ (x : X). leb (number x) at ≡ false) (drop from xs) to → IsStretchAt number xs at (take to (drop from xs))
-stretch_found {X} number xs at from to low high first second = record { each = each; all = all }
+stretch_found {X} number xs at from to low high first second = record { each = each; all = all; part = (from, neighbour) }
   where
     behind : List X
     behind = drop from xs
@@ -62,6 +62,11 @@ stretch_found {X} number xs at from to low high first second = record { each = e
         let up : leb (number x) at ≡ true = ap (λ (y : X). leb (number y) at) (sym same) ∙ second.0 k x (omega arith) under in
         let down : ltb (number x) at ≡ false = ap (λ (y : X). ltb (number y) at) (sym first_same) ∙ first.1 (from + k) x (omega arith) within in
         ((from + k, within, first_same), between_is (number x) at up down)
+
+    neighbour : (k : ℕ) (x : X) → k < length (take to behind) → (from + k < length xs) × (get_or (take to behind) k x ≡ get_or xs (from + k) x)
+    neighbour k x inside =
+        let under : k < to = omega (arith, inside, size) in
+        (omega (arith, under, high, long, low), there k x under ∙ get_or-drop from xs k x)
 
     at_or_behind : (x : X) (k : ℕ) → get_or xs k x ≡ x → number x ≡ at → k < from → number x < number x
     at_or_behind x k is e before = not_below (number x) at e (ap (λ (y : X). ltb (number y) at) (sym is) ∙ first.0 k x (omega arith) before)

@@ -1,16 +1,19 @@
 -- The turns of answers and the plans of merges.
-use Rattle.std.proofs.Common.{◌≡◌, refl, ap, sym, ◌∙◌, subst, ℕ, zero, suc, ◌+◌, ◌<◌, inl, inr, List, [], ◌∷◌, length, get_or, Option, Some, None, Result, Ok, Err, arith}
-use Rattle.std.specs.Prelude.{is_some, ◌⊎◌}
+use Rattle.std.proofs.Common.{◌≡◌, refl, ap, sym, ◌∙◌, subst, ℕ, zero, suc, ◌+◌, ◌<◌, inl, inr, List, [], ◌∷◌, length, get_or, Bool, false, true≢false, Option, Some, None, Result, Ok, Err, arith}
+use Rattle.std.specs.Prelude.{is_some, ◌⊎◌, ◌==◌}
 use Rattle.std.specs.Result.{IfOk}
-use Rattle.std.specs.List.{Contains}
+use Rattle.std.specs.List.{Contains, IsDistinct}
 use Rattle.std.specs.List.Sorted.{IsNonDecreasingBy, IsPermutation}
-use Rattle.std.proofs.lemmas.List.Elements.{Contains-append_cases}
+use Rattle.std.proofs.lemmas.Bool.{eq-eqb}
+use Rattle.std.proofs.lemmas.Bool.Decides.{nat_tests}
+use Rattle.std.proofs.lemmas.List.Elements.{Contains-append_cases, Contains-append_left, Contains-append_right}
 use Rattle.std.proofs.lemmas.List.Sorted.{Contains-permutation, IsPermutation-sym}
+use Rattle.std.proofs.lemmas.Map.Keys.{IsDistinct-IsPermutation, IsDistinct-from_apart, apart_from_distinct}
 use Rattle.trace_laws.specs.Hints.{Hint, Wanting}
 use Rattle.trace_numbers.specs.declared.order.Plan.{Plan}
 use Rattle.trace_numbers.specs.declared.order.Turn.{Turn}
 use Rattle.trace_numbers.specs.Positions.{own_of}
-use Rattle.trace_numbers.specs.Turns.{made_at, plan_of, planned_at, plans_from, turn_with, turns_from}
+use Rattle.trace_numbers.specs.Turns.{made_at, plan_of, plan_with, planned_at, plans_from, turn_with, turns_from}
 use Rattle.trace_replay.specs.Stretches.{ArePlansOf, AreTurnsOf, IsPlanOf, IsTurnOf}
 
 -- two facts of an `Ok` give a third
@@ -41,11 +44,32 @@ turn_there hints i low =
     let long = turns_long 0 hints in
     (i, omega (arith, low, long), turn_at 0 i i hints turn (omega arith) low)
 
+-- whether two turns are of one answer
+abbrev is_same_turn : Turn → Turn → Bool
+is_same_turn a b = a.index == b.index
+
+same_flips : (a b : Turn) → is_same_turn a b ≡ is_same_turn b a
+same_flips a b = grind (arith, nat_tests)
+
+other_turn : (i k l : ℕ) (hints : List Hint) (d : Turn) → k < l → l < length hints → is_same_turn (get_or (turns_from i hints) k d) (get_or (turns_from i hints) l d) ≡ false
+other_turn i k l hints d before low =
+    let first : (get_or (turns_from i hints) k d).index ≡ i + k = ap (λ (t : Turn). t.index) (turn_at i k (i + k) hints d refl (omega (arith, before, low))) in
+    let second : (get_or (turns_from i hints) l d).index ≡ i + l = ap (λ (t : Turn). t.index) (turn_at i l (i + l) hints d refl low) in
+    grind (arith, nat_tests, first, second, before)
+
+turns_apart : (hints : List Hint) (turns : List Turn) → IsPermutation (turns_from 0 hints) turns → (j k : ℕ) (d : Turn) → j < k → k < length turns → (get_or turns j d).index ≡ (get_or turns k d).index → ⊥
+turns_apart hints turns same j k d before low e =
+    let start : IsDistinct is_same_turn (turns_from 0 hints) =
+    IsDistinct-from_apart is_same_turn (turns_from 0 hints) (λ j k d before low. other_turn 0 j k hints d before (let long = turns_long 0 hints in omega (arith, low, long))) in
+    let differ = apart_from_distinct is_same_turn turns j k d (IsDistinct-IsPermutation is_same_turn same_flips (turns_from 0 hints) turns same start) before low in
+    true≢false (sym (eq-eqb (get_or turns j d).index (get_or turns k d).index e) ∙ differ)
+
 pub turns_are : (hints : List Hint) (turns : List Turn) → IsPermutation (turns_from 0 hints) turns → IsNonDecreasingBy (λ (turn : Turn). turn.at) turns → AreTurnsOf hints turns
 turns_are hints turns same sorted = record {
   sorted = sorted;
   each = λ turn there. turn_is hints turn (Contains-permutation turns (turns_from 0 hints) turn (IsPermutation-sym (turns_from 0 hints) turns same) there);
   all = λ i low. Contains-permutation (turns_from 0 hints) turns (turn_with (made_at (get_or hints i Wanting)) (is_some (own_of (get_or hints i Wanting))) i) same (turn_there hints i low);
+  apart = turns_apart hints turns same;
 }
 
 -- ---- plans
@@ -72,8 +96,19 @@ plan_from hints plan (k, low, index, at) =
     let same : k ≡ plan.index = omega (arith, index) in
     record { inside = omega (arith, low, same); at = ap (λ (n : ℕ). planned_at (get_or hints n Wanting)) (sym same) ∙ at }
 
+-- the plan of a hint that tells of one
+plan_there : (i n : ℕ) (hints : List Hint) (k at : ℕ) → n ≡ i + k → k < length hints → planned_at (get_or hints k Wanting) ≡ Some at → Contains (plans_from i hints) (plan_with at n)
+plan_there i n [] k at e low told = absurd (omega (arith, low))
+plan_there i n (h ∷ hints) zero at e low told =
+    let here : i ≡ n = omega (arith, e) in
+    Contains-append_left (plan_of i (planned_at h)) (plans_from (i + 1) hints) (plan_with at n)
+    (subst (λ (o : Option ℕ). Contains (plan_of i o) (plan_with at n)) (sym told) (0, omega arith, ap (plan_with at) here))
+plan_there i n (h ∷ hints) (suc k) at e low told =
+    Contains-append_right (plan_of i (planned_at h)) (plans_from (i + 1) hints) (plan_with at n) (plan_there (i + 1) n hints k at (omega (arith, e)) (omega (arith, low)) told)
+
 pub plans_are : (hints : List Hint) (plans : List Plan) → IsPermutation (plans_from 0 hints) plans → IsNonDecreasingBy (λ (plan : Plan). plan.at) plans → ArePlansOf hints plans
 plans_are hints plans same sorted = record {
   sorted = sorted;
   each = λ plan there. plan_from hints plan (plan_is 0 hints plan (Contains-permutation plans (plans_from 0 hints) plan (IsPermutation-sym (plans_from 0 hints) plans same) there));
+  all = λ i at low told. Contains-permutation (plans_from 0 hints) plans (plan_with at i) same (plan_there 0 i hints i at (omega arith) low told);
 }

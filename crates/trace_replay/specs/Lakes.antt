@@ -1,5 +1,5 @@
 -- The lake in which the answers of a trace are made again, from position to position.
-use Rattle.std.specs.Prelude.{ℕ, ◌<◌, ◌≡◌, Bool, false, List, [], ◌++◌, length, get_or, take, Some, None}
+use Rattle.std.specs.Prelude.{ℕ, ◌+◌, ◌<◌, ◌≤◌, ◌≡◌, ◌⊎◌, Bool, false, List, [], ◌++◌, length, get_or, take, Some, None}
 use Rattle.std.specs.List.{Contains}
 use Rattle.lake_model.specs.declared.Counts.{Counts}
 use Rattle.lake_model.specs.Texts.{Text}
@@ -13,7 +13,7 @@ use Rattle.trace_laws.specs.Hints.{Hint, Wanting, reply_by}
 use Rattle.trace_laws.specs.Rebuilt.{pinned_of, rebuilt}
 use Rattle.trace_laws.specs.Verdict.{hinted_zip}
 use Rattle.trace_numbers.specs.Positions.{own_of}
-use Rattle.trace_numbers.specs.Turns.{made_at, planned_at}
+use Rattle.trace_numbers.specs.Turns.{made_at}
 use Rattle.trace_ends.specs.Ends.{IsAnswered, journal_of}
 use Rattle.batch_work.specs.Works.{merge_policy}
 use Rattle.command_replies.specs.declared.answering.Held.{Held}
@@ -68,9 +68,14 @@ pub record LakeOf : Type 0 where
 abbrev pub lake_with : Counts → List Entry → List (ℕ × Held) → ℕ → LakeOf
 lake_with limits journal held room = record { limits = limits; journal = journal; held = held; room = room }
 
--- What is held is for the merge of an answer, planned where its hint says.
+-- the merge of an index is planned at an earlier position than the one that its answer is made at
+abbrev pub IsEarly : TraceOf → ℕ → Type 0
+IsEarly trace i = pinned_of (hint_at trace i) < made_at (hint_at trace i)
+
+-- What is held is for the merge of an answer, planned where its hint says, and before the answer is made.
 pub record IsHeldFor (trace : TraceOf) (journal : List Entry) (index : ℕ) (held : Held) : Type 0 where
-  pub position : planned_at (hint_at trace index) ≡ Some (position_of held)
+  pub early : IsEarly trace index
+  pub position : position_of held ≡ pinned_of (hint_at trace index)
   pub holds : IsHeldAt journal (merge_policy (command_at trace index).task) held
 
 abbrev pub AreHeldFor : TraceOf → List Entry → List (ℕ × Held) → Type 0
@@ -83,11 +88,36 @@ pub record IsAt (trace : TraceOf) (at : ℕ) (lake : LakeOf) : Type 0 where
   pub long : length lake.journal ≡ at
   pub held : AreHeldFor trace lake.journal lake.held
 
--- The lake has what this reply to the command of an index adds, and its limits are the same.
+-- something is held for the merge of an index
+abbrev pub IsHeldIn : List (ℕ × Held) → ℕ → Type 0
+IsHeldIn all i = (held : Held) × Contains all (i, held)
+
+-- what was planned before the answer of an index is held
+abbrev pub IsReady : TraceOf → ℕ → LakeOf → Type 0
+IsReady trace i lake = IsEarly trace i → IsHeldIn lake.held i
+
+-- What is held is kept, but for what may be taken.
+abbrev pub Keeps : (ℕ → Type 0) → List (ℕ × Held) → List (ℕ × Held) → Type 0
+Keeps IsTaken before after = (i : ℕ) → (IsTaken i → ⊥) → IsHeldIn before i → IsHeldIn after i
+
+-- Of the answers of some kind, all that were planned below a position are held.
+abbrev pub AreHeld : TraceOf → ℕ → (ℕ → Type 0) → LakeOf → Type 0
+AreHeld trace below IsKind lake = (i : ℕ) → i < length trace.commands → IsEarly trace i → pinned_of (hint_at trace i) < below → IsKind i → IsHeldIn lake.held i
+
+-- the answer of an index is made at a position or a later one
+abbrev pub IsFrom : TraceOf → ℕ → ℕ → Type 0
+IsFrom trace at i = at ≤ made_at (hint_at trace i)
+
+-- the answer of an index comes behind those that are made at a position and only look
+abbrev pub IsBehindLooks : TraceOf → ℕ → ℕ → Type 0
+IsBehindLooks trace at i = (at < made_at (hint_at trace i)) ⊎ (own_of (hint_at trace i) ≡ Some (at + 1))
+
+-- The lake has what this reply to the command of an index adds, and its limits are the same. What is held for others is kept.
 pub record IsAfter (trace : TraceOf) (i : ℕ) (reply : Reply) (before after : LakeOf) : Type 0 where
   pub limits : after.limits ≡ before.limits
   pub adds : after.journal ≡ before.journal ++ entries_of trace.rules (take (pinned_of (hint_at trace i)) before.journal) (command_at trace i) reply
   pub held : AreHeldFor trace after.journal after.held
+  pub others : Keeps (λ j. j ≡ i) before.held after.held
 
 -- what the command of an index is answered now
 abbrev pub answer_now : TraceOf → ℕ → List Entry → Reply
@@ -97,7 +127,8 @@ answer_now trace i now = answer_to trace.rules (command_at trace i).task (take (
 abbrev pub AnswersNow : TraceOf → ℕ → List Entry → Reply → Type 0
 AnswersNow trace i now reply = (denied : Bool) × (reply ≡ reply_or_denied denied (answer_now trace i now))
 
--- Of what was held, some is left.
-pub record IsLeft (before after : LakeOf) : Type 0 where
+-- Of what was held, all is left but what is held for the merge of an index.
+pub record IsLeft (i : ℕ) (before after : LakeOf) : Type 0 where
   pub is : after ≡ lake_with before.limits before.journal after.held before.room
   pub some : (held : ℕ × Held) → Contains after.held held → Contains before.held held
+  pub others : Keeps (λ j. j ≡ i) before.held after.held

@@ -1,5 +1,5 @@
 //! The lake in which the answers of a trace are made again, one after another.
-ghost use Rattle.std.specs.Prelude.{◌≡◌, ◌<◌, ◌+◌, ◌⊎◌, Bool, IfOk, OnOk, None, [], ℕ, false, length, true};
+ghost use Rattle.std.specs.Prelude.{◌≡◌, ◌<◌, ◌+◌, Bool, IfOk, OnOk, None, [], ℕ, false, length, true};
 ghost use Rattle.std.specs.List.{Contains};
 ghost use Rattle.lake_model.specs.Layout.{is_legal};
 ghost use Rattle.catalogue.specs.Kept.{IsWithin};
@@ -10,7 +10,6 @@ ghost use Rattle.record_model.specs.Rules.{wide_limits};
 ghost use Rattle.record_model.specs.Texts.{journal_lines};
 ghost use Rattle.run_record.specs.Replies.{reply_of};
 ghost use Rattle.command_replies.specs.declared.answering.Held.{Held as HeldOf};
-ghost use Rattle.command_replies.specs.declared.answering.Held.TheVariants.{Denied};
 ghost use Rattle.command_replies.specs.Held.{IsHeldAt, position_of};
 ghost use Rattle.batch_work.specs.Works.{merge_policy};
 ghost use Rattle.trace_laws.specs.Rebuilt.{pinned_of};
@@ -18,12 +17,12 @@ ghost use Rattle.trace_groups.specs.Pieces.{group_text};
 ghost use Rattle.trace_numbers.specs.Positions.{IsOwner, own_of};
 ghost use Rattle.trace_numbers.specs.Turns.{made_at};
 ghost use Rattle.trace_ends.specs.Fronts.{reply_at};
-ghost use Rattle.trace_replay.specs.Lakes.{AnswersNow, AreTold, IsAfter, IsAt, IsLeft, IsTold, LooksAreTold, command_at, hint_at};
-ghost use Rattle.trace_replay.specs.Stretches.{ArePlansOf, AreTurnsOf, IsPlanOf, IsTurnOf};
+ghost use Rattle.trace_replay.specs.Lakes.{AnswersNow, AreHeld, AreTold, IsAfter, IsAt, IsBehindLooks, IsFrom, IsHeldIn, IsLeft, IsReady, IsTold, Keeps, LooksAreTold, command_at, hint_at};
+ghost use Rattle.trace_replay.specs.Stretches.{ArePlansOf, AreTurnsOf, IsLookOf, IsPlanOf, IsTurnOf};
 
 use crate::telling::{is_told, is_wanting};
 use crate::trace::Trace;
-use crate::turns::{plans_at, turns_at};
+use crate::turns::{is_early, plans_at, turns_at};
 use asof_search::Timeline;
 use catalogue::{Catalogue, Limits};
 use command_replies::{Held, begin, reply_now, reply_when_held};
@@ -33,10 +32,11 @@ use run_record::{Reply, RunRecord};
 use std::alloc::Global;
 use std::marker::Model;
 use trace_ends::fronts_law;
-use trace_numbers::{Plan, Turn, planned_at};
+use trace_numbers::{Plan, Turn};
 
-/// A lake that answers the commands of a trace again. It holds the merges that were planned and are not swapped in yet: in the trace of a
-/// right run one for each lane at most, in another perhaps many.
+/// A lake that answers the commands of a trace again. It holds the merges that were planned at an earlier position than their answers are
+/// made at, from their plan to their answer. Along a lane the positions that have passed the tests on numbers never fall, and an answer that
+/// only looks is made before what is planned at its position: so at most one merge is held for each lane, the merger's among them.
 #[derive(Drop)]
 pub(crate) struct Lake {
     alloc: Global,
@@ -72,15 +72,16 @@ fn known(reply: Reply) -> Result<Reply, NoMemory>
     }
 }
 
-// Takes out what is held for the merge of an index, which was planned where the journal was so long. All plans up to the position of the
-// replay are held until their answers, but no invariant says so yet: where one were not, the replay would end as if out of memory.
-fn take_held(held: &mut Vec<(usize, Held)>, index: usize, at: u64) -> Held
-    ensures taken { Contains held.old.items (index, result) ⊎ (result ≡ Denied at) }
+// Takes out what is held for the merge of an index.
+fn take_held(held: &mut Vec<(usize, Held)>, index: usize) -> Held
+    requires { IsHeldIn held.old.items index }
+    ensures taken { Contains held.old.items (index, result) }
     ensures left { (one : ℕ × HeldOf) → Contains held.new.items one → Contains held.old.items one }
+    ensures others { Keeps (λ i. i ≡ index) held.old.items held.new.items }
 {
     match held.iter().position(|one| one.0 == index) {
         Some(place) => held.swap_remove(place).1,
-        None => Held::Denied { at },
+        None => unreachable!(),
     }
 }
 
@@ -106,14 +107,16 @@ impl Lake {
     fn held_for(&mut self, trace: &Trace<'_>, index: usize) -> Held
         requires index { index < length trace.now.commands }
         requires at { IsAt trace.now (made_at (hint_at trace.now index)) self.old }
+        requires ready { IsReady trace.now index self.old }
         ensures holds { IsHeldAt self.old.journal (merge_policy (command_at trace.now index).task) result }
         ensures position { position_of result ≡ pinned_of (hint_at trace.now index) }
-        ensures left { IsLeft self.old self.new }
+        ensures left { IsLeft index self.old self.new }
     {
         trace.positions();
-        match planned_at(trace.hint(index)) {
-            Some(at) => take_held(&mut self.held, index, at),
-            None => begin(self.alloc, &self.catalogue, &trace.work(index)),
+        if is_early(trace.hint(index)) {
+            take_held(&mut self.held, index)
+        } else {
+            begin(self.alloc, &self.catalogue, &trace.work(index))
         }
     }
 
@@ -121,6 +124,7 @@ impl Lake {
     fn reply_pinned(&mut self, trace: &Trace<'_>, index: usize) -> Reply
         requires index { index < length trace.now.commands }
         requires at { IsAt trace.now (made_at (hint_at trace.now index)) self.old }
+        requires ready { IsReady trace.now index self.old }
         requires pins { has_pin (command_at trace.now index).task ≡ true }
         requires room { 0 < self.old.room }
         ensures answered { AnswersNow trace.now index self.old.journal (reply_of result) }
@@ -160,6 +164,7 @@ impl Lake {
     fn reply(&mut self, trace: &Trace<'_>, index: usize) -> Reply
         requires index { index < length trace.now.commands }
         requires at { IsAt trace.now (made_at (hint_at trace.now index)) self.old }
+        requires ready { IsReady trace.now index self.old }
         requires room { 0 < self.old.room }
         ensures answered { AnswersNow trace.now index self.old.journal (reply_of result) }
         ensures after { IsAfter trace.now index (reply_of result) self.old self.new }
@@ -183,6 +188,7 @@ impl Lake {
     fn reply_again(&mut self, trace: &Trace<'_>, index: usize) -> Result<Reply, NoMemory>
         requires index { index < length trace.now.commands }
         requires at { IsAt trace.now (made_at (hint_at trace.now index)) self.old }
+        requires ready { IsReady trace.now index self.old }
         ensures answered { IfOk result (λ reply. reply_of reply ≡ reply_at trace.now.rules self.old.journal (command_at trace.now index) (hint_at trace.now index)) }
         ensures after { IfOk result (λ reply. IsAfter trace.now index (reply_of reply) self.old self.new) }
     {
@@ -194,14 +200,16 @@ impl Lake {
     }
 
     /// Makes the answer of an index again, where its hint says that it was made, and says whether it is as the trace tells: it tells that
-    /// hint, and has those lines. What it adds is then in the lake.
+    /// hint, and has those lines. What it adds is then in the lake, and what is held for others is kept.
     pub(crate) fn answer(&mut self, trace: &Trace<'_>, index: usize) -> Result<bool, NoMemory>
         requires index { index < length trace.now.commands }
         requires at { IsAt trace.now (made_at (hint_at trace.now index)) self.old }
+        requires ready { IsReady trace.now index self.old }
         ensures sound { IfOk result (λ yes. yes ≡ true → IsTold trace.now index) }
         ensures complete { IfOk result (λ yes. IsTold trace.now index → yes ≡ true) }
         ensures looks { IfOk result (λ yes. yes ≡ true → own_of (hint_at trace.now index) ≡ None → IsAt trace.now (made_at (hint_at trace.now index)) self.new) }
         ensures owns { IfOk result (λ yes. yes ≡ true → IsOwner trace.now.hints (made_at (hint_at trace.now index) + 1) index → IsAt trace.now (made_at (hint_at trace.now index) + 1) self.new) }
+        ensures others { OnOk result (Keeps (λ i. i ≡ index) self.old.held self.new.held) }
     {
         trace.positions();
         fronts_law();
@@ -219,9 +227,11 @@ impl Lake {
     fn look(&mut self, trace: &Trace<'_>, turn: Turn) -> Result<bool, NoMemory>
         requires at { IsAt trace.now turn.at self.old }
         requires turn { IsTurnOf trace.now.hints turn }
+        requires ready { turn.adds ≡ false → IsReady trace.now turn.index self.old }
         ensures sound { IfOk result (λ yes. yes ≡ true → turn.adds ≡ false → IsTold trace.now turn.index) }
         ensures complete { IfOk result (λ yes. AreTold trace.now → yes ≡ true) }
         ensures at { IfOk result (λ yes. yes ≡ true → IsAt trace.now turn.at self.new) }
+        ensures others { OnOk result (Keeps (IsLookOf turn) self.old.held self.new.held) }
     {
         if turn.adds {
             return Ok(true);
@@ -239,9 +249,11 @@ impl Lake {
     ) -> Result<bool, NoMemory>
         requires at { IsAt trace.now at self.old }
         requires turns { AreTurnsOf trace.now.hints turns.now }
+        requires held { AreHeld trace.now at (IsFrom trace.now at) self.old }
         ensures sound { IfOk result (λ yes. yes ≡ true → LooksAreTold trace.now at) }
         ensures complete { IfOk result (λ yes. AreTold trace.now → yes ≡ true) }
         ensures at { IfOk result (λ yes. yes ≡ true → IsAt trace.now at self.new) }
+        ensures held { IfOk result (λ yes. yes ≡ true → AreHeld trace.now at (IsBehindLooks trace.now at) self.new) }
     {
         trace.positions();
         for turn in turns_at(turns, at) {
@@ -252,19 +264,25 @@ impl Lake {
         Ok(true)
     }
 
-    // Plans a merge where the journal is as long as its hint says, and holds it.
+    // Plans a merge where the journal is as long as its hint says, and holds it; but not if its answer is made there too, since that plans
+    // it by itself.
     fn plan_one(&mut self, trace: &Trace<'_>, plan: Plan) -> Result<(), NoMemory>
         requires at { IsAt trace.now plan.at self.old }
         requires plan { IsPlanOf trace.now.hints plan }
-        ensures { OnOk result (IsAt trace.now plan.at self.new) }
+        ensures at { OnOk result (IsAt trace.now plan.at self.new) }
+        ensures ready { OnOk result (IsReady trace.now plan.index self.new) }
+        ensures others { OnOk result (Keeps (λ i. ⊥) self.old.held self.new.held) }
     {
         trace.positions();
+        if !is_early(trace.hint(plan.index)) {
+            return Ok(());
+        }
         let held = begin(self.alloc, &self.catalogue, &trace.work(plan.index));
         self.held.push((plan.index, held))?;
         Ok(())
     }
 
-    /// Plans those merges that are planned where the journal is so long.
+    /// Plans those merges that are planned where the journal is so long, and answered later.
     pub(crate) fn plan_at(
         &mut self,
         trace: &Trace<'_>,
@@ -273,8 +291,11 @@ impl Lake {
     ) -> Result<(), NoMemory>
         requires at { IsAt trace.now at self.old }
         requires plans { ArePlansOf trace.now.hints plans.now }
+        requires held { AreHeld trace.now at (IsBehindLooks trace.now at) self.old }
         ensures at { OnOk result (IsAt trace.now at self.new) }
+        ensures held { OnOk result (AreHeld trace.now (at + 1) (IsBehindLooks trace.now at) self.new) }
     {
+        trace.positions();
         for plan in plans_at(plans, at) {
             self.plan_one(trace, *plan)?;
         }

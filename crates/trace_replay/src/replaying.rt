@@ -7,7 +7,7 @@ ghost use Rattle.trace_numbers.specs.Positions.{AreOwners, IsOwner};
 ghost use Rattle.trace_ends.specs.Ends.{IsReplayed};
 ghost use Rattle.trace_ends.specs.Within.{ArePositions};
 ghost use Rattle.batch_work.specs.Works.{works_of};
-ghost use Rattle.trace_replay.specs.Lakes.{AreTold, IsAt, IsTold, LooksAreTold};
+ghost use Rattle.trace_replay.specs.Lakes.{AreHeld, AreTold, IsAt, IsFrom, IsTold, LooksAreTold};
 ghost use Rattle.trace_replay.specs.Stretches.{ArePlansOf, AreTurnsOf};
 
 use crate::lake::Lake;
@@ -48,27 +48,9 @@ fn all_plans(alloc: Global, hints: &[Hint]) -> Result<Vec<Plan>, NoMemory>
     plans_of(alloc, hints)
 }
 
-// Plans the merges and makes the answers of one position, but that of the next entry. It says whether these are as the trace tells.
+// Makes the answers of one position, and plans its merges: first the answers that only look, last the one that adds the next entry. It says
+// whether these are as the trace tells.
 fn replay_at(
-    lake: &mut Lake,
-    trace: &Trace<'_>,
-    turns: &[Turn],
-    plans: &[Plan],
-    at: u64,
-) -> Result<bool, NoMemory>
-    requires at { IsAt trace.now at lake.old }
-    requires turns { AreTurnsOf trace.now.hints turns.now }
-    requires plans { ArePlansOf trace.now.hints plans.now }
-    ensures sound { IfOk result (λ yes. yes ≡ true → LooksAreTold trace.now at) }
-    ensures complete { IfOk result (λ yes. AreTold trace.now → yes ≡ true) }
-    ensures at { IfOk result (λ yes. yes ≡ true → IsAt trace.now at lake.new) }
-{
-    lake.plan_at(trace, plans, at)?;
-    lake.look_at(trace, turns, at)
-}
-
-// The same, and then the answer that adds the next entry.
-fn replay_and_add(
     lake: &mut Lake,
     trace: &Trace<'_>,
     turns: &[Turn],
@@ -80,15 +62,18 @@ fn replay_and_add(
     requires turns { AreTurnsOf trace.now.hints turns.now }
     requires plans { ArePlansOf trace.now.hints plans.now }
     requires owner { IsOwner trace.now.hints (at + 1) owner }
+    requires held { AreHeld trace.now at (IsFrom trace.now at) lake.old }
     ensures sound { IfOk result (λ yes. yes ≡ true → LooksAreTold trace.now at × IsTold trace.now owner) }
     ensures complete { IfOk result (λ yes. AreTold trace.now → yes ≡ true) }
     ensures at { IfOk result (λ yes. yes ≡ true → IsAt trace.now (at + 1) lake.new) }
+    ensures held { IfOk result (λ yes. yes ≡ true → AreHeld trace.now (at + 1) (IsFrom trace.now (at + 1)) lake.new) }
 {
     trace.positions();
     within_law();
-    if !replay_at(lake, trace, turns, plans, at)? {
+    if !lake.look_at(trace, turns, at)? {
         return Ok(false);
     }
+    lake.plan_at(trace, plans, at)?;
     lake.answer(trace, owner)
 }
 
@@ -111,11 +96,11 @@ fn replay_all(
     trace.positions();
     within_law();
     for (at, owner) in owners.iter().enumerate() {
-        if !replay_and_add(lake, trace, turns, plans, *owner, at as u64)? {
+        if !replay_at(lake, trace, turns, plans, *owner, at as u64)? {
             return Ok(false);
         }
     }
-    replay_at(lake, trace, turns, plans, owners.len() as u64)
+    lake.look_at(trace, turns, owners.len() as u64)
 }
 
 // All positions, and the journal behind them. It says whether the trace is that of what was made.

@@ -1,8 +1,25 @@
 //! The answers that are to be made, and the merges that are to be planned, at one position.
-ghost use Rattle.trace_replay.specs.Stretches.{IsStretchAt};
+ghost use Rattle.std.specs.Prelude.{◌≡◌, ◌<◌, ◌≤◌, false, true};
 ghost use Rattle.std.specs.List.Sorted.{IsNonDecreasingBy};
+ghost use Rattle.trace_laws.specs.Rebuilt.{pinned_of};
+ghost use Rattle.trace_hints.specs.Told.{hint_as};
+ghost use Rattle.trace_numbers.specs.Turns.{made_at};
+ghost use Rattle.trace_replay.specs.Stretches.{IsStretchAt};
 
+use trace_hints::Hint;
 use trace_numbers::{Plan, Turn};
+
+/// Whether a merge is planned at an earlier position than the one that its answer is made at.
+pub(crate) fn is_early(hint: Hint) -> bool
+    ensures yes { result ≡ true → pinned_of (hint_as hint) < made_at (hint_as hint) }
+    ensures no { result ≡ false → made_at (hint_as hint) ≤ pinned_of (hint_as hint) }
+{
+    match hint {
+        Hint::PlannedAndSaw { pinned, at } => pinned < at,
+        Hint::PlannedAndAdded { pinned, at } => pinned < at.saturating_sub(1),
+        Hint::Wanting | Hint::Nowhere | Hint::Saw { .. } | Hint::Added { .. } => false,
+    }
+}
 
 /// The answers that are made where the journal is so long, of those that are sorted by that.
 pub(crate) fn turns_at(turns: &[Turn], at: u64) -> &[Turn]

@@ -1,4 +1,4 @@
-use Rattle.std.proofs.Common.{ap, sym, ◌∙◌, ◌+◌, subst, false}
+use Rattle.std.proofs.Common.{◌≡◌, ap, sym, ◌∙◌, ◌+◌, subst, false}
 use Rattle.script_model.specs.Commands.{Merge, command_with}
 use Rattle.record_model.specs.Play.{who_of}
 use Rattle.run_record.specs.Callers.{who_by}
@@ -6,7 +6,7 @@ use Rattle.run_record.specs.Replies.{reply_of}
 use Rattle.trace_hints.specs.Told.{hint_as}
 use Rattle.std.proofs.lemmas.Result.{IfOk-weaker}
 use Rattle.trace_numbers.specs.Turns.{made_at}
-use Rattle.trace_replay.specs.Lakes.{IsAt, hint_at}
+use Rattle.trace_replay.specs.Lakes.{IsAt, Keeps, LakeOf, hint_at}
 use Rattle.trace_replay.proofs.LakeLemmas.{IsOf, behind_look, behind_owner, told_complete, told_sound}
 use Rattle.trace_replay.proofs.lake.Lake.answer.Goals as goal
 
@@ -45,3 +45,7 @@ returns-clause-owns c =
     (behind_owner c.fronts_law.ensures.next trace c.args.index (reply_of c.in_ok-reply.reply) c.args.self.now c.reply_again.new.self c.positions.ensures.one_each c.requires.at c.in_ok-reply.ensures.after c.in_ok-reply.ensures.answered
     ((sound yes).tells ∙ c.hint.ensures) owner))
     c.is_told.ensures.sound
+
+pub returns-clause-others : goal.returns-clause-others
+returns-clause-others c =
+    IfOk-weaker c.is_told.result _ _ (λ value sound. subst (λ (l : LakeOf). Keeps (λ i. i ≡ c.args.index) c.args.self.now.held l.held) (sym c.self.view_is) c.in_ok-reply.ensures.after.others) c.is_told.ensures.sound
