@@ -8,6 +8,8 @@ use std::test::*;
 use std::thread;
 use std::thread::Threads;
 
+mod faults;
+
 const SCRIPT: &str =
     "load stations\nid,city,country\n1,\"Sao Paulo, SP\",Brazil\n2,Zurich,Switzerland\n3,\"New\nYork\",USA\n.\nsearch 2\n ZURICH\nnew\nsao paulo, sp\n.\nsearch 1\nSwitzerland\nBRAZIL\n.\n";
 
