@@ -1,4 +1,5 @@
-//! Random lakes: for each chooser the log and the rows of a search are those of the plain model.
+//! Random lakes in each layout: for each chooser the log of a search is that of the plain model, and the rows are those of a search that
+//! only reads, over the lake in one part.
 ghost use Rattle.std.specs.Prelude.{◌≤◌};
 
 use super::lakes::{Tables, table};
@@ -149,8 +150,8 @@ struct Lake {
 }
 
 impl Lake {
-    // The lake of these chances. The names come in another order than the tables.
-    fn new(seed: u64) -> Lake {
+    // The lake of these chances, in so many parts more than one. The names come in another order than the tables.
+    fn new(seed: u64, parts: u64) -> Lake {
         let number = chance(seed);
         let start = (number % 4) as usize;
         let step = (number / 4 % 2) as usize * 2 + 1;
@@ -162,7 +163,7 @@ impl Lake {
         Lake {
             plains: [plain(0), plain(1), plain(2), plain(3)],
             marked: [marked(10), marked(11), marked(12), marked(13)],
-            parts: number / 8 % 3,
+            parts,
             except: if number / 32 % 2 == 0 {
                 Some((number / 64 % 4) as usize)
             } else {
@@ -245,11 +246,12 @@ fn is_counted(row: &Row<'_>, counted: Counted) -> bool {
         && row.place == place
 }
 
-// A search of a lake: its pin and its plain parts, what is asked, and how many rows.
+// A search of a lake: its pin and its plain parts, what is asked, how many rows, and the rows that any chooser gives.
 #[derive(Drop)]
 struct Asked<'l> {
     pin: &'l Pin,
     parts: &'l [Part],
+    rows: &'l [Counted],
     values: &'l [usize],
     query: &'l QuerySet,
     except: Option<&'l Name>,
@@ -259,7 +261,7 @@ struct Asked<'l> {
 }
 
 impl Asked<'_> {
-    // Compares the log and the rows with those of the plain model.
+    // Compares the log with that of the plain model for this chooser, and the rows with those of every chooser.
     fn compare<C: Chooser>(&self, alloc: Global, chooser: &C) -> Result<(), Fail> {
         let answer = prepare(
             alloc,
@@ -269,15 +271,15 @@ impl Asked<'_> {
             self.except,
         )?
         .run(chooser);
-        let (known, log) = search(alloc, self.parts, self.values, self.k as usize, chooser)?;
+        let (_known, log) = search(alloc, self.parts, self.values, self.k as usize, chooser)?;
         if answer.looks.log() != log.as_slice() {
             return Err(Fail::from("other looks"));
         }
         let rows = answer.rows.list();
-        if rows.len() != known.len() {
+        if rows.len() != self.rows.len() {
             return Err(Fail::from("another number of rows"));
         }
-        for (row, counted) in rows.iter().zip(known.iter()) {
+        for (row, counted) in rows.iter().zip(self.rows.iter()) {
             if !is_counted(row, *counted) {
                 return Err(Fail::from("another row"));
             }
@@ -307,9 +309,8 @@ impl Asked<'_> {
     }
 }
 
-// A search of a random lake.
-fn one_lake(alloc: Global, seed: u64) -> Result<(), Fail> {
-    let lake = Lake::new(seed);
+// A search of this lake, which has these rows.
+fn one_layout(alloc: Global, lake: Lake, seed: u64, rows: &[Counted]) -> Result<(), Fail> {
     let pin = Pin::new(lake.version(alloc)?);
     let parts = lake.parts(alloc)?;
     let values = asked_by(alloc, chance(seed.wrapping_add(77)))?;
@@ -322,12 +323,40 @@ fn one_lake(alloc: Global, seed: u64) -> Result<(), Fail> {
     let asked = Asked {
         pin: &pin,
         parts: &parts,
+        rows,
         values: &values,
         query: &query,
         except,
-        k: (chance(seed) / 1024 % 5) as u32 + 1,
+        k: rows_asked(seed),
     };
     asked.compare_all(alloc)
+}
+
+// How many rows are asked for by chance.
+fn rows_asked(seed: u64) -> u32
+    ensures low { 1 ≤ result }
+    ensures high { result ≤ 10000 }
+{
+    (chance(seed) / 1024 % 5) as u32 + 1
+}
+
+// What a search that only reads finds, over the lake in one part.
+fn rows_read(alloc: Global, seed: u64) -> Result<Vec<Counted>, Fail> {
+    let merged = Lake::new(seed, 0);
+    let parts = merged.parts(alloc)?;
+    let values = asked_by(alloc, chance(seed.wrapping_add(77)))?;
+    let k = rows_asked(seed) as usize;
+    let (rows, _log) = search(alloc, &parts, &values, k, &AlwaysRead)?;
+    Ok(rows)
+}
+
+// A search of a random lake in one part, in two and in three.
+fn one_lake(alloc: Global, seed: u64) -> Result<(), Fail> {
+    let rows = rows_read(alloc, seed)?;
+    for parts in 0..3u64 {
+        one_layout(alloc, Lake::new(seed, parts), seed, &rows)?;
+    }
+    Ok(())
 }
 
 fn lakes(alloc: Global, from: u64, to: u64) -> Result<(), Fail> {
@@ -339,10 +368,10 @@ fn lakes(alloc: Global, from: u64, to: u64) -> Result<(), Fail> {
 
 #[test]
 fn first_lakes(rt: HostRuntime) -> Result<(), Fail> {
-    lakes(rt.alloc(), 0, 50)
+    lakes(rt.alloc(), 0, 25)
 }
 
 #[test]
 fn more_lakes(rt: HostRuntime) -> Result<(), Fail> {
-    lakes(rt.alloc(), 1000, 1050)
+    lakes(rt.alloc(), 1000, 1025)
 }
