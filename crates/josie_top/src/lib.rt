@@ -71,7 +71,14 @@ pub fn run_ordered<S: Source, K: Sink, F: Shelf>(
         Mode::Run(options) => run_in_order(alloc, options, source, sink, shelf, out),
         Mode::Make { seed, tables, rows } => make_lake(alloc, seed, tables, rows, sink, out),
         Mode::Watch { k, paths } => watch(alloc, k, &paths, source, sink, shelf, out),
-        Mode::Check { trace, options } => check(alloc, trace.as_str(), options, source, sink, shelf),
+        Mode::Check { trace, options } => check(
+            alloc,
+            trace.as_str(),
+            options,
+            source,
+            sink,
+            shelf,
+        ),
     }
 }
 
@@ -107,7 +114,14 @@ fn run_mode<R: Threads + Wait + Sync, S: Source, K: Sink, F: Shelf, G: Gate + Sy
         Mode::Run(options) => run_script(rt, alloc, options, source, sink, shelf, gate, out),
         Mode::Make { seed, tables, rows } => make_lake(alloc, seed, tables, rows, sink, out),
         Mode::Watch { k, paths } => watch(alloc, k, &paths, source, sink, shelf, out),
-        Mode::Check { trace, options } => check(alloc, trace.as_str(), options, source, sink, shelf),
+        Mode::Check { trace, options } => check(
+            alloc,
+            trace.as_str(),
+            options,
+            source,
+            sink,
+            shelf,
+        ),
     }
 }
 
