@@ -55,7 +55,7 @@ impl Checker {
         }
     }
 
-    /// The next batch of the script. Out of memory, nothing has changed.
+    /// The next batch of the script. It costs a walk over the commands. Out of memory, nothing has changed.
     pub fn add(&mut self, batch: Batch) -> Result<(), NoMemory>
         requires lanes { IsOfLanes self.old.options.lanes batch }
         ensures added { OnOk result (self.new ≡ checker_with self.old.rules self.old.options (self.old.batches ++ batch ∷ [])) }

@@ -60,7 +60,7 @@ fn are_right(
     replay(alloc, run.keys, run.limits, works, groups, &owners)
 }
 
-/// The verdict on a trace, for all options with these lanes, and this of a merger.
+/// The verdict on a trace. Of the options it rests only on those that `run` has, and on that replies are traced.
 pub(crate) fn judge(alloc: Global, run: &Run<'_>, trace: &[u8]) -> Result<bool, NoMemory>
     requires limits { IsWithin wide_limits run.now.limits }
     requires lanes { AllByRecursion (IsOfLanes run.now.lanes) run.now.batches.now }
