@@ -29,7 +29,7 @@ same_truth true false there back = sym (there refl)
 same_truth false true there back = back refl
 same_truth false false there back = refl
 
--- what is known of the batches and of the options
+-- what is known of the batches and of all their commands
 pub record AreGiven (lanes : ℕ) (merge : Bool) (batches : List Batch) (commands : List Command) : Type 0 where
   pub of : AllByRecursion (IsOfLanes lanes) batches
   pub named : AllByRecursion IsBatchNamed batches

@@ -7,7 +7,7 @@ ghost use Rattle.trace_laws.specs.Passing.{verdict};
 ghost use Rattle.trace_laws.specs.Verdict.{all_commands};
 ghost use Rattle.trace_check.specs.Checking.{AreChecked, HasRecord, checker_with};
 
-use crate::judging::judge;
+use crate::judging::{Run, judge};
 use crate::names::batch_law;
 use catalogue::Limits;
 use commands::{Batch, Options};
@@ -55,7 +55,7 @@ impl Checker {
         }
     }
 
-    /// The next batch of the script. Out of memory, nothing has changed.
+    /// The next batch of the script. It costs a walk over the commands. Out of memory, nothing has changed.
     pub fn add(&mut self, batch: Batch) -> Result<(), NoMemory>
         requires lanes { IsOfLanes self.old.options.lanes batch }
         ensures added { OnOk result (self.new ≡ checker_with self.old.rules self.old.options (self.old.batches ++ batch ∷ [])) }
@@ -84,14 +84,13 @@ impl Checker {
         ensures known { AreChecked self.now.options self.now.batches }
         ensures few { IfOk result (λ yes. length (all_commands self.now.options.merge 1 self.now.batches) < 2 ^ 64) }
     {
-        judge(
-            self.alloc,
-            self.options.keys,
-            self.limits,
-            self.options.lanes,
-            self.options.merge,
-            &self.batches,
-            trace,
-        )
+        let run = Run {
+            keys: self.options.keys,
+            limits: self.limits,
+            lanes: self.options.lanes,
+            merge: self.options.merge,
+            batches: &self.batches,
+        };
+        judge(self.alloc, &run, trace)
     }
 }

@@ -24,55 +24,54 @@ use trace_groups::{Group, cut_trace};
 use trace_numbers::find_owners;
 use trace_replay::{hints_of, replay};
 
-// Whether these are the groups of a right run of this work: as many, whose positions are those of one run, and whose answers and journal
-// are made again.
+/// What the verdict asks of a run: by which match values are the same, the limits of its lake, how many lanes it has, whether a merger runs
+/// beside them, and the batches of its script.
+#[derive(Clone, Copy)]
+pub(crate) struct Run<'a> {
+    pub(crate) keys: Keys,
+    pub(crate) limits: Limits,
+    pub(crate) lanes: u32,
+    pub(crate) merge: bool,
+    pub(crate) batches: &'a [Batch],
+}
+
+// Whether these are the groups of a right run with this work: there are as many as it wants, their positions are those of one run, and the
+// answers and the journal are the same when they are made again.
 fn are_right(
     alloc: Global,
-    keys: Keys,
-    limits: Limits,
-    lanes: u32,
-    merge: bool,
-    batches: &[Batch],
+    run: &Run<'_>,
     works: &[Work<'_>],
     groups: &[Group<'_>],
 ) -> Result<bool, NoMemory>
-    requires limits { IsWithin wide_limits limits }
-    requires lanes { AllByRecursion (IsOfLanes lanes) batches.now }
-    requires works { works_of works.now ≡ all_commands merge 1 batches.now }
-    ensures sound { IfOk result (λ yes. yes ≡ true → IsRight (rules_with keys limits) lanes merge batches.now (works_of works.now) (map (λ group. hint_as group.hint) groups.now) (map (λ group. group.text.now) groups.now)) }
-    ensures complete { IfOk result (λ yes. IsRight (rules_with keys limits) lanes merge batches.now (works_of works.now) (map (λ group. hint_as group.hint) groups.now) (map (λ group. group.text.now) groups.now) → yes ≡ true) }
+    requires limits { IsWithin wide_limits run.now.limits }
+    requires lanes { AllByRecursion (IsOfLanes run.now.lanes) run.now.batches.now }
+    requires works { works_of works.now ≡ all_commands run.now.merge 1 run.now.batches.now }
+    ensures sound { IfOk result (λ yes. yes ≡ true → IsRight (rules_with run.now.keys run.now.limits) run.now.lanes run.now.merge run.now.batches.now (works_of works.now) (map (λ group. hint_as group.hint) groups.now) (map (λ group. group.text.now) groups.now)) }
+    ensures complete { IfOk result (λ yes. IsRight (rules_with run.now.keys run.now.limits) run.now.lanes run.now.merge run.now.batches.now (works_of works.now) (map (λ group. hint_as group.hint) groups.now) (map (λ group. group.text.now) groups.now) → yes ≡ true) }
 {
     if groups.len() != works.len() + 1 {
         return Ok(false);
     }
     let hints = hints_of(alloc, groups, works.len())?;
-    let Some(owners) = find_owners(alloc, lanes, merge, batches, &hints)? else {
+    let Some(owners) = find_owners(alloc, run.lanes, run.merge, run.batches, &hints)? else {
         return Ok(false);
     };
     within_law();
-    replay(alloc, keys, limits, works, groups, &owners)
+    replay(alloc, run.keys, run.limits, works, groups, &owners)
 }
 
-/// The verdict on a trace, with the parts of the options that it asks for.
-pub(crate) fn judge(
-    alloc: Global,
-    keys: Keys,
-    limits: Limits,
-    lanes: u32,
-    merge: bool,
-    batches: &[Batch],
-    trace: &[u8],
-) -> Result<bool, NoMemory>
-    requires limits { IsWithin wide_limits limits }
-    requires lanes { AllByRecursion (IsOfLanes lanes) batches.now }
-    requires named { AllByRecursion IsBatchNamed batches.now }
-    ensures value { (options : OptionsOf) → AreOptionsOf lanes merge options → IfOk result (λ yes. yes ≡ verdict (rules_with keys limits) options batches.now trace.now) }
-    ensures few { IfOk result (λ yes. length (all_commands merge 1 batches.now) < 2 ^ 64) }
+/// The verdict on a trace. Of the options it rests only on those that `run` has, and on that replies are traced.
+pub(crate) fn judge(alloc: Global, run: &Run<'_>, trace: &[u8]) -> Result<bool, NoMemory>
+    requires limits { IsWithin wide_limits run.now.limits }
+    requires lanes { AllByRecursion (IsOfLanes run.now.lanes) run.now.batches.now }
+    requires named { AllByRecursion IsBatchNamed run.now.batches.now }
+    ensures value { (options : OptionsOf) → AreOptionsOf run.now.lanes run.now.merge options → IfOk result (λ yes. yes ≡ verdict (rules_with run.now.keys run.now.limits) options run.now.batches.now trace.now) }
+    ensures few { IfOk result (λ yes. length (all_commands run.now.merge 1 run.now.batches.now) < 2 ^ 64) }
 {
     ends_law();
-    let works = all_works(alloc, merge, batches)?;
+    let works = all_works(alloc, run.merge, run.batches)?;
     let Some(groups) = cut_trace(alloc, trace)? else {
         return Ok(false);
     };
-    are_right(alloc, keys, limits, lanes, merge, batches, &works, &groups)
+    are_right(alloc, run, &works, &groups)
 }

@@ -17,8 +17,8 @@ returns-clause-value c options are =
     let text = λ (group : Group). group.text.now in
     let works = c.deref.result.now in
     let groups = c.deref-2.result.now in
-    let few : length (all_commands c.args.merge 1 c.args.batches.now) < 2 ^ 64 = omega (arith, c.in_ok-works.works.small, c.in_ok-works.works.ok, length-map c.in_ok-works.works.items work_of, ap (λ (cs : List Command). length cs) c.in_ok-works.ensures) in
-    let given : AreGiven c.args.lanes c.args.merge c.args.batches.now (works_of works) = record {
+    let few : length (all_commands c.args.run.now.merge 1 c.args.run.now.batches.now) < 2 ^ 64 = omega (arith, c.in_ok-works.works.small, c.in_ok-works.works.ok, length-map c.in_ok-works.works.items work_of, ap (λ (cs : List Command). length cs) c.in_ok-works.ensures) in
+    let given : AreGiven c.args.run.now.lanes c.args.run.now.merge c.args.run.now.batches.now (works_of works) = record {
       of = c.requires.lanes;
       named = c.requires.named;
       are = ap (λ (ws : List Work). works_of ws) c.deref.ensures.value ∙ c.in_ok-works.ensures;
@@ -33,4 +33,4 @@ returns-clause-value c options are =
       whole = joined_texts text groups ∙ ap (λ (gs : List Group). flat_map text gs) c.deref-2.ensures.value ∙ whole;
     } in
     ok_both c.are_right.result _ _ _ c.are_right.ensures.sound c.are_right.ensures.complete
-    (λ b sound complete. judged c.ends_law.ensures (rules_with c.args.keys c.args.limits) options c.args.lanes c.args.merge c.args.batches.now c.args.trace.now (works_of works) (map hint groups) (map text groups) given are found b sound complete)
+    (λ b sound complete. judged c.ends_law.ensures (rules_with c.args.run.now.keys c.args.run.now.limits) options c.args.run.now.lanes c.args.run.now.merge c.args.run.now.batches.now c.args.trace.now (works_of works) (map hint groups) (map text groups) given are found b sound complete)
