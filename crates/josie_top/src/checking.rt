@@ -11,7 +11,7 @@ ghost use Rattle.record_model.specs.Record.{RunRecord as RecordOf, empty};
 ghost use Rattle.record_model.specs.Rules.{standard_rules};
 ghost use Rattle.trace_check.specs.Checking.{checker_with};
 ghost use Rattle.josie_top.specs.Checking.{Checks, IsChecked, IsReadWhole, IsStoppedAt, IsVerdictWritten, trace_fault, verdict_text};
-ghost use Rattle.josie_top.specs.World.{Moves, World, with_sink, world_of};
+ghost use Rattle.josie_top.specs.World.{HasMoved, Moves, world_of};
 
 use crate::batches::status_of_end;
 use crate::limits::limits_of;
