@@ -22,6 +22,8 @@ use Rattle.record_model.specs.declared.Status.{Status}
 use Rattle.record_model.specs.declared.Status.TheVariants as status
 use Rattle.record_model.specs.Record.{RunRecord, empty}
 use Rattle.record_model.specs.Rules.{Rules, standard_rules}
+use Rattle.record_model.specs.Statuses.{script_of}
+use Rattle.trace_check.specs.Checking.{HasRecord, checker_with}
 use Rattle.josie_top.specs.Checking.{AreChecked, Checks, EndsInVerdict, HasNoTrace, IsChecked, IsCutShort, IsJudged, IsReading, IsReadWhole, IsStoppedAt, IsVerdict, IsVerdictWritten, trace_fault, verdict_text}
 use Rattle.josie_top.specs.Ends.{status_of_end}
 use Rattle.josie_top.specs.Meets.{FetchedBy}
@@ -44,13 +46,13 @@ reading_start options world gathering lanes gathers are = subst (λ (g : Gatheri
 })
 
 -- what was read, up to one more `sync`
-pub reading_more : (options : Options) (first second third : World) (before after : Gathering) (batches : List Batch) (batch : Batch) → IsReading options first second before batches → HasMoved second third
-    → (took : Taken (Ok (Some batch)) second.left third.left second.files second.fetch_faults third.fetch_faults) → Gathers (Ok (Some batch)) before after third.left took.given took.asked took.outcomes
+pub reading_more : (options : Options) (first second third : World) (before after : Gathering) (batches : List Batch) (found : Option Batch) (batch : Batch) → found ≡ Some batch → IsReading options first second before batches → HasMoved second third
+    → (took : Taken (Ok found) second.left third.left second.files second.fetch_faults third.fetch_faults) → Gathers (Ok found) before after third.left took.given took.asked took.outcomes
     → after.limits ≡ before.limits → after.lanes ≡ before.lanes → after.reading.used ≤ after.limits.input → after.ended ≡ false → IsReading options first third after (batches ++ batch ∷ [])
-reading_more options first second third before after batches batch reading moved took gathers limits_are lanes_are within on = record {
+reading_more options first second third before after batches found batch is reading moved took gathers limits_are lanes_are within on = record {
   moved = moved_on reading.moved moved;
   been = read_synced options first second third before after batches batch took.given took.asked took.outcomes reading.moved reading.been reading.goes took.gave took.fetched
-      (not_whole before after third.left took.given took.asked took.outcomes batch on gathers);
+      (not_whole before after third.left took.given took.asked took.outcomes batch on (subst (λ (f : Option Batch). Gathers (Ok f) before after third.left took.given took.asked took.outcomes) is gathers));
   goes = goes_on options before after reading.goes limits_are lanes_are within;
 }
 
@@ -69,20 +71,21 @@ read_whole options first second third before after batches later given asked out
 }
 
 -- behind a last batch
-pub whole_with : (options : Options) (first second third : World) (before after : Gathering) (batches : List Batch) (batch : Batch) → IsReading options first second before batches
-    → (took : Taken (Ok (Some batch)) second.left third.left second.files second.fetch_faults third.fetch_faults) → Gathers (Ok (Some batch)) before after third.left took.given took.asked took.outcomes
+pub whole_with : (options : Options) (first second third : World) (before after : Gathering) (batches : List Batch) (found : Option Batch) (batch : Batch) → found ≡ Some batch → IsReading options first second before batches
+    → (took : Taken (Ok found) second.left third.left second.files second.fetch_faults third.fetch_faults) → Gathers (Ok found) before after third.left took.given took.asked took.outcomes
     → after.ended ≡ true → IsReadWhole options first third (batches ++ batch ∷ [])
-whole_with options first second third before after batches batch reading took gathers over =
+whole_with options first second third before after batches found batch is reading took gathers over =
     read_whole options first second third before after batches (batch ∷ []) took.given took.asked took.outcomes reading took.gave took.fetched
-    (not_synced before after third.left took.given took.asked took.outcomes batch over gathers)
+    (not_synced before after third.left took.given took.asked took.outcomes batch over (subst (λ (f : Option Batch). Gathers (Ok f) before after third.left took.given took.asked took.outcomes) is gathers))
 
 -- behind a `sync`, or without a command
-pub whole_without : (options : Options) (first second third : World) (before after : Gathering) (batches : List Batch) → IsReading options first second before batches
-    → (took : Taken (Ok None) second.left third.left second.files second.fetch_faults third.fetch_faults) → Gathers (Ok None) before after third.left took.given took.asked took.outcomes
+pub whole_without : (options : Options) (first second third : World) (before after : Gathering) (batches : List Batch) (found : Option Batch) → found ≡ None → IsReading options first second before batches
+    → (took : Taken (Ok found) second.left third.left second.files second.fetch_faults third.fetch_faults) → Gathers (Ok found) before after third.left took.given took.asked took.outcomes
     → IsReadWhole options first third batches
-whole_without options first second third before after batches reading took gathers =
+whole_without options first second third before after batches found is reading took gathers =
     subst (IsReadWhole options first third) (append-nil batches)
-    (read_whole options first second third before after batches [] took.given took.asked took.outcomes reading took.gave took.fetched gathers)
+    (read_whole options first second third before after batches [] took.given took.asked took.outcomes reading took.gave took.fetched
+    (subst (λ (f : Option Batch). Gathers (Ok f) before after third.left took.given took.asked took.outcomes) is gathers))
 
 -- the gatherer gave no batch, as the script is at fault, the source failed, or memory ran out
 pub stopped_by : (options : Options) (first second third : World) (before after : Gathering) (batches : List Batch) (why : ScriptEnd) → IsReading options first second before batches
@@ -130,13 +133,19 @@ stopped_behind options first second third before batches more reading gave = rec
 
 -- ---- how a run ends
 
+-- the verdict of a checker
+pub verdict_by : (rules : Rules) (options : Options) (batches : List Batch) (trace : Text) (verdict : Bool) → (verdict ≡ true → HasRecord (checker_with rules options batches) trace)
+    → (verdict ≡ false → HasRecord (checker_with rules options batches) trace → ⊥) → IsVerdict rules options batches trace verdict
+verdict_by rules options batches trace true right none = right refl
+verdict_by rules options batches trace false right none = λ made is. none refl (made, is)
+
 module _ (rules : Rules) (options : Options) (trace : Text) (before now : World) where
   -- the verdict was written, or its first bytes
   pub judged : (verdict : Bool) (result : Status) (batches : List Batch) (written later : Option (List ℕ)) (faults more : ℕ) → IsReadWhole options before now batches → IsVerdict rules options batches trace verdict
       → IsVerdictWritten verdict result written later → IsChecked rules options trace result (with_sink written faults before) (with_sink later more now)
   judged verdict result batches written later faults more whole is = by result
     where
-      here : (v : Bool) → verdict ≡ v → IsJudged rules options trace (λ asked. AreFetched before.files before.fetch_faults now.fetch_faults asked whole.outcomes) _ now.left v
+      here : (v : Bool) → verdict ≡ v → IsJudged rules options trace (λ asked. AreFetched before.files before.fetch_faults now.fetch_faults asked whole.outcomes) (script_of options whole.outcomes whole.given now.left) now.left v
       here v same = record {
         read = whole.read;
         whole = ap (λ (s : Commands). s.end) whole.script;
@@ -145,8 +154,8 @@ module _ (rules : Rules) (options : Options) (trace : Text) (before now : World)
       }
 
       by : (r : Status) → IsVerdictWritten verdict r written later → IsChecked rules options trace r (with_sink written faults before) (with_sink later more now)
-      by status.Done (yes, took) = record { given = whole.given; taken = verdict_text true; outcomes = whole.outcomes; gave = whole.gave; took = took; row = (here true yes, refl) }
-      by status.Refuted (no, took) = record { given = whole.given; taken = verdict_text false; outcomes = whole.outcomes; gave = whole.gave; took = took; row = (here false no, refl) }
+      by status.Done (is_right, took) = record { given = whole.given; taken = verdict_text true; outcomes = whole.outcomes; gave = whole.gave; took = took; row = (here true is_right, refl) }
+      by status.Refuted (is_wrong, took) = record { given = whole.given; taken = verdict_text false; outcomes = whole.outcomes; gave = whole.gave; took = took; row = (here false is_wrong, refl) }
       by status.WriteFault (part, prefix, took) =
           record { given = whole.given; taken = part; outcomes = whole.outcomes; gave = whole.gave; took = took; row = (verdict, here verdict refl, prefix) }
       by (status.Script line reason) none = absurd none
