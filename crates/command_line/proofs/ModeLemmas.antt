@@ -136,9 +136,6 @@ module _ (trace : Text) (rest words : List Text) (parts : words ≡ trace ∷ re
   check_is : check_words words ≡ check_with trace (run_words rest)
   check_is = ap check_words parts
 
-  pub no_path : is_path trace ≡ false → check_words words ≡ None
-  no_path other = check_is ∙ ap (λ (b : Bool). cond {A = Option Mode} b (option_map (Check trace) (option_and_then checked_options (run_words rest))) None) other
-
   pub check_read : (options checked : Options) → is_path trace ≡ true → run_words rest ≡ Some options → checked_options options ≡ Some checked → check_words words ≡ Some (Check trace checked)
   check_read options checked path read is =
       check_is ∙ ap₂ (λ (b : Bool) (o : Option Options). cond {A = Option Mode} b (option_map (Check trace) (option_and_then checked_options o)) None) path read

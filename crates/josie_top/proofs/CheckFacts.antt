@@ -1,5 +1,5 @@
 -- A run that checks a trace: what it reads, and how it ends.
-use Rattle.std.proofs.Common.{◌≡◌, refl, ap, sym, ◌∙◌, subst, ℕ, ◌≤◌, inl, inr, List, [], ◌∷◌, ◌++◌, Bool, true, false, arith}
+use Rattle.std.proofs.Common.{◌≡◌, refl, ap, sym, subst, ℕ, ◌≤◌, inr, List, [], ◌∷◌, ◌++◌, Bool, true, false, arith}
 use Rattle.std.specs.Prelude.{Option, Some, None, Ok, Err}
 use Rattle.std.specs.Io.KnownBytes.{Consumes}
 use Rattle.std.proofs.KnownBytes.{Appends-nil, Consumes-nil, Consumes-trans}
@@ -10,10 +10,10 @@ use Rattle.lake_model.specs.Texts.{Text}
 use Rattle.script_model.specs.Commands.{Batch, Bytes, Failed, File, Missing, TooLong}
 use Rattle.script_model.specs.Options.{Options, plain}
 use Rattle.script_model.specs.Reading.{LinesRead, read}
-use Rattle.script_model.specs.Script.{Commands, Whole, commands_with, standard, start}
+use Rattle.script_model.specs.Script.{Commands, standard, start}
 use Rattle.script_text.specs.declared.refused.ScriptEnd.{ScriptEnd}
 use Rattle.script_text.specs.declared.refused.ScriptEnd.TheVariants as end
-use Rattle.script_text.specs.Gathering.{Gathering, IsSynced, IsWhole, gathering_with}
+use Rattle.script_text.specs.Gathering.{Gathering, IsWhole, gathering_with}
 use Rattle.script_text.specs.Gathers.{Gathers, Taken}
 use Rattle.script_text.specs.Outcomes.{AreFetched, CameOf}
 use Rattle.record_model.specs.declared.GivenWhy.{GivenWhy}
@@ -24,14 +24,12 @@ use Rattle.record_model.specs.Record.{RunRecord, empty}
 use Rattle.record_model.specs.Rules.{Rules, standard_rules}
 use Rattle.record_model.specs.Statuses.{script_of}
 use Rattle.trace_check.specs.Checking.{HasRecord, checker_with}
-use Rattle.josie_top.specs.Checking.{AreChecked, Checks, EndsInVerdict, HasNoTrace, IsChecked, IsCutShort, IsJudged, IsReading, IsReadWhole, IsStoppedAt, IsVerdict, IsVerdictWritten, trace_fault, verdict_text}
+use Rattle.josie_top.specs.Checking.{AreChecked, Checks, EndsInVerdict, IsChecked, IsCutShort, IsJudged, IsReading, IsReadWhole, IsStoppedAt, IsVerdict, IsVerdictWritten, trace_fault, verdict_text}
 use Rattle.josie_top.specs.Ends.{status_of_end}
-use Rattle.josie_top.specs.Meets.{FetchedBy}
 use Rattle.josie_top.specs.Watching.{AreGiven}
 use Rattle.josie_top.specs.World.{HasMoved, Moves, World, with_sink}
 use Rattle.josie_top.proofs.RowFacts.{begun_unfinished, fetched_on, read_synced, script_refused, script_whole}
 use Rattle.josie_top.proofs.RunFacts.{goes_on, moved_on, not_synced, not_whole, still}
-use Rattle.josie_top.proofs.StreamFacts.{rose_since}
 
 -- ---- what is read
 

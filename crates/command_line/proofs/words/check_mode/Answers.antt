@@ -1,10 +1,10 @@
-use Rattle.std.proofs.Common.{rules, ap, ◌≡◌, ◌⊎◌, ◌-◌, ◌∷◌, ◌∙◌, inr, drop, length, map, string_bytes, sym, take, true, false, Global, List, None, Some}
+use Rattle.std.proofs.Common.{rules, ap, ◌≡◌, ◌⊎◌, ◌-◌, ◌∙◌, inr, map, string_bytes, sym, true, Global, None, Some}
 use Rattle.clap.proofs.TakesLemmas.{passed_up}
 use Rattle.lake_model.specs.Texts.{Text}
 use Rattle.option_model.specs.Plain.{Check, is_path}
 use Rattle.command_line.specs.Words.{check_words}
 use Rattle.command_line.specs.declared.words.WordsRefused.TheVariants as refused
-use Rattle.command_line.proofs.ModeLemmas.{check_read, check_refused, no_path, not_checked, parted}
+use Rattle.command_line.proofs.ModeLemmas.{check_read, check_refused, not_checked, parted}
 use Rattle.command_line.proofs.words.check_mode.Goals as goal
 
 pub returns-in_err-options-clause-refused : goal.returns-in_err-options-clause-refused

@@ -1,4 +1,4 @@
-use Rattle.std.proofs.Common.{arith, inl, refl, subst, string_bytes}
+use Rattle.std.proofs.Common.{arith, inl, refl, subst}
 use Rattle.script_model.specs.Commands.{Bytes, File}
 use Rattle.commands.specs.Tasks.{file_of}
 use Rattle.script_text.specs.Outcomes.{CameOf}

@@ -1,4 +1,4 @@
-use Rattle.std.proofs.Common.{rules, ◌≡◌, ◌∙◌, ap, false, subst, sym}
+use Rattle.std.proofs.Common.{rules, ◌≡◌, ◌∙◌, ap, false, subst}
 use Rattle.std.specs.Prelude.{None, is_err}
 use Rattle.script_model.specs.Options.{Options}
 use Rattle.record_model.specs.Rules.{Rules, limits_of, rules_with, standard_rules}

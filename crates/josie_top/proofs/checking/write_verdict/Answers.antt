@@ -1,4 +1,4 @@
-use Rattle.std.proofs.Common.{◌≡◌, List, ℕ, Bool, false, sym, subst, take, true}
+use Rattle.std.proofs.Common.{List, ℕ, Bool, false, sym, subst, take, true}
 use Rattle.std.specs.Io.KnownBytes.{Appends}
 use Rattle.record_model.specs.Statuses.{IsPrefix}
 use Rattle.josie_top.specs.Checking.{verdict_text}
