@@ -1,12 +1,13 @@
 //! Words that are read and words that are refused.
 use super::{Mode, WordsRefused, read_words};
+use commands::Options;
 use lake_model::Keys;
 use std::alloc::Global;
 use std::test::Fail;
 
 /// What the words, which single spaces part, say in small: of a run its lanes, whether an order is stated, and its flags and profile; of a
-/// lake to make its three numbers; of watched queries how many rows, how many paths, and the length of the last path. None where they are
-/// refused.
+/// lake to make its three numbers; of watched queries how many rows, how many paths, and the length of the last path; of a check the lanes of the
+/// run, its flags and profile, and the length of the path. None where they are refused.
 fn said(alloc: Global, line: &str) -> Result<Option<[u32; 4]>, Fail> {
     let words = words_of(alloc, line)?;
     said_by(alloc, words.as_slice())
@@ -20,18 +21,27 @@ fn words_of(alloc: Global, line: &str) -> Result<Vec<String>, Fail> {
     Ok(words)
 }
 
+/// 4 for profile 2, 2 for a merger, and 1 for a trace.
+fn flags_of(options: &Options) -> u32 {
+    let second = u32::from(matches!(options.keys, Keys::Compatibility));
+    second * 4 + u32::from(options.merge) * 2 + u32::from(options.trace)
+}
+
 fn said_by(alloc: Global, words: &[String]) -> Result<Option<[u32; 4]>, Fail> {
     match read_words(alloc, words) {
         Ok(Mode::Run(options)) => {
-            let second = u32::from(matches!(options.keys, Keys::Compatibility));
-            let flags = second * 4 + u32::from(options.merge) * 2 + u32::from(options.trace);
-            Ok(Some([1, options.lanes, u32::from(options.order.is_some()), flags]))
+            let stated = u32::from(options.order.is_some());
+            Ok(Some([1, options.lanes, stated, flags_of(&options)]))
         }
         Ok(Mode::Make { seed, tables, rows }) => Ok(Some([seed, tables, rows, 9])),
         Ok(Mode::Watch { k, paths }) => {
             let last = paths.last().map_or(0, |path| path.len());
             let length = u32::try_from(last).unwrap_or(0);
             Ok(Some([k, paths.len() as u32, length, 8]))
+        }
+        Ok(Mode::Check { trace, options }) => {
+            let length = u32::try_from(trace.len()).unwrap_or(0);
+            Ok(Some([options.lanes, flags_of(&options), length, 7]))
         }
         Err(WordsRefused::Usage) => Ok(None),
         Err(WordsRefused::NoMemory) => Err(Fail::from("memory")),
@@ -59,6 +69,9 @@ fn reads_plain_words(rt: HostRuntime) -> Result<(), Fail> {
         ("watch 1 q", [1, 1, 1, 8]),
         ("watch 10000 queries/a.csv b-c", [10000, 2, 3, 8]),
         ("watch 3 a b c d e f g h i j k l m n o last", [3, 16, 4, 8]),
+        ("check t", [1, 1, 1, 7]),
+        ("check runs/last --merge --lanes 16", [16, 3, 9, 7]),
+        ("check t --profile 2 --lanes 2", [2, 5, 1, 7]),
     ] {
         assert!(rt; said(alloc, line)? == Some(wanted));
     }
@@ -81,6 +94,8 @@ fn reads_other_words_as_clap_does(rt: HostRuntime) -> Result<(), Fail> {
         ("watch -- +2 -q", [2, 1, 2, 8]),
         ("watch 1 q -- --trace", [1, 2, 7, 8]),
         ("watch 1 ", [1, 1, 0, 8]),
+        ("check t --", [1, 1, 1, 7]),
+        ("check t --lanes=02", [2, 1, 1, 7]),
     ] {
         assert!(rt; said(alloc, line)? == Some(wanted));
     }
@@ -101,6 +116,7 @@ fn refuses_other_modes(rt: HostRuntime) -> Result<(), Fail> {
         "makes 0 1 1",
         "Watch 1 q",
         "watches 1 q",
+        "checks t",
         "--help",
         "run\u{a0}",
     ] {
@@ -182,6 +198,28 @@ fn refuses_other_words_of_watch(rt: HostRuntime) -> Result<(), Fail> {
         "watch 1 --help",
         "watch 3 a b c d e f g h i j k l m n o p q",
         "watch 3 -- a b c d e f g h i j k l m n o p q",
+    ] {
+        assert!(rt; said(alloc, line)?.is_none());
+    }
+    Ok(())
+}
+
+#[test]
+fn refuses_other_words_of_check(rt: HostRuntime) -> Result<(), Fail> {
+    let alloc = rt.alloc();
+    for line in [
+        "check",
+        "check ",
+        "check -t",
+        "check --lanes 2",
+        "check --lanes 2 t",
+        "check t u",
+        "check t --trace",
+        "check t --order /",
+        "check t --lanes 17",
+        "check t --merge --merge",
+        "check t --profile 3",
+        "check t --help",
     ] {
         assert!(rt; said(alloc, line)?.is_none());
     }
