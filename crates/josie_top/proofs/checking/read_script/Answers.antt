@@ -15,8 +15,7 @@ use Rattle.josie_top.proofs.checking.read_script.Goals as goal
 
 pub loop-init : goal.loop-init
 loop-init g c =
-    let first : World = world_of (g.S.Source.left c.args.source.now) (g.S.Source.faults c.args.source.now) None 0 (g.F.Shelf.files c.args.shelf.now) (g.F.Shelf.faults c.args.shelf.now) in
-    (
+    let first : World = world_of (g.S.Source.left c.args.source.now) (g.S.Source.faults c.args.source.now) None 0 (g.F.Shelf.files c.args.shelf.now) (g.F.Shelf.faults c.args.shelf.now) in (
       subst (λ (b : List Batch). IsReading c.args.checker.now.options first first c.args.gather.now b) (sym c.requires.none) (reading_start c.args.checker.now.options first c.args.gather.now _ c.requires.start refl),
       ap (λ (gathering : Gathering). gathering.ended) c.requires.start,
       refl,
@@ -60,9 +59,11 @@ returns-in-Err-clause-moves g c =
     let third : World = world_of (g.S.Source.left c.batch.new.source) (g.S.Source.faults c.batch.new.source) None 0 (g.F.Shelf.files c.batch.new.shelf) (g.F.Shelf.faults c.batch.new.shelf) in
     let (read, fetched) = c.in-Err.ensures.later in
     let moved : HasMoved second third = record { files = c.in-Err.ensures.files; reads = read; writes = omega arith; fetches = fetched } in
-    let all : HasMoved first third = moved_on {before = first} {mid = second} {now = third} reading.moved moved in
-    (all, subst (λ (s : Status). Moves ⊥ s first third) (sym c.status_of_end.ensures) (end_moves {before = first} {now = third} c.in-Err.end all
-    (λ is. rose_since first.read_faults second.read_faults third.read_faults reading.moved.reads (c.in-Err.ensures.read_fault (ap (λ (e : ScriptEnd). Err e) is)))))
+    let all : HasMoved first third = moved_on {before = first} {mid = second} {now = third} reading.moved moved in (
+      all,
+      subst (λ (s : Status). Moves ⊥ s first third) (sym c.status_of_end.ensures) (end_moves {before = first} {now = third} c.in-Err.end all
+          (λ is. rose_since first.read_faults second.read_faults third.read_faults reading.moved.reads (c.in-Err.ensures.read_fault (ap (λ (e : ScriptEnd). Err e) is)))),
+    )
 
 pub returns-then-is_err-clause-stopped : goal.returns-then-is_err-clause-stopped
 returns-then-is_err-clause-stopped g c =
