@@ -91,7 +91,7 @@ pub fn read_table(alloc: Global, bytes: &[u8], most: u32) -> Result<RawTable, Cs
 {
     let mut reader = open_reader(alloc, bytes);
     let mut row = ByteRecord::new(alloc);
-    let mut store = StringRecord::new(alloc);
+    let mut store = empty_store(alloc, bytes)?;
     if !read_next(&mut reader, &mut row)? {
         return Err(CsvRefused::NoHeader);
     }
@@ -119,6 +119,26 @@ fn open_reader(alloc: Global, bytes: &[u8]) -> Reader<&[u8]>
         .has_headers(false)
         .flexible(true)
         .from_reader(alloc, behind_mark(bytes))
+}
+
+// A store with room for the fields of the bytes, so that it never grows: while it grew, it would take half as much memory again.
+fn empty_store(alloc: Global, bytes: &[u8]) -> Result<StringRecord, CsvRefused>
+    ensures empty { IfOk result (λ store. fields_of store ≡ []) }
+    ensures refused { IfErr result (λ e. e ≡ CsvRefused.NoMemory) }
+{
+    let Ok(store) = StringRecord::with_capacity(alloc, bytes.len(), most_fields(bytes)) else {
+        return Err(CsvRefused::NoMemory);
+    };
+    Ok(store)
+}
+
+// How many fields the bytes have at most: one more than the commas and line breaks. Some of these may stand in quotes.
+fn most_fields(bytes: &[u8]) -> usize {
+    let ends = bytes
+        .iter()
+        .filter(|byte| matches!(**byte, b',' | b'\n' | b'\r'))
+        .count();
+    ends.saturating_add(1)
 }
 
 // The bytes behind one byte order mark, or all of them where they do not begin with one.
