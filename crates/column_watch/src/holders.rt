@@ -16,6 +16,10 @@ use std::alloc::Global;
 use std::cmp::Ordering;
 use std::marker::Model;
 
+/// How many keys of a part are compared with a hash one by one. A part has more only where keys were chosen for it: a binary search then
+/// decides.
+const FEW_KEYS: usize = 64;
+
 /// A key that queries hold: its hash, one of these queries, the index of the key among those of that query, and a mask in which bit w
 /// says whether the query of the index w holds it.
 #[derive(Clone, Copy)]
@@ -67,7 +71,8 @@ impl Holders {
     pub(crate) fn has_hash(&self, hash: u32) -> bool
         ensures { result ≡ false → AllByRecursion (λ at. at.hash ≡ hash → ⊥) self.now }
     {
-        self.near(hash).iter().any(|at| at.hash == hash)
+        let near = self.near(hash);
+        near.len() > FEW_KEYS || near.iter().any(|at| at.hash == hash)
     }
 
     // Keys outside which none has the hash.
