@@ -1,6 +1,7 @@
 -- A text keeps what it had through one addition after another.
-use Rattle.std.proofs.Common.{◌≡◌, ◌++◌, ◌∙◌, ◌≤◌, ap, sym, List, ℕ, length, take, arith, length-append}
-use Rattle.std.proofs.lemmas.List.{take-take}
+use Rattle.std.proofs.Common.{◌≡◌, ◌++◌, ◌∙◌, ◌≤◌, ap, sym, inl, inr, List, ℕ, length, take, arith, length-append}
+use Rattle.std.proofs.lemmas.Bool.{cases_lt}
+use Rattle.std.proofs.lemmas.List.{take-take, take_all}
 use Rattle.std.proofs.Math.Seq.{take-append_seam}
 use Rattle.reply_text.specs.Keeping.{Keeps}
 
@@ -9,3 +10,15 @@ pub keeps_behind : (xs ys zs more : List ℕ) → ys ≡ xs ++ more → Keeps ys
 keeps_behind xs ys zs more appended keeps =
     let shorter : length xs ≤ length ys = omega (arith, ap length appended, length-append xs more) in
     record { kept = sym (take-take (length xs) (length ys) zs shorter) ∙ ap (take (length xs)) (keeps.kept ∙ appended) ∙ take-append_seam xs more }
+
+pub keeps_all : (xs : List ℕ) → Keeps xs xs
+keeps_all xs = record { kept = take_all (length xs) xs (omega arith) }
+
+-- what keeps a text that keeps another keeps that one
+pub keeps_on : (xs ys zs : List ℕ) → Keeps xs ys → Keeps ys zs → Keeps xs zs
+keeps_on xs ys zs first second =
+    let shorter : length xs ≤ length ys = elim (cases_lt (length ys) (length xs)) [
+      | inl less ↦ omega (arith, ap length (sym (take_all (length xs) ys (omega (arith, less))) ∙ first.kept))
+      | inr most ↦ most
+    ] in
+    record { kept = sym (take-take (length xs) (length ys) zs shorter) ∙ ap (take (length xs)) second.kept ∙ first.kept }

@@ -1,4 +1,4 @@
-mod KeepingLemmas
+pub mod KeepingLemmas
 mod LayoutLemmas
 mod NumberedLemmas
 mod ListedLemmas

@@ -1,7 +1,7 @@
 -- What is told of a query, and of entries, one after another.
-use Rattle.std.proofs.Common.{◌≡◌, refl, ap, sym, ◌∙◌, ℕ, ◌+◌, ◌<◌, List, [], ◌∷◌, ◌++◌, Bool, true, false, cond, append_assoc, flat_map, map, length, get_or, take}
+use Rattle.std.proofs.Common.{◌≡◌, refl, ap, sym, ◌∙◌, ℕ, zero, suc, ◌+◌, ◌<◌, ◌≤◌, arith, List, [], ◌∷◌, ◌++◌, Bool, true, false, cond, append_assoc, flat_map, map, length, get_or, take}
 use Rattle.std.specs.List.{enumerate_from}
-use Rattle.std.proofs.lemmas.List.{take_more}
+use Rattle.std.proofs.lemmas.List.{append-nil, take_more}
 use Rattle.list_laws.proofs.ListLemmas.{split_bool}
 use Rattle.lake_model.specs.Texts.{Text}
 use Rattle.lake_model.specs.Answer.{Row}
@@ -10,7 +10,7 @@ use Rattle.script_model.specs.Words.{line_text}
 use Rattle.record_model.specs.Watched.{change_lines, same_rows, told_lines, watch_text_behind, watched_rows}
 use Rattle.record_model.proofs.WatchLemmas.{equal_rows_same, same_rows_equal, watch_text_on, watch_text_one}
 use Rattle.column_watch.specs.Watching.{Tells, WatchOf, WatchesOf, watch_with, watches_with}
-use Rattle.watch_text.specs.Told.{told_from, told_of}
+use Rattle.watch_text.specs.Told.{HasTaken, told_from, told_of}
 
 -- ---- a query
 
@@ -72,3 +72,24 @@ text_more k queries journal entries watched before i entry start text after with
     ap (λ (w : WatchesOf). flat_map line_text (told_from w.journal (w.journal ++ entry ∷ []) 1 w.queries)) earlier ∙ one_entry k queries watched taken entry listed in
     added ∙ ap (λ (t : Text). text ++ t) told ∙ ap (λ (t : Text). t ++ new) so_far ∙ append_assoc start old new
     ∙ ap (λ (t : Text). start ++ t) (sym (watch_text_on k queries journal (take i entries) (entry ∷ [])) ∙ ap (watch_text_behind k queries journal) (sym item))
+
+-- ---- what was taken where memory ran out
+
+-- of an entry, behind the first i
+pub begun_more : (start before after : WatchesOf) (entries : List Entry) (i : ℕ) (entry : Entry) → i < length entries → entry ≡ get_or entries i entry
+    → before ≡ watches_with (start.journal ++ take i entries) start.queries → HasTaken before after (entry ∷ []) → HasTaken start after entries
+begun_more start before after entries i entry within same earlier begun = by begun.count begun.few begun.taken
+  where
+    by : (n : ℕ) → n ≤ 1 → after ≡ watches_with (before.journal ++ take n (entry ∷ [])) before.queries → HasTaken start after entries
+    by zero few taken = record {
+      count = i;
+      few = omega (arith, within);
+      taken = taken ∙ ap (λ (w : WatchesOf). watches_with (w.journal ++ []) w.queries) earlier
+          ∙ ap (λ (es : List Entry). watches_with es start.queries) (append-nil (start.journal ++ take i entries));
+    }
+    by (suc zero) few taken = record {
+      count = i + 1;
+      few = omega (arith, within);
+      taken = taken_more start.journal entries start.queries before after i entry within same earlier taken;
+    }
+    by (suc (suc n)) few taken = absurd (omega (arith, few))

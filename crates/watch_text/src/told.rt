@@ -4,8 +4,9 @@ ghost use Rattle.lake_model.specs.Texts.{Text as TextOf};
 ghost use Rattle.lake_model.specs.Journal.{Entry as EntryOf};
 ghost use Rattle.script_model.specs.Words.{line_text};
 ghost use Rattle.record_model.specs.Watched.{change_lines, end_text, watch_text_behind};
+ghost use Rattle.reply_text.specs.Keeping.{Keeps};
 ghost use Rattle.column_watch.specs.Watching.{answer_of, before_last, watch_at, watch_with, watches_with};
-ghost use Rattle.watch_text.specs.Told.{told_from, told_of};
+ghost use Rattle.watch_text.specs.Told.{told_from, told_of, HasTaken};
 
 use catalogue::Entry;
 use column_watch::Watches;
@@ -23,7 +24,8 @@ fn push_change(
 ) -> Result<(), NoMemory>
     requires low { 1 ≤ number }
     requires high { number ≤ length watches.now.queries }
-    ensures { OnOk result (into.new.items ≡ into.old.items ++ flat_map line_text (change_lines (length watches.now.journal) number (answer_of watches.now.journal (watch_at watches.now.queries number)))) }
+    ensures ok { OnOk result (into.new.items ≡ into.old.items ++ flat_map line_text (change_lines (length watches.now.journal) number (answer_of watches.now.journal (watch_at watches.now.queries number)))) }
+    ensures kept { Keeps into.old.items into.new.items }
 {
     let rows = watches.rows(number)?.keep_all(alloc)?;
     let words = [
@@ -45,7 +47,8 @@ fn tell_query(
 ) -> Result<(), NoMemory>
     requires low { 1 ≤ number }
     requires high { number ≤ length watches.now.queries }
-    ensures { OnOk result (into.new.items ≡ into.old.items ++ flat_map line_text (told_of (before_last watches.now.journal) watches.now.journal (number, watch_at watches.now.queries number))) }
+    ensures ok { OnOk result (into.new.items ≡ into.old.items ++ flat_map line_text (told_of (before_last watches.now.journal) watches.now.journal (number, watch_at watches.now.queries number))) }
+    ensures kept { Keeps into.old.items into.new.items }
 {
     if !watches.changed(number) {
         return Ok(());
@@ -55,7 +58,8 @@ fn tell_query(
 
 // What the last entry changed of the queries.
 fn tell_queries(alloc: Global, watches: &Watches, into: &mut Vec<u8>) -> Result<(), NoMemory>
-    ensures { OnOk result (into.new.items ≡ into.old.items ++ flat_map line_text (told_from (before_last watches.now.journal) watches.now.journal 1 watches.now.queries)) }
+    ensures ok { OnOk result (into.new.items ≡ into.old.items ++ flat_map line_text (told_from (before_last watches.now.journal) watches.now.journal 1 watches.now.queries)) }
+    ensures kept { Keeps into.old.items into.new.items }
 {
     for number in 1..=watches.queries() {
         tell_query(alloc, watches, number, into)?;
@@ -72,6 +76,8 @@ fn tell_entry(
 ) -> Result<(), NoMemory>
     ensures taken { OnOk result (watches.new ≡ watches_with (watches.old.journal ++ entry.now ∷ []) watches.old.queries) }
     ensures text { OnOk result (into.new.items ≡ into.old.items ++ flat_map line_text (told_from watches.old.journal (watches.old.journal ++ entry.now ∷ []) 1 watches.old.queries)) }
+    ensures begun { HasTaken watches.old watches.new (entry.now ∷ []) }
+    ensures kept { Keeps into.old.items into.new.items }
 {
     watches.take(entry)?;
     tell_queries(alloc, watches, into)
@@ -80,7 +86,7 @@ fn tell_entry(
 /// Takes entries of the journal, one after another, and appends what each changes: for each query whose first rows differ from those
 /// before the entry, by its number, a line with the entry's position and its rows.
 ///
-/// `Err(NoMemory)` may leave some of the entries taken and some text appended.
+/// `Err(NoMemory)` may leave the first of the entries taken and some text appended. What was there before stays.
 pub fn tell_entries(
     alloc: Global,
     watches: &mut Watches,
@@ -89,6 +95,8 @@ pub fn tell_entries(
 ) -> Result<(), NoMemory>
     ensures taken { OnOk result (watches.new ≡ watches_with (watches.old.journal ++ entries.now) watches.old.queries) }
     ensures text { OnOk result ((k : ℕ) (queries : List (List TextOf)) → watches.old.queries ≡ map (λ keys. watch_with keys k) queries → into.new.items ≡ into.old.items ++ watch_text_behind k queries watches.old.journal entries.now) }
+    ensures begun { HasTaken watches.old watches.new entries.now }
+    ensures kept { Keeps into.old.items into.new.items }
 {
     for entry in entries {
         tell_entry(alloc, watches, entry, into)?;
@@ -99,6 +107,7 @@ pub fn tell_entries(
 /// Appends the last line, `end L`, for a journal of so many entries.
 pub fn push_end(entries: u64, into: &mut Vec<u8>) -> Result<(), NoMemory>
     ensures ok { (journal : List EntryOf) → length journal ≡ entries → OnOk result (into.new.items ≡ into.old.items ++ end_text journal) }
+    ensures kept { Keeps into.old.items into.new.items }
 {
     push_line("end ", entries, &[], into)
 }
