@@ -11,9 +11,9 @@ use Rattle.std.proofs.lemmas.List.Concat.{flat_map-append}
 use Rattle.std.proofs.lemmas.List.Sums.{sum_by-append, sum_by-cons}
 use Rattle.lake_model.specs.Tables.{Table, members}
 use Rattle.lake_model.specs.Layout.{Part, Place, positions_of}
-use Rattle.list_laws.specs.Distinct.{Rises}
-use Rattle.list_laws.proofs.ListLemmas.{all_unmap, all_weaker, filter-append, filter_none, rises_distinct, rises_left}
-use Rattle.segment_core.specs.Distinct.{AreDistinct}
+use Rattle.list_laws.specs.Distinct.{Rises, AreDistinct}
+use Rattle.list_laws.proofs.ListLemmas.{all_unmap, all_weaker, filter_none, rises_distinct, rises_left}
+use Rattle.std.proofs.lemmas.List.Elements.{filter-append}
 use Rattle.segment_core.specs.Versions.{live_of, part_with, places_with}
 use Rattle.asof_search.specs.Puts.{AreBlocks, IsKeptAt, IsOfBlock, PutOf, has_ended, place_of, positions_put, tables_put, was_live}
 use Rattle.asof_search.proofs.HistoryLemmas.{filter_alike}

@@ -6,6 +6,7 @@ use Rattle.std.proofs.lemmas.Bool.{le-leb, lt-leb, not-true}
 use Rattle.std.proofs.lemmas.List.{length-append, map-append, take-append-le}
 use Rattle.std.proofs.Math.Seq.{take-length}
 use Rattle.std.proofs.lemmas.List.Concat.{flat_map-append}
+use Rattle.std.proofs.Math.Bool.{and-false}
 use Rattle.lake_model.specs.declared.Who.{Who}
 use Rattle.lake_model.specs.Texts.{Text}
 use Rattle.lake_model.specs.Tables.{Table}
@@ -13,15 +14,12 @@ use Rattle.lake_model.specs.Journal.{Entry, What, Loaded, Dropped, Replaced, Swa
 use Rattle.lake_model.specs.Layout.{may_follow}
 use Rattle.lake_model.proofs.LayoutLemmas.{live_more}
 use Rattle.list_laws.specs.Distinct.{Rises}
-use Rattle.list_laws.proofs.ListLemmas.{all_append, all_map, all_weaker, filter-append, filter_agree, filter_all, map_filter, none_any, rises_push}
+use Rattle.list_laws.proofs.ListLemmas.{all_append, all_map, all_weaker, filter_agree, filter_all, map_filter, none_any, rises_push}
+use Rattle.std.proofs.lemmas.List.Elements.{filter-append}
 use Rattle.asof_search.specs.Puts.{PutOf, end_put, has_ended, positions_put, put_with, puts_after, tables_put, was_live}
 use Rattle.asof_search.specs.History.{EndsBy, IsHistory, IsWithin, PastStays}
 
 -- ---- tests
-
-and_false : (a : Bool) → (a && false) ≡ false
-and_false true = refl
-and_false false = refl
 
 -- where one list is made from another, and a test of the one says what a test of the other does
 pub filter_alike : {X Y Z : Type 0} (f : X → Y) (p : Y → Bool) (q : X → Bool) (g : Y → Z) (h : X → Z) (xs : List X) → AllByRecursion (λ x. (p (f x) ≡ q x) × (g (f x) ≡ h x)) xs → map g (filter p (map f xs)) ≡ map h (filter q xs)
@@ -49,7 +47,7 @@ live_now n m put w h = by put.end w.end
   where
     by : (end : Option ℕ) → EndsBy n end → (nat_le put.position m && not (has_ended m end)) ≡ is_none end
     by None t = ap (λ b. b && true) (le-leb put.position m (omega (arith, w.position, h)))
-    by (Some e) t = ap (λ b. nat_le put.position m && not b) (le-leb e m (omega (arith, t, h))) ∙ and_false (nat_le put.position m)
+    by (Some e) t = ap (λ b. nat_le put.position m && not b) (le-leb e m (omega (arith, t, h))) ∙ and-false (nat_le put.position m)
 
 -- before it was taken away, nothing has changed
 before_one : (asked n : ℕ) (name : Text) (put : PutOf) → asked ≤ n → was_live asked (end_put name (n + 1) put) ≡ was_live asked put
@@ -71,11 +69,11 @@ after_one n name put w = by put.end (has_name name put.table) w.end
     still = le-leb put.position (n + 1) (omega (arith, w.position))
 
     by : (end : Option ℕ) (b : Bool) → EndsBy n end → (nat_le put.position (n + 1) && not (has_ended (n + 1) (cond (is_none end && b) (Some (n + 1)) end))) ≡ ((nat_le put.position n && not (has_ended n end)) && not b)
-    by None true t = ap (λ s. nat_le put.position (n + 1) && not s) (le-leb (n + 1) (n + 1) (omega arith)) ∙ and_false (nat_le put.position (n + 1)) ∙ sym (and_false (nat_le put.position n && true))
+    by None true t = ap (λ s. nat_le put.position (n + 1) && not s) (le-leb (n + 1) (n + 1) (omega arith)) ∙ and-false (nat_le put.position (n + 1)) ∙ sym (and-false (nat_le put.position n && true))
     by None false t = ap (λ s. s && true) still ∙ sym (ap (λ s. (s && true) && true) there)
     by (Some e) b t =
-        ap (λ s. nat_le put.position (n + 1) && not s) (le-leb e (n + 1) (omega (arith, t))) ∙ and_false (nat_le put.position (n + 1))
-        ∙ sym (ap (λ s. (nat_le put.position n && not s) && not b) (le-leb e n t) ∙ ap (λ s. s && not b) (and_false (nat_le put.position n)))
+        ap (λ s. nat_le put.position (n + 1) && not s) (le-leb e (n + 1) (omega (arith, t))) ∙ and-false (nat_le put.position (n + 1))
+        ∙ sym (ap (λ s. (nat_le put.position n && not s) && not b) (le-leb e n t) ∙ ap (λ s. s && not b) (and-false (nat_le put.position n)))
 
 within_one : (n : ℕ) (name : Text) (put : PutOf) → IsWithin n put → IsWithin (n + 1) (end_put name (n + 1) put)
 within_one n name put w = record { position = omega (arith, w.position); end = by put.end (has_name name put.table) w.end }

@@ -7,8 +7,9 @@ use Rattle.lake_model.specs.Tables.{Table, members}
 use Rattle.lake_model.specs.Journal.{Entry, counts, live, loads_of}
 use Rattle.lake_model.specs.Layout.{Part, Place, is_legal, may_follow, unmarked_of}
 use Rattle.layout_laws.proofs.LaidLemmas.{legal_behind-append, legal_laid_out}
-use Rattle.list_laws.proofs.ListLemmas.{both}
-use Rattle.segment_core.specs.Distinct.{AreDistinct, unmarked_names}
+use Rattle.std.proofs.lemmas.Bool.{and_parts}
+use Rattle.segment_core.specs.Distinct.{unmarked_names}
+use Rattle.list_laws.specs.Distinct.{AreDistinct}
 use Rattle.segment_core.specs.Versions.{VersionOf, live_of}
 use Rattle.asof_search.specs.Puts.{AreBlocks, PutOf, puts_after, tables_put, was_live}
 use Rattle.asof_search.specs.History.{IsHistory, IsPast, IsTimeline}
@@ -16,7 +17,7 @@ use Rattle.asof_search.proofs.BlockLemmas.{blocks_none, blocks_stay}
 use Rattle.asof_search.proofs.HistoryLemmas.{history_more, history_none, loads_split, past_stays}
 
 follows : (journal : List Entry) (entry : Entry) → is_legal (journal ++ entry ∷ []) ≡ true → may_follow journal entry.what ≡ true
-follows journal entry legal = (both (may_follow journal entry.what) true ((both (is_legal journal) (may_follow journal entry.what && true) (sym (legal_behind-append [] journal (entry ∷ [])) ∙ legal)).1)).0
+follows journal entry legal = (and_parts (may_follow journal entry.what) true ((and_parts (is_legal journal) (may_follow journal entry.what && true) (sym (legal_behind-append [] journal (entry ∷ [])) ∙ legal)).1)).0
 
 pub timeline_more : (journal : List Entry) (entry : Entry) (puts : List PutOf) (blocks : List (List Table)) → IsTimeline journal puts blocks → is_legal (journal ++ entry ∷ []) ≡ true → length (loads_of (journal ++ entry ∷ [])) < 2 ^ 32
     → sum_by members (loads_of (journal ++ entry ∷ [])) < 2 ^ 32 → IsTimeline (journal ++ entry ∷ []) (puts_after (length journal + 1) puts entry.what) blocks

@@ -2,8 +2,7 @@
 ghost use Rattle.std.specs.Prelude.{◌≡◌, ◌⊎◌, ◌*◌, ◌<◌, ◌≤◌, ◌^◌, [], drop, filter, flat_map, get_or, length, map, not, sum_by, take, true, false, IfOk};
 ghost use Rattle.lake_model.specs.Layout.{positions_of};
 ghost use Rattle.lake_model.specs.Tables.{members};
-ghost use Rattle.list_laws.specs.Distinct.{Rises};
-ghost use Rattle.segment_core.specs.Distinct.{AreDistinct};
+ghost use Rattle.list_laws.specs.Distinct.{Rises, AreDistinct};
 ghost use Rattle.segment_core.specs.Versions.{live_of};
 ghost use Rattle.asof_search.specs.Puts.{place_of, positions_put, tables_put, was_live, AreBlocks, IsKeptAt};
 

@@ -13,14 +13,15 @@ use Rattle.lake_model.specs.Journal.{Entry, Dropped, is_live, live, counts, load
 use Rattle.lake_model.specs.Layout.{Place, Part, layout, mark, mark_place, positions_of}
 use Rattle.lake_model.specs.Limits.{Bounded, is_passed, drop_bounds}
 use Rattle.lake_model.proofs.LayoutLemmas.{live_more, layout_more, searchable-drop}
-use Rattle.segment_core.specs.Distinct.{AreDistinct, Lacks, unmarked_names}
+use Rattle.segment_core.specs.Distinct.{unmarked_names}
+use Rattle.list_laws.specs.Distinct.{AreDistinct, Lacks, Rises}
 use Rattle.segment_core.specs.Versions.{VersionOf, live_of, version_with}
 use Rattle.catalogue.specs.declared.refusal.DropRefused.TheVariants.{Unknown, Full}
 use Rattle.catalogue.specs.Kept.{IsKept}
-use Rattle.catalogue.specs.Parts.{load_of, is_of, Rises}
+use Rattle.catalogue.specs.Parts.{load_of, is_of}
 use Rattle.catalogue.specs.Refusals.{drop_refusal}
-use Rattle.list_laws.proofs.ListLemmas.{all_weaker, find_none}
-use Rattle.catalogue.proofs.ListLemmas.{le_from, distinct_filter, map_none}
+use Rattle.list_laws.proofs.ListLemmas.{all_weaker, find_none, distinct_filter}
+use Rattle.catalogue.proofs.ListLemmas.{le_from, map_none}
 use Rattle.catalogue.proofs.PlaceLemmas.{places_of, unmarked, HasPlaces, name_same, name_is, name_differs, names_of_tables}
 use Rattle.catalogue.proofs.KeptLemmas.{counts_with, is_legal_behind-push, merging-push}
 use Rattle.layout_laws.proofs.LiveLemmas.{places_marked, positions_dropped as marked_positions}

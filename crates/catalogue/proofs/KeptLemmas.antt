@@ -7,12 +7,13 @@ use Rattle.lake_model.specs.Tables.{Table}
 use Rattle.lake_model.specs.Journal.{Entry, is_live, live, has_name}
 use Rattle.lake_model.specs.Layout.{layout, positions_of, unmarked_of, is_legal_behind, may_follow}
 use Rattle.layout_laws.specs.Weight.{merges, do_merge_behind}
-use Rattle.segment_core.specs.Distinct.{AreDistinct, unmarked_names}
+use Rattle.segment_core.specs.Distinct.{unmarked_names}
+use Rattle.list_laws.specs.Distinct.{AreDistinct}
 use Rattle.segment_core.specs.Versions.{VersionOf}
 use Rattle.catalogue.specs.Kept.{IsKept}
 use Rattle.catalogue.specs.Parts.{load_of}
-use Rattle.list_laws.proofs.ListLemmas.{both, joined}
-use Rattle.catalogue.proofs.ListLemmas.{rises_distinct}
+use Rattle.list_laws.proofs.ListLemmas.{joined, rises_distinct}
+use Rattle.std.proofs.lemmas.Bool.{and_parts}
 use Rattle.catalogue.proofs.PlaceLemmas.{load_is_named, names_of_tables}
 
 abbrev pub counts_with : ℕ → ℕ → ℕ → ℕ → Counts
@@ -22,7 +23,7 @@ counts_with live updates members key_bytes = record { live = live; updates = upd
 pub is_legal_behind-push : (before journal : List Entry) (e : Entry) → is_legal_behind before journal ≡ true → may_follow (before ++ journal) e.what ≡ true → is_legal_behind before (journal ++ e ∷ []) ≡ true
 is_legal_behind-push before [] e h k = joined (may_follow before e.what) true (subst (λ (b : List Entry). may_follow b e.what ≡ true) (append-nil before) k) refl
 is_legal_behind-push before (first ∷ journal) e h k =
-    let p = both (may_follow before first.what) (is_legal_behind (before ++ first ∷ []) journal) h in
+    let p = and_parts (may_follow before first.what) (is_legal_behind (before ++ first ∷ []) journal) h in
     joined (may_follow before first.what) (is_legal_behind (before ++ first ∷ []) (journal ++ e ∷ [])) p.0
     (is_legal_behind-push (before ++ first ∷ []) journal e p.1 (subst (λ (b : List Entry). may_follow b e.what ≡ true) (sym (append_assoc before (first ∷ []) journal)) k))
 
@@ -30,7 +31,7 @@ is_legal_behind-push before (first ∷ journal) e h k =
 pub merging-push : (before journal : List Entry) (e : Entry) → do_merge_behind before journal ≡ true → merges (before ++ journal) e.what ≡ true → do_merge_behind before (journal ++ e ∷ []) ≡ true
 merging-push before [] e h k = joined (merges before e.what) true (subst (λ (b : List Entry). merges b e.what ≡ true) (append-nil before) k) refl
 merging-push before (first ∷ journal) e h k =
-    let p = both (merges before first.what) (do_merge_behind (before ++ first ∷ []) journal) h in
+    let p = and_parts (merges before first.what) (do_merge_behind (before ++ first ∷ []) journal) h in
     joined (merges before first.what) (do_merge_behind (before ++ first ∷ []) (journal ++ e ∷ [])) p.0
     (merging-push (before ++ first ∷ []) journal e p.1 (subst (λ (b : List Entry). merges b e.what ≡ true) (sym (append_assoc before (first ∷ []) journal)) k))
 

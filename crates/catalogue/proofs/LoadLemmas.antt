@@ -14,14 +14,15 @@ use Rattle.lake_model.specs.Layout.{Part, layout, positions_of}
 use Rattle.lake_model.specs.Limits.{Bounded, is_passed, load_bounds}
 use Rattle.lake_model.proofs.LayoutLemmas.{live_more, layout_more, searchable-load}
 use Rattle.layout_laws.proofs.LiveLemmas.{lacks_names}
-use Rattle.segment_core.specs.Distinct.{AreDistinct, Lacks, unmarked_names}
+use Rattle.segment_core.specs.Distinct.{unmarked_names}
+use Rattle.list_laws.specs.Distinct.{AreDistinct, Lacks, Rises}
 use Rattle.segment_core.specs.Versions.{VersionOf, live_of, version_with}
 use Rattle.catalogue.specs.declared.refusal.LoadRefused.TheVariants.{Full}
 use Rattle.catalogue.specs.Kept.{IsKept, IsWithin}
-use Rattle.catalogue.specs.Parts.{load_of, Rises}
+use Rattle.catalogue.specs.Parts.{load_of}
 use Rattle.catalogue.specs.Refusals.{load_refusal}
-use Rattle.list_laws.proofs.ListLemmas.{all_append, find_none}
-use Rattle.catalogue.proofs.ListLemmas.{le_from, distinct_push, open_by, map_none, none_from}
+use Rattle.list_laws.proofs.ListLemmas.{all_append, find_none, distinct_push}
+use Rattle.catalogue.proofs.ListLemmas.{le_from, open_by, map_none, none_from}
 use Rattle.catalogue.proofs.PlaceLemmas.{HasPlaces, name_same}
 use Rattle.catalogue.proofs.KeptLemmas.{counts_with, is_legal_behind-push, merging-push, named_kept, names_kept, names_differ}
 use Rattle.catalogue.proofs.PutLemmas.{Fits, few_by, fits_by, load_push, loaded_part, names_push, positions_push, put_bytes, put_differ, put_members, put_past, put_positions, put_rise}

@@ -6,7 +6,7 @@ use Rattle.std.proofs.Math.Seq.{drop-cons}
 use Rattle.std.proofs.lemmas.Bool.{eqb-true, eq-eqb, ne_eqb}
 use Rattle.std.proofs.lemmas.List.{map-append, drop-drop, drop_all}
 use Rattle.lake_model.specs.Layout.{Part, Place, is_among, positions_of}
-use Rattle.segment_core.specs.Distinct.{AreDistinct}
+use Rattle.list_laws.specs.Distinct.{AreDistinct}
 use Rattle.segment_core.specs.Positions.{loads_of}
 use Rattle.segment_core.specs.Versions.{marks_of}
 use Rattle.catalogue.specs.Carried.{is_first, marks_along, run_marks}

@@ -9,12 +9,14 @@ use Rattle.lake_model.specs.Texts.{Text}
 use Rattle.lake_model.specs.Journal.{has_name}
 use Rattle.lake_model.specs.Layout.{Place, Part, mark, mark_place, positions_of}
 use Rattle.search_model.specs.Arrays.{no_table}
-use Rattle.segment_core.specs.Distinct.{AreDistinct, Lacks, unmarked_names}
+use Rattle.segment_core.specs.Distinct.{unmarked_names}
+use Rattle.list_laws.specs.Distinct.{AreDistinct, Lacks}
 use Rattle.segment_core.specs.Positions.{StandsAt}
 use Rattle.segment_core.specs.Versions.{place_with, part_with, part_at, mark_nth, marked_at}
 use Rattle.catalogue.specs.Parts.{load_of, is_of}
-use Rattle.list_laws.proofs.ListLemmas.{all_left, all_right, all_weaker, all_unmap, all_filter, all_passed, filter-append}
-use Rattle.catalogue.proofs.ListLemmas.{all_at, distinct_left, distinct_right, distinct_apart, find_all, find_passed, map_some}
+use Rattle.list_laws.proofs.ListLemmas.{all_left, all_right, all_weaker, all_unmap, all_filter, all_passed, distinct_left, distinct_right, distinct_apart, all_at}
+use Rattle.std.proofs.lemmas.List.Elements.{filter-append}
+use Rattle.catalogue.proofs.ListLemmas.{find_all, find_passed, map_some}
 
 abbrev pub places_of : List Part → List Place
 places_of parts = flat_map (λ (part : Part). part.places) parts

@@ -11,12 +11,14 @@ use Rattle.lake_model.specs.Tables.{Table, members, key_bytes}
 use Rattle.lake_model.specs.Journal.{Entry, counts, loads_of, has_name}
 use Rattle.lake_model.specs.Layout.{Place, Part, layout, positions_of, unmarked_of}
 use Rattle.lake_model.specs.Limits.{is_passed, replace_bounds}
-use Rattle.segment_core.specs.Distinct.{AreDistinct, unmarked_names}
+use Rattle.segment_core.specs.Distinct.{unmarked_names}
+use Rattle.list_laws.specs.Distinct.{AreDistinct, Rises}
 use Rattle.segment_core.specs.Versions.{VersionOf, part_with, place_with, places_with}
 use Rattle.catalogue.specs.Kept.{IsKept}
-use Rattle.catalogue.specs.Parts.{load_of, is_of, Rises}
-use Rattle.list_laws.proofs.ListLemmas.{all_append, all_weaker, filter-append}
-use Rattle.catalogue.proofs.ListLemmas.{le_from, distinct_push, rises_push, map_none, find_push}
+use Rattle.catalogue.specs.Parts.{load_of, is_of}
+use Rattle.list_laws.proofs.ListLemmas.{all_append, all_weaker, distinct_push, rises_push}
+use Rattle.std.proofs.lemmas.List.Elements.{filter-append}
+use Rattle.catalogue.proofs.ListLemmas.{le_from, map_none, find_push}
 use Rattle.catalogue.proofs.PlaceLemmas.{places_of, unmarked, names_append, names_in}
 use Rattle.catalogue.proofs.KeptLemmas.{parts_kept, positions_differ}
 

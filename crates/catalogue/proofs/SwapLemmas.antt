@@ -18,18 +18,19 @@ use Rattle.layout_laws.specs.Weight.{does_merge}
 use Rattle.layout_laws.proofs.IndexLemmas.{first_of, swapped_at, run_within, positions_fewer}
 use Rattle.layout_laws.proofs.LaidLemmas.{laid_out, positions_split}
 use Rattle.layout_laws.proofs.LawLemmas.{live_swap, counts_swap, stays}
-use Rattle.list_laws.proofs.ListLemmas.{map_filter}
+use Rattle.list_laws.proofs.ListLemmas.{map_filter, distinct_left, distinct_right}
 use Rattle.layout_laws.proofs.LiveLemmas.{loads_more}
 use Rattle.layout_laws.proofs.RunLemmas.{places_same}
 use Rattle.layout_laws.proofs.SwapLemmas.{kept_places, one_part, swapped}
-use Rattle.segment_core.specs.Distinct.{AreDistinct, unmarked_names}
+use Rattle.segment_core.specs.Distinct.{unmarked_names}
+use Rattle.list_laws.specs.Distinct.{AreDistinct, Rises}
 use Rattle.segment_core.specs.Plans.{MergedOf, replaced}
 use Rattle.segment_core.specs.Versions.{VersionOf, part_with, places_with, version_with}
 use Rattle.catalogue.specs.declared.refusal.SwapRefused.TheVariants.{Stale}
 use Rattle.catalogue.specs.Kept.{IsKept}
-use Rattle.catalogue.specs.Parts.{Rises, is_of}
+use Rattle.catalogue.specs.Parts.{is_of}
 use Rattle.catalogue.specs.Swaps.{kept_marks, kept_tables, numbers_in, swap_refusal, IsMergeOf}
-use Rattle.catalogue.proofs.ListLemmas.{distinct_left, distinct_right, map_none}
+use Rattle.catalogue.proofs.ListLemmas.{map_none}
 use Rattle.catalogue.proofs.PlaceLemmas.{places_of, positions_in}
 use Rattle.catalogue.proofs.KeptLemmas.{is_legal_behind-push, merging-push, names_differ, positions_differ}
 use Rattle.catalogue.proofs.MarksLemmas.{kept_in, marks_in}

@@ -3,19 +3,18 @@ use Rattle.std.proofs.Common.{◌≡◌, refl, ap, sym, ◌∙◌, subst, inl, i
 use Rattle.std.specs.Prelude.{find, nat_eq, bytes_eq}
 use Rattle.std.specs.List.{AllByRecursion, list_all}
 use Rattle.std.proofs.Math.Seq.{drop-cons}
-use Rattle.std.proofs.lemmas.Bool.{eqb-true, eq-eqb, not-false, or_cases, or_left, or_right}
+use Rattle.std.proofs.lemmas.Bool.{eqb-true, eq-eqb, not-false, or_cases, or_left, or_right, and_parts}
 use Rattle.std.proofs.lemmas.List.{get_or-map, map-append, length-map}
 use Rattle.lake_model.specs.Layout.{Part, Place, is_among, may_swap, positions_of}
 use Rattle.list_laws.specs.Distinct as laws
 use Rattle.layout_laws.specs.Steps.{numbers_of}
 use Rattle.layout_laws.proofs.IndexLemmas.{first_of}
-use Rattle.list_laws.proofs.ListLemmas.{test_all, both, all_left, all_right, all_weaker, all_map, find_none}
+use Rattle.list_laws.proofs.ListLemmas.{test_all, all_left, all_right, all_weaker, all_map, find_none, distinct_right, distinct_apart, all_at}
 use Rattle.layout_laws.proofs.RunLemmas.{opened}
-use Rattle.segment_core.specs.Distinct.{AreDistinct, Lacks}
+use Rattle.list_laws.specs.Distinct.{AreDistinct, Lacks}
 use Rattle.segment_core.specs.Positions.{StandsAt, loads_of}
 use Rattle.segment_core.specs.Versions.{part_at, part_with}
 use Rattle.catalogue.specs.Swaps.{is_there, numbers_in}
-use Rattle.catalogue.proofs.ListLemmas.{all_at, distinct_right, distinct_apart}
 use Rattle.catalogue.proofs.PlaceLemmas.{HasPlaces, places_of, name_differs}
 
 abbrev pub is_it : ℕ → List ℕ → Part → Bool
@@ -119,7 +118,7 @@ there_number (part ∷ parts) planned h = by (or_cases (is_it planned.0 planned.
   where
     by : (is_it planned.0 planned.1 part ≡ true) ⊎ (is_there parts planned ≡ true) → (is_there parts planned ≡ true → is_among (numbers_of parts) planned.0 ≡ true) → is_among (numbers_of (part ∷ parts)) planned.0 ≡ true
     by (inl g) rest =
-        or_left (nat_eq planned.0 part.number) (is_among (numbers_of parts) planned.0) (eq-eqb planned.0 part.number (sym (eqb-true part.number planned.0 (both (nat_eq part.number planned.0) (bytes_eq (loads_of part) planned.1) g).0)))
+        or_left (nat_eq planned.0 part.number) (is_among (numbers_of parts) planned.0) (eq-eqb planned.0 part.number (sym (eqb-true part.number planned.0 (and_parts (nat_eq part.number planned.0) (bytes_eq (loads_of part) planned.1) g).0)))
     by (inr g) rest = or_right (nat_eq planned.0 part.number) (is_among (numbers_of parts) planned.0) (rest g)
 
 pub all_there : (parts : List Part) (from : List (ℕ × List ℕ)) → find (λ planned. not (is_there parts planned)) from ≡ None → AllByRecursion (λ planned. is_there parts planned ≡ true) from

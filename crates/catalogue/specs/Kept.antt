@@ -6,10 +6,10 @@ use Rattle.lake_model.specs.Texts.{Text}
 use Rattle.lake_model.specs.Journal.{Entry, live, counts}
 use Rattle.lake_model.specs.Layout.{layout, is_legal, positions_of}
 use Rattle.layout_laws.specs.Weight.{do_merge}
-use Rattle.segment_core.specs.Distinct.{AreDistinct}
+use Rattle.list_laws.specs.Distinct.{AreDistinct, Rises}
 use Rattle.segment_core.specs.Positions.{AreFull}
 use Rattle.segment_core.specs.Versions.{VersionOf, live_of, version_with}
-use Rattle.catalogue.specs.Parts.{load_of, Rises}
+use Rattle.catalogue.specs.Parts.{load_of}
 
 -- a catalogue: the limits of its lake, and its journal
 pub record CatalogueOf : Type 0 where

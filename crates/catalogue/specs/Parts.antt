@@ -1,6 +1,5 @@
 -- Where the live tables of a layout were loaded, or came by a replace, by their names.
-use Rattle.std.specs.Prelude.{◌<◌, ℕ, Bool, List, [], ◌∷◌, find, option_map, Option}
-use Rattle.std.specs.List.{AllByRecursion}
+use Rattle.std.specs.Prelude.{ℕ, Bool, List, find, option_map, Option}
 use Rattle.lake_model.specs.Texts.{Text}
 use Rattle.lake_model.specs.Journal.{has_name}
 use Rattle.lake_model.specs.Layout.{Place, Part, unmarked_of}
@@ -12,8 +11,3 @@ is_of name place = has_name name place.table
 -- the position of the load or the replace of the first table of the name that is not marked
 abbrev pub load_of : List Part → Text → Option ℕ
 load_of parts name = option_map (λ place. place.position) (find (is_of name) (unmarked_of parts))
-
--- each number is below all behind it
-abbrev pub Rises : List ℕ → Type 0
-Rises [] = Unit {0}
-Rises (n ∷ ns) = AllByRecursion (λ later. n < later) ns × Rises ns

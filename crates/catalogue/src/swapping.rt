@@ -3,7 +3,7 @@ ghost use Rattle.std.specs.Prelude.{◌≡◌, ◌≤◌, ◌<◌, ◌+◌, ◌&
 ghost use Rattle.std.specs.Option.{option_to_list};
 ghost use Rattle.lake_model.specs.Journal.{entry_with, Swapped};
 ghost use Rattle.lake_model.specs.Layout.{is_among, layout, may_swap, merged, parts_after, positions_of, run_of};
-ghost use Rattle.segment_core.specs.Distinct.{AreDistinct};
+ghost use Rattle.list_laws.specs.Distinct.{AreDistinct};
 ghost use Rattle.segment_core.specs.Plans.{replaced};
 ghost use Rattle.segment_core.specs.Positions.{loads_of};
 ghost use Rattle.segment_core.specs.Versions.{part_at};

@@ -19,6 +19,7 @@ use Rattle.std.proofs.lemmas.List.Sorted.{list_any-IsPermutation, searchable_fro
 use Rattle.std.proofs.lemmas.Map.Keys.{Less-from_sorted}
 use Rattle.std.proofs.lemmas.Map.Lookups.{exact_bytes}
 use Rattle.std.proofs.lemmas.Slice.Eq.{bytes_eq-Decides}
+use Rattle.std.proofs.Math.Bool.{and-false, or-false}
 use Rattle.list_laws.proofs.ListLemmas.{all_append, all_both, all_left, all_right, any_none}
 use Rattle.lake_model.specs.Texts.{Text}
 use Rattle.lake_model.specs.Tables.{has_key}
@@ -100,17 +101,9 @@ spread_left : (a b h : Bool) → (h && (a || b)) ≡ ((h && a) || (h && b))
 spread_left a b true = refl
 spread_left a b false = refl
 
-never : (a : Bool) → (a && false) ≡ false
-never true = refl
-never false = refl
-
 always : (a : Bool) → (a && true) ≡ a
 always true = refl
 always false = refl
-
-none_behind : (a : Bool) → (a || false) ≡ a
-none_behind true = refl
-none_behind false = refl
 
 -- ---- the keys, one query behind another
 
@@ -159,7 +152,7 @@ module _ (queries : List (List Text)) where
     said_below v w (keys ∷ rest) h read =
         let other = query_other v w (λ (e : w ≡ v). omega (arith, e, h)) in
         list_any-append (says queries key w) (keys_from v 0 keys) (all_from (v + 1) rest)
-        ∙ (λ j. (said_keys v 0 w keys (first_query v keys rest read) ∙ ap (λ b. has_key keys key && b) other ∙ never (has_key keys key)) j || said_below (v + 1) w rest (omega (arith, h)) (next_queries v keys rest read) j)
+        ∙ (λ j. (said_keys v 0 w keys (first_query v keys rest read) ∙ ap (λ b. has_key keys key && b) other ∙ and-false (has_key keys key)) j || said_below (v + 1) w rest (omega (arith, h)) (next_queries v keys rest read) j)
 
     said_at : (v j : ℕ) (rest : List (List Text)) → AllRead v rest → list_any (says queries key (v + j)) (all_from v rest) ≡ has_key (get_or rest j []) key
     said_at v j [] read = refl
@@ -168,12 +161,12 @@ module _ (queries : List (List Text)) where
         ap (λ (w : ℕ). list_any (says queries key w) (all_from v (keys ∷ rest))) e
         ∙ list_any-append (says queries key v) (keys_from v 0 keys) (all_from (v + 1) rest)
         ∙ (λ j. (said_keys v 0 v keys (first_query v keys rest read) ∙ ap (λ b. has_key keys key && b) (query_itself v) ∙ always (has_key keys key)) j || said_below (v + 1) v rest (omega arith) (next_queries v keys rest read) j)
-        ∙ none_behind (has_key keys key)
+        ∙ or-false (has_key keys key)
     said_at v (suc j) (keys ∷ rest) read =
         let e : v + suc j ≡ v + 1 + j = omega arith in
         let other = query_other v (v + suc j) (λ (f : v + suc j ≡ v). omega (arith, f)) in
         list_any-append (says queries key (v + suc j)) (keys_from v 0 keys) (all_from (v + 1) rest)
-        ∙ (λ i. (said_keys v 0 (v + suc j) keys (first_query v keys rest read) ∙ ap (λ b. has_key keys key && b) other ∙ never (has_key keys key)) i
+        ∙ (λ i. (said_keys v 0 (v + suc j) keys (first_query v keys rest read) ∙ ap (λ b. has_key keys key && b) other ∙ and-false (has_key keys key)) i
         || (ap (λ (w : ℕ). list_any (says queries key w) (all_from (v + 1) rest)) e ∙ said_at (v + 1) j rest (next_queries v keys rest read)) i)
 
   all_read : AllRead 0 queries
@@ -314,7 +307,7 @@ module _ (queries : List (List Text)) (keys : List KeyAt) (whole : AreKeysOf que
       hashed = all_append (IsHashed queries) (done ++ last ∷ []) (at ∷ []) so_far.hashed (own, tt);
       held = λ key w.
           let p = says queries key w in
-          list_any-append p (done ++ last ∷ []) (at ∷ []) ∙ (λ j. so_far.held key w j || none_behind (p at) j) ∙ sym (said_more key w);
+          list_any-append p (done ++ last ∷ []) (at ∷ []) ∙ (λ j. so_far.held key w j || or-false (p at) j) ∙ sym (said_more key w);
       tied = here;
       few = omega (arith, so_far.few, ap length f, length-append done (last ∷ []));
     })
@@ -374,7 +367,7 @@ parted_nowhere ord xs i parted k d h e = elim (cases_lt k i) [
 only_one : {X : Type 0} (p : X → Bool) (xs : List X) (i : ℕ) (d : X) → i < length xs → ((k : ℕ) → k < length xs → (k ≡ i → ⊥) → p (get_or xs k d) ≡ false) → list_any p xs ≡ p (get_or xs i d)
 only_one p [] i d h others = absurd (omega arith)
 only_one p (x ∷ xs) zero d h others =
-    ap (λ b. p x || b) (list_any_none p xs (λ k e l. ap p (get_or_default xs k e d l) ∙ others (suc k) (omega (arith, l)) (λ f. omega (arith, f)))) ∙ none_behind (p x)
+    ap (λ b. p x || b) (list_any_none p xs (λ k e l. ap p (get_or_default xs k e d l) ∙ others (suc k) (omega (arith, l)) (λ f. omega (arith, f)))) ∙ or-false (p x)
 only_one p (x ∷ xs) (suc i) d h others =
     ap (λ b. b || list_any p xs) (others 0 (omega arith) (λ f. omega (arith, f))) ∙ only_one p xs i d (omega (arith, h)) (λ k l apart. others (suc k) (omega (arith, l)) (λ f. apart (omega (arith, f))))
 
@@ -408,7 +401,7 @@ module _ (queries : List (List Text)) (key : Text) (hash : ℕ) (own : hash ≡ 
       let rest = all_right (IsHashed queries) cut.front (stretch ++ cut.back) all in
       let front = any_none p cut.front (other_hash w cut.front (all_left (IsHashed queries) cut.front (stretch ++ cut.back) all) cut.before) in
       let back = any_none p cut.back (other_hash w cut.back (all_right (IsHashed queries) stretch cut.back rest) cut.behind) in
-      sym (ap (list_any p) cut.whole ∙ list_any-append p cut.front (stretch ++ cut.back) ∙ (λ j. front j || (list_any-append p stretch cut.back ∙ ap (λ b. list_any p stretch || b) back ∙ none_behind (list_any p stretch)) j))
+      sym (ap (list_any p) cut.whole ∙ list_any-append p cut.front (stretch ++ cut.back) ∙ (λ j. front j || (list_any-append p stretch cut.back ∙ ap (λ b. list_any p stretch || b) back ∙ or-false (list_any p stretch)) j))
 
   -- where the first is another key, those behind it say all
   pub says_behind : (keys : List KeyAt) (first : KeyAt) (rest : List KeyAt) → keys ≡ first ∷ rest → AllByRecursion (IsHashed queries) keys → (sorted_by queries first ≡ hash ∷ key → ⊥) → (w : ℕ) → list_any (says queries key w) rest ≡ list_any (says queries key w) keys

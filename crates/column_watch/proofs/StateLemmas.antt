@@ -6,8 +6,8 @@ use Rattle.std.proofs.Math.ListN.{length-set}
 use Rattle.std.proofs.Math.Seq.{take-append_seam}
 use Rattle.std.proofs.lemmas.Grind.{flat_map-append}
 use Rattle.std.proofs.lemmas.List.{get_or-map, get_or-set_other, get_or-set_same, get_or_default, length-append, length-map, same_lists}
-use Rattle.std.proofs.lemmas.List.Elements.{All-push}
-use Rattle.list_laws.proofs.ListLemmas.{all_filter, all_map, all_of, filter-append, filter_all, filter_none, split_bool}
+use Rattle.std.proofs.lemmas.List.Elements.{All-push, filter-append}
+use Rattle.list_laws.proofs.ListLemmas.{all_filter, all_map, all_of, filter_all, filter_none, split_bool}
 use Rattle.lake_model.specs.Texts.{Text}
 use Rattle.lake_model.specs.Tables.{Column, Table}
 use Rattle.lake_model.specs.Answer.{Row, all_rows, is_excepted, row_cmp, row_of, rows_from, rows_of_table}

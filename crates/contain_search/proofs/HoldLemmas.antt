@@ -9,6 +9,7 @@ use Rattle.std.proofs.lemmas.List.{get_or_default}
 use Rattle.std.proofs.lemmas.List.Sorted.{list_any-IsPermutation, sum_by-IsPermutation}
 use Rattle.std.proofs.lemmas.List.Sums.{sum_by-cons}
 use Rattle.std.proofs.lemmas.Map.Lookups.{exact_unsigned}
+use Rattle.std.proofs.lemmas.Bool.{and_parts}
 use Rattle.list_laws.proofs.ListLemmas.{all_weaker, rises_same}
 use Rattle.list_laws.specs.Distinct.{Rises}
 use Rattle.lake_model.proofs.SortingLemmas.{less_order, Ordered, ordered_in_order, sorted_is}
@@ -23,6 +24,7 @@ use Rattle.search_model.specs.Arrays.{no_titled, titled_at}
 use Rattle.search_model.specs.Contain.{is_unmarked, lists_needed, may_hold, seen_behind}
 use Rattle.search_model.specs.Looks.{hits, Searched}
 use Rattle.search_model.specs.Segment.{Titled}
+use Rattle.search_laws.proofs.TableLemmas.{same_tests}
 
 -- ---- numbers that are sorted, none twice
 
@@ -158,15 +160,6 @@ and_parts true true c e = (refl, refl, e)
 and_parts true false c e = cc
 and_parts false b c e = cc
 
-and_both : (a b : Bool) → (a && b) ≡ true → (a ≡ true) × (b ≡ true)
-and_both true b e = (refl, e)
-and_both false b e = cc
-
-same_tests : (a b : Bool) → (a ≡ true → b ≡ true) → (b ≡ true → a ≡ true) → a ≡ b
-same_tests true b f g = sym (f refl)
-same_tests false true f g = g refl
-same_tests false false f g = refl
-
 module _ (least : ℕ) (part : Searched) (long : length part.segment.sets ≡ length part.segment.columns) (tallies : List Tally) (are : AreTallies part.segment.sets (take (lists_needed least part) part.query) tallies) where
   abbrev left : ℕ
   left = length part.query - lists_needed least part
@@ -231,7 +224,7 @@ module _ (least : ℕ) (part : Searched) (long : length part.segment.sets ≡ le
 
       into : (x : ℕ) → is_among sorted x ≡ true → is_among (may_columns least part) x ≡ true
       into x e =
-          let both = and_both (still x) (is_among touched x) (sym (among_is x) ∙ e) in
+          let both = and_parts (still x) (is_among touched x) (sym (among_is x) ∙ e) in
           let some = listed_seen tallies touched x listed both.1 in
           let within = counted_in part.segment.sets (take (lists_needed least part) part.query) tallies are x some in
           passes_there passes 0 part.segment.columns x (

@@ -3,7 +3,7 @@ use Rattle.std.proofs.Common.{◌≡◌, refl, ap, sym, ◌∙◌, subst, inl, i
 use Rattle.std.specs.List.{AllByRecursion, filter, fold}
 use Rattle.std.specs.List.Sorted.{IsPermutation}
 use Rattle.std.proofs.Math.Seq.{drop-cons}
-use Rattle.std.proofs.lemmas.Bool.{cases_eq}
+use Rattle.std.proofs.lemmas.Bool.{cases_eq, or_right}
 use Rattle.std.proofs.lemmas.Bool.Decides.{nat_tests}
 use Rattle.std.proofs.lemmas.List.{get_or-set_other, get_or-set_same}
 use Rattle.std.proofs.lemmas.List.Sorted.{list_any-IsPermutation, sum_by_popped, sum_by_pushed}
@@ -18,10 +18,6 @@ use Rattle.josie_search.specs.Candidates.{AreApart, AreHeld, AreHeldBut, candida
 use Rattle.josie_search.specs.Rows.{leads}
 use Rattle.part_columns.specs.Tallies.{most_of, rest_of, counted, of_column, raised, tally_at}
 use Rattle.josie_search.proofs.LoopLemmas.{lead_parts}
-
-or_right : (a b : Bool) → b ≡ true → (a || b) ≡ true
-or_right true b e = refl
-or_right false b e = e
 
 differ : (x y : ℕ) → (x ≡ y → ⊥) → nat_eq x y ≡ false
 differ x y h = grind (arith, nat_tests)

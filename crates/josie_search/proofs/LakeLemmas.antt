@@ -3,7 +3,8 @@ use Rattle.std.proofs.Common.{◌≡◌, sym, subst, List, [], ◌∷◌, Bool, 
 use Rattle.std.specs.List.{filter, flat_map}
 use Rattle.lake_model.specs.Layout.{Part, Place}
 use Rattle.lake_model.specs.Texts.{Text}
-use Rattle.segment_core.specs.Distinct.{AreDistinct, Lacks, unmarked_names}
+use Rattle.segment_core.specs.Distinct.{unmarked_names}
+use Rattle.list_laws.specs.Distinct.{AreDistinct, Lacks}
 
 abbrev names_of : List Place → List Text
 names_of places = map (λ place. place.table.name) places

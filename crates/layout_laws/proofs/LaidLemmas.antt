@@ -2,7 +2,7 @@
 use Rattle.std.proofs.Common.{◌≡◌, refl, ap, sym, ◌∙◌, subst, ℕ, ◌+◌, ◌<◌, ◌≤◌, List, [], ◌∷◌, ◌++◌, append_assoc, append-nil, Bool, true, false, not, ◌||◌, ◌&&◌, map, length, arith}
 use Rattle.std.specs.Prelude.{nat_eq}
 use Rattle.std.specs.List.{AllByRecursion, filter}
-use Rattle.std.proofs.lemmas.Bool.{not-true}
+use Rattle.std.proofs.lemmas.Bool.{not-true, and_parts}
 use Rattle.std.proofs.lemmas.List.{map-append, length-append, length-map}
 use Rattle.lake_model.specs.declared.Who.{Who}
 use Rattle.lake_model.specs.Texts.{Text}
@@ -13,7 +13,8 @@ use Rattle.lake_model.proofs.LayoutLemmas.{live_more, layout_more}
 use Rattle.list_laws.specs.Distinct.{Lacks, AreDistinct, Rises}
 use Rattle.layout_laws.specs.Steps.{numbers_of, positions_in, live_loads}
 use Rattle.layout_laws.specs.LayoutLaws.{IsLaidOut}
-use Rattle.list_laws.proofs.ListLemmas.{both, all_append, all_left, all_right, all_weaker, all_map, all_filter, filter-append, map_filter, distinct_push, distinct_filter, rises_push, rises_thinner, and_assoc}
+use Rattle.list_laws.proofs.ListLemmas.{all_append, all_left, all_right, all_weaker, all_map, all_filter, map_filter, distinct_push, distinct_filter, rises_push, rises_thinner, and_assoc}
+use Rattle.std.proofs.lemmas.List.Elements.{filter-append}
 use Rattle.layout_laws.proofs.SwapLemmas.{loaded_place, places_of, kept_places, one_part, swapped}
 use Rattle.layout_laws.proofs.StayLemmas.{layout_numbers, layout_before}
 use Rattle.layout_laws.proofs.RunLemmas.{MaySwap, opened, run_stands, swapped_is}
@@ -213,7 +214,7 @@ laid_none = record { unmarked = refl; tables = refl; names = tt; rising = tt; pa
 pub laid_behind : (before entries : List Entry) → IsLaidOut before → is_legal_behind before entries ≡ true → IsLaidOut (before ++ entries)
 laid_behind before [] h k = subst IsLaidOut (sym (append-nil before)) h
 laid_behind before (entry ∷ entries) h k =
-    let s = both (may_follow before entry.what) (is_legal_behind (before ++ entry ∷ []) entries) k in
+    let s = and_parts (may_follow before entry.what) (is_legal_behind (before ++ entry ∷ []) entries) k in
     subst IsLaidOut (append_assoc before (entry ∷ []) entries) (laid_behind (before ++ entry ∷ []) entries (laid_more before entry.who entry.what h s.0) s.1)
 
 pub legal_behind-append : (before entries behind : List Entry) → is_legal_behind before (entries ++ behind) ≡ (is_legal_behind before entries && is_legal_behind (before ++ entries) behind)
@@ -223,7 +224,7 @@ legal_behind-append before (entry ∷ entries) behind =
     ∙ and_assoc (may_follow before entry.what) (is_legal_behind (before ++ entry ∷ []) entries) (is_legal_behind (before ++ entry ∷ entries) behind)
 
 pub legal_journal : (journal behind : List Entry) → is_legal (journal ++ behind) ≡ true → is_legal journal ≡ true
-legal_journal journal behind h = (both (is_legal journal) (is_legal_behind journal behind) (sym (legal_behind-append [] journal behind) ∙ h)).0
+legal_journal journal behind h = (and_parts (is_legal journal) (is_legal_behind journal behind) (sym (legal_behind-append [] journal behind) ∙ h)).0
 
 pub laid_out : (journal : List Entry) → is_legal journal ≡ true → IsLaidOut journal
 laid_out journal h = laid_behind [] journal laid_none h

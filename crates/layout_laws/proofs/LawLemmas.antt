@@ -2,7 +2,7 @@
 use Rattle.std.proofs.Common.{◌≡◌, refl, ap, sym, ◌∙◌, subst, ℕ, ◌+◌, ◌<◌, List, [], ◌∷◌, ◌++◌, true, false, not, ◌||◌, ◌&&◌, cond, length, Some, None, inl, inr, arith}
 use Rattle.std.specs.Prelude.{nat_eq, nat_lt, bytes_eq, find, sum_by, count_by, ◌⊎◌}
 use Rattle.std.specs.List.{list_all}
-use Rattle.std.proofs.lemmas.Bool.{eqb-true, eq-eqb, not-false, or_cases, or_left, or_right}
+use Rattle.std.proofs.lemmas.Bool.{eqb-true, eq-eqb, not-false, or_cases, or_left, or_right, and_parts}
 use Rattle.std.proofs.lemmas.List.{append-nil}
 use Rattle.std.proofs.lemmas.List.Concat.{flat_map-append}
 use Rattle.std.proofs.lemmas.List.Sums.{sum_by_push}
@@ -18,7 +18,7 @@ use Rattle.lake_model.proofs.LayoutLemmas.{live_more, layout_more}
 use Rattle.layout_laws.specs.Steps.{numbers_of, positions_in, has_part}
 use Rattle.layout_laws.specs.Weight.{weight, does_merge}
 use Rattle.layout_laws.specs.LayoutLaws.{PassesOverSwaps, AnswersStay, SwapsStay, PlansMaySwap, PlansStay, SwapsLower, SwapsAreFew}
-use Rattle.list_laws.proofs.ListLemmas.{both, all_weaker, all_map, test_all, find_none, rises_distinct}
+use Rattle.list_laws.proofs.ListLemmas.{all_weaker, all_map, test_all, find_none, rises_distinct}
 use Rattle.layout_laws.proofs.StayLemmas.{has_number, layout_numbers}
 use Rattle.layout_laws.proofs.RunLemmas.{swap_later, positions_same, places_same}
 use Rattle.layout_laws.proofs.SwapLemmas.{places_of}
@@ -81,7 +81,7 @@ part_number (part ∷ parts) planned h = by (or_cases (nat_eq part.number planne
   where
     by : ((nat_eq part.number planned.number && bytes_eq (positions_in part.places) (positions_in planned.places)) ≡ true) ⊎ (has_part parts planned ≡ true) → (has_part parts planned ≡ true → has_number parts planned.number ≡ true) → has_number (part ∷ parts) planned.number ≡ true
     by (inl g) rest =
-        or_left (nat_eq planned.number part.number) (has_number parts planned.number) (eq-eqb planned.number part.number (sym (eqb-true part.number planned.number (both (nat_eq part.number planned.number) (bytes_eq (positions_in part.places) (positions_in planned.places)) g).0)))
+        or_left (nat_eq planned.number part.number) (has_number parts planned.number) (eq-eqb planned.number part.number (sym (eqb-true part.number planned.number (and_parts (nat_eq part.number planned.number) (bytes_eq (positions_in part.places) (positions_in planned.places)) g).0)))
     by (inr g) rest = or_right (nat_eq planned.number part.number) (has_number parts planned.number) (rest g)
 
 -- where no planned part is missing, all their numbers are there

@@ -10,7 +10,8 @@ use Rattle.lake_model.specs.Journal.{Entry, has_name, without}
 use Rattle.lake_model.specs.Layout.{Place, Part, mark, mark_place, positions_of, is_among}
 use Rattle.list_laws.specs.Distinct.{Lacks}
 use Rattle.layout_laws.specs.Steps.{positions_in, loads_after, loads_from, live_loads}
-use Rattle.list_laws.proofs.ListLemmas.{not_both, texts_same, all_weaker, all_map, all_passed, none_any, filter-append, filter_filter}
+use Rattle.list_laws.proofs.ListLemmas.{not_both, texts_same, all_weaker, all_map, all_passed, none_any, filter_filter}
+use Rattle.std.proofs.lemmas.List.Elements.{filter-append}
 use Rattle.layout_laws.proofs.SwapLemmas.{places_of, kept_places, one_part}
 
 -- ---- one more entry

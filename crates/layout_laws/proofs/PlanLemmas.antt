@@ -2,7 +2,7 @@
 use Rattle.std.proofs.Common.{◌≡◌, refl, ap, sym, ◌∙◌, subst, ℕ, ◌+◌, ◌*◌, ◌<◌, List, [], ◌∷◌, ◌++◌, append-nil, Bool, true, false, not, ◌||◌, ◌&&◌, cond, length, take, drop, Option, Some, None, inl, inr, arith}
 use Rattle.std.specs.Prelude.{◌⊎◌, nat_eq, nat_lt, find, count_by}
 use Rattle.std.specs.List.{AllByRecursion, filter, list_all}
-use Rattle.std.proofs.lemmas.Bool.{eqb-true, eq-eqb, ne_eqb, eqb-false, lt-ltb, leb-true, or_left, or_right}
+use Rattle.std.proofs.lemmas.Bool.{eqb-true, eq-eqb, ne_eqb, eqb-false, lt-ltb, leb-true, or_left, or_right, and_parts}
 use Rattle.std.proofs.lemmas.List.{take-append-drop, length-map}
 use Rattle.std.proofs.lemmas.List.Sums.{sum_by-append, length-filter}
 use Rattle.std.proofs.lemmas.List.Filters.{length-filter_both}
@@ -13,7 +13,7 @@ use Rattle.lake_model.specs.Plan.{tier, first_run, marks, is_half_marked, at_mos
 use Rattle.list_laws.specs.Distinct.{Lacks, AreDistinct}
 use Rattle.layout_laws.specs.Steps.{numbers_of, positions_in}
 use Rattle.layout_laws.specs.Weight.{does_merge}
-use Rattle.list_laws.proofs.ListLemmas.{both, all_weaker, all_both, all_map, all_unmap, all_filter, map_filter, distinct_left, distinct_right, filter_agree}
+use Rattle.list_laws.proofs.ListLemmas.{all_weaker, all_both, all_map, all_unmap, all_filter, map_filter, distinct_left, distinct_right, filter_agree}
 use Rattle.layout_laws.proofs.SwapLemmas.{places_of}
 use Rattle.layout_laws.proofs.RunLemmas.{MaySwap, closed, Run, run_is, lacks_among}
 use Rattle.layout_laws.proofs.LiveLemmas.{unmarked}
@@ -40,7 +40,7 @@ run_planned (part ∷ parts) run h = by (is_first part parts) refl h (run_planne
     by : (b : Bool) → is_first part parts ≡ b → cond b (Some (take 4 (part ∷ parts))) (first_run parts) ≡ Some run → (first_run parts ≡ Some run → Planned parts run) → Planned (part ∷ parts) run
     by true e h rest =
         let same : take 4 (part ∷ parts) ≡ run = cc in
-        let four = eqb-true (length (take 4 (part ∷ parts))) 4 (both (nat_eq (length (take 4 (part ∷ parts))) 4) (list_all (λ other. nat_eq (tier other) (tier part)) (take 4 (part ∷ parts))) e).0 in
+        let four = eqb-true (length (take 4 (part ∷ parts))) 4 (and_parts (nat_eq (length (take 4 (part ∷ parts))) 4) (list_all (λ other. nat_eq (tier other) (tier part)) (take 4 (part ∷ parts))) e).0 in
         record {
           stands = record { front = []; back = drop 4 (part ∷ parts); whole = sym (take-append-drop 4 (part ∷ parts)) ∙ ap (λ ps. ps ++ drop 4 (part ∷ parts)) same };
           merging = inl (omega (arith, four, ap (λ (ps : List Part). length ps) same));

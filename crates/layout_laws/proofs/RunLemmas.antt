@@ -2,13 +2,14 @@
 use Rattle.std.proofs.Common.{◌≡◌, refl, ap, sym, ◌∙◌, subst, ℕ, suc, ◌+◌, ◌<◌, List, [], ◌∷◌, ◌++◌, append-nil, Bool, true, false, not, ◌||◌, ◌&&◌, cond, length, take, drop, arith}
 use Rattle.std.specs.Prelude.{nat_eq, bytes_eq}
 use Rattle.std.specs.List.{AllByRecursion, filter, list_all, position_or_len, prefix_len}
-use Rattle.std.proofs.lemmas.Bool.{eq-eqb, ne_eqb, or_right, not-true}
+use Rattle.std.proofs.lemmas.Bool.{eq-eqb, ne_eqb, or_right, not-true, and_parts}
 use Rattle.std.proofs.lemmas.List.{map-append, take-append-drop, take_at, length-map}
 use Rattle.lake_model.specs.Journal.{Entry}
 use Rattle.lake_model.specs.Layout.{Place, Part, layout, parts_from, is_among, run_of, may_swap, positions_of}
 use Rattle.list_laws.specs.Distinct.{Lacks, AreDistinct}
 use Rattle.layout_laws.specs.Steps.{numbers_of, positions_in, ArePlaces, AreParts}
-use Rattle.list_laws.proofs.ListLemmas.{both, joined, same_texts, texts_same, all_left, all_right, all_weaker, all_both, all_of, all_unmap, all_tested, test_all, any_none, filter-append, filter_all, filter_none, distinct_right, distinct_apart}
+use Rattle.list_laws.proofs.ListLemmas.{joined, same_texts, texts_same, all_left, all_right, all_weaker, all_both, all_of, all_unmap, all_tested, test_all, any_none, filter_all, filter_none, distinct_right, distinct_apart}
+use Rattle.std.proofs.lemmas.List.Elements.{filter-append}
 use Rattle.layout_laws.proofs.SwapLemmas.{places_of, is_planned, kept_places, one_part, swapped, swapped_here}
 use Rattle.layout_laws.proofs.StayLemmas.{swapped_run, numbers_same, stay_from, layout-append, layout_numbers, layout_before, has_number}
 
@@ -23,9 +24,9 @@ pub record MaySwap (run : List Part) (planned kept : List ℕ) : Type 0 where
 pub opened : (parts : List Part) (planned kept : List ℕ) → may_swap parts planned kept ≡ true → MaySwap (run_of planned parts) planned kept
 opened parts planned kept h =
     let run = run_of planned parts in
-    let s = both (not (nat_eq (length planned) 0) && bytes_eq (numbers_of run) planned && bytes_eq (filter (is_among kept) (positions_of run)) kept) (list_all (λ place. is_among kept place.position || place.marked) (places_of run)) h in
-    let t = both (not (nat_eq (length planned) 0) && bytes_eq (numbers_of run) planned) (bytes_eq (filter (is_among kept) (positions_of run)) kept) s.0 in
-    let u = both (not (nat_eq (length planned) 0)) (bytes_eq (numbers_of run) planned) t.0 in
+    let s = and_parts (not (nat_eq (length planned) 0) && bytes_eq (numbers_of run) planned && bytes_eq (filter (is_among kept) (positions_of run)) kept) (list_all (λ place. is_among kept place.position || place.marked) (places_of run)) h in
+    let t = and_parts (not (nat_eq (length planned) 0) && bytes_eq (numbers_of run) planned) (bytes_eq (filter (is_among kept) (positions_of run)) kept) s.0 in
+    let u = and_parts (not (nat_eq (length planned) 0)) (bytes_eq (numbers_of run) planned) t.0 in
     record {
       some = not-true (nat_eq (length planned) 0) u.0;
       numbers = same_texts (numbers_of run) planned u.1;

@@ -2,7 +2,7 @@
 use Rattle.std.proofs.Common.{◌≡◌, refl, ap, sym, ◌∙◌, subst, ℕ, ◌+◌, ◌*◌, ◌<◌, ◌≤◌, List, [], ◌∷◌, ◌++◌, append_assoc, append-nil, Bool, true, false, not, ◌||◌, cond, map, length, inl, inr, arith}
 use Rattle.std.specs.Prelude.{◌⊎◌, nat_lt, sum_by}
 use Rattle.std.specs.List.{AllByRecursion, filter}
-use Rattle.std.proofs.lemmas.Bool.{ltb-true, eqb-false, or_cases}
+use Rattle.std.proofs.lemmas.Bool.{ltb-true, eqb-false, or_cases, and_parts}
 use Rattle.std.proofs.lemmas.List.{length-append, length-map}
 use Rattle.std.proofs.lemmas.List.Sums.{sum_by-cons, sum_by-append, sum_by_push}
 use Rattle.lake_model.specs.declared.Who.{Who}
@@ -16,7 +16,7 @@ use Rattle.list_laws.specs.Distinct.{Lacks, AreDistinct}
 use Rattle.layout_laws.specs.Steps.{numbers_of}
 use Rattle.layout_laws.specs.Weight.{weight, swaps, does_merge, merges, do_merge_behind}
 use Rattle.layout_laws.specs.LayoutLaws.{IsLaidOut}
-use Rattle.list_laws.proofs.ListLemmas.{both, same_texts, length_filter_le, map_filter}
+use Rattle.list_laws.proofs.ListLemmas.{same_texts, length_filter_le, map_filter}
 use Rattle.layout_laws.proofs.SwapLemmas.{part_of, loaded_place, places_of, kept_places, one_part, swapped}
 use Rattle.layout_laws.proofs.LiveLemmas.{unmarked, places_marked, places_swapped, places_split}
 use Rattle.layout_laws.proofs.PlanLemmas.{marked_in}
@@ -178,6 +178,6 @@ light_more journal who (Swapped planned kept) h f m light =
 pub light_behind : (before entries : List Entry) → IsLaidOut before → is_legal_behind before entries ≡ true → do_merge_behind before entries ≡ true → IsLight before → IsLight (before ++ entries)
 light_behind before [] h k m light = subst IsLight (sym (append-nil before)) light
 light_behind before (entry ∷ entries) h k m light =
-    let s = both (may_follow before entry.what) (is_legal_behind (before ++ entry ∷ []) entries) k in
-    let t = both (merges before entry.what) (do_merge_behind (before ++ entry ∷ []) entries) m in
+    let s = and_parts (may_follow before entry.what) (is_legal_behind (before ++ entry ∷ []) entries) k in
+    let t = and_parts (merges before entry.what) (do_merge_behind (before ++ entry ∷ []) entries) m in
     subst IsLight (append_assoc before (entry ∷ []) entries) (light_behind (before ++ entry ∷ []) entries (laid_more before entry.who entry.what h s.0) s.1 t.1 (light_more before entry.who entry.what h s.0 t.0 light))

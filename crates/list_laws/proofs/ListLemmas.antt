@@ -1,17 +1,13 @@
 -- What holds of each element, filters, lists in which nothing stands twice, numbers that rise, and what a search finds.
-use Rattle.std.proofs.Common.{◌≡◌, refl, ap, sym, ◌∙◌, ℕ, ◌<◌, ◌≤◌, List, [], ◌∷◌, ◌++◌, Bool, true, false, ◌||◌, ◌&&◌, cond, map, length, drop, Some, None, inl, inr, arith, eqb as nat_eq}
+use Rattle.std.proofs.Common.{◌≡◌, refl, ap, sym, ◌∙◌, ℕ, zero, suc, ◌+◌, ◌<◌, ◌≤◌, List, [], ◌∷◌, ◌++◌, Bool, true, false, ◌||◌, ◌&&◌, cond, map, length, get_or, drop, Some, None, inl, inr, arith, eqb as nat_eq}
 use Rattle.std.specs.Prelude.{find, bytes_eq}
 use Rattle.std.specs.List.{AllByRecursion, filter, list_any, list_all}
-use Rattle.std.proofs.lemmas.Bool.{cases_lt, or_parts}
+use Rattle.std.proofs.lemmas.Bool.{and_parts, cases_lt, or_parts}
 use Rattle.std.proofs.lemmas.Bool.Decides.{nat_tests}
 use Rattle.std.proofs.lemmas.Slice.Eq.{bytes_eq-Decides}
 use Rattle.list_laws.specs.Distinct.{Lacks, AreDistinct, Rises}
 
 -- ---- tests
-
-pub both : (a b : Bool) → (a && b) ≡ true → (a ≡ true) × (b ≡ true)
-both true b h = (refl, h)
-both false b h = cc
 
 pub joined : (a b : Bool) → a ≡ true → b ≡ true → (a && b) ≡ true
 joined a b h k = ap (λ (x : Bool). x && b) h ∙ k
@@ -38,6 +34,11 @@ and_assoc false b c = refl
 pub all_append : {X : Type 0} (P : X → Type 0) (xs ys : List X) → AllByRecursion P xs → AllByRecursion P ys → AllByRecursion P (xs ++ ys)
 all_append P [] ys h k = k
 all_append P (x ∷ xs) ys h k = (h.0, all_append P xs ys h.1 k)
+
+pub all_at : {X : Type 0} (P : X → Type 0) (xs : List X) (i : ℕ) (d : X) → AllByRecursion P xs → i < length xs → P (get_or xs i d)
+all_at P [] i d h below = absurd (omega (arith, below))
+all_at P (x ∷ xs) zero d h below = h.0
+all_at P (x ∷ xs) (suc i) d h below = all_at P xs i d h.1 (omega (arith, below))
 
 pub all_left : {X : Type 0} (P : X → Type 0) (xs ys : List X) → AllByRecursion P (xs ++ ys) → AllByRecursion P xs
 all_left P [] ys h = tt
@@ -86,7 +87,7 @@ all_passed p (x ∷ xs) = passed_cond (λ x. p x ≡ true) (p x) x (filter p xs)
 
 pub all_tested : {X : Type 0} (p : X → Bool) (xs : List X) → list_all p xs ≡ true → AllByRecursion (λ x. p x ≡ true) xs
 all_tested p [] h = tt
-all_tested p (x ∷ xs) h = let s = both (p x) (list_all p xs) h in (s.0, all_tested p xs s.1)
+all_tested p (x ∷ xs) h = let s = and_parts (p x) (list_all p xs) h in (s.0, all_tested p xs s.1)
 
 pub test_all : {X : Type 0} (p : X → Bool) (xs : List X) → AllByRecursion (λ x. p x ≡ true) xs → list_all p xs ≡ true
 test_all p [] h = refl
@@ -101,14 +102,6 @@ none_any p [] h = tt
 none_any p (x ∷ xs) h = let s = or_parts (p x) (list_any p xs) h in (s.0, none_any p xs s.1)
 
 -- ---- filters
-
-pub filter-append : {X : Type 0} (p : X → Bool) (xs ys : List X) → filter p (xs ++ ys) ≡ filter p xs ++ filter p ys
-filter-append p [] ys = refl
-filter-append p (x ∷ xs) ys = ap (λ us. cond (p x) (x ∷ us) us) (filter-append p xs ys) ∙ by (p x)
-  where
-    by : (b : Bool) → cond b (x ∷ (filter p xs ++ filter p ys)) (filter p xs ++ filter p ys) ≡ cond b (x ∷ filter p xs) (filter p xs) ++ filter p ys
-    by true = refl
-    by false = refl
 
 pub filter_all : {X : Type 0} (p : X → Bool) (xs : List X) → AllByRecursion (λ x. p x ≡ true) xs → filter p xs ≡ xs
 filter_all p [] h = refl

@@ -1,9 +1,9 @@
 -- The text of watched queries over a journal that goes on, and that the same rows are equal.
 use Rattle.std.proofs.Common.{◌≡◌, refl, ap, sym, ◌∙◌, ℕ, List, [], ◌∷◌, ◌++◌, true, false, append-nil, append_assoc, flat_map}
 use Rattle.std.specs.Prelude.{◌==◌, bytes_eq}
-use Rattle.std.proofs.lemmas.Bool.{eq-eqb, eqb-true}
+use Rattle.std.proofs.lemmas.Bool.{eq-eqb, eqb-true, and_parts}
 use Rattle.std.proofs.lemmas.Grind.{flat_map-append}
-use Rattle.list_laws.proofs.ListLemmas.{both, joined, same_texts, texts_same}
+use Rattle.list_laws.proofs.ListLemmas.{joined, same_texts, texts_same}
 use Rattle.lake_model.specs.Texts.{Text}
 use Rattle.lake_model.specs.Answer.{Row}
 use Rattle.lake_model.specs.Journal.{Entry}
@@ -14,9 +14,9 @@ use Rattle.record_model.specs.Watched.{lines_at, lines_behind, same_row, same_ro
 
 same_row_equal : (a b : Row) → same_row a b ≡ true → a ≡ b
 same_row_equal a b same =
-    let first = both _ _ same in
-    let second = both _ _ first.1 in
-    let third = both _ _ second.1 in
+    let first = and_parts _ _ same in
+    let second = and_parts _ _ first.1 in
+    let third = and_parts _ _ second.1 in
     let overlap : a.overlap ≡ b.overlap = eqb-true _ _ first.0 in
     let table : a.table ≡ b.table = same_texts _ _ second.0 in
     let column : a.column ≡ b.column = same_texts _ _ third.0 in
@@ -43,7 +43,7 @@ same_rows_equal [] [] same = refl
 same_rows_equal [] (y ∷ ys) same = absurd (let f : false ≡ true = same in cc)
 same_rows_equal (x ∷ xs) [] same = absurd (let f : false ≡ true = same in cc)
 same_rows_equal (x ∷ xs) (y ∷ ys) same =
-    let parts = both (same_row x y) (same_rows xs ys) same in
+    let parts = and_parts (same_row x y) (same_rows xs ys) same in
     λ i. same_row_equal x y parts.0 i ∷ same_rows_equal xs ys parts.1 i
 
 -- and equal rows are the same.

@@ -16,10 +16,9 @@ use Rattle.lake_model.specs.Layout.{Place, Part}
 use Rattle.search_model.specs.Segment.{Titled, titled, Token, segment, columns_of, tokens_of, token_of, token_cmp, tokens_in}
 use Rattle.search_model.specs.Looks.{Searched, searched, is_eligible, row_with}
 use Rattle.std.proofs.lemmas.List.Elements.{filter-append}
-use Rattle.std.specs.Cmp.Lexicographic.{bytes_decides}
 use Rattle.lake_model.proofs.SortingLemmas.{in_order_moves}
 use Rattle.search_model.proofs.OverlapLemmas as texts
-use Rattle.search_model.proofs.TokenLemmas.{distinct_differs, distinct_has}
+use Rattle.search_model.proofs.TokenLemmas.{distinct_differs, distinct_has, flips}
 use Rattle.search_laws.proofs.PartLemmas.{IsPartOf, rows_of_part, row_for, shares}
 
 -- ---- rows
@@ -114,13 +113,10 @@ all_rows-append query xs ys =
 
 -- ---- tokens
 
-same_tests : (a b : Bool) → (a ≡ true → b ≡ true) → (b ≡ true → a ≡ true) → a ≡ b
+pub same_tests : (a b : Bool) → (a ≡ true → b ≡ true) → (b ≡ true → a ≡ true) → a ≡ b
 same_tests true b f g = sym (f refl)
 same_tests false true f g = g refl
 same_tests false false f g = refl
-
-flips : (x y : Text) → bytes_eq x y ≡ bytes_eq y x
-flips x y = same_tests (bytes_eq x y) (bytes_eq y x) (λ e. (bytes_decides y x).1 (sym ((bytes_decides x y).0 e))) (λ e. (bytes_decides x y).1 (sym ((bytes_decides y x).0 e)))
 
 none_equal : (x : Text) (xs : List Text) → AllByRecursion (λ y. bytes_eq x y ≡ false) xs → has_key xs x ≡ false
 none_equal x [] h = refl

@@ -3,6 +3,7 @@ use Rattle.std.proofs.Common.{◌≡◌, ap, sym, ◌∙◌, ℕ, zero, suc, ◌
 use Rattle.std.specs.List.{AllByRecursion, flat_map, enumerate_from}
 use Rattle.std.proofs.lemmas.List.{get_or-map, length-map, take_all, take_more}
 use Rattle.std.proofs.lemmas.List.FromFn.{get_or-enumerate_from, length-enumerate_from}
+use Rattle.list_laws.proofs.ListLemmas.{all_at, all_append}
 use Rattle.lake_model.specs.Texts.{Text}
 use Rattle.lake_model.specs.Tables.{Column, Table, column_with, keys_at}
 use Rattle.search_model.specs.Arrays.{no_titled, table_at, titled_at}
@@ -56,15 +57,6 @@ pub record Stands (tables : List Table) (c : Titled) : Type 0 where
   pub low : 0 < c.place
   pub high : c.place ≤ length (table_at tables c.from).columns
   pub keys : keys_at (table_at tables c.from) c.place ≡ c.column.keys
-
-all_append : {X : Type 0} (P : X → Type 0) (xs ys : List X) → AllByRecursion P xs → AllByRecursion P ys → AllByRecursion P (xs ++ ys)
-all_append P [] ys h k = k
-all_append P (x ∷ xs) ys h k = (h.0, all_append P xs ys h.1 k)
-
-all_at : {X : Type 0} (P : X → Type 0) (xs : List X) (i : ℕ) (d : X) → AllByRecursion P xs → i < length xs → P (get_or xs i d)
-all_at P [] i d h b = absurd (omega arith)
-all_at P (x ∷ xs) zero d h b = h.0
-all_at P (x ∷ xs) (suc i) d h b = all_at P xs i d h.1 (omega arith)
 
 -- the columns of a table from the one behind so many on
 stand_in : (tables : List Table) (number : ℕ) (name : Text) (before : ℕ) (columns : List Column) → number < length tables → before + length columns ≤ length (table_at tables number).columns

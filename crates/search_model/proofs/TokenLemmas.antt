@@ -41,7 +41,7 @@ same_test true b P Q d e f g = sym (e.1 (f (d.0 refl)))
 same_test false true P Q d e f g = d.1 (g (e.0 refl))
 same_test false false P Q d e f g = refl
 
-flips : (x y : Text) → bytes_eq x y ≡ bytes_eq y x
+pub flips : (x y : Text) → bytes_eq x y ≡ bytes_eq y x
 flips x y = same_test _ _ _ _ (bytes_eq-Decides x y) (bytes_eq-Decides y x) (λ e. sym e) (λ e. sym e)
 
 itself : (x : Text) → bytes_eq x x ≡ true

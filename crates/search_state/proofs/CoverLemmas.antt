@@ -5,6 +5,7 @@ use Rattle.std.specs.List.Sorted.{IsPermutation}
 use Rattle.std.specs.Ordering.{is_lt}
 use Rattle.std.proofs.lemmas.Bool.Decides.{nat_tests}
 use Rattle.std.proofs.lemmas.List.Sorted.{list_any-IsPermutation}
+use Rattle.std.proofs.lemmas.Bool.{and_parts, or_right}
 use Rattle.lake_model.specs.Sorting.{in_order}
 use Rattle.lake_model.specs.Answer.{Row, row_cmp, Query}
 use Rattle.search_model.specs.Segment.{Titled}
@@ -31,10 +32,6 @@ by_left left asked = map (λ c. candidate (c.most + left) c.column) asked
 abbrev pub IsHeld : List Candidate → List Candidate → ℕ → ℕ → ℕ → Type 0
 IsHeld sized asked x count bound = (covers sized x bound || covers asked x count) ≡ true
 
-and_both : (a b : Bool) → (a && b) ≡ true → (a ≡ true) × (b ≡ true)
-and_both true b e = (refl, e)
-and_both false b e = cc
-
 or_either : (a b : Bool) → (a || b) ≡ true → (a ≡ true) ⊎ (b ≡ true)
 or_either true b e = inl refl
 or_either false b e = inr e
@@ -43,16 +40,12 @@ or_left : (a b : Bool) → a ≡ true → (a || b) ≡ true
 or_left true b e = refl
 or_left false b e = cc
 
-or_right : (a b : Bool) → b ≡ true → (a || b) ≡ true
-or_right true b e = refl
-or_right false b e = e
-
 weaker : (candidates : List Candidate) (x u v : ℕ) → v ≤ u → covers candidates x u ≡ true → covers candidates x v ≡ true
 weaker [] x u v h e = cc
 weaker (c ∷ candidates) x u v h e = by (or_either _ (covers candidates x u) e) (weaker candidates x u v h)
   where
     by : ((nat_eq c.column x && nat_le u c.most) ≡ true) ⊎ (covers candidates x u ≡ true) → (covers candidates x u ≡ true → covers candidates x v ≡ true) → ((nat_eq c.column x && nat_le v c.most) || covers candidates x v) ≡ true
-    by (inl k) r = or_left _ (covers candidates x v) (let t : (nat_eq c.column x && nat_le v c.most) ≡ true = (let p = and_both (nat_eq c.column x) (nat_le u c.most) k in let q : nat_le v c.most ≡ true = (let a = p.1 in grind (arith, nat_tests)) in (λ i. p.0 i && q i)) in t)
+    by (inl k) r = or_left _ (covers candidates x v) (let t : (nat_eq c.column x && nat_le v c.most) ≡ true = (let p = and_parts (nat_eq c.column x) (nat_le u c.most) k in let q : nat_le v c.most ≡ true = (let a = p.1 in grind (arith, nat_tests)) in (λ i. p.0 i && q i)) in t)
     by (inr k) r = or_right (nat_eq c.column x && nat_le v c.most) _ (r k)
 
 -- a list more that does not hold the column, or any step that lets its bound fall and its count stand
@@ -88,7 +81,7 @@ sized_covers [] rest x u e = absurd (let f : false ≡ true = e in cc)
 sized_covers (c ∷ candidates) rest x u e = by (or_either (nat_eq c.column x && nat_le u c.most) (covers candidates x u) e) (sized_covers candidates rest x u)
   where
     by : ((nat_eq c.column x && nat_le u c.most) ≡ true) ⊎ (covers candidates x u ≡ true) → (covers candidates x u ≡ true → Covers (candidates ++ rest) x u) → ((c.column ≡ x) × (u ≤ c.most)) ⊎ Covers (candidates ++ rest) x u
-    by (inl k) r = let p = and_both (nat_eq c.column x) (nat_le u c.most) k in inl (let a = p.0 in grind (arith, nat_tests), let a = p.1 in grind (arith, nat_tests))
+    by (inl k) r = let p = and_parts (nat_eq c.column x) (nat_le u c.most) k in inl (let a = p.0 in grind (arith, nat_tests), let a = p.1 in grind (arith, nat_tests))
     by (inr k) r = inr (r k)
 
 asked_covers : (asked : List Candidate) (left x count u : ℕ) → u ≤ count + left → covers asked x count ≡ true → Covers (by_left left asked) x u
@@ -96,7 +89,7 @@ asked_covers [] left x count u h e = absurd (let f : false ≡ true = e in cc)
 asked_covers (c ∷ asked) left x count u h e = by (or_either (nat_eq c.column x && nat_le count c.most) (covers asked x count) e) (asked_covers asked left x count u h)
   where
     by : ((nat_eq c.column x && nat_le count c.most) ≡ true) ⊎ (covers asked x count ≡ true) → (covers asked x count ≡ true → Covers (by_left left asked) x u) → ((c.column ≡ x) × (u ≤ c.most + left)) ⊎ Covers (by_left left asked) x u
-    by (inl k) r = let p = and_both (nat_eq c.column x) (nat_le count c.most) k in let q : count ≤ c.most = (let a = p.1 in grind (arith, nat_tests)) in inl (let a = p.0 in grind (arith, nat_tests), omega arith)
+    by (inl k) r = let p = and_parts (nat_eq c.column x) (nat_le count c.most) k in let q : count ≤ c.most = (let a = p.1 in grind (arith, nat_tests)) in inl (let a = p.0 in grind (arith, nat_tests), omega arith)
     by (inr k) r = inr (r k)
 
 more_covers : (cs ds : List Candidate) (x u : ℕ) → Covers ds x u → Covers (cs ++ ds) x u

@@ -18,7 +18,7 @@ use Rattle.search_model.proofs.FilterLemmas.{rising}
 use Rattle.search_model.proofs.OverlapLemmas.{front, tokens_from, tokens_from-cons}
 use Rattle.search_model.proofs.TokenLemmas.{token_cmp_total}
 use Rattle.segment_core.specs.Hashes.{AreKeys}
-use Rattle.segment_core.proofs.PartLemmas.{all_at}
+use Rattle.list_laws.proofs.ListLemmas.{all_at}
 use Rattle.token_order.specs.Vocabulary.{frequencies_of}
 use Rattle.segment_build.specs.Holding.{all_tokens, held_with, sets_for, HasMore}
 use Rattle.segment_build.specs.Inverse.{lists_from, sets_in, sums_from, AreFlat, AreSets, IsSet}

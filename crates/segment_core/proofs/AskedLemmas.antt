@@ -10,7 +10,8 @@ use Rattle.std.proofs.lemmas.List.Sorted.{IsPermutation-map, list_any-IsPermutat
 use Rattle.std.proofs.lemmas.Map.Keys.{IsDistinct-IsPermutation}
 use Rattle.std.proofs.lemmas.Map.Views.{any-filter_same}
 use Rattle.std.proofs.lemmas.Slice.Eq.{bytes_eq-Decides}
-use Rattle.list_laws.proofs.ListLemmas.{all_filter, filter-append, filter_agree}
+use Rattle.list_laws.proofs.ListLemmas.{all_filter, filter_agree}
+use Rattle.std.proofs.lemmas.List.Elements.{filter-append}
 use Rattle.lake_model.specs.Texts.{Text}
 use Rattle.lake_model.specs.Tables.{Table, has_key}
 use Rattle.search_model.specs.Segment.{Token, segment, tokens_in}
@@ -19,7 +20,8 @@ use Rattle.segment_core.specs.Among.{found_by}
 use Rattle.hash_directory.specs.Buckets.{AreIn, FilterOf, may_have}
 use Rattle.segment_core.specs.Hashes.{hash_of, token_number, IsByHash, IsHashed}
 use Rattle.segment_core.specs.declared.hashes.HashedToken.{HashedToken}
-use Rattle.segment_core.proofs.FoundLemmas.{each_key, flips, itself, looked_up, tokens_differ}
+use Rattle.segment_core.proofs.FoundLemmas.{each_key, itself, looked_up, tokens_differ}
+use Rattle.search_model.proofs.TokenLemmas.{flips}
 
 -- the keys of tokens in their order by hash, and those of them that are in a set
 abbrev pub keys_by : List Token → List HashedToken → List Text

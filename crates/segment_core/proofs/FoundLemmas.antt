@@ -15,6 +15,7 @@ use Rattle.std.proofs.lemmas.List.Sorted.{IsPermutation-refl, IsPermutation-sym,
 use Rattle.std.proofs.lemmas.Map.Keys.{IsDistinct-IsPermutation}
 use Rattle.std.proofs.lemmas.Map.Lookups.{exact_unsigned}
 use Rattle.std.proofs.lemmas.Slice.Eq.{bytes_eq-Decides}
+use Rattle.std.proofs.Math.Bool.{or-false}
 use Rattle.lake_model.specs.Texts.{Text}
 use Rattle.lake_model.specs.Tables.{Table, has_key, distinct}
 use Rattle.lake_model.proofs.SortingLemmas.{in_order-IsPermutation, in_order_moves, sorted_is}
@@ -24,13 +25,9 @@ use Rattle.segment_core.specs.Among.{found_by, hit_keys}
 use Rattle.segment_core.specs.declared.segment.Hit.{Hit}
 use Rattle.search_model.proofs.FilterLemmas.{rising}
 use Rattle.search_model.proofs.OverlapLemmas.{front, tokens_from, tokens_from-cons}
-use Rattle.search_model.proofs.TokenLemmas.{distinct_differs}
+use Rattle.search_model.proofs.TokenLemmas.{distinct_differs, flips}
 
 -- ---- one key at a time
-
-or_false : (a : Bool) → (a || false) ≡ a
-or_false true = refl
-or_false false = refl
 
 -- what passes either of two tests that nothing passes both
 filter_either : {X : Type 0} (p q : X → Bool) (xs : List X) → ((x : X) → p x ≡ true → q x ≡ false) → IsPermutation (filter p xs ++ filter q xs) (filter (λ x. p x || q x) xs)
@@ -52,7 +49,7 @@ abbrev has : Text → ℕ × Token → Bool
 has key t = bytes_eq t.1.key key
 
 one_key : (tokens : List Token) (key : Text) → tokens_in tokens (key ∷ []) ≡ map (λ t. t.0) (filter (has key) (enumerate_from 0 tokens))
-one_key tokens key = ap (λ (p : ℕ × Token → Bool). map (λ (t : ℕ × Token). t.0) (filter p (enumerate_from 0 tokens))) (λ i t. or_false (has key t) i)
+one_key tokens key = ap (λ (p : ℕ × Token → Bool). map (λ (t : ℕ × Token). t.0) (filter p (enumerate_from 0 tokens))) (λ i t. or-false (has key t) i)
 
 apart_from : (key : Text) (keys : List Text) → AllByRecursion (λ y. bytes_eq key y ≡ false) keys → (x : Text) → bytes_eq x key ≡ true → has_key keys x ≡ false
 apart_from key keys h x e =
@@ -84,15 +81,6 @@ none_from key n (t ∷ tokens) h = tokens_from-cons n t tokens (key ∷ []) ∙ 
 
 pub itself : (x : Text) → bytes_eq x x ≡ true
 itself x = (bytes_eq-Decides x x).1 refl
-
-pub flips : (x y : Text) → bytes_eq x y ≡ bytes_eq y x
-flips x y = by (bytes_eq x y) (bytes_eq y x) refl refl
-  where
-    by : (a b : Bool) → bytes_eq x y ≡ a → bytes_eq y x ≡ b → a ≡ b
-    by true true e f = refl
-    by true false e f = absurd (let t : bytes_eq y x ≡ true = (bytes_eq-Decides y x).1 (sym ((bytes_eq-Decides x y).0 e)) in let g : true ≡ false = sym t ∙ f in cc)
-    by false true e f = absurd (let t : bytes_eq x y ≡ true = (bytes_eq-Decides x y).1 (sym ((bytes_eq-Decides y x).0 f)) in let g : true ≡ false = sym t ∙ e in cc)
-    by false false e f = refl
 
 others : (first key : Text) (tokens : List Token) → first ≡ key → AllByRecursion (λ y. bytes_eq first y ≡ false) (map (λ t. t.key) tokens) → list_any (λ t. bytes_eq t.key key) tokens ≡ false
 others first key [] e h = refl

@@ -1,6 +1,7 @@
 -- The tables and the marks of a part's places, and the table that a column is of.
-use Rattle.std.proofs.Common.{◌≡◌, refl, ap, ℕ, zero, suc, ◌+◌, ◌<◌, ◌≤◌, List, [], ◌∷◌, ◌++◌, Bool, true, map, length, get_or, arith}
+use Rattle.std.proofs.Common.{◌≡◌, refl, ap, ℕ, zero, suc, ◌+◌, ◌<◌, ◌≤◌, List, [], ◌∷◌, Bool, true, map, length, arith}
 use Rattle.std.specs.List.{AllByRecursion, flat_map, enumerate_from, slice_set}
+use Rattle.list_laws.proofs.ListLemmas.{all_at, all_append}
 use Rattle.lake_model.specs.Texts.{Text}
 use Rattle.lake_model.specs.Tables.{Table, Column}
 use Rattle.search_model.specs.Segment.{Titled, titled, columns_of, segment}
@@ -22,15 +23,6 @@ marks_with number [] (t ∷ ts) ms h k = absurd (omega arith)
 marks_with number (n ∷ ns) [] ms h k = absurd (omega arith)
 marks_with number (n ∷ ns) (t ∷ ts) [] h k = absurd (omega arith)
 marks_with number (n ∷ ns) (t ∷ ts) (m ∷ ms) h k = ap (λ us. m ∷ us) (marks_with number ns ts ms (omega arith) (omega arith))
-
-pub all_append : {X : Type 0} (P : X → Type 0) (xs ys : List X) → AllByRecursion P xs → AllByRecursion P ys → AllByRecursion P (xs ++ ys)
-all_append P [] ys h k = k
-all_append P (x ∷ xs) ys h k = (h.0, all_append P xs ys h.1 k)
-
-pub all_at : {X : Type 0} (P : X → Type 0) (xs : List X) (i : ℕ) (d : X) → AllByRecursion P xs → i < length xs → P (get_or xs i d)
-all_at P [] i d h b = absurd (omega arith)
-all_at P (x ∷ xs) zero d h b = h.0
-all_at P (x ∷ xs) (suc i) d h b = all_at P xs i d h.1 (omega arith)
 
 from_one : (bound from : ℕ) (name : Text) (n : ℕ) (columns : List Column) → from < bound → AllByRecursion (λ (c : Titled). c.from < bound) (map (λ c. titled from name c.0 c.1) (enumerate_from n columns))
 from_one bound from name n [] h = tt

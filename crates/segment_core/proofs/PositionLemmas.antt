@@ -6,10 +6,10 @@ use Rattle.std.proofs.lemmas.Bool.{cases_lt}
 use Rattle.std.proofs.lemmas.List.{map-append, get_or-append-add, get_or_append_left, length-map}
 use Rattle.std.proofs.lemmas.List.Kept.{AllPairs-from_increasing}
 use Rattle.lake_model.specs.Layout.{Part, Place, positions_of}
-use Rattle.segment_core.specs.Distinct.{Lacks}
+use Rattle.list_laws.specs.Distinct.{Lacks}
 use Rattle.segment_core.specs.Positions.{AreFull, Rises, first_load, loads_of}
 use Rattle.segment_core.specs.Versions.{part_at, part_with}
-use Rattle.segment_core.proofs.PartLemmas.{all_append}
+use Rattle.list_laws.proofs.ListLemmas.{all_append}
 
 -- ---- lists that rise
 

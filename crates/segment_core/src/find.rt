@@ -2,7 +2,7 @@
 ghost use Rattle.std.specs.Prelude.{◌≡◌, ◌<◌, ◌≤◌, ◌^◌, ℕ, length, slice_index, IfNone, IfSome};
 ghost use Rattle.std.specs.List.Sorted.{IsStrictlyIncreasing};
 ghost use Rattle.lake_model.specs.Layout.{positions_of};
-ghost use Rattle.segment_core.specs.Distinct.{Lacks};
+ghost use Rattle.list_laws.specs.Distinct.{Lacks};
 ghost use Rattle.segment_core.specs.Positions.{first_load, loads_of, AreFull, Rises, StandsAt};
 ghost use Rattle.segment_core.specs.Versions.{part_at};
 

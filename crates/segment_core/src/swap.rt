@@ -1,7 +1,8 @@
 //! What a swap does to a version: one part, or none, in the place of adjacent ones.
 ghost use Rattle.std.specs.Prelude.{◌≡◌, ◌<◌, ◌≤◌, ◌+◌, length, OnErr, OnOk};
 ghost use Rattle.lake_model.specs.Layout.{positions_of};
-ghost use Rattle.segment_core.specs.Distinct.{unmarked_names, AreDistinct};
+ghost use Rattle.segment_core.specs.Distinct.{unmarked_names};
+ghost use Rattle.list_laws.specs.Distinct.{AreDistinct};
 ghost use Rattle.segment_core.specs.Plans.{replaced};
 ghost use Rattle.segment_core.specs.Versions.{version_with};
 

@@ -2,7 +2,8 @@
 ghost use Rattle.std.specs.Prelude.{◌≡◌, ◌<◌, ◌≤◌, ◌+◌, ◌^◌, ◌++◌, ◌∷◌, [], length, map, slice_set, vec_capacity, vec_len, IfOk, OnErr, OnOk};
 ghost use Rattle.std.specs.List.{zip};
 ghost use Rattle.lake_model.specs.Layout.{positions_of};
-ghost use Rattle.segment_core.specs.Distinct.{unmarked_names, AreDistinct};
+ghost use Rattle.segment_core.specs.Distinct.{unmarked_names};
+ghost use Rattle.list_laws.specs.Distinct.{AreDistinct};
 ghost use Rattle.segment_core.specs.Lines.{line_from, lines_without, shown_places, unmarked_lines};
 ghost use Rattle.segment_core.specs.Plans.{replaced};
 ghost use Rattle.segment_core.specs.Positions.{loads_of};
@@ -147,7 +148,8 @@ pub struct Version {
 impl Model for Version {
     ghost use Rattle.std.specs.Prelude.{◌<◌, ◌^◌, length};
     ghost use Rattle.lake_model.specs.Layout.{positions_of};
-    ghost use Rattle.segment_core.specs.Distinct.{unmarked_names, AreDistinct};
+    ghost use Rattle.list_laws.specs.Distinct.{AreDistinct};
+    ghost use Rattle.segment_core.specs.Distinct.{unmarked_names};
     ghost use Rattle.segment_core.specs.Versions.{version_with, VersionOf};
 
     ghost Value = { VersionOf };

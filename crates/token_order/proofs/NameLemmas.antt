@@ -1,5 +1,5 @@
 -- Keys that rise and differ: their places compare as they do.
-use Rattle.std.proofs.Common.{◌≡◌, refl, ap, sym, ◌∙◌, ℕ, zero, suc, ◌<◌, List, [], ◌∷◌, length, get_or, Bool, true, false, inl, inr, arith}
+use Rattle.std.proofs.Common.{◌≡◌, refl, ap, sym, ◌∙◌, ℕ, zero, suc, ◌<◌, List, [], ◌∷◌, length, get_or, true, false, inl, inr, arith}
 use Rattle.std.specs.Prelude.{bytes_eq}
 use Rattle.std.specs.List.{IsDistinct}
 use Rattle.std.specs.List.Sorted.{IsPermutation}
@@ -15,14 +15,8 @@ use Rattle.std.proofs.lemmas.Map.Keys.{IsDistinct-IsPermutation, IsDistinct-tail
 use Rattle.std.proofs.lemmas.Map.Lookups.{exact_bytes}
 use Rattle.std.proofs.lemmas.Slice.Eq.{bytes_eq-Decides}
 use Rattle.lake_model.specs.Texts.{Text}
-use Rattle.token_order.proofs.SortLemmas.{Rises, differ_back, less}
-
-flips : (x y : Text) → bytes_eq x y ≡ bytes_eq y x
-flips x y = by (bytes_eq x y) refl
-  where
-    by : (b : Bool) → bytes_eq x y ≡ b → bytes_eq x y ≡ bytes_eq y x
-    by false e = e ∙ sym (differ_back y x e)
-    by true e = e ∙ sym ((bytes_eq-Decides y x).1 (sym ((bytes_eq-Decides x y).0 e)))
+use Rattle.token_order.proofs.SortLemmas.{Rises, less}
+use Rattle.search_model.proofs.TokenLemmas.{flips}
 
 -- keys that differ still do in another order
 pub differ_moved : (xs ys : List Text) → IsPermutation xs ys → IsDistinct bytes_eq xs → IsDistinct bytes_eq ys

@@ -10,6 +10,7 @@ use Rattle.std.proofs.lemmas.List.Elements.{All-nil, All-push, recursion_from_Al
 use Rattle.std.specs.List.Sorted.{IsPermutation}
 use Rattle.std.proofs.lemmas.List.Sorted.{All-permutation, IsPermutation-map, length_permutation}
 use Rattle.std.proofs.lemmas.List.Sums.{sum_by-cons}
+use Rattle.list_laws.proofs.ListLemmas.{all_append}
 use Rattle.column_set.specs.Columns.{HasDistinctKeys}
 use Rattle.lake_model.specs.Texts.{Text}
 use Rattle.lake_model.specs.Tables.{Column, Table, keys_at, members, sets_of}
@@ -101,10 +102,6 @@ keys_of_all n (t ∷ tables) =
 
 pub keys_of_columns : (tables : List Table) → flat_map (λ c. c.column.keys) (columns_of tables) ≡ keys_of tables
 keys_of_columns tables = keys_of_all 0 tables
-
-all_append : {X : Type 0} (P : X → Type 0) (xs ys : List X) → AllByRecursion P xs → AllByRecursion P ys → AllByRecursion P (xs ++ ys)
-all_append P [] ys h g = g
-all_append P (x ∷ xs) ys h g = (h.0, all_append P xs ys h.1 g)
 
 differ_one : (from : ℕ) (table : Text) (place : ℕ) (columns : List Column) → AllByRecursion (λ c. IsDistinct bytes_eq c.keys) columns → AllByRecursion (λ c. IsDistinct bytes_eq c.column.keys) (map (λ c. titled from table c.0 c.1) (enumerate_from place columns))
 differ_one from table place [] h = tt

@@ -1,5 +1,5 @@
 -- The verdict, from what was found out of a trace.
-use Rattle.std.proofs.Common.{◌≡◌, refl, ap, sym, ◌∙◌, ℕ, ◌^◌, ◌<◌, List, Bool, true, false, flat_map, length, map, take, subst}
+use Rattle.std.proofs.Common.{◌≡◌, ap, sym, ◌∙◌, ℕ, ◌^◌, ◌<◌, List, Bool, true, false, flat_map, length, map, take, subst}
 use Rattle.std.specs.Prelude.{IfOk, Result, Ok, Err}
 use Rattle.std.specs.List.{AllByRecursion}
 use Rattle.lake_model.specs.Texts.{Text}
@@ -17,17 +17,12 @@ use Rattle.trace_numbers.specs.Positions.{numbers_pass}
 use Rattle.trace_ends.specs.Ends.{EndsDecide, IsWhole}
 use Rattle.trace_check.specs.Checking.{AreChecked, CheckerOf, HasRecord}
 use Rattle.trace_check.specs.Right.{AreOptionsOf, IsRight}
+use Rattle.trace_numbers.proofs.PassLemmas.{same_tests}
 
 -- two facts of a result, taken together
 pub ok_both : {X E : Type 0} (result : Result X E) (P Q R : X → Type 0) → IfOk result P → IfOk result Q → ((x : X) → P x → Q x → R x) → IfOk result R
 ok_both (Ok x) P Q R p q both = both x p q
 ok_both (Err e) P Q R p q both = tt
-
-same_truth : (a b : Bool) → (a ≡ true → b ≡ true) → (b ≡ true → a ≡ true) → a ≡ b
-same_truth true true there back = refl
-same_truth true false there back = sym (there refl)
-same_truth false true there back = back refl
-same_truth false false there back = refl
 
 -- what is known of the batches and of all their commands
 pub record AreGiven (lanes : ℕ) (merge : Bool) (batches : List Batch) (commands : List Command) : Type 0 where
@@ -56,7 +51,7 @@ decided decide rules options lanes merge batches trace commands hints texts give
 pub judged : EndsDecide → (rules : Rules) (options : Options) (lanes : ℕ) (merge : Bool) (batches : List Batch) (trace : Text) (commands : List Command) (hints : List Hint) (texts : List Text) → AreGiven lanes merge batches commands → AreOptionsOf lanes merge options
     → AreRead trace hints texts → (b : Bool) → (b ≡ true → IsRight rules lanes merge batches commands hints texts) → (IsRight rules lanes merge batches commands hints texts → b ≡ true) → b ≡ verdict rules options batches trace
 judged decide rules options lanes merge batches trace commands hints texts given are found b sound complete =
-    same_truth b (verdict rules options batches trace) (λ right. d.1 (whole_of (sound right))) (λ said. complete (right_of (d.0 said).1))
+    same_tests b (verdict rules options batches trace) (λ right. d.1 (whole_of (sound right))) (λ said. complete (right_of (d.0 said).1))
   where
     first : List Hint
     first = take (length commands) hints

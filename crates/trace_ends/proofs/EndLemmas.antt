@@ -2,14 +2,14 @@
 use Rattle.std.proofs.Common.{◌≡◌, refl, ap, sym, ◌∙◌, ℕ, suc, ◌+◌, ◌^◌, ◌<◌, List, [], ◌∷◌, ◌++◌, append_assoc, map, flat_map, length, length-append, get_or, subst, Bool, true, false, arith}
 use Rattle.std.specs.Prelude.{◌==◌, ◌&&◌, bytes_eq, nat_lt, slice_get, zip, Some}
 use Rattle.std.specs.List.{AllByRecursion, list_all}
-use Rattle.std.proofs.lemmas.Bool.{eqb-true}
+use Rattle.std.proofs.lemmas.Bool.{eqb-true, and_parts}
 use Rattle.std.proofs.lemmas.Bool.Decides.{nat_tests}
 use Rattle.std.proofs.lemmas.Grind.{flat_map-append}
 use Rattle.std.proofs.lemmas.List.{append-nil, ext_get_or, get_or-map, get_or_append_left, length-map}
 use Rattle.std.proofs.lemmas.Option.{slice_get-get_or}
 use Rattle.std.proofs.lemmas.Slice.Zip.{get_or-zip}
 use Rattle.std.proofs.Math.Seq.{get_or-append_seam}
-use Rattle.list_laws.proofs.ListLemmas.{all_tested, both, joined, texts_same}
+use Rattle.list_laws.proofs.ListLemmas.{all_tested, joined, texts_same, all_at}
 use Rattle.lake_model.specs.Texts.{Text}
 use Rattle.lake_model.specs.Journal.{Entry}
 use Rattle.lake_model.specs.Layout.{is_legal}
@@ -31,7 +31,7 @@ use Rattle.trace_laws.proofs.LineLemmas.{all_lines_of, text_lines}
 use Rattle.trace_laws.proofs.PassingLemmas.{hint_is}
 use Rattle.trace_groups.specs.Pieces.{group_text}
 use Rattle.trace_numbers.specs.Positions.{PassesNumbers, numbers_pass}
-use Rattle.trace_numbers.proofs.PassLemmas.{all_at, told_zip}
+use Rattle.trace_numbers.proofs.PassLemmas.{told_zip}
 use Rattle.trace_ends.specs.Ends.{EndsDecide, IsWhole, journal_of}
 
 -- ---- commands with their hints
@@ -132,7 +132,7 @@ enough_hints : (lanes : ℕ) (merge : Bool) (batches : List Batch) (hints : List
 enough_hints lanes merge batches hints passed =
     let hinted : List Hinted = hinted_zip (all_commands merge 1 batches) hints in
     eqb-true (length hints) (length (all_commands merge 1 batches))
-    (both (length hints == length (all_commands merge 1 batches)) (are_apart hinted && (is_filled hinted (counted hinted) && batches_rise lanes merge 1 0 batches hints)) passed).0
+    (and_parts (length hints == length (all_commands merge 1 batches)) (are_apart hinted && (is_filled hinted (counted hinted) && batches_rise lanes merge 1 0 batches hints)) passed).0
 
 abbrev Facts : Rules → Options → List Batch → Text → Type 0
 Facts rules options batches trace = IsWhole rules options batches trace (all_commands options.merge 1 batches) (hints_of batches options.merge trace) (map group_text (groups_of trace))
@@ -146,9 +146,9 @@ facts_of law rules options batches trace of names traced few said =
     let journal : List Entry = journal_of rules commands hints in
     let made : RunRecord = remade_of rules options batches hints in
     let last : Text = group_text (journal_lines journal) in
-    let passed = both (passes rules options batches hints) (bytes_eq (text made) trace) said in
-    let numbers = both (numbers_pass options.lanes options.merge batches hints) (list_all (tells rules journal) hinted && is_legal journal) (sym (law rules options batches hints) ∙ passed.0) in
-    let replies = both (list_all (tells rules journal) hinted) (is_legal journal) numbers.1 in
+    let passed = and_parts (passes rules options batches hints) (bytes_eq (text made) trace) said in
+    let numbers = and_parts (numbers_pass options.lanes options.merge batches hints) (list_all (tells rules journal) hinted && is_legal journal) (sym (law rules options batches hints) ∙ passed.0) in
+    let replies = and_parts (list_all (tells rules journal) hinted) (is_legal journal) numbers.1 in
     let size : length hints ≡ length commands = enough_hints options.lanes options.merge batches hints numbers.0 in
     let groups = verdict_groups rules options batches trace of names traced few said in
     let is = (verdict_decides rules options batches trace of names traced few).0 said in

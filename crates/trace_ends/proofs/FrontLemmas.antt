@@ -4,7 +4,7 @@ use Rattle.std.specs.Prelude.{◌==◌, ◌&&◌, find}
 use Rattle.std.specs.List.{list_all}
 use Rattle.std.proofs.lemmas.List.{length-map, take-take}
 use Rattle.std.proofs.Math.Seq.{take-length}
-use Rattle.list_laws.proofs.ListLemmas.{both}
+use Rattle.std.proofs.lemmas.Bool.{and_parts}
 use Rattle.lake_model.specs.Journal.{Entry, What, entry_with}
 use Rattle.lake_model.specs.Plan.{plan}
 use Rattle.script_model.specs.Commands.{AsOf, Command, Contain, DropTable, Like, Load, LoadFile, Merge, Replace, Search, Tables, Task, command_with}
@@ -202,8 +202,8 @@ pub fronts_are_whole : FrontsAreWhole
 fronts_are_whole rules lanes merge batches hints of passed told q le =
     let commands : List Command = all_commands merge 1 batches in
     let hinted : List Hinted = hinted_zip commands hints in
-    let a = both (length hints == length commands) (are_apart hinted && (is_filled hinted (counted hinted) && batches_rise lanes merge 1 0 batches hints)) passed in
-    let b = both (are_apart hinted) (is_filled hinted (counted hinted) && batches_rise lanes merge 1 0 batches hints) a.1 in
-    let c = both (is_filled hinted (counted hinted)) (batches_rise lanes merge 1 0 batches hints) b.1 in
+    let a = and_parts (length hints == length commands) (are_apart hinted && (is_filled hinted (counted hinted) && batches_rise lanes merge 1 0 batches hints)) passed in
+    let b = and_parts (are_apart hinted) (is_filled hinted (counted hinted) && batches_rise lanes merge 1 0 batches hints) a.1 in
+    let c = and_parts (is_filled hinted (counted hinted)) (batches_rise lanes merge 1 0 batches hints) b.1 in
     let long : length (rebuilt rules hinted q) ≡ q = all_long rules commands hints q (record { are = positions_within lanes merge batches commands hints of refl passed; apart = b.0; filled = c.0; tell = told }) le in
     (long, rebuilt_front rules hinted (counted hinted) q le long)

@@ -2,8 +2,8 @@
 use Rattle.std.proofs.Common.{◌≡◌, refl, ap, sym, ◌∙◌, subst, ℕ, zero, suc, ◌+◌, ◌≤◌, ◌<◌, List, [], ◌∷◌, ◌++◌, length, get_or, take, drop, Bool, true, false, Option, Some, None, arith}
 use Rattle.std.specs.Prelude.{◌==◌, ◌&&◌, is_some}
 use Rattle.std.specs.List.{AllByRecursion, list_all, range_with_len}
-use Rattle.std.proofs.lemmas.Bool.{eq-eqb, eqb-true}
-use Rattle.list_laws.proofs.ListLemmas.{all_append, both}
+use Rattle.std.proofs.lemmas.Bool.{eq-eqb, eqb-true, and_parts}
+use Rattle.list_laws.proofs.ListLemmas.{all_append}
 use Rattle.script_model.specs.Commands.{Batch, Command, updates}
 use Rattle.script_model.specs.Lanes.{IsOfLanes}
 use Rattle.record_model.specs.Answered.{Nowhere, Saw, Added, PlannedAndSaw, PlannedAndAdded}
@@ -116,7 +116,7 @@ batches_within lanes size merge next from (batch ∷ batches) hints of rising le
     let sync : ℕ = from + counted now in
     let parts : now ++ more ≡ hinted_zip (commands ++ later) hints = zip_append commands later hints in
     let count : counted (hinted_zip (commands ++ later) hints) ≡ counted now + counted more = ap counted (sym parts) ∙ counted_append now more in
-    let k = both (list_all (lane_rises now from sync) (range_with_len 0 (lanes + 1))) (batches_rise lanes merge (next + updates batch) sync batches (drop (length commands) hints)) rising in
+    let k = and_parts (list_all (lane_rises now from sync) (range_with_len 0 (lanes + 1))) (batches_rise lanes merge (next + updates batch) sync batches (drop (length commands) hints)) rising in
     subst (AreWithin size) parts
     (all_append (λ (h : Hinted). IsWithin size h.hint) now more (batch_within lanes size from sync merge next batch (take (length commands) hints) (omega (arith, le, count)) of.0 k.0)
     (batches_within lanes size merge (next + updates batch) sync batches (drop (length commands) hints) of.1 k.1 (omega (arith, le, count))))
@@ -131,9 +131,9 @@ all_positions : (lanes : ℕ) (merge : Bool) (batches : List Batch) (hints : Lis
 all_positions lanes merge batches hints of passed =
     let commands : List Command = all_commands merge 1 batches in
     let hinted : List Hinted = hinted_zip commands hints in
-    let a = both (length hints == length commands) (are_apart hinted && (is_filled hinted (counted hinted) && batches_rise lanes merge 1 0 batches hints)) passed in
-    let b = both (are_apart hinted) (is_filled hinted (counted hinted) && batches_rise lanes merge 1 0 batches hints) a.1 in
-    let c = both (is_filled hinted (counted hinted)) (batches_rise lanes merge 1 0 batches hints) b.1 in
+    let a = and_parts (length hints == length commands) (are_apart hinted && (is_filled hinted (counted hinted) && batches_rise lanes merge 1 0 batches hints)) passed in
+    let b = and_parts (are_apart hinted) (is_filled hinted (counted hinted) && batches_rise lanes merge 1 0 batches hints) a.1 in
+    let c = and_parts (is_filled hinted (counted hinted)) (batches_rise lanes merge 1 0 batches hints) b.1 in
     let one_each : length hints ≡ length commands = eqb-true (length hints) (length commands) a.0 in
     let size : counted hinted ≡ accepted_of hints = counted_is hinted ∙ ap accepted_of (told_zip commands hints one_each) in
     let all : AreWithin (accepted_of hints) hinted = batches_within lanes (accepted_of hints) merge 1 0 batches hints of c.1 (omega (arith, size)) in

@@ -2,10 +2,10 @@
 use Rattle.std.proofs.Common.{◌≡◌, refl, ap, sym, ◌∙◌, subst, ℕ, zero, suc, ◌+◌, ◌-◌, ◌≤◌, ◌<◌, List, [], ◌∷◌, ◌++◌, map, flat_map, length, take, drop, Bool, true, false, not, arith}
 use Rattle.std.specs.Prelude.{nat_le, ◌==◌, ◌&&◌, ◌||◌, filter}
 use Rattle.std.specs.List.{AllByRecursion, list_all, list_any, range_with_len}
-use Rattle.std.proofs.lemmas.Bool.{eq-eqb, eqb-true}
+use Rattle.std.proofs.lemmas.Bool.{eq-eqb, eqb-true, and_parts}
 use Rattle.std.proofs.lemmas.Bool.Decides.{nat_tests}
 use Rattle.std.specs.Prelude.{bytes_eq}
-use Rattle.list_laws.proofs.ListLemmas.{both, same_texts, texts_same}
+use Rattle.list_laws.proofs.ListLemmas.{same_texts, texts_same}
 use Rattle.std.proofs.lemmas.List.{take-map, drop-map, length-map}
 use Rattle.std.proofs.Math.Seq.{take-append_seam}
 use Rattle.record_model.specs.Rules.{Rules}
@@ -116,8 +116,8 @@ one_hint (Stands (PlannedAndAdded pinned at)) n = one_position at n
 total_counted : (hinted : List Hinted) (n : ℕ) → total (λ l. count_at (suc l) hinted) n ≤ counted hinted
 total_counted [] n = let e = total_zero (λ l. 0) n (λ l. refl) in omega (arith, e)
 total_counted (h ∷ hinted) n =
-    let both = total_both (λ l. count_at (suc l) (h ∷ hinted)) (λ l. once 1 (is_at (suc l) h.hint)) (λ l. count_at (suc l) hinted) n (λ l. refl) in
-    omega (arith, both, one_hint h.hint n, total_counted hinted n)
+    let and_parts = total_both (λ l. count_at (suc l) (h ∷ hinted)) (λ l. once 1 (is_at (suc l) h.hint)) (λ l. count_at (suc l) hinted) n (λ l. refl) in
+    omega (arith, and_parts, one_hint h.hint n, total_counted hinted n)
 
 some_count : (n : ℕ) (hinted : List Hinted) → list_any (λ (h : Hinted). is_at n h.hint) hinted ≡ true → 1 ≤ count_at n hinted
 some_count n [] h = cc
@@ -139,7 +139,7 @@ filled_at hinted zero l h below = absurd (omega (arith, below))
 filled_at hinted (suc n) l h below = by (l == n) refl (filled_at hinted n l k.1)
   where
     k : (list_any (λ (h : Hinted). is_at (suc n) h.hint) hinted ≡ true) × (is_filled hinted n ≡ true)
-    k = both (list_any (λ (h : Hinted). is_at (suc n) h.hint) hinted) (is_filled hinted n) h
+    k = and_parts (list_any (λ (h : Hinted). is_at (suc n) h.hint) hinted) (is_filled hinted n) h
 
     by : (b : Bool) → (l == n) ≡ b → (l < n → list_any (λ (h : Hinted). is_at (suc l) h.hint) hinted ≡ true) → list_any (λ (h : Hinted). is_at (suc l) h.hint) hinted ≡ true
     by true e rest = subst (λ (m : ℕ). list_any (λ (h : Hinted). is_at (suc m) h.hint) hinted ≡ true) (sym (eqb-true l n e)) k.0
@@ -256,7 +256,7 @@ pub verdict_decides : VerdictDecides
 verdict_decides rules options batches trace of names traced few = (
   (λ h.
       let hints : List Hint = hints_of batches options.merge trace in
-      let k = both (passes rules options batches hints) (bytes_eq (text (remade_of rules options batches hints)) trace) h in
+      let k = and_parts (passes rules options batches hints) (bytes_eq (text (remade_of rules options batches hints)) trace) h in
       record {
         right = passing_is_right rules options batches hints of k.0;
         options_are = refl;

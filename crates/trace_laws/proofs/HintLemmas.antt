@@ -3,7 +3,7 @@ use Rattle.std.proofs.Common.{◌≡◌, refl, ap, ◌∙◌, ℕ, ◌≤◌, in
 use Rattle.std.proofs.lemmas.Bool.Decides.{nat_tests}
 use Rattle.std.specs.Prelude.{◌&&◌, nat_lt, nat_le}
 use Rattle.std.proofs.lemmas.List.{take-append-le}
-use Rattle.list_laws.proofs.ListLemmas.{both}
+use Rattle.std.proofs.lemmas.Bool.{and_parts}
 use Rattle.record_model.specs.Rules.{Rules}
 use Rattle.lake_model.specs.Journal.{Entry}
 use Rattle.script_model.specs.Commands.{Command}
@@ -57,7 +57,7 @@ is_so_behind false low at h = true_le low at h
 
 pub rises_is : (low : ℕ) (ms : List Moment) (high : ℕ) → rises low ms high ≡ true → Rises low ms high
 rises_is low [] high h = le_true low high h
-rises_is low (m ∷ ms) high h = let k = both (is_behind m.own low m.at) (rises m.at ms high) h in (behind_is m.own low m.at k.0, rises_is m.at ms high k.1)
+rises_is low (m ∷ ms) high h = let k = and_parts (is_behind m.own low m.at) (rises m.at ms high) h in (behind_is m.own low m.at k.0, rises_is m.at ms high k.1)
 
 pub is_so_rising : (low : ℕ) (ms : List Moment) (high : ℕ) → Rises low ms high → rises low ms high ≡ true
 is_so_rising low [] high h = true_le low high h

@@ -2,8 +2,8 @@
 use Rattle.std.proofs.Common.{◌+◌, ◌≤◌, ◌≡◌, refl, ap, sym, ◌∙◌, subst, ℕ, zero, suc, ◌<◌, List, [], ◌∷◌, ◌++◌, flat_map, length, Bool, true, false, cond, arith}
 use Rattle.std.specs.Prelude.{◌==◌, ◌&&◌, nat_le, filter, get_or, replicate, slice_set, Option, Some, None}
 use Rattle.std.specs.List.{AllByRecursion, list_all}
-use Rattle.std.proofs.lemmas.Bool.{eq-eqb, eqb-true}
-use Rattle.list_laws.proofs.ListLemmas.{both, not_both}
+use Rattle.std.proofs.lemmas.Bool.{eq-eqb, eqb-true, and_parts}
+use Rattle.list_laws.proofs.ListLemmas.{not_both}
 use Rattle.std.proofs.lemmas.List.{get_or-set_same, get_or-set_other, length-set, length-replicate, get_or-replicate}
 use Rattle.record_model.specs.Right.{Moment}
 use Rattle.trace_laws.specs.Checks.{is_behind, rises}
@@ -34,8 +34,8 @@ set_other lows m l low e = get_or-set_other lows m l low 0 (λ same. not_both �
 
 all_low : (to : ℕ) (lows : List ℕ) (l : ℕ) → list_all (λ low. nat_le low to) lows ≡ true → l < length lows → nat_le (get_or lows l 0) to ≡ true
 all_low to [] l h below = absurd (omega (arith, below))
-all_low to (x ∷ lows) zero h below = (both (nat_le x to) (list_all (λ low. nat_le low to) lows) h).0
-all_low to (x ∷ lows) (suc l) h below = all_low to lows l (both (nat_le x to) (list_all (λ low. nat_le low to) lows) h).1 (omega (arith, below))
+all_low to (x ∷ lows) zero h below = (and_parts (nat_le x to) (list_all (λ low. nat_le low to) lows) h).0
+all_low to (x ∷ lows) (suc l) h below = all_low to lows l (and_parts (nat_le x to) (list_all (λ low. nat_le low to) lows) h).1 (omega (arith, below))
 
 low_all : (to : ℕ) (lows : List ℕ) → ((l : ℕ) → l < length lows → nat_le (get_or lows l 0) to ≡ true) → list_all (λ low. nat_le low to) lows ≡ true
 low_all to [] h = refl

@@ -31,7 +31,8 @@ use Rattle.record_model.specs.Play.{Done, who_of, merger_commands}
 use Rattle.script_model.specs.Commands.{updates}
 use Rattle.script_model.specs.Lanes.{IsOfLanes}
 use Rattle.record_model.specs.Right.{pinned_by, made_by, IsRecordRight}
-use Rattle.list_laws.proofs.ListLemmas.{all_append, all_filter, both}
+use Rattle.list_laws.proofs.ListLemmas.{all_append, all_filter}
+use Rattle.std.proofs.lemmas.Bool.{and_parts}
 use Rattle.trace_laws.specs.Hints.{Hint, Wanting, Stands, reply_by}
 use Rattle.trace_laws.specs.Checks.{dones}
 use Rattle.trace_laws.specs.Rebuilt.{Hinted, is_at, pinned_of, put_by, rebuilt, all_dones, hinted_of, answer_again}
@@ -335,13 +336,13 @@ right_named rules lanes merge batches made of named right =
 
 -- a table's name is clean
 pub name_clean : (name : Text) → is_name name ≡ true → IsName name
-name_clean name h = bytes_clean name (both (nat_le 1 (length name) && nat_le (length name) 255) (list_all (λ byte. nat_le 0x21 byte && nat_le byte 0x7E) name) h).1
+name_clean name h = bytes_clean name (and_parts (nat_le 1 (length name) && nat_le (length name) 255) (list_all (λ byte. nat_le 0x21 byte && nat_le byte 0x7E) name) h).1
   where
     byte_clean : (byte : ℕ) → (nat_le 0x21 byte && nat_le byte 0x7E) ≡ true → (not (byte == 0x20) && not (byte == 0x0A)) ≡ true
-    byte_clean byte h = let low = (both (nat_le 0x21 byte) (nat_le byte 0x7E) h).0 in grind (arith, nat_tests, low)
+    byte_clean byte h = let low = (and_parts (nat_le 0x21 byte) (nat_le byte 0x7E) h).0 in grind (arith, nat_tests, low)
 
     bytes_clean : (bytes : Text) → list_all (λ byte. nat_le 0x21 byte && nat_le byte 0x7E) bytes ≡ true → is_clean bytes ≡ true
     bytes_clean [] h = refl
     bytes_clean (x ∷ bytes) h =
-        let k = both (nat_le 0x21 x && nat_le x 0x7E) (list_all (λ byte. nat_le 0x21 byte && nat_le byte 0x7E) bytes) h in
+        let k = and_parts (nat_le 0x21 x && nat_le x 0x7E) (list_all (λ byte. nat_le 0x21 byte && nat_le byte 0x7E) bytes) h in
         ap (λ (b : Bool). b && is_clean bytes) (byte_clean x k.0) ∙ bytes_clean bytes k.1

@@ -3,7 +3,7 @@ use Rattle.std.proofs.Common.{◌≡◌, refl, ap, sym, ◌∙◌, subst, ℕ, z
 use Rattle.std.specs.Prelude.{◌==◌, ◌&&◌, ◌||◌, filter, find, slice_get, Option, Some}
 use Rattle.std.specs.List.{AllByRecursion, list_all, list_any, range_with_len}
 use Rattle.std.proofs.lemmas.List.{append-nil, map-append, take-take, take-map, drop-map, length-map}
-use Rattle.std.proofs.lemmas.Bool.{eq-eqb, eqb-true}
+use Rattle.std.proofs.lemmas.Bool.{eq-eqb, eqb-true, and_parts}
 use Rattle.std.proofs.lemmas.Bool.Decides.{nat_tests}
 use Rattle.std.proofs.Math.Seq.{take-append_seam}
 use Rattle.lake_model.specs.declared.Who.{Who}
@@ -18,7 +18,7 @@ use Rattle.record_model.specs.Play.{Done, who_of, merger_commands}
 use Rattle.script_model.specs.Commands.{updates}
 use Rattle.script_model.specs.Lanes.{IsOfLanes}
 use Rattle.record_model.specs.Right.{Moment, moments, moments_by, answer_by, at_position, entries_by}
-use Rattle.list_laws.proofs.ListLemmas.{all_append, all_left, all_right, both, drop_seam}
+use Rattle.list_laws.proofs.ListLemmas.{all_append, all_left, all_right, drop_seam}
 use Rattle.trace_laws.specs.Hints.{Hint, Wanting, Stands, hint_of, reply_by}
 use Rattle.trace_laws.specs.Checks.{dones, rises, IsMadeAgain, AreEntered, AreBatchesChecked}
 use Rattle.trace_laws.specs.Rebuilt.{Hinted, hinted_with, is_at, pinned_of, put_by, rebuilt, all_dones, hinted_of, answer_again}
@@ -36,8 +36,8 @@ standing_is : (s t : Standing) → same_standing s t ≡ true → s ≡ t
 standing_is Nowhere Nowhere h = refl
 standing_is (Saw a) (Saw b) h = ap Saw (eqb-true a b h)
 standing_is (Added a) (Added b) h = ap Added (eqb-true a b h)
-standing_is (PlannedAndSaw p a) (PlannedAndSaw q b) h = let k = both (p == q) (a == b) h in ap (λ (n : ℕ). PlannedAndSaw n a) (eqb-true p q k.0) ∙ ap (PlannedAndSaw q) (eqb-true a b k.1)
-standing_is (PlannedAndAdded p a) (PlannedAndAdded q b) h = let k = both (p == q) (a == b) h in ap (λ (n : ℕ). PlannedAndAdded n a) (eqb-true p q k.0) ∙ ap (PlannedAndAdded q) (eqb-true a b k.1)
+standing_is (PlannedAndSaw p a) (PlannedAndSaw q b) h = let k = and_parts (p == q) (a == b) h in ap (λ (n : ℕ). PlannedAndSaw n a) (eqb-true p q k.0) ∙ ap (PlannedAndSaw q) (eqb-true a b k.1)
+standing_is (PlannedAndAdded p a) (PlannedAndAdded q b) h = let k = and_parts (p == q) (a == b) h in ap (λ (n : ℕ). PlannedAndAdded n a) (eqb-true p q k.0) ∙ ap (PlannedAndAdded q) (eqb-true a b k.1)
 standing_is s t h = cc
 
 pub hint_is : (h k : Hint) → same_hint h k ≡ true → h ≡ k
@@ -58,7 +58,7 @@ told_hints rules journal [] (h ∷ hints) size told = let none : suc (length hin
 told_hints rules journal (c ∷ commands) [] size told = refl
 told_hints rules journal (c ∷ commands) (h ∷ hints) size told =
     let more : suc (length hints) ≡ suc (length commands) = size in
-    let k = both (tells rules journal (hinted_with c h)) (list_all (tells rules journal) (hinted_zip commands hints)) told in
+    let k = and_parts (tells rules journal (hinted_with c h)) (list_all (tells rules journal) (hinted_zip commands hints)) told in
     ap (λ (x : Hint). x ∷ map reply_hint (map (answer_again rules journal) (hinted_zip commands hints))) (hint_is (hint_of (reply_by rules journal c h)) h k.0)
     ∙ ap (λ (xs : List Hint). h ∷ xs) (told_hints rules journal commands hints (omega (arith, more)) k.1)
 
@@ -93,7 +93,7 @@ again_zip : (rules : Rules) (journal : List Entry) (commands : List Command) (hi
 again_zip rules journal [] hints told = tt
 again_zip rules journal (c ∷ commands) [] told = tt
 again_zip rules journal (c ∷ commands) (h ∷ hints) told =
-    let k = both (tells rules journal (hinted_with c h)) (list_all (tells rules journal) (hinted_zip commands hints)) told in
+    let k = and_parts (tells rules journal (hinted_with c h)) (list_all (tells rules journal) (hinted_zip commands hints)) told in
     (ap (reply_by rules journal c) (sym (hint_is (hint_of (reply_by rules journal c h)) h k.0)), again_zip rules journal commands hints k.1)
 
 -- ---- the journal that is rebuilt
@@ -133,7 +133,7 @@ get_begun [] ys e = refl
 get_begun (x ∷ xs) ys e = get_begun xs ys e
 
 filled_down : (hinted : List Hinted) (n : ℕ) → is_filled hinted (suc n) ≡ true → (list_any (λ (h : Hinted). is_at (suc n) h.hint) hinted ≡ true) × (is_filled hinted n ≡ true)
-filled_down hinted n h = both (list_any (λ (h : Hinted). is_at (suc n) h.hint) hinted) (is_filled hinted n) h
+filled_down hinted n h = and_parts (list_any (λ (h : Hinted). is_at (suc n) h.hint) hinted) (is_filled hinted n) h
 
 -- the entry at position n + 1
 next_by : (rules : Rules) (journal : List Entry) (hinted : List Hinted) (n k : ℕ) → journal ≡ rebuilt rules hinted (k + n) → length (rebuilt rules hinted n) ≡ n → (h : Hinted) → find (λ (h : Hinted). is_at (suc n) h.hint) hinted ≡ Some h → Fine rules journal h → is_at (suc n) h.hint ≡ true
@@ -223,7 +223,7 @@ found_more x hinted (y ∷ some) apart h = ((λ n at. by n at (is_at n x.hint) r
 apart_found : (hinted : List Hinted) → are_apart hinted ≡ true → AllByRecursion (FoundIn hinted) hinted
 apart_found [] h = tt
 apart_found (x ∷ hinted) h =
-    let k = both (is_apart x.hint hinted) (are_apart hinted) h in
+    let k = and_parts (is_apart x.hint hinted) (are_apart hinted) h in
     ((λ n at. ap (λ (b : Bool). cond b (Some x) (find (λ (z : Hinted). is_at n z.hint) hinted)) at), found_more x hinted hinted k.0 (apart_found hinted k.1))
 
 -- ---- positions along lanes
@@ -233,7 +233,7 @@ in_range f low zero l h above below = absurd (omega (arith, above, below))
 in_range f low (suc size) l h above below = by (low == l) refl (in_range f (low + 1) size l k.1)
   where
     k : (f low ≡ true) × (list_all f (range_with_len (low + 1) size) ≡ true)
-    k = both (f low) (list_all f (range_with_len (low + 1) size)) h
+    k = and_parts (f low) (list_all f (range_with_len (low + 1) size)) h
 
     by : (b : Bool) → (low == l) ≡ b → (low + 1 ≤ l → l < low + 1 + size → f l ≡ true) → f l ≡ true
     by true e rest = subst (λ (m : ℕ). f m ≡ true) (eqb-true low l e) k.0
@@ -342,7 +342,7 @@ batch_rises lanes merge next from batch batches answers h =
     let hinted : List Hinted = hinted_zip commands (take (length commands) (map reply_hint answers)) in
     let sync : ℕ = from + counted hinted in
     let same : hinted_of (dones commands now) ≡ hinted = zip_hints commands now ∙ ap (hinted_zip commands) (sym (take-map reply_hint (length commands) answers)) in
-    let k = both (list_all (lane_rises hinted from sync) (range_with_len 0 (lanes + 1))) (batches_rise lanes merge (next + updates batch) sync batches (drop (length commands) (map reply_hint answers))) h in (
+    let k = and_parts (list_all (lane_rises hinted from sync) (range_with_len 0 (lanes + 1))) (batches_rise lanes merge (next + updates batch) sync batches (drop (length commands) (map reply_hint answers))) h in (
       record {
         sync_is = ap (λ (hs : List Hinted). from + counted hs) (sym same);
         rising = λ lane under. ap (λ (ms : List Moment). rises from ms sync) (sym (lane_moments lane (dones commands now)) ∙ ap (λ (hs : List Hinted). flat_map (λ (h : Hinted). moments_of h.hint) (filter (λ (h : Hinted). h.command.lane == lane) hs)) same)
@@ -477,11 +477,11 @@ passing_is_right rules options batches hints of h =
     let answers : List Answered = map (answer_again rules journal) hinted in
     let done : List Done = all_dones options.merge 1 batches answers in
     let made : RunRecord = remade_of rules options batches hints in
-    let a = both (length hints == length commands) (are_apart hinted && (is_filled hinted size && (batches_rise options.lanes options.merge 1 0 batches hints && (list_all (tells rules journal) hinted && is_legal journal)))) h in
-    let b = both (are_apart hinted) (is_filled hinted size && (batches_rise options.lanes options.merge 1 0 batches hints && (list_all (tells rules journal) hinted && is_legal journal))) a.1 in
-    let c = both (is_filled hinted size) (batches_rise options.lanes options.merge 1 0 batches hints && (list_all (tells rules journal) hinted && is_legal journal)) b.1 in
-    let d = both (batches_rise options.lanes options.merge 1 0 batches hints) (list_all (tells rules journal) hinted && is_legal journal) c.1 in
-    let e = both (list_all (tells rules journal) hinted) (is_legal journal) d.1 in
+    let a = and_parts (length hints == length commands) (are_apart hinted && (is_filled hinted size && (batches_rise options.lanes options.merge 1 0 batches hints && (list_all (tells rules journal) hinted && is_legal journal)))) h in
+    let b = and_parts (are_apart hinted) (is_filled hinted size && (batches_rise options.lanes options.merge 1 0 batches hints && (list_all (tells rules journal) hinted && is_legal journal))) a.1 in
+    let c = and_parts (is_filled hinted size) (batches_rise options.lanes options.merge 1 0 batches hints && (list_all (tells rules journal) hinted && is_legal journal)) b.1 in
+    let d = and_parts (batches_rise options.lanes options.merge 1 0 batches hints) (list_all (tells rules journal) hinted && is_legal journal) c.1 in
+    let e = and_parts (list_all (tells rules journal) hinted) (is_legal journal) d.1 in
     let enough : length hints ≡ length commands = eqb-true (length hints) (length commands) a.0 in
     let hints_are : map reply_hint answers ≡ hints = told_hints rules journal commands hints enough e.0 in
     let zipped : hinted_of done ≡ hinted = all_hinted options.merge 1 batches answers ∙ ap (hinted_zip commands) hints_are in

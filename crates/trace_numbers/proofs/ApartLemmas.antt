@@ -2,10 +2,10 @@
 use Rattle.std.proofs.Common.{◌≡◌, refl, ap, sym, ◌∙◌, subst, ℕ, zero, suc, ◌<◌, List, [], ◌∷◌, map, length, get_or, Bool, true, false, not, cond, Option, Some, None, arith}
 use Rattle.std.specs.Prelude.{◌==◌, ◌||◌, find, is_some, nat_lt, slice_get}
 use Rattle.std.specs.List.{list_any}
-use Rattle.std.proofs.lemmas.Bool.{eq-eqb, eqb-true}
+use Rattle.std.proofs.lemmas.Bool.{eq-eqb, eqb-true, and_parts}
 use Rattle.std.proofs.lemmas.Bool.Decides.{nat_tests}
 use Rattle.std.proofs.lemmas.List.Sums.{sum_by-cons}
-use Rattle.list_laws.proofs.ListLemmas.{both, joined}
+use Rattle.list_laws.proofs.ListLemmas.{joined}
 use Rattle.record_model.specs.Answered.{Nowhere, Saw, Added, PlannedAndSaw, PlannedAndAdded}
 use Rattle.trace_laws.specs.Hints.{Hint, Wanting, Stands}
 use Rattle.trace_laws.specs.Rebuilt.{Hinted, is_at}
@@ -80,12 +80,12 @@ apart_two : (hinted : List Hinted) (p i j : ℕ) → are_apart hinted ≡ true �
 apart_two [] p i j apart low hi hj = cc
 apart_two (x ∷ hinted) p i zero apart low hi hj = absurd (omega (arith, low))
 apart_two (x ∷ hinted) p zero (suc j) apart low hi hj =
-    let first = both (is_apart x.hint hinted) (are_apart hinted) apart in
+    let first = and_parts (is_apart x.hint hinted) (are_apart hinted) apart in
     let no : not (list_any (λ (h : Hinted). is_at p h.hint) hinted) ≡ true = sym (apart_own x.hint hinted p (at_own x.hint p hi)) ∙ first.0 in
     let has : list_any (λ (h : Hinted). is_at p h.hint) hinted ≡ true = index_any p j hinted hj in
     let none : false ≡ true = sym (ap not has) ∙ no in
     cc
-apart_two (x ∷ hinted) p (suc i) (suc j) apart low hi hj = apart_two hinted p i j (both (is_apart x.hint hinted) (are_apart hinted) apart).1 (omega (arith, low)) hi hj
+apart_two (x ∷ hinted) p (suc i) (suc j) apart low hi hj = apart_two hinted p i j (and_parts (is_apart x.hint hinted) (are_apart hinted) apart).1 (omega (arith, low)) hi hj
 
 pub apart_same : (hinted : List Hinted) (p i j : ℕ) → are_apart hinted ≡ true → is_at p (get_or (told hinted) i Wanting) ≡ true → is_at p (get_or (told hinted) j Wanting) ≡ true → i ≡ j
 apart_same hinted p i j apart hi hj = by (i == j) refl
@@ -121,7 +121,7 @@ filled_at hinted zero l h below = absurd (omega (arith, below))
 filled_at hinted (suc n) l h below = by (l == n) refl (filled_at hinted n l k.1)
   where
     k : (list_any (λ (h : Hinted). is_at (suc n) h.hint) hinted ≡ true) × (is_filled hinted n ≡ true)
-    k = both (list_any (λ (h : Hinted). is_at (suc n) h.hint) hinted) (is_filled hinted n) h
+    k = and_parts (list_any (λ (h : Hinted). is_at (suc n) h.hint) hinted) (is_filled hinted n) h
 
     by : (b : Bool) → (l == n) ≡ b → (l < n → list_any (λ (h : Hinted). is_at (suc l) h.hint) hinted ≡ true) → list_any (λ (h : Hinted). is_at (suc l) h.hint) hinted ≡ true
     by true e rest = subst (λ (m : ℕ). list_any (λ (h : Hinted). is_at (suc m) h.hint) hinted ≡ true) (sym (eqb-true l n e)) k.0

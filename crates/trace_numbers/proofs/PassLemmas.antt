@@ -2,11 +2,11 @@
 use Rattle.std.proofs.Common.{◌≡◌, refl, ap, sym, ◌∙◌, subst, ℕ, zero, suc, ◌+◌, ◌<◌, ◌≤◌, List, [], ◌∷◌, ◌++◌, map, length, length-append, get_or, take, drop, Bool, true, false, cond, Option, Some, None, arith}
 use Rattle.std.specs.Prelude.{◌==◌, ◌&&◌, replicate}
 use Rattle.std.specs.List.{AllByRecursion, list_all, range_with_len}
-use Rattle.std.proofs.lemmas.Bool.{eq-eqb, eqb-true}
+use Rattle.std.proofs.lemmas.Bool.{eq-eqb, eqb-true, and_parts}
 use Rattle.std.proofs.lemmas.List.{length-map, length-take-le, map-append, take-append-drop}
 use Rattle.std.proofs.lemmas.List.FromFn.{length-range_with_len}
 use Rattle.std.proofs.Math.Seq.{drop-cons, take-append_seam}
-use Rattle.list_laws.proofs.ListLemmas.{all_append, both, drop_seam}
+use Rattle.list_laws.proofs.ListLemmas.{all_append, drop_seam, all_at}
 use Rattle.script_model.specs.Commands.{Batch, Command, Merge, command_with, updates}
 use Rattle.script_model.specs.Lanes.{IsOfLanes}
 use Rattle.record_model.specs.Play.{merger_commands}
@@ -23,15 +23,10 @@ use Rattle.trace_numbers.proofs.ApartLemmas.{counted_is, told}
 
 -- ---- tests and lists
 
-same_tests : (a b : Bool) → (a ≡ true → b ≡ true) → (b ≡ true → a ≡ true) → a ≡ b
+pub same_tests : (a b : Bool) → (a ≡ true → b ≡ true) → (b ≡ true → a ≡ true) → a ≡ b
 same_tests true b h k = sym (h refl)
 same_tests false true h k = k refl
 same_tests false false h k = refl
-
-pub all_at : {X : Type 0} (P : X → Type 0) (xs : List X) (i : ℕ) (d : X) → AllByRecursion P xs → i < length xs → P (get_or xs i d)
-all_at P [] i d h low = absurd (omega (arith, low))
-all_at P (x ∷ xs) zero d h low = h.0
-all_at P (x ∷ xs) (suc i) d h low = all_at P xs i d h.1 (omega (arith, low))
 
 get_or-default : {X : Type 0} (xs : List X) (i : ℕ) (d e : X) → i < length xs → get_or xs i d ≡ get_or xs i e
 get_or-default [] i d e low = absurd (omega (arith, low))
@@ -229,7 +224,7 @@ left_more lanes merge next from sync i batch batches hints now behind rise of lo
 pub numbers_rest : (lanes : ℕ) (merge : Bool) (batches : List Batch) (hints : List Hint) → rises_whole lanes merge 1 0 batches hints ≡ true
     → let hinted = hinted_zip (all_commands merge 1 batches) hints in (told hinted ≡ hints) × ((are_apart hinted && is_filled hinted (counted hinted)) ≡ numbers_pass lanes merge batches hints)
 numbers_rest lanes merge batches hints h =
-    let parts = both (length hints == length (all_commands merge 1 batches)) (batches_rise lanes merge 1 0 batches hints) h in
+    let parts = and_parts (length hints == length (all_commands merge 1 batches)) (batches_rise lanes merge 1 0 batches hints) h in
     let hinted : List Hinted = hinted_zip (all_commands merge 1 batches) hints in (
       told_zip (all_commands merge 1 batches) hints (eqb-true (length hints) (length (all_commands merge 1 batches)) parts.0),
       by (length hints == length (all_commands merge 1 batches)) (are_apart hinted) (is_filled hinted (counted hinted)) (batches_rise lanes merge 1 0 batches hints) parts.0 parts.1,

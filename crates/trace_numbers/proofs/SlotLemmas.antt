@@ -2,11 +2,11 @@
 use Rattle.std.proofs.Common.{◌≡◌, refl, ap, sym, ◌∙◌, subst, ℕ, zero, suc, ◌+◌, ◌-◌, ◌<◌, ◌≤◌, ◌⊎◌, inl, inr, List, [], ◌∷◌, ◌++◌, map, length, get_or, take, drop, Bool, true, false, Option, Some, None, arith}
 use Rattle.std.specs.Prelude.{◌==◌, ◌&&◌, nat_lt, slice_set}
 use Rattle.std.specs.List.{list_all, list_any}
-use Rattle.std.proofs.lemmas.Bool.{eq-eqb, eqb-true}
+use Rattle.std.proofs.lemmas.Bool.{eq-eqb, eqb-true, and_parts}
 use Rattle.std.proofs.lemmas.Bool.Decides.{nat_tests}
 use Rattle.std.proofs.lemmas.List.{get_or-set_same, get_or-set_other, length-set, length-map}
 use Rattle.std.proofs.Math.Seq.{take-append_seam}
-use Rattle.list_laws.proofs.ListLemmas.{both, joined, not_both}
+use Rattle.list_laws.proofs.ListLemmas.{joined, not_both}
 use Rattle.trace_laws.specs.Hints.{Hint, Wanting}
 use Rattle.trace_laws.specs.Rebuilt.{Hinted, is_at}
 use Rattle.trace_laws.specs.Verdict.{counted}
@@ -109,7 +109,7 @@ not_whole hinted n at owners before below long own unfree = by (is_whole hinted)
 
     by : (b : Bool) → is_whole hinted ≡ b → is_whole hinted ≡ false
     by true e =
-        let parts = both (are_apart hinted) (is_filled hinted (counted hinted)) e in
+        let parts = and_parts (are_apart hinted) (is_filled hinted (counted hinted)) e in
         let within = filled_within hinted n at parts.1 own in
         let some : 0 < at = within.0 in
         let low : at ≤ counted hinted = within.1 in
@@ -127,8 +127,8 @@ refused hints n at owners before below long own unfree hinted e =
 
 all_low : (owners : List ℕ) (n p : ℕ) → list_all (λ owner. nat_lt owner n) owners ≡ true → p < length owners → get_or owners p 0 < n
 all_low [] n p h low = absurd (omega (arith, low))
-all_low (x ∷ owners) n zero h low = let k = both (nat_lt x n) (list_all (λ owner. nat_lt owner n) owners) h in grind (arith, nat_tests, k.0)
-all_low (x ∷ owners) n (suc p) h low = all_low owners n p (both (nat_lt x n) (list_all (λ owner. nat_lt owner n) owners) h).1 (omega (arith, low))
+all_low (x ∷ owners) n zero h low = let k = and_parts (nat_lt x n) (list_all (λ owner. nat_lt owner n) owners) h in grind (arith, nat_tests, k.0)
+all_low (x ∷ owners) n (suc p) h low = all_low owners n p (and_parts (nat_lt x n) (list_all (λ owner. nat_lt owner n) owners) h).1 (omega (arith, low))
 
 low_all : (owners : List ℕ) (n : ℕ) → ((p : ℕ) → p < length owners → get_or owners p 0 < n) → list_all (λ owner. nat_lt owner n) owners ≡ true
 low_all [] n h = refl
@@ -190,7 +190,7 @@ hole_whole hinted owners all long hole = by (is_whole hinted) refl
 
     by : (b : Bool) → is_whole hinted ≡ b → is_whole hinted ≡ false
     by true e =
-        let parts = both (are_apart hinted) (is_filled hinted (counted hinted)) e in
+        let parts = and_parts (are_apart hinted) (is_filled hinted (counted hinted)) e in
         absurd (not_both ⊥ (list_all (λ owner. nat_lt owner (length (told hinted))) owners) (low_all owners (length (told hinted)) (low parts.1)) hole)
     by false e = e
 

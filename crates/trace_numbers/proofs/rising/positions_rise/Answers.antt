@@ -8,7 +8,8 @@ use Rattle.trace_laws.specs.Verdict.{hinted_zip}
 use Rattle.trace_hints.specs.declared.hint.Hint.{Hint as Declared}
 use Rattle.trace_hints.specs.Told.{hint_as}
 use Rattle.trace_numbers.specs.Positions.{rises_whole}
-use Rattle.trace_numbers.proofs.PassLemmas.{all_at, below_lanes, left_more, merger_lanes}
+use Rattle.trace_numbers.proofs.PassLemmas.{below_lanes, left_more, merger_lanes}
+use Rattle.list_laws.proofs.ListLemmas.{all_at}
 use Rattle.trace_numbers.proofs.rising.positions_rise.Goals as goal
 
 pub loop-batch-init : goal.loop-batch-init

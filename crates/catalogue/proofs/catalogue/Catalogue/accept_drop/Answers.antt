@@ -4,7 +4,8 @@ use Rattle.std.specs.BTreeMap.{get_by_text}
 use Rattle.lake_model.specs.Texts.{Text}
 use Rattle.lake_model.specs.Journal.{entry_with, Dropped}
 use Rattle.lake_model.specs.Layout.{Part, layout, mark, positions_of}
-use Rattle.segment_core.specs.Distinct.{AreDistinct, unmarked_names}
+use Rattle.segment_core.specs.Distinct.{unmarked_names}
+use Rattle.list_laws.specs.Distinct.{AreDistinct}
 use Rattle.segment_core.specs.Versions.{version_with, part_at, marked_at}
 use Rattle.catalogue.specs.Refusals.{drop_refusal}
 use Rattle.catalogue.proofs.KeptLemmas.{counts_with, kept_equal, parts_kept, positions_differ}

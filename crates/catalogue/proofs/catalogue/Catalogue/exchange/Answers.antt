@@ -4,7 +4,7 @@ use Rattle.std.specs.BTreeMap.{get_by_text}
 use Rattle.lake_model.specs.Layout.{Part, is_among, layout, merged, positions_of}
 use Rattle.layout_laws.proofs.RunLemmas.{opened}
 use Rattle.layout_laws.proofs.StayLemmas.{layout_numbers}
-use Rattle.segment_core.specs.Distinct.{AreDistinct}
+use Rattle.list_laws.specs.Distinct.{AreDistinct}
 use Rattle.catalogue.specs.Swaps.{kept_tables, numbers_in}
 use Rattle.catalogue.proofs.KeptLemmas.{positions_differ}
 use Rattle.catalogue.proofs.SwapLemmas.{fits, replaced_is, run_distinct, run_is}

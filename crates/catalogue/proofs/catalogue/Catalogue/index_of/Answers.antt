@@ -2,7 +2,7 @@ use Rattle.std.proofs.Common.{◌≡◌, ◌∙◌, sym, ap, subst, get_or, fals
 use Rattle.std.specs.List.Sorted.{IsStrictlyIncreasing}
 use Rattle.std.specs.BTreeMap.{get_by_text}
 use Rattle.lake_model.specs.Layout.{layout, positions_of}
-use Rattle.segment_core.specs.Distinct.{Lacks}
+use Rattle.list_laws.specs.Distinct.{Lacks}
 use Rattle.segment_core.specs.Positions.{StandsAt}
 use Rattle.segment_core.specs.Versions.{VersionOf, part_at}
 use Rattle.catalogue.specs.Swaps.{is_there}

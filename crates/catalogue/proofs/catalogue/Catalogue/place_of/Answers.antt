@@ -3,7 +3,7 @@ use Rattle.std.specs.List.Sorted.{IsStrictlyIncreasing}
 use Rattle.std.specs.BTreeMap.{get_by_text}
 use Rattle.lake_model.specs.Journal.{is_live}
 use Rattle.lake_model.specs.Layout.{layout, mark, positions_of}
-use Rattle.segment_core.specs.Distinct.{Lacks}
+use Rattle.list_laws.specs.Distinct.{Lacks}
 use Rattle.segment_core.specs.Positions.{StandsAt}
 use Rattle.segment_core.specs.Versions.{marked_at, part_at, VersionOf}
 use Rattle.catalogue.specs.Parts.{load_of}

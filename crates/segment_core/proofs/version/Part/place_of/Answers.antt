@@ -1,7 +1,7 @@
 use Rattle.std.proofs.Common.{sym, subst, ℕ, List, Err}
 use Rattle.std.specs.List.Sorted.{IsStrictlyIncreasing}
 use Rattle.std.proofs.lemmas.List.Sorted.{searched}
-use Rattle.segment_core.specs.Distinct.{Lacks}
+use Rattle.list_laws.specs.Distinct.{Lacks}
 use Rattle.segment_core.proofs.PositionLemmas.{lacks_found, rise_far}
 use Rattle.segment_core.proofs.version.Part.place_of.Goals as goal
 

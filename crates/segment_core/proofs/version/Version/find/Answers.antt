@@ -1,7 +1,7 @@
 use Rattle.std.proofs.Common.{sym, ap, subst, ◌<◌, length, arith}
 use Rattle.std.specs.List.Sorted.{IsStrictlyIncreasing}
 use Rattle.lake_model.specs.Layout.{Part, positions_of}
-use Rattle.segment_core.specs.Distinct.{Lacks}
+use Rattle.list_laws.specs.Distinct.{Lacks}
 use Rattle.segment_core.specs.Positions.{loads_of}
 use Rattle.segment_core.proofs.PositionLemmas.{Begun, if_none, last_lacks, none_begun, part_rises, part_within}
 use Rattle.segment_core.proofs.version.Version.find.Goals as goal

@@ -4,7 +4,8 @@ use Rattle.std.proofs.lemmas.List.{map-id}
 use Rattle.std.proofs.lemmas.Iterator.{items_from_drains}
 use Rattle.std.proofs.lemmas.Iterator.Adapters.{YieldsList-from_once}
 use Rattle.lake_model.specs.Layout.{Part, positions_of}
-use Rattle.segment_core.specs.Distinct.{unmarked_names, AreDistinct}
+use Rattle.segment_core.specs.Distinct.{unmarked_names}
+use Rattle.list_laws.specs.Distinct.{AreDistinct}
 use Rattle.segment_core.specs.Plans.{replaced}
 use Rattle.segment_core.specs.Versions.{VersionOf, version_with}
 use Rattle.segment_core.proofs.PlanLemmas.{replaced_fits}
