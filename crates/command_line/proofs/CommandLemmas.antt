@@ -22,7 +22,7 @@ use Rattle.script_model.specs.Options.{Options, options_with}
 use Rattle.option_model.specs.Plain as model
 use Rattle.option_model.specs.Plain.{order_of}
 use Rattle.option_model.specs.Ranges.{AreInRange, IsPieceOf}
-use Rattle.command_line.specs.Words.{between, flag_of, held_without, lanes_option, IsModeInRange, make_command, make_held, mode_of, number_held, number_word, options_held, order_stated, paths_held, refusal_by, run_command, watch_command, watch_held, watch_of}
+use Rattle.command_line.specs.Words.{between, check_command, check_held, flag_of, held_without, keys_held, lanes_option, IsModeInRange, make_command, make_held, mode_of, number_held, number_word, options_checked, options_held, order_stated, paths_held, refusal_by, run_command, watch_command, watch_held, watch_of}
 use Rattle.command_line.specs.declared.words.Mode.{Mode}
 use Rattle.command_line.specs.declared.words.WordsRefused.{WordsRefused}
 use Rattle.command_line.specs.declared.words.WordsRefused.TheVariants as refused
@@ -47,6 +47,10 @@ make_is_free = refl
 pub watch_is_free : is_simple_and_free watch_command ≡ true
 unfolding clap_on_literals
 watch_is_free = refl
+
+pub check_is_free : is_simple_and_free check_command ≡ true
+unfolding clap_on_literals
+check_is_free = refl
 
 -- ---- what a parse gives
 
@@ -74,10 +78,6 @@ refused_for command app held words what free is given = refused_by (fault_of com
     (subst (λ (a : App). is_simple_and_free a ≡ true → (what ≡ kind.OutOfMemory) ⊎ IsAmong what (fault_of a words)) is given free)
 
 -- ---- the options of matches
-
--- the kind of keys that the matches hold
-abbrev pub keys_held : List Row → Keys
-keys_held matches = model.keys_of_profile (unwrap_or (number_held (codes "profile") matches) 1)
 
 pub options_are : (matches : List Row) (lanes : ℕ) (merge trace : Bool) (keys : Keys) (text : Option Text) → lanes ≡ unwrap_or (number_held (codes "lanes") matches) 1
     → merge ≡ flag_of (codes "merge") matches → trace ≡ flag_of (codes "trace") matches → keys ≡ keys_held matches → text ≡ first_of (codes "order") matches
@@ -213,3 +213,24 @@ watch_in_range cmd m p is mode e =
     let matches = rows_of (found_of m) in
     watch_keeps (number_held (codes "k") matches) (unwrap_or (all_of (codes "path") matches) []) _ mode refl
     (number_in_range cmd m p watch_command is refl 0 (number_word (codes "k") (between 1 10000)) refl refl refl 1 10000 refl (omega arith)) e
+
+-- ---- the mode of `check`
+
+-- the mode, by the text of the path
+pub check_by : (matches : List Row) (path : Option Text) (options : Options) → path ≡ first_of (codes "path") matches → options ≡ options_checked matches
+    → option_map (λ p. model.Check p options) path ≡ check_held matches
+check_by matches path options path_is options_are = ap₂ (λ (o : Option Text) (options : Options). option_map (λ p. model.Check p options) o) path_is options_are
+
+check_keeps : (path : Option Text) (options : Options) (mode : model.Mode) → AreInRange options → options.trace ≡ true
+    → option_map (λ p. model.Check p options) path ≡ Some mode → IsModeInRange mode
+check_keeps None options mode keep on e = cc e
+check_keeps (Some path) options mode keep on e =
+    let same : model.Check path options ≡ mode = cc e in
+    subst IsModeInRange same (keep, on)
+
+-- the mode that a parse gives is in range
+pub check_in_range : (cmd : Command) (m : ArgMatches) → IsParsedFrom cmd m → app_of cmd ≡ check_command → (mode : model.Mode) → check_held (rows_of (found_of m)) ≡ Some mode → IsModeInRange mode
+check_in_range cmd m p is mode e =
+    let matches = rows_of (found_of m) in
+    let lanes = one_or_more (number_held (codes "lanes") matches) (number_in_range cmd m p check_command is refl 1 lanes_option refl refl refl 1 16 refl (omega arith)) in
+    check_keeps (first_of (codes "path") matches) (options_checked matches) mode (record { low = lanes.0; high = lanes.1; order = tt }) refl e

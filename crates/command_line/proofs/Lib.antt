@@ -1,10 +1,11 @@
 pub mod NumberLemmas
 pub mod RowLemmas
-pub mod RunWordLemmas
+pub mod OptionWordLemmas
 pub mod PlainLemmas
 pub mod OptionLemmas
 pub mod MakeLemmas
 pub mod WatchLemmas
+pub mod CheckLemmas
 pub mod CommandLemmas
 pub mod OrderLemmas
 pub mod ParsedLemmas

@@ -1,5 +1,5 @@
 -- Clap reads in the plain words behind `make` what they say.
-use Rattle.std.proofs.Common.{◌≡◌, refl, ap, ap₂, ◌∙◌, ℕ, List, [], ◌∷◌, Bool, true, false, cond, codes, Option, Some, None, arith}
+use Rattle.std.proofs.Common.{◌≡◌, refl, ap, ap₂, ◌∙◌, ℕ, List, [], ◌∷◌, true, false, codes, Option, Some, None, arith}
 use Rattle.std.specs.Prelude.{fold}
 use Rattle.clap.specs.Faults.{check_fault, defaults_fault, fault_of, settle_fault, turn_fault, walk_fault}
 use Rattle.clap.specs.Kinds.{Kinds, or_else}
@@ -8,7 +8,6 @@ use Rattle.clap.specs.Simple.{Shape, built, matches_of}
 use Rattle.clap.specs.ValueTests.{accepts}
 use Rattle.clap.specs.Walk.{Held, Row, Text, Walk, finished, idle, nothing_held, settled, walked}
 use Rattle.clap.specs.declared.builder.value_parser.Reading.TheVariants as reading
-use Rattle.clap.specs.declared.error.kind.ErrorKind.TheVariants as kind
 use Rattle.clap.specs.declared.parser.matches.ValueSource.TheVariants.{CommandLine}
 use Rattle.clap.proofs.FaultLemmas.{leaf_fault}
 use Rattle.clap.proofs.OnLiterals.{clap_on_literals}
@@ -17,7 +16,7 @@ use Rattle.option_model.specs.Plain.{Mode, make_mode, make_with}
 use Rattle.command_line.specs.Words.{between as range, held_without, make_command, make_held, make_words, number_read}
 use Rattle.command_line.proofs.NumberLemmas.{IsRead, IsValue, not_short, number_is_read, number_or_zero_is_read}
 use Rattle.command_line.proofs.RowLemmas.{row_with}
-use Rattle.command_line.proofs.RunWordLemmas.{Pending, held}
+use Rattle.command_line.proofs.OptionWordLemmas.{Pending, held, passed}
 
 -- the command as it is built
 abbrev top : Shape
@@ -41,9 +40,6 @@ seed_turn : (text : Text) → IsValue text → turn_fault top [] (before [] None
 unfolding clap_on_literals
 seed_turn [] value = absurd value
 seed_turn (byte ∷ bytes) value = rw (value, not_short byte bytes value) refl
-
-passed : (fits : Bool) → fits ≡ true → or_else (cond fits [] (kind.ValueValidation ∷ [])) [] ≡ []
-passed fits e = ap (λ (b : Bool). or_else (cond b [] (kind.ValueValidation ∷ [])) []) e
 
 module _ (seed : Text) (seed_fits : accepts false (range 0 4294967295) seed ≡ true) where
   tables_walk : (text : Text) → IsValue text

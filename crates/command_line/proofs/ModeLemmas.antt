@@ -12,30 +12,15 @@ use Rattle.clap.specs.ValueTests.{is_numeral}
 use Rattle.std.specs.Char.{digit_value}
 use Rattle.lake_model.specs.Texts.{Text}
 use Rattle.script_model.specs.Options.{Options}
-use Rattle.option_model.specs.Plain.{Mode, Check, NoValue, Run, Taken, check_mode, check_with, checked_options, is_path, make_mode, nothing_given, plain_mode, run_mode, run_options, take_words, watch_mode}
+use Rattle.option_model.specs.Plain.{Mode, NoValue, Run, Taken, check_mode, make_mode, nothing_given, plain_mode, run_mode, run_options, take_words, watch_mode}
 use Rattle.command_line.specs.Words.{check_words, make_words, mode_of, mode_read, number_read, run_words, watch_words}
 use Rattle.command_line.specs.declared.words.Mode.{Mode as Given}
 use Rattle.command_line.specs.declared.words.WordsRefused.{WordsRefused}
 use Rattle.command_line.specs.declared.words.WordsRefused.TheVariants as refused
+use Rattle.command_line.proofs.CheckLemmas.{check_is_read}
 use Rattle.command_line.proofs.MakeLemmas.{make_is_read}
 use Rattle.command_line.proofs.OptionLemmas.{run_is_read}
 use Rattle.command_line.proofs.WatchLemmas.{watch_is_read}
-
-nothing : {mode : Mode} (b : Bool) → cond {A = Option Mode} b None None ≡ Some mode → ⊥
-nothing true e = cc e
-nothing false e = cc e
-
--- the mode that plain words behind `check` say
-check_is_read : (words : List Text) (mode : Mode) → check_mode words ≡ Some mode → check_words words ≡ Some mode
-check_is_read [] mode e = cc e
-check_is_read (trace ∷ words) mode e = by (run_options taken.given taken.awaited) refl e
-  where
-    taken : Taken
-    taken = take_words nothing_given NoValue words
-
-    by : (said : Option Options) → run_options taken.given taken.awaited ≡ said → check_with trace said ≡ Some mode → check_with trace (run_words words) ≡ Some mode
-    by None is e = absurd (nothing (is_path trace) e)
-    by (Some options) is e = ap (check_with trace) (run_is_read words options is) ∙ e
 
 -- The mode that plain words say is the one that is read in them
 pub plain_is_read : (words : List Text) (mode : Mode) → plain_mode words ≡ Some mode → mode_read words ≡ Some mode
@@ -129,31 +114,6 @@ pub run_refused : (e : WordsRefused) (options : Option Options) (mode : Option M
     → (e ≡ refused.NoMemory) ⊎ (mode ≡ None)
 run_refused e options mode same (inl memory) = inl memory
 run_refused e options mode same (inr none) = inr (same ∙ ap (option_map Run) none)
-
--- ---- the words behind `check`
-
-module _ (trace : Text) (rest words : List Text) (parts : words ≡ trace ∷ rest) where
-  check_is : check_words words ≡ check_with trace (run_words rest)
-  check_is = ap check_words parts
-
-  pub check_read : (options checked : Options) → is_path trace ≡ true → run_words rest ≡ Some options → checked_options options ≡ Some checked → check_words words ≡ Some (Check trace checked)
-  check_read options checked path read is =
-      check_is ∙ ap₂ (λ (b : Bool) (o : Option Options). cond {A = Option Mode} b (option_map (Check trace) (option_and_then checked_options o)) None) path read
-      ∙ ap (option_map (Check trace)) is
-
-  nothing_said : (o : Option Options) → option_and_then checked_options o ≡ None → check_with trace o ≡ None
-  nothing_said o none = ap (λ (checked : Option Options). cond {A = Option Mode} (is_path trace) (option_map (Check trace) checked) None) none ∙ by (is_path trace)
-    where
-      by : (b : Bool) → cond {A = Option Mode} b None None ≡ None
-      by true = refl
-      by false = refl
-
-  pub not_checked : (options : Options) → run_words rest ≡ Some options → checked_options options ≡ None → check_words words ≡ None
-  not_checked options read none = check_is ∙ nothing_said (run_words rest) (ap (option_and_then checked_options) read ∙ none)
-
-  pub check_refused : (e : WordsRefused) → (e ≡ refused.NoMemory) ⊎ (run_words rest ≡ None) → (e ≡ refused.NoMemory) ⊎ (check_words words ≡ None)
-  check_refused e (inl memory) = inl memory
-  check_refused e (inr none) = inr (check_is ∙ nothing_said (run_words rest) (ap (option_and_then checked_options) none))
 
 -- ---- the first word
 

@@ -4,12 +4,13 @@ use Rattle.std.specs.Prelude.{◌==◌, bytes_eq, fold, nat_le, nat_lt, option_a
 use Rattle.std.specs.List.{list_all}
 use Rattle.std.specs.Char.{digit_value}
 use Rattle.std.specs.Str.Parse.{digits_value as parsed_value, digits_value_after, without_leading_plus}
-use Rattle.std.proofs.lemmas.Bool.{and_parts, le-leb, leb-true, lt-ltb, ne_eqb}
+use Rattle.std.proofs.lemmas.Bool.{and_parts, le-leb, leb-true, lt-ltb, ne_eqb, not-true}
 use Rattle.std.proofs.lemmas.Slice.Eq.{bytes_eq-Decides}
 use Rattle.std.proofs.lemmas.Str.{digit_value_digit}
 use Rattle.clap.specs.Lexer.{short_of, short_of_rest, without_minus}
 use Rattle.clap.specs.ValueTests.{accepts, is_numeral}
 use Rattle.lake_model.specs.Texts.{Text}
+use Rattle.option_model.specs.Plain.{is_path}
 use Rattle.script_model.specs.Words.{digits_value, is_digit, is_number, number, number_or_zero}
 use Rattle.command_line.specs.Words.{between, number_read}
 use Rattle.script_model.proofs.NumberLemmas.{positive}
@@ -28,6 +29,11 @@ pub record IsRead (least most : ℕ) (text : Text) (n : ℕ) : Type 0 where
 -- such a word is no short flag
 pub not_short : (byte : ℕ) (bytes : Text) → IsValue (byte ∷ bytes) → short_of (byte ∷ bytes) ≡ None
 not_short byte bytes value = ap (λ (b : Bool). option_and_then short_of_rest (cond b (Some bytes) None)) value
+
+-- a path is such a word
+pub path_is_value : (text : Text) → is_path text ≡ true → IsValue text
+path_is_value [] e = cc e
+path_is_value (byte ∷ bytes) e = not-true (byte == 45) e
 
 digit_is : (byte : ℕ) → is_digit byte ≡ true → (48 ≤ byte) × (byte ≤ 57)
 digit_is byte e =

@@ -1,4 +1,4 @@
--- Clap reads in the plain words behind `run` what they say.
+-- Clap walks over plain words, of a run or behind the path of a trace, without a fault.
 use Rattle.std.proofs.Common.{◌≡◌, refl, ap, ap₂, sym, ◌∙◌, subst, ℕ, List, [], ◌∷◌, Bool, true, false, not, ◌&&◌, cond, codes, Option, Some, None, is_some, option_map, true≢false, arith, map}
 use Rattle.std.specs.Prelude.{⊤, ◌==◌, bytes_eq, fold}
 use Rattle.std.specs.List.{onto_first, slice_split}
@@ -13,13 +13,18 @@ use Rattle.script_model.specs.Options.{Options, options_with}
 use Rattle.option_model.specs.Plain.{Argument, Awaited, Given, LanesNext, LanesValue, MergeFlag, NoArgument, NoValue, OrderNext, OrderValue, ProfileNext, ProfileValue, Refused, Taken, TraceFlag, all_there, argument_of, keys_of_profile, lane_number, lanes_said, nothing_given, options_of, order_of, order_said, piece_of, profile_said, run_options, take_argument, take_word, take_words}
 use Rattle.command_line.specs.Words.{flag_option}
 use Rattle.command_line.proofs.NumberLemmas.{IsValue, number_is_read}
-use Rattle.command_line.proofs.RunWordLemmas.{Agrees, Pending, Stands, between, held, lanes_settle, lanes_turn, lanes_used, lanes_value, lanes_value_turn, lanes_walk, merge_turn, merge_used, merge_walk, more_lanes, more_merge, more_order, more_profile, more_trace, no_lanes, no_merge, no_order, no_profile, no_trace, order_settle, order_turn, order_used, order_value, order_value_turn, order_walk, profile_settle, profile_turn, profile_used, profile_value, profile_value_turn, profile_walk, rules, stands_first, top, trace_turn, trace_used, trace_walk}
+use Rattle.command_line.proofs.OptionWordLemmas.{Agrees, OfCheck, OfRun, Pending, Reader, Stands, between, held, lanes_settle, lanes_turn, lanes_used, lanes_value, lanes_value_turn, lanes_walk, merge_turn, merge_used, merge_walk, more_lanes, more_merge, more_order, more_profile, more_trace, no_lanes, no_merge, no_order, no_profile, no_trace, order_settle, order_turn, order_used, order_value, order_value_turn, order_walk, pending_first, profile_settle, profile_turn, profile_used, profile_value, profile_value_turn, profile_walk, rules, stands_first, top, trace_turn, trace_used, trace_walk}
 
 -- ---- the values that plain words have
 
+-- what may be given: anything to a run, but neither an order nor a trace behind the path of a trace
+abbrev pub Allows : Reader → Given → Type 0
+Allows OfRun given = ⊤
+Allows (OfCheck path) given = (given.order ≡ None) × (given.trace ≡ false)
+
 -- the options of all that was taken are these
-abbrev GivesOptions : Options → Taken → Type 0
-GivesOptions options taken = run_options taken.given taken.awaited ≡ Some options
+abbrev pub GivesOptions : Reader → Options → Taken → Type 0
+GivesOptions reader options taken = (run_options taken.given taken.awaited ≡ Some options) × Allows reader taken.given
 
 pub no_value : {X : Type 0} (options : Options) → None ≡ Some options → X
 no_value options e = absurd (cc e)
@@ -169,6 +174,27 @@ order_stays words given text has = value_stays (λ given. given.order) awaits_or
 profile_stays : (words : List Text) (given : Given) (text : Text) → given.profile ≡ Some text → (take_words given NoValue words).given.profile ≡ Some text
 profile_stays words given text has = value_stays (λ given. given.profile) awaits_profile profile_by_word words given NoValue text has refl
 
+trace_by_argument : (given : Given) (argument : Argument) → given.trace ≡ true → (take_argument given argument).given.trace ≡ true
+trace_by_argument given LanesValue has = has
+trace_by_argument given OrderValue has = has
+trace_by_argument given MergeFlag has = has
+trace_by_argument given TraceFlag has = refl
+trace_by_argument given ProfileValue has = has
+trace_by_argument given NoArgument has = has
+
+trace_by_word : (given : Given) (awaited : Awaited) (word : Text) → given.trace ≡ true → (take_word given awaited word).given.trace ≡ true
+trace_by_word given NoValue word has = trace_by_argument given (argument_of given word) has
+trace_by_word given LanesNext word has = has
+trace_by_word given OrderNext word has = has
+trace_by_word given ProfileNext word has = has
+trace_by_word given Refused word has = has
+
+trace_stays : (words : List Text) (given : Given) (awaited : Awaited) → given.trace ≡ true → (take_words given awaited words).given.trace ≡ true
+trace_stays [] given awaited has = has
+trace_stays (word ∷ words) given awaited has =
+    let next = take_word given awaited word in
+    trace_stays words next.given next.awaited (trace_by_word given awaited word has)
+
 -- ---- a value of plain words is no flag
 
 lanes_fit : (given : Given) (awaited : Awaited) (text : Text) (options : Options) → given.lanes ≡ Some text → run_options given awaited ≡ Some options
@@ -242,103 +268,121 @@ order_fits given NoValue text options has e = by (lanes_said given.lanes) (profi
 -- ---- the walk over plain words
 
 -- clap walks over the words without a fault, and holds then what was given
-pub record Walks (words : List Text) (walk : Walk) (given : Given) : Type 0 where
+pub record Walks (reader : Reader) (words : List Text) (walk : Walk) (given : Given) : Type 0 where
   pub rows : List Row
   pub pending : Pending
-  pub no_fault : walk_fault top [] walk words ≡ []
-  pub ends : (fold (walked rules []) walk words).held ≡ held rows pending
-  pub stands : Stands given rows pending
+  pub no_fault : walk_fault (top reader) [] walk words ≡ []
+  pub ends : (fold (walked (rules reader) []) walk words).held ≡ held rows pending
+  pub stands : Stands reader given rows pending
 
-more_walked : (word : Text) (words : List Text) (walk next : Walk) (given : Given) → turn_fault top [] walk word ≡ [] → walked rules [] walk word ≡ next
-    → Walks words next given → Walks (word ∷ words) walk given
+pub more_walked : (reader : Reader) (word : Text) (words : List Text) (walk next : Walk) (given : Given) → turn_fault (top reader) [] walk word ≡ []
+    → walked (rules reader) [] walk word ≡ next → Walks reader words next given → Walks reader (word ∷ words) walk given
 unfolding walk_fault
-more_walked word words walk next given turn step w = record {
+more_walked reader word words walk next given turn step w = record {
   rows = w.rows;
   pending = w.pending;
-  no_fault = ap₂ (λ (k : Kinds) (v : Walk). or_else k (walk_fault top [] v words)) turn step ∙ w.no_fault;
-  ends = ap (λ (v : Walk). (fold (walked rules []) v words).held) step ∙ w.ends;
+  no_fault = ap₂ (λ (k : Kinds) (v : Walk). or_else k (walk_fault (top reader) [] v words)) turn step ∙ w.no_fault;
+  ends = ap (λ (v : Walk). (fold (walked (rules reader) []) v words).held) step ∙ w.ends;
   stands = w.stands;
 }
 
 -- words that give these options, behind those that gave what is given
-abbrev WalksAll : List Text → Type 0
-WalksAll words = (given : Given) (rows : List Row) (pending : Pending) (options : Options) → Stands given rows pending → GivesOptions options (take_words given NoValue words)
-    → Walks words (between rows pending idle) (take_words given NoValue words).given
+abbrev WalksAll : Reader → List Text → Type 0
+WalksAll reader words = (given : Given) (rows : List Row) (pending : Pending) (options : Options) → Stands reader given rows pending
+    → GivesOptions reader options (take_words given NoValue words) → Walks reader words (between reader rows pending idle) (take_words given NoValue words).given
 
 -- the same of the words behind a value
-abbrev WalksBehind : List Text → Type 0
-WalksBehind [] = ⊤
-WalksBehind (text ∷ words) = WalksAll words
+abbrev WalksBehind : Reader → List Text → Type 0
+WalksBehind reader [] = ⊤
+WalksBehind reader (text ∷ words) = WalksAll reader words
 
-lanes_step : (words : List Text) → WalksBehind words → (given : Given) (rows : List Row) (pending : Pending) (options : Options) → Stands given rows pending → given.lanes ≡ None
-    → GivesOptions options (take_words given LanesNext words) → Walks (codes "--lanes" ∷ words) (between rows pending idle) (take_words given LanesNext words).given
-lanes_step [] more given rows pending options stands none e = no_value options e
-lanes_step (text ∷ words) more given rows pending options stands none e =
-    let now = settled_rows rules pending rows in
+lanes_step : (reader : Reader) (words : List Text) → WalksBehind reader words → (given : Given) (rows : List Row) (pending : Pending) (options : Options) → Stands reader given rows pending
+    → given.lanes ≡ None → GivesOptions reader options (take_words given LanesNext words)
+    → Walks reader (codes "--lanes" ∷ words) (between reader rows pending idle) (take_words given LanesNext words).given
+lanes_step reader [] more given rows pending options stands none e = no_value options e.0
+lanes_step reader (text ∷ words) more given rows pending options stands none e =
+    let now = settled_rows (rules reader) pending rows in
     let with_text : Given = record given { lanes = Some text } in
     let taken = take_words with_text NoValue words in
-    let fits = lanes_fit taken.given taken.awaited text options (lanes_stay words with_text text refl) e in
+    let fits = lanes_fit taken.given taken.awaited text options (lanes_stay words with_text text refl) e.0 in
     let is = number_is_read 1 16 text fits.0 (omega arith) (omega arith) fits.1 in
-    let new = no_lanes given now stands.agrees none in
-    let later : Stands with_text now (Some (codes "lanes", text ∷ [])) = record {
-      settles = lanes_settle now text new is.accepted;
-      agrees = subst (Agrees with_text) (sym (lanes_used now text new)) (more_lanes given now stands.agrees text none);
+    let new = no_lanes reader given now stands.agrees none in
+    let later : Stands reader with_text now (Some (codes "lanes", text ∷ [])) = record {
+      settles = lanes_settle now reader text new is.accepted;
+      agrees = subst (Agrees reader with_text) (sym (lanes_used now reader text new)) (more_lanes reader given now stands.agrees text none);
     } in
-    more_walked (codes "--lanes") (text ∷ words) _ _ _ (lanes_turn rows pending stands.settles) (lanes_walk rows pending)
-    (more_walked text words _ _ _ (lanes_value_turn now text is.word) (lanes_value now text is.word) (more with_text now (Some (codes "lanes", text ∷ [])) options later e))
+    more_walked reader (codes "--lanes") (text ∷ words) _ _ _ (lanes_turn rows pending reader stands.settles) (lanes_walk rows pending reader)
+    (more_walked reader text words _ _ _ (lanes_value_turn now reader text is.word) (lanes_value now reader text is.word)
+    (more with_text now (Some (codes "lanes", text ∷ [])) options later e))
 
-order_step : (words : List Text) → WalksBehind words → (given : Given) (rows : List Row) (pending : Pending) (options : Options) → Stands given rows pending → given.order ≡ None
-    → GivesOptions options (take_words given OrderNext words) → Walks (codes "--order" ∷ words) (between rows pending idle) (take_words given OrderNext words).given
-order_step [] more given rows pending options stands none e = no_value options e
-order_step (text ∷ words) more given rows pending options stands none e =
-    let now = settled_rows rules pending rows in
+-- words behind the path of a trace that state an order are not allowed
+order_step : (reader : Reader) (words : List Text) → WalksBehind reader words → (given : Given) (rows : List Row) (pending : Pending) (options : Options) → Stands reader given rows pending
+    → given.order ≡ None → GivesOptions reader options (take_words given OrderNext words)
+    → Walks reader (codes "--order" ∷ words) (between reader rows pending idle) (take_words given OrderNext words).given
+order_step reader [] more given rows pending options stands none e = no_value options e.0
+order_step (OfCheck path) (text ∷ words) more given rows pending options stands none e =
+    let stated : Some text ≡ None = sym (order_stays words (record given { order = Some text }) text refl) ∙ e.1.0 in
+    cc stated
+order_step OfRun (text ∷ words) more given rows pending options stands none e =
+    let now = settled_rows (rules OfRun) pending rows in
     let with_text : Given = record given { order = Some text } in
     let taken = take_words with_text NoValue words in
-    let word = order_fits taken.given taken.awaited text options (order_stays words with_text text refl) e in
-    let new = no_order given now stands.agrees none in
-    let later : Stands with_text now (Some (codes "order", text ∷ [])) = record {
+    let word = order_fits taken.given taken.awaited text options (order_stays words with_text text refl) e.0 in
+    let new = no_order OfRun given now stands.agrees none in
+    let later : Stands OfRun with_text now (Some (codes "order", text ∷ [])) = record {
       settles = order_settle now text new;
-      agrees = subst (Agrees with_text) (sym (order_used now text new)) (more_order given now stands.agrees text none);
+      agrees = subst (Agrees OfRun with_text) (sym (order_used now text new)) (more_order OfRun given now stands.agrees text none);
     } in
-    more_walked (codes "--order") (text ∷ words) _ _ _ (order_turn rows pending stands.settles) (order_walk rows pending)
-    (more_walked text words _ _ _ (order_value_turn now text word) (order_value now text word) (more with_text now (Some (codes "order", text ∷ [])) options later e))
+    more_walked OfRun (codes "--order") (text ∷ words) _ _ _ (order_turn rows pending stands.settles) (order_walk rows pending)
+    (more_walked OfRun text words _ _ _ (order_value_turn now text word) (order_value now text word) (more with_text now (Some (codes "order", text ∷ [])) options later e))
 
-profile_step : (words : List Text) → WalksBehind words → (given : Given) (rows : List Row) (pending : Pending) (options : Options) → Stands given rows pending → given.profile ≡ None
-    → GivesOptions options (take_words given ProfileNext words) → Walks (codes "--profile" ∷ words) (between rows pending idle) (take_words given ProfileNext words).given
-profile_step [] more given rows pending options stands none e = no_value options e
-profile_step (text ∷ words) more given rows pending options stands none e =
-    let now = settled_rows rules pending rows in
+profile_step : (reader : Reader) (words : List Text) → WalksBehind reader words → (given : Given) (rows : List Row) (pending : Pending) (options : Options) → Stands reader given rows pending
+    → given.profile ≡ None → GivesOptions reader options (take_words given ProfileNext words)
+    → Walks reader (codes "--profile" ∷ words) (between reader rows pending idle) (take_words given ProfileNext words).given
+profile_step reader [] more given rows pending options stands none e = no_value options e.0
+profile_step reader (text ∷ words) more given rows pending options stands none e =
+    let now = settled_rows (rules reader) pending rows in
     let with_text : Given = record given { profile = Some text } in
     let taken = take_words with_text NoValue words in
-    let fits = profile_fits taken.given taken.awaited text options (profile_stays words with_text text refl) e in
+    let fits = profile_fits taken.given taken.awaited text options (profile_stays words with_text text refl) e.0 in
     let is = number_is_read 1 2 text fits.0 (omega arith) (omega arith) fits.1 in
-    let new = no_profile given now stands.agrees none in
-    let later : Stands with_text now (Some (codes "profile", text ∷ [])) = record {
-      settles = profile_settle now text new is.accepted;
-      agrees = subst (Agrees with_text) (sym (profile_used now text new)) (more_profile given now stands.agrees text none);
+    let new = no_profile reader given now stands.agrees none in
+    let later : Stands reader with_text now (Some (codes "profile", text ∷ [])) = record {
+      settles = profile_settle now reader text new is.accepted;
+      agrees = subst (Agrees reader with_text) (sym (profile_used now reader text new)) (more_profile reader given now stands.agrees text none);
     } in
-    more_walked (codes "--profile") (text ∷ words) _ _ _ (profile_turn rows pending stands.settles) (profile_walk rows pending)
-    (more_walked text words _ _ _ (profile_value_turn now text is.word) (profile_value now text is.word) (more with_text now (Some (codes "profile", text ∷ [])) options later e))
+    more_walked reader (codes "--profile") (text ∷ words) _ _ _ (profile_turn rows pending reader stands.settles) (profile_walk rows pending reader)
+    (more_walked reader text words _ _ _ (profile_value_turn now reader text is.word) (profile_value now reader text is.word)
+    (more with_text now (Some (codes "profile", text ∷ [])) options later e))
 
-merge_step : (words : List Text) → WalksAll words → (given : Given) (rows : List Row) (pending : Pending) (options : Options) → Stands given rows pending → given.merge ≡ false
-    → GivesOptions options (take_words (record given { merge = true }) NoValue words)
-    → Walks (codes "--merge" ∷ words) (between rows pending idle) (take_words (record given { merge = true }) NoValue words).given
-merge_step words more given rows pending options stands off e =
-    let now = settled_rows rules pending rows in
+merge_step : (reader : Reader) (words : List Text) → WalksAll reader words → (given : Given) (rows : List Row) (pending : Pending) (options : Options) → Stands reader given rows pending
+    → given.merge ≡ false → GivesOptions reader options (take_words (record given { merge = true }) NoValue words)
+    → Walks reader (codes "--merge" ∷ words) (between reader rows pending idle) (take_words (record given { merge = true }) NoValue words).given
+merge_step reader words more given rows pending options stands off e =
+    let now = settled_rows (rules reader) pending rows in
     let merging : Given = record given { merge = true } in
-    let new = no_merge given now stands.agrees off in
-    let later : Stands merging (used (filled (flag_option (codes "merge"))) [] now) None = record { settles = refl; agrees = subst (Agrees merging) (sym (merge_used now new)) (more_merge given now stands.agrees off) } in
-    more_walked (codes "--merge") words _ _ _ (merge_turn rows pending stands.settles new) (merge_walk rows pending) (more merging _ None options later e)
+    let new = no_merge reader given now stands.agrees off in
+    let later : Stands reader merging (used (filled (flag_option (codes "merge"))) [] now) None = record {
+      settles = refl;
+      agrees = subst (Agrees reader merging) (sym (merge_used now new)) (more_merge reader given now stands.agrees off);
+    } in
+    more_walked reader (codes "--merge") words _ _ _ (merge_turn rows pending reader stands.settles new) (merge_walk rows pending reader) (more merging _ None options later e)
 
-trace_step : (words : List Text) → WalksAll words → (given : Given) (rows : List Row) (pending : Pending) (options : Options) → Stands given rows pending → given.trace ≡ false
-    → GivesOptions options (take_words (record given { trace = true }) NoValue words)
-    → Walks (codes "--trace" ∷ words) (between rows pending idle) (take_words (record given { trace = true }) NoValue words).given
-trace_step words more given rows pending options stands off e =
-    let now = settled_rows rules pending rows in
+-- and those that ask for a trace are not allowed either
+trace_step : (reader : Reader) (words : List Text) → WalksAll reader words → (given : Given) (rows : List Row) (pending : Pending) (options : Options) → Stands reader given rows pending
+    → given.trace ≡ false → GivesOptions reader options (take_words (record given { trace = true }) NoValue words)
+    → Walks reader (codes "--trace" ∷ words) (between reader rows pending idle) (take_words (record given { trace = true }) NoValue words).given
+trace_step (OfCheck path) words more given rows pending options stands off e =
+    absurd (true≢false (sym (trace_stays words (record given { trace = true }) NoValue refl) ∙ e.1.1))
+trace_step OfRun words more given rows pending options stands off e =
+    let now = settled_rows (rules OfRun) pending rows in
     let tracing : Given = record given { trace = true } in
-    let new = no_trace given now stands.agrees off in
-    let later : Stands tracing (used (filled (flag_option (codes "trace"))) [] now) None = record { settles = refl; agrees = subst (Agrees tracing) (sym (trace_used now new)) (more_trace given now stands.agrees off) } in
-    more_walked (codes "--trace") words _ _ _ (trace_turn rows pending stands.settles new) (trace_walk rows pending) (more tracing _ None options later e)
+    let new = no_trace OfRun given now stands.agrees off in
+    let later : Stands OfRun tracing (used (filled (flag_option (codes "trace"))) [] now) None = record {
+      settles = refl;
+      agrees = subst (Agrees OfRun tracing) (sym (trace_used now new)) (more_trace OfRun given now stands.agrees off);
+    } in
+    more_walked OfRun (codes "--trace") words _ _ _ (trace_turn rows pending stands.settles new) (trace_walk rows pending) (more tracing _ None options later e)
 
 named : (word name : Text) (b : Bool) → (bytes_eq word name && b) ≡ true → (name ≡ word) × (b ≡ true)
 named word name b e =
@@ -355,8 +399,8 @@ taken_by given words lanes order merge trace profile =
     let next = take_argument given (chosen lanes order merge trace profile) in
     take_words next.given next.awaited words
 
-one_step : (word : Text) (words : List Text) → WalksAll words → WalksBehind words → WalksAll (word ∷ words)
-one_step word words more behind given rows pending options stands e =
+one_step : (reader : Reader) (word : Text) (words : List Text) → WalksAll reader words → WalksBehind reader words → WalksAll reader (word ∷ words)
+one_step reader word words more behind given rows pending options stands e =
     by (bytes_eq word (codes "--lanes") && not (is_some given.lanes)) refl (bytes_eq word (codes "--order") && not (is_some given.order)) refl
     (bytes_eq word (codes "--merge") && not given.merge) refl (bytes_eq word (codes "--trace") && not given.trace) refl
     (bytes_eq word (codes "--profile") && not (is_some given.profile)) refl e
@@ -364,35 +408,35 @@ one_step word words more behind given rows pending options stands e =
     by : (b : Bool) → (bytes_eq word (codes "--lanes") && not (is_some given.lanes)) ≡ b → (c : Bool) → (bytes_eq word (codes "--order") && not (is_some given.order)) ≡ c
         → (d : Bool) → (bytes_eq word (codes "--merge") && not given.merge) ≡ d → (f : Bool) → (bytes_eq word (codes "--trace") && not given.trace) ≡ f
         → (p : Bool) → (bytes_eq word (codes "--profile") && not (is_some given.profile)) ≡ p
-        → GivesOptions options (taken_by given words b c d f p) → Walks (word ∷ words) (between rows pending idle) (taken_by given words b c d f p).given
+        → GivesOptions reader options (taken_by given words b c d f p) → Walks reader (word ∷ words) (between reader rows pending idle) (taken_by given words b c d f p).given
     by true is c _ d _ f _ p _ e =
         let at = named word (codes "--lanes") _ is in
-        subst (λ (w : Text). Walks (w ∷ words) (between rows pending idle) (take_words given LanesNext words).given) at.0
-        (lanes_step words behind given rows pending options stands (absent given.lanes at.1) e)
+        subst (λ (w : Text). Walks reader (w ∷ words) (between reader rows pending idle) (take_words given LanesNext words).given) at.0
+        (lanes_step reader words behind given rows pending options stands (absent given.lanes at.1) e)
     by false _ true is d _ f _ p _ e =
         let at = named word (codes "--order") _ is in
-        subst (λ (w : Text). Walks (w ∷ words) (between rows pending idle) (take_words given OrderNext words).given) at.0
-        (order_step words behind given rows pending options stands (absent given.order at.1) e)
+        subst (λ (w : Text). Walks reader (w ∷ words) (between reader rows pending idle) (take_words given OrderNext words).given) at.0
+        (order_step reader words behind given rows pending options stands (absent given.order at.1) e)
     by false _ false _ true is f _ p _ e =
         let at = named word (codes "--merge") _ is in
-        subst (λ (w : Text). Walks (w ∷ words) (between rows pending idle) (take_words (record given { merge = true }) NoValue words).given) at.0
-        (merge_step words more given rows pending options stands (not-true given.merge at.1) e)
+        subst (λ (w : Text). Walks reader (w ∷ words) (between reader rows pending idle) (take_words (record given { merge = true }) NoValue words).given) at.0
+        (merge_step reader words more given rows pending options stands (not-true given.merge at.1) e)
     by false _ false _ false _ true is p _ e =
         let at = named word (codes "--trace") _ is in
-        subst (λ (w : Text). Walks (w ∷ words) (between rows pending idle) (take_words (record given { trace = true }) NoValue words).given) at.0
-        (trace_step words more given rows pending options stands (not-true given.trace at.1) e)
+        subst (λ (w : Text). Walks reader (w ∷ words) (between reader rows pending idle) (take_words (record given { trace = true }) NoValue words).given) at.0
+        (trace_step reader words more given rows pending options stands (not-true given.trace at.1) e)
     by false _ false _ false _ false _ true is e =
         let at = named word (codes "--profile") _ is in
-        subst (λ (w : Text). Walks (w ∷ words) (between rows pending idle) (take_words given ProfileNext words).given) at.0
-        (profile_step words behind given rows pending options stands (absent given.profile at.1) e)
-    by false _ false _ false _ false _ false _ e = no_value options (sym (refused_gives_none given words) ∙ e)
+        subst (λ (w : Text). Walks reader (w ∷ words) (between reader rows pending idle) (take_words given ProfileNext words).given) at.0
+        (profile_step reader words behind given rows pending options stands (absent given.profile at.1) e)
+    by false _ false _ false _ false _ false _ e = no_value options (sym (refused_gives_none given words) ∙ e.0)
 
-all_walked : (words : List Text) → WalksAll words
+all_walked : (reader : Reader) (words : List Text) → WalksAll reader words
 unfolding walk_fault
-all_walked [] = λ given rows pending options stands e. record { rows = rows; pending = pending; no_fault = refl; ends = refl; stands = stands }
-all_walked (word ∷ []) = one_step word [] (all_walked []) tt
-all_walked (word ∷ text ∷ words) = one_step word (text ∷ words) (all_walked (text ∷ words)) (all_walked words)
+all_walked reader [] = λ given rows pending options stands e. record { rows = rows; pending = pending; no_fault = refl; ends = refl; stands = stands }
+all_walked reader (word ∷ []) = one_step reader word [] (all_walked reader []) tt
+all_walked reader (word ∷ text ∷ words) = one_step reader word (text ∷ words) (all_walked reader (text ∷ words)) (all_walked reader words)
 
-pub plain_walks : (words : List Text) (options : Options) → GivesOptions options (take_words nothing_given NoValue words)
-    → Walks words (between [] None idle) (take_words nothing_given NoValue words).given
-plain_walks words options e = all_walked words nothing_given [] None options stands_first e
+pub plain_walks : (reader : Reader) (words : List Text) (options : Options) → GivesOptions reader options (take_words nothing_given NoValue words)
+    → Walks reader words (between reader [] (pending_first reader) idle) (take_words nothing_given NoValue words).given
+plain_walks reader words options e = all_walked reader words nothing_given [] (pending_first reader) options (stands_first reader) e

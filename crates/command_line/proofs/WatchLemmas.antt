@@ -1,32 +1,27 @@
 -- Clap reads in the plain words behind `watch` what they say.
 use Rattle.std.proofs.Common.{◌≡◌, ◌≤◌, refl, ap, ap₂, ◌∙◌, subst, ℕ, List, [], ◌∷◌, ◌++◌, append_assoc, Bool, true, false, ◌&&◌, cond, codes, length, Option, Some, None, arith}
-use Rattle.std.specs.Prelude.{◌==◌, fold, nat_le}
+use Rattle.std.specs.Prelude.{fold, nat_le}
 use Rattle.std.specs.List.{list_all}
-use Rattle.std.proofs.lemmas.Bool.{and_parts, le-leb, leb-true, not-true}
+use Rattle.std.proofs.lemmas.Bool.{and_parts, le-leb, leb-true}
 use Rattle.clap.specs.Faults.{check_fault, defaults_fault, fault_of, settle_fault, turn_fault, walk_fault}
 use Rattle.clap.specs.Kinds.{Kinds, or_else}
 use Rattle.clap.specs.Simple.{Shape, built, matches_of}
 use Rattle.clap.specs.ValueTests.{accepts}
-use Rattle.clap.specs.Walk.{Held, Row, Text, Waiting, Walk, idle, nothing_held, positional, settled, walked, with_default}
+use Rattle.clap.specs.Walk.{Held, Row, Text, Walk, idle, nothing_held, positional, settled, walked, with_default}
 use Rattle.clap.specs.declared.builder.value_parser.Reading.TheVariants as reading
-use Rattle.clap.specs.declared.error.kind.ErrorKind.TheVariants as kind
 use Rattle.clap.specs.declared.parser.matches.ValueSource.TheVariants.{CommandLine}
 use Rattle.clap.proofs.FaultLemmas.{leaf_fault}
 use Rattle.clap.proofs.OnLiterals.{clap_on_literals}
 use Rattle.script_model.specs.Words.{number}
 use Rattle.option_model.specs.Plain.{Mode, Watch, is_path, watch_mode, watch_with}
 use Rattle.command_line.specs.Words.{between as range, held_without, watch_command, watch_held, watch_of, watch_words}
-use Rattle.command_line.proofs.NumberLemmas.{IsRead, IsValue, not_short, number_is_read}
+use Rattle.command_line.proofs.NumberLemmas.{IsRead, IsValue, not_short, number_is_read, path_is_value}
 use Rattle.command_line.proofs.RowLemmas.{row_with}
-use Rattle.command_line.proofs.RunWordLemmas.{Pending, held}
+use Rattle.command_line.proofs.OptionWordLemmas.{before, passed}
 
 -- the command as it is built
 abbrev top : Shape
 top = (built watch_command).top
-
--- the walk before the word at a position
-abbrev before : List Row → Pending → ℕ → Waiting → Walk
-before rows pending position waiting = record { held = held rows pending; waiting = waiting; position = position; is_trailing = false; stopped = None }
 
 abbrev path_rows : List Text → List Row
 path_rows [] = []
@@ -51,9 +46,6 @@ k_turn : (text : Text) → IsValue text → turn_fault top [] (before [] None 1 
 unfolding clap_on_literals
 k_turn [] value = absurd value
 k_turn (byte ∷ bytes) value = rw (value, not_short byte bytes value) refl
-
-passed : (fits : Bool) → fits ≡ true → or_else (cond fits [] (kind.ValueValidation ∷ [])) [] ≡ []
-passed fits e = ap (λ (b : Bool). or_else (cond b [] (kind.ValueValidation ∷ [])) []) e
 
 module _ (k : Text) where
   first_walk : (text : Text) → IsValue text → walked top.rules [] (before [] (Some (codes "k", k ∷ [])) 2 idle) text ≡ behind k [] text
@@ -94,10 +86,6 @@ one_more word words walk next rows turn step e = record {
   settles = ap (λ (w : Walk). settle_fault top.rules false (fold (walked top.rules []) w words).held) step ∙ e.settles;
   ends = ap (λ (w : Walk). (settled top.rules (fold (walked top.rules []) w words).held).rows) step ∙ e.ends;
 }
-
-path_is_value : (text : Text) → is_path text ≡ true → IsValue text
-path_is_value [] e = cc e
-path_is_value (byte ∷ bytes) e = not-true (byte == 45) e
 
 last_settled : (k : Text) (paths : List Text) (last : Text) → (settled top.rules (behind k paths last).held).rows ≡ rows_with k (paths ++ last ∷ [])
 last_settled k [] last = refl

@@ -13,6 +13,7 @@ use Rattle.clap.specs.declared.builder.value_parser.ValueParser.TheVariants.{Sig
 use Rattle.clap.specs.declared.error.kind.ErrorKind.{ErrorKind}
 use Rattle.clap.specs.declared.error.kind.ErrorKind.TheVariants as kind
 use Rattle.lake_model.specs.Texts.{Text}
+use Rattle.lake_model.specs.declared.Keys.{Keys}
 use Rattle.script_model.specs.Options.{Options, options_with}
 use Rattle.option_model.specs.Ranges.{AreInRange}
 use Rattle.option_model.specs.Plain as model
@@ -63,6 +64,10 @@ number_word name parser = record (new_rule name) { required = true; action = Som
 abbrev pub path_words : Rule
 path_words = record (new_rule (codes "path")) { required = true; action = Some Append }
 
+-- one word, which has to be there, a path
+abbrev pub path_word : Rule
+path_word = record (new_rule (codes "path")) { required = true; action = Some Set }
+
 -- all words are arguments, and neither help nor a version is among them
 abbrev pub bare : Text → App
 bare name = on_top (λ shape. record shape { no_binary_name = true; disable_help_flag = true; disable_version_flag = true }) (new_app name)
@@ -77,6 +82,11 @@ make_command = with_rule (with_rule (with_rule (bare (codes "make"))
 
 abbrev pub watch_command : App
 watch_command = with_rule (with_rule (bare (codes "watch")) (number_word (codes "k") (between 1 10000))) path_words
+
+-- the path of the trace, and the options of `run` but for an order and a trace
+abbrev pub check_command : App
+check_command = with_rule (with_rule (with_rule (with_rule (bare (codes "check"))
+    path_word) lanes_option) (flag_option (codes "merge"))) profile_option
 
 -- ---- what clap's matches hold
 
@@ -97,12 +107,16 @@ abbrev pub order_stated : ℕ → Bool → Option Text → Option (Option (List 
 order_stated lanes merge None = Some None
 order_stated lanes merge (Some text) = option_map Some (model.order_of lanes merge text)
 
+-- the kind of keys of the profile, which is 1 where none is said
+abbrev pub keys_held : List Row → Keys
+keys_held matches = model.keys_of_profile (unwrap_or (number_held (codes "profile") matches) 1)
+
 abbrev pub options_held : List Row → Option Options
 options_held matches =
     let lanes = unwrap_or (number_held (codes "lanes") matches) 1 in
     let merge = flag_of (codes "merge") matches in
-    let keys = model.keys_of_profile (unwrap_or (number_held (codes "profile") matches) 1) in
-    option_map (λ order. options_with lanes order merge (flag_of (codes "trace") matches) keys) (order_stated lanes merge (first_of (codes "order") matches))
+    option_map (λ order. options_with lanes order merge (flag_of (codes "trace") matches) (keys_held matches))
+    (order_stated lanes merge (first_of (codes "order") matches))
 
 -- none where clap has a fault to name
 abbrev pub held_without : {X : Type 0} → Kinds → Option X → Option X
@@ -135,10 +149,15 @@ watch_held matches = watch_of (number_held (codes "k") matches) (paths_held matc
 abbrev pub watch_words : List Text → Option model.Mode
 watch_words words = held_without (fault_of watch_command words) (watch_held (matches_of watch_command words))
 
--- the path of the trace comes first; the words behind it are read as those of `run`, but neither an order nor a trace is asked for
+-- the options of the run whose trace is checked: it had no stated order, and wrote a trace
+abbrev pub options_checked : List Row → Options
+options_checked matches = options_with (unwrap_or (number_held (codes "lanes") matches) 1) None (flag_of (codes "merge") matches) true (keys_held matches)
+
+abbrev pub check_held : List Row → Option model.Mode
+check_held matches = option_map (λ path. model.Check path (options_checked matches)) (first_of (codes "path") matches)
+
 abbrev pub check_words : List Text → Option model.Mode
-check_words [] = None
-check_words (trace ∷ words) = model.check_with trace (run_words words)
+check_words words = held_without (fault_of check_command words) (check_held (matches_of check_command words))
 
 -- whether the first word is a mode
 abbrev pub names_mode : List Text → Bool
@@ -149,8 +168,7 @@ names_mode (word ∷ words) =
     else if bytes_eq word (codes "watch") then true
     else bytes_eq word (codes "check")
 
--- the mode of the words: none where the first is no mode, clap refuses the words behind it, the order breaks its rule, there are more than 16 paths, or what
--- follows `check` is no path or asks for an order or a trace
+-- the mode of the words: none where the first is no mode, clap refuses the words behind it, the order breaks its rule, or there are more than 16 paths
 abbrev pub mode_read : List Text → Option model.Mode
 mode_read [] = None
 mode_read (word ∷ words) =

@@ -2,9 +2,9 @@
 ghost use Rattle.std.specs.Prelude.{ℕ, ◌≡◌, ◌≤◌, ◌⊎◌, ◌&&◌, false, Some, None, Err, map, nat_le, pos, string_bytes, IfOk, IfErr, MatchResult, option_map};
 ghost use Rattle.clap.specs.Walk.{rule_of};
 ghost use Rattle.clap.specs.Words.{app_of, found_of, rows_of};
-ghost use Rattle.option_model.specs.Plain.{Mode as ModeOf, checked_options, is_path, keys_of_profile, plain_mode};
+ghost use Rattle.option_model.specs.Plain.{Mode as ModeOf, keys_of_profile, plain_mode};
 ghost use Rattle.option_model.specs.Ranges.{AreInRange};
-ghost use Rattle.command_line.specs.Words.{IsModeInRange, bare, check_words, flag_of, flag_option, lanes_option, order_option, profile_option, make_command as make_app, make_held, make_words, mode_of, mode_read, names_mode, number_held, number_word, options_held, order_stated, path_words, paths_held, run_command as run_app, run_words, watch_command as watch_app, watch_held, watch_words};
+ghost use Rattle.command_line.specs.Words.{IsModeInRange, bare, check_command as check_app, check_held, check_words, flag_of, flag_option, lanes_option, order_option, profile_option, make_command as make_app, make_held, keys_held, make_words, mode_of, mode_read, names_mode, number_held, number_word, options_checked, options_held, order_stated, path_word, path_words, paths_held, run_command as run_app, run_words, watch_command as watch_app, watch_held, watch_words};
 
 use clap::builder::ValueParser;
 use clap::error::ErrorKind;
@@ -129,6 +129,16 @@ fn path_words<'a>(alloc: Global) -> Arg<'a>
         .action(ArgAction::Append)
 }
 
+// One word that is a path, which has to be there.
+fn path_word<'a>(alloc: Global) -> Arg<'a>
+    ensures rule { rule_of result ≡ path_word }
+    ensures local { result.global ≡ false }
+{
+    Arg::new(alloc, "path")
+        .required(true)
+        .action(ArgAction::Set)
+}
+
 // A command whose words are all arguments of its own.
 fn bare<'a>(alloc: Global, name: &'a str) -> Command<'a>
     ensures { app_of result ≡ bare name.entry.now }
@@ -170,6 +180,18 @@ fn watch_command<'a>(alloc: Global) -> Result<Command<'a>, NoMemory>
     let command = bare(alloc, "watch")
         .arg(number_word(alloc, "k", value_parser!(u32).range(1..=10_000)))?
         .arg(path_words(alloc))?;
+    Ok(command)
+}
+
+// The command that reads the words behind `check`.
+fn check_command<'a>(alloc: Global) -> Result<Command<'a>, NoMemory>
+    ensures { IfOk result (λ command. app_of command ≡ check_app) }
+{
+    let command = bare(alloc, "check")
+        .arg(path_word(alloc))?
+        .arg(lanes_option(alloc))?
+        .arg(flag_option(alloc, "merge"))?
+        .arg(profile_option(alloc))?;
     Ok(command)
 }
 
@@ -217,6 +239,14 @@ fn keys_of_profile(profile: u32) -> Keys
     }
 }
 
+// The kind of keys of the profile that the matches hold; profile 1 where they hold none.
+fn keys_held(matches: &ArgMatches<'_>) -> Keys
+    ensures { result ≡ keys_held (rows_of (found_of matches.now)) }
+{
+    let profile = number(matches, "profile").unwrap_or(1);
+    keys_of_profile(profile)
+}
+
 // The options that the matches of `run` hold.
 fn options_held(alloc: Global, matches: &ArgMatches<'_>) -> Result<Options, WordsRefused>
     ensures read { IfOk result (λ options. options_held (rows_of (found_of matches.now)) ≡ Some options) }
@@ -224,14 +254,13 @@ fn options_held(alloc: Global, matches: &ArgMatches<'_>) -> Result<Options, Word
 {
     let lanes = number(matches, "lanes").unwrap_or(1);
     let merge = flag(matches, "merge");
-    let profile = number(matches, "profile").unwrap_or(1);
     let order = order_stated(alloc, lanes, merge, matches.get_str("order"))?;
     Ok(Options {
         lanes,
         order,
         merge,
         trace: flag(matches, "trace"),
-        keys: keys_of_profile(profile),
+        keys: keys_held(matches),
     })
 }
 
@@ -317,24 +346,32 @@ fn watch_mode(alloc: Global, words: &[String]) -> Result<Mode, WordsRefused>
     watch_held(alloc, &matches)
 }
 
-// Whether a word may be the path of the trace.
-fn is_path(word: &str) -> bool
-    ensures { result ≡ is_path word.now }
+// The options of the run whose trace is checked. Such a run wrote a trace and stated no order, so the words have no say in either.
+fn options_checked(matches: &ArgMatches<'_>) -> Options
+    ensures { result ≡ options_checked (rows_of (found_of matches.now)) }
 {
-    word.as_bytes().first().is_some_and(|byte| *byte != b'-')
+    Options {
+        lanes: number(matches, "lanes").unwrap_or(1),
+        order: None,
+        merge: flag(matches, "merge"),
+        trace: true,
+        keys: keys_held(matches),
+    }
 }
 
-// The options of the run whose trace is checked, where these state no order and ask for no trace.
-fn checked_options(options: Options) -> Option<Options>
-    ensures { result ≡ checked_options options }
+// The path and the options that the matches of `check` hold.
+fn check_held(alloc: Global, matches: &ArgMatches<'_>) -> Result<Mode, WordsRefused>
+    ensures read { IfOk result (λ mode. check_held (rows_of (found_of matches.now)) ≡ Some (mode_of mode)) }
+    ensures refused { IfErr result (λ e. (e ≡ WordsRefused.NoMemory) ⊎ (check_held (rows_of (found_of matches.now)) ≡ None)) }
 {
-    if options.order.is_some() || options.trace {
-        return None;
-    }
-    Some(Options {
-        trace: true,
-        ..options
-    })
+    let Some(path) = matches.get_str("path") else {
+        return Err(WordsRefused::Usage);
+    };
+    let Ok(trace) = String::from_str(alloc, path) else {
+        return Err(WordsRefused::NoMemory);
+    };
+    let options = options_checked(matches);
+    Ok(Mode::Check { trace, options })
 }
 
 // The mode that the words behind `check` say.
@@ -343,20 +380,8 @@ fn check_mode(alloc: Global, words: &[String]) -> Result<Mode, WordsRefused>
     ensures in_range { IfOk result (λ mode. IsModeInRange (mode_of mode)) }
     ensures refused { IfErr result (λ e. (e ≡ WordsRefused.NoMemory) ⊎ (check_words (map string_bytes words.now) ≡ None)) }
 {
-    let [trace, arguments @ ..] = words else {
-        return Err(WordsRefused::Usage);
-    };
-    if !is_path(trace.as_str()) {
-        return Err(WordsRefused::Usage);
-    }
-    let options = run_options(alloc, arguments)?;
-    let Some(options) = checked_options(options) else {
-        return Err(WordsRefused::Usage);
-    };
-    let Ok(trace) = String::from_str(alloc, trace.as_str()) else {
-        return Err(WordsRefused::NoMemory);
-    };
-    Ok(Mode::Check { trace, options })
+    let matches = check_command(alloc)?.try_get_matches_from(words)?;
+    check_held(alloc, &matches)
 }
 
 /// The mode that the words behind the program's name say. The first word is the mode, byte for byte, and clap reads the words behind
@@ -364,7 +389,8 @@ fn check_mode(alloc: Global, words: &[String]) -> Result<Mode, WordsRefused>
 /// and 1 where it is not said; LIST is pieces with `/` between, and a piece is empty, or numbers of lanes with `,` between, where 0 is the
 /// merger; P is 1 or 2, and 1 where it is not said, and by profile 2 values are compared by their compatibility forms. `make` takes a seed
 /// below 4,294,967,296, 1 to 1,000 tables, and 1 to 5,000 rows. `watch` takes a number of rows, 1 to 10,000, and 1 to 16 paths.
-/// `check` takes a path, which is not empty and does not begin with `-`, and behind it `--lanes N`, `--merge` and `--profile P`.
+/// `check` takes one path, and before or behind it `--lanes N`, `--merge` and `--profile P`, each at most once and in any order, which
+/// mean what they do behind `run`.
 #[tactic(auto, using(crate::proofs::ModeLemmas::plain_is_read, std::proofs::lemmas::Grind::common_steps))]
 pub fn read_words(alloc: Global, words: &[String]) -> Result<Mode, WordsRefused>
     // plain words give what they say, or memory is wanting

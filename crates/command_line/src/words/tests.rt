@@ -96,6 +96,13 @@ fn reads_other_words_as_clap_does(rt: HostRuntime) -> Result<(), Fail> {
         ("watch 1 ", [1, 1, 0, 8]),
         ("check t --", [1, 1, 1, 7]),
         ("check t --lanes=02", [2, 1, 1, 7]),
+        ("check --lanes 2 t", [2, 1, 1, 7]),
+        ("check --merge t --profile 2", [1, 7, 1, 7]),
+        ("check -- t", [1, 1, 1, 7]),
+        ("check -- -t", [1, 1, 2, 7]),
+        ("check --lanes 2 -- --trace", [2, 1, 7, 7]),
+        ("check ", [1, 1, 0, 7]),
+        ("check  --merge", [1, 3, 0, 7]),
     ] {
         assert!(rt; said(alloc, line)? == Some(wanted));
     }
@@ -209,16 +216,21 @@ fn refuses_other_words_of_check(rt: HostRuntime) -> Result<(), Fail> {
     let alloc = rt.alloc();
     for line in [
         "check",
-        "check ",
+        "check --",
         "check -t",
         "check --lanes 2",
-        "check --lanes 2 t",
         "check t u",
+        "check t -- u",
+        "check -- t --merge",
         "check t --trace",
+        "check --trace t",
         "check t --order /",
+        "check --order / t",
         "check t --lanes 17",
-        "check t --merge --merge",
+        "check t --lanes 2 --lanes 2",
+        "check --merge t --merge",
         "check t --profile 3",
+        "check t --profile 1 --profile 1",
         "check t --help",
     ] {
         assert!(rt; said(alloc, line)?.is_none());

@@ -1,29 +1,32 @@
-use Rattle.std.proofs.Common.{rules, ap, ◌≡◌, ◌⊎◌, ◌-◌, ◌∙◌, inr, map, string_bytes, sym, true, Global, None, Some}
+use Rattle.std.proofs.Common.{◌≡◌, ◌⊎◌, None, Some, Option, IfErr, IfOk, map, string_bytes, subst, Global}
+use Rattle.clap.specs.Words.{app_of, found_of, kind_of, rows_of}
 use Rattle.clap.proofs.TakesLemmas.{passed_up}
-use Rattle.lake_model.specs.Texts.{Text}
-use Rattle.option_model.specs.Plain.{Check, is_path}
-use Rattle.command_line.specs.Words.{check_words}
+use Rattle.option_model.specs.Plain.{Mode}
+use Rattle.command_line.specs.Words.{check_command, check_held, mode_of, refusal_by}
 use Rattle.command_line.specs.declared.words.WordsRefused.TheVariants as refused
-use Rattle.command_line.proofs.ModeLemmas.{check_read, check_refused, not_checked, parted}
+use Rattle.command_line.proofs.CommandLemmas.{check_in_range, check_is_free, ok_more, refused_for, said_by}
 use Rattle.command_line.proofs.words.check_mode.Goals as goal
 
-pub returns-in_err-options-clause-refused : goal.returns-in_err-options-clause-refused
-returns-in_err-options-clause-refused c =
-    let texts = map (string_bytes {Z = Global}) c.args.words.now in
-    passed_up c.from_residual.result c.in_err-options.field-0.0 (λ e. (e ≡ refused.NoMemory) ⊎ (check_words texts ≡ None)) c.from_residual.ensures.1
-    (check_refused _ _ texts (parted (string_bytes {Z = Global}) c.args.words.now c.trace-item.result c.in-len1-up.len_at_least c.trace-item.is) c.in_err-options.field-0.0 c.in_err-options.ensures.refused)
-
-pub returns-in_default-checked_options-clause-refused : goal.returns-in_default-checked_options-clause-refused
-returns-in_default-checked_options-clause-refused c =
-    let texts = map (string_bytes {Z = Global}) c.args.words.now in
-    inr (not_checked _ _ texts (parted (string_bytes {Z = Global}) c.args.words.now c.trace-item.result c.in-len1-up.len_at_least c.trace-item.is)
-    c.in_ok-options.options c.in_ok-options.ensures.read (sym c.checked_options.ensures ∙ c.in_default-checked_options.is))
+pub returns-in_err-matches-clause-refused : goal.returns-in_err-matches-clause-refused
+returns-in_err-matches-clause-refused c =
+    let what = kind_of c.in_err-matches.field-0.0 in
+    passed_up c.from_residual-in_err-matches.result (refusal_by what) _ c.from_residual-in_err-matches.ensures.1
+    (refused_for check_command (app_of c.in_ok-check_command.field-0) check_held (map (string_bytes {Z = Global}) c.args.words.now) what check_is_free c.in_ok-check_command.ensures c.in_err-matches.ensures.kinds)
 
 pub returns-clause-read : goal.returns-clause-read
 returns-clause-read c =
-    let texts = map (string_bytes {Z = Global}) c.args.words.now in
-    let path : is_path (string_bytes {Z = Global} c.trace-item.result) ≡ true = search rules in
-    let same : string_bytes {Z = Global} c.trace-item.result ≡ string_bytes {Z = Global} c.in-Ok.trace = search rules in
-    check_read _ _ texts (parted (string_bytes {Z = Global}) c.args.words.now c.trace-item.result c.in-len1-up.len_at_least c.trace-item.is)
-    c.in_ok-options.options c.in-Some.options path c.in_ok-options.ensures.read (sym c.checked_options.ensures ∙ c.in-Some.is)
-    ∙ ap (λ (t : Text). Some (Check t c.in-Some.options)) same
+    subst (λ (o : Option Mode). IfOk c.check_held.result (λ mode. o ≡ Some (mode_of mode)))
+    (said_by check_command (app_of c.in_ok-check_command.field-0) check_held (map (string_bytes {Z = Global}) c.args.words.now) (rows_of (found_of c.in_ok-matches.matches))
+    check_is_free c.in_ok-check_command.ensures c.in_ok-matches.ensures.matches c.in_ok-matches.ensures.kinds)
+    c.check_held.ensures.read
+
+pub returns-clause-refused : goal.returns-clause-refused
+returns-clause-refused c =
+    subst (λ (o : Option Mode). IfErr c.check_held.result (λ e. (e ≡ refused.NoMemory) ⊎ (o ≡ None)))
+    (said_by check_command (app_of c.in_ok-check_command.field-0) check_held (map (string_bytes {Z = Global}) c.args.words.now) (rows_of (found_of c.in_ok-matches.matches))
+    check_is_free c.in_ok-check_command.ensures c.in_ok-matches.ensures.matches c.in_ok-matches.ensures.kinds)
+    c.check_held.ensures.refused
+
+pub returns-clause-in_range : goal.returns-clause-in_range
+returns-clause-in_range c = ok_more c.check_held.result _ _
+    (λ mode. check_in_range c.in_ok-check_command.field-0 c.in_ok-matches.matches c.in_ok-matches.ensures.parsed c.in_ok-check_command.ensures (mode_of mode)) c.check_held.ensures.read

@@ -4,7 +4,6 @@ use Rattle.clap.specs.Words.{found_of, rows_of}
 use Rattle.clap.proofs.TakesLemmas.{passed_up}
 use Rattle.clap.proofs.WalkLemmas.{first_value-rows}
 use Rattle.script_model.specs.Options.{options_with}
-use Rattle.option_model.specs.Plain.{keys_of_profile}
 use Rattle.command_line.proofs.CommandLemmas.{no_options, options_are}
 use Rattle.command_line.proofs.words.options_held.Goals as goal
 
@@ -19,8 +18,8 @@ returns-in_err-order-clause-refused c =
 pub returns-clause-read : goal.returns-clause-read
 returns-clause-read c =
     let matches = rows_of (found_of c.args.matches.now) in
-    sym (options_are matches c.unwrap_or-lanes.result c.flag-merge.result c.flag.result c.keys_of_profile.result (option_map (λ s. s.now) c.get_str.result)
+    sym (options_are matches c.unwrap_or-lanes.result c.flag-merge.result c.flag.result c.keys_held.result (option_map (λ s. s.now) c.get_str.result)
     (c.unwrap_or-lanes.ensures ∙ ap (λ (o : Option ℕ). unwrap_or o 1) c.number.ensures) c.flag-merge.ensures c.flag.ensures
-    (c.keys_of_profile.ensures ∙ ap keys_of_profile (c.unwrap_or-profile.ensures ∙ ap (λ (o : Option ℕ). unwrap_or o 1) c.number-2.ensures))
+    c.keys_held.ensures
     (c.get_str.ensures ∙ first_value-rows (found_of c.args.matches.now) (codes "order")))
-    ∙ ap (option_map (λ (order : Option (List (List ℕ))). options_with c.unwrap_or-lanes.result order c.flag-merge.result c.flag.result c.keys_of_profile.result)) c.in_ok-order.ensures.read
+    ∙ ap (option_map (λ (order : Option (List (List ℕ))). options_with c.unwrap_or-lanes.result order c.flag-merge.result c.flag.result c.keys_held.result)) c.in_ok-order.ensures.read
