@@ -155,10 +155,10 @@ module _ (p : ℕ × Titled → Bool) where
 
 -- ---- a part behind its reads
 
-and_parts : (a b c : Bool) → (a && b && c) ≡ true → (a ≡ true) × (b ≡ true) × (c ≡ true)
-and_parts true true c e = (refl, refl, e)
-and_parts true false c e = cc
-and_parts false b c e = cc
+three_parts : (a b c : Bool) → (a && b && c) ≡ true → (a ≡ true) × (b ≡ true) × (c ≡ true)
+three_parts true true c e = (refl, refl, e)
+three_parts true false c e = cc
+three_parts false b c e = cc
 
 module _ (least : ℕ) (part : Searched) (long : length part.segment.sets ≡ length part.segment.columns) (tallies : List Tally) (are : AreTallies part.segment.sets (take (lists_needed least part) part.query) tallies) where
   abbrev left : ℕ
@@ -194,7 +194,7 @@ module _ (least : ℕ) (part : Searched) (long : length part.segment.sets ≡ le
 
   pub may_seen : (x : ℕ) (c : Titled) → may_hold least part x c ≡ true → 0 < (tally_at tallies x).count
   may_seen x c e =
-      let some = (and_parts (is_unmarked part c) (nat_lt 0 (seen_behind least part x c).count) (nat_le least (seen_behind least part x c).bound.overlap) e).1 in
+      let some = (three_parts (is_unmarked part c) (nat_lt 0 (seen_behind least part x c).count) (nat_le least (seen_behind least part x c).bound.overlap) e).1 in
       let l : 0 < (seen_behind least part x c).count = grind (arith, nat_tests) in
       omega (arith, l, count_is x c)
 
