@@ -1,6 +1,7 @@
 pub mod AsciiLemmas
 pub mod ColumnLemmas
 pub mod DistinctLemmas
+pub mod GatherLemmas
 pub mod KeyLemmas
 pub mod SlotLemmas
 pub mod LineLemmas
