@@ -9,6 +9,7 @@ mod name;
 mod query;
 mod row;
 mod slots;
+mod sorted;
 mod table;
 mod texts;
 mod titles;
@@ -21,5 +22,7 @@ pub use row::{KeptRow, KeptRows, Row, Rows};
 pub use table::{SharedTable, TableSets};
 pub use titles::Titles;
 
+#[cfg(test)]
+mod sorted_tests;
 #[cfg(test)]
 mod tests;
