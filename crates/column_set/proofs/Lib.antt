@@ -10,3 +10,4 @@ pub mod OverlapLemmas
 pub mod ReadLemmas
 pub mod RegionLemmas
 pub mod SizeLemmas
+pub mod SortedLemmas

@@ -24,4 +24,6 @@ pub use table::{SharedTable, TableSets};
 pub use titles::Titles;
 
 #[cfg(test)]
+mod sorted_tests;
+#[cfg(test)]
 mod tests;

@@ -1,5 +1,6 @@
 //! Texts in one region, which the keys of columns and queries and the names of columns are kept in.
-ghost use Rattle.std.specs.Prelude.{◌≡◌, ◌<◌, ◌≤◌, ◌^◌, ◌++◌, ◌∷◌, [], drop, get_or, length, map, string_bytes, sum_by, IfNone, IfOk, IfSome, OnErr, OnOk};
+ghost use Rattle.std.specs.Prelude.{◌≡◌, ◌<◌, ◌≤◌, ◌+◌, ◌^◌, ◌++◌, ◌∷◌, [], drop, get_or, length, map, string_bytes, sum_by, take, IfNone, IfOk, IfSome, OnErr, OnOk};
+ghost use Rattle.column_set.specs.Sorted.{unmarked};
 
 use no_memory::NoMemory;
 use std::alloc::Global;
@@ -108,6 +109,14 @@ impl Texts {
         self.spans.shrink_to_fit();
     }
 
+    /// Leaves out the marked ones of the texts from a place on, of which each has a mark. The bytes of what is left out stay in the region.
+    pub fn leave_out(&mut self, from: u32, marks: &[bool])
+        requires { from + length marks.now ≡ length self.old }
+        ensures { self.new ≡ take from self.old ++ unmarked marks.now (drop from self.old) }
+    {
+        keep_unmarked(&mut self.spans, from as usize, marks);
+    }
+
     /// How many bytes the texts have together, and `None` only where these are 2^64 or more.
     pub fn byte_count(&self) -> Option<u64>
         ensures count { IfSome result (λ count. count ≡ sum_by length self.now) }
@@ -131,4 +140,19 @@ pub fn byte_count(strings: &[String]) -> Option<u64>
         count = count.checked_add(string.len() as u64)?;
     }
     Some(count)
+}
+
+// Leaves out the marked ones of the spans from a place on, of which each has a mark.
+fn keep_unmarked(spans: &mut Vec<Span>, from: usize, marks: &[bool])
+    requires { from + length marks.now ≡ length spans.old.items }
+    ensures { spans.new.items ≡ take from spans.old.items ++ unmarked marks.now (drop from spans.old.items) }
+{
+    let mut kept = from;
+    for (i, mark) in marks.iter().enumerate() {
+        if !*mark {
+            spans[kept] = spans[from + i];
+            kept += 1;
+        }
+    }
+    spans.truncate(kept);
 }

@@ -1,14 +1,13 @@
-use Rattle.std.proofs.Common.{◌∙◌, ap, arith, sym}
-use Rattle.std.proofs.lemmas.List.{take_all}
-use Rattle.lake_model.specs.Tables.{has_key}
-use Rattle.column_set.proofs.DistinctLemmas.{has_at, has_more}
+use Rattle.std.proofs.Common.{◌≡◌, ◌∙◌, [], get_or, rules, ℕ}
+use Rattle.std.specs.Cmp.Lexicographic.{slice_cmp}
+use Rattle.std.specs.Ordering.{nat_cmp}
+use Rattle.std.proofs.lemmas.Fn.{always_returns_same}
+use Rattle.column_set.proofs.SortedLemmas.{found_is}
 use Rattle.column_set.proofs.sorted.is_among_sorted.Goals as goal
 
-pub returns-then-eq : goal.returns-then-eq
-returns-then-eq c = has_at c.args.texts.now c.args.key.now c.loop-i.i c.text.result.now (omega (arith, c.len-i-end.ensures.value)) c.text.ensures c.eq.result c.eq.ensures c.if-eq.true
-
-pub loop-i-preserved : goal.loop-i-preserved
-loop-i-preserved c = has_more c.args.texts.now c.args.key.now c.loop-i.i c.text.result.now (omega (arith, c.len-i-end.ensures.value)) c.text.ensures c.eq.result c.eq.ensures c.if-eq.false c.loop-i.invariant
-
 pub returns : goal.returns
-returns c = sym (ap (λ ks. has_key ks c.args.key.now) (sym (take_all c.loop-i.i c.args.texts.now (omega (arith, c.len-i-end.ensures.value)))) ∙ c.loop-i.invariant)
+returns c =
+    let texts = c.args.texts.now in
+    let key = c.args.key.now in
+    let is = c.binary_search_by.ensures.position (λ (p : ℕ). slice_cmp nat_cmp (get_or texts p []) key) (always_returns_same _ (λ a r. r ≡ slice_cmp nat_cmp (get_or texts a.0.now []) key) _ (λ a r f' called. search rules)) in
+    c.is_ok.ensures.value ∙ found_is texts c.args.places.now c.requires key c.binary_search_by.result c.binary_search_by.ensures.bound is
