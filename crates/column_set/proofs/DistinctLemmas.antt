@@ -17,7 +17,7 @@ pub no_repeat : IsDistinct bytes_eq []
 unfolding IsDistinct
 no_repeat = tt
 
-added_differ : (seen texts : List Text) → IsDistinct bytes_eq seen → IsDistinct bytes_eq (fold add_key seen texts)
+pub added_differ : (seen texts : List Text) → IsDistinct bytes_eq seen → IsDistinct bytes_eq (fold add_key seen texts)
 added_differ seen [] d = d
 added_differ seen (text ∷ texts) d =
     elim (cases_Bool (has_key seen text)) [

@@ -1,6 +1,7 @@
 pub mod AsciiLemmas
 pub mod ColumnLemmas
 pub mod DistinctLemmas
+pub mod GatherLemmas
 pub mod KeyLemmas
 pub mod SlotLemmas
 pub mod LineLemmas
@@ -9,3 +10,4 @@ pub mod OverlapLemmas
 pub mod ReadLemmas
 pub mod RegionLemmas
 pub mod SizeLemmas
+pub mod SortedLemmas

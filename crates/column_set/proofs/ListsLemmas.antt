@@ -1,7 +1,9 @@
 -- Lists of texts one behind another in one list: where each begins and ends, and one list more.
 use Rattle.std.proofs.Common.{◌≡◌, refl, ap, sym, ◌∙◌, subst, ℕ, zero, suc, ◌+◌, ◌-◌, ◌<◌, ◌≤◌, List, [], ◌∷◌, ◌++◌, length, get_or, take, drop, arith, add-one, length-append, length-drop}
 use Rattle.std.specs.List.{slice_index, slice_range}
-use Rattle.std.proofs.lemmas.List.{drop-append-le, get_or-drop, get_or-take, length-take-le, take-append-le, take_more}
+use Rattle.std.specs.Prelude.{sum_by}
+use Rattle.std.proofs.lemmas.List.Sums.{sum_by-append, sum_by-cons}
+use Rattle.std.proofs.lemmas.List.{drop_all, drop-drop, take-append-drop, drop-append-le, get_or-drop, get_or-take, length-take-le, take-append-le}
 use Rattle.std.proofs.Math.ListN.{get_or-eq_default}
 use Rattle.std.proofs.Math.Seq.{drop-append_seam, take-length}
 use Rattle.lake_model.specs.Texts.{Text}
@@ -36,7 +38,7 @@ pub bounds_at : (starts : List ℕ) (texts : List Text) → AreLists starts text
     → (read : List ℕ) → read ≡ starts → (low high : ℕ) → low ≡ slice_index read i → high ≡ slice_index read (i + 1) → Bounds texts (get_or lists i []) low high
 bounds_at [] texts held lists is i inside read same low high e f = absurd held
 bounds_at (from ∷ ends) texts held lists is i inside read same low high e f =
-    let core = bounds_from from ends texts held i (omega (arith, length-parts_from from ends texts, ap length is)) in
+    let core = bounds_from from ends texts held.1 i (omega (arith, length-parts_from from ends texts, ap length is)) in
     let starts : low ≡ slice_index (from ∷ ends) i = e ∙ ap (λ (s : List ℕ). slice_index s i) same in
     let stops : high ≡ slice_index (from ∷ ends) (suc i) = f ∙ ap (λ (s : List ℕ). slice_index s (i + 1)) same ∙ ap (slice_index (from ∷ ends)) (add-one i) in
     let A : List (List Text) → Type 0 = λ (ls : List (List Text)). Bounds texts (get_or ls i []) (slice_index (from ∷ ends) i) (slice_index (from ∷ ends) (suc i)) in
@@ -71,21 +73,53 @@ parts_more from (to ∷ ends) texts keys end h e =
 pub lists_more : (starts : List ℕ) (texts keys : List Text) (end : ℕ) → AreLists starts texts → end ≡ length texts + length keys
     → AreLists (starts ++ end ∷ []) (texts ++ keys) × (parts_of (starts ++ end ∷ []) (texts ++ keys) ≡ parts_of starts texts ++ keys ∷ [])
 lists_more [] texts keys end held e = absurd held
-lists_more (from ∷ ends) texts keys end held e = parts_more from ends texts keys end held e
+lists_more (from ∷ ends) texts keys end held e = let more = parts_more from ends texts keys end held.1 e in ((held.0, more.0), more.1)
 
 lists_at : (starts read : List ℕ) (texts held : List Text) → read ≡ starts → held ≡ texts → AreLists starts texts → AreLists read held
 lists_at starts read texts held e f h = subst (λ (s : List ℕ). AreLists s held) (sym e) (subst (AreLists starts) (sym f) h)
 
--- the same, as a loop adds the list at i
-pub lists_step : (starts : List ℕ) (texts : List Text) (lists : List (List Text)) (i : ℕ) → AreLists starts texts → parts_of starts texts ≡ take i lists → i < length lists
-    → (keys : List Text) → keys ≡ get_or lists i keys
-    → (new_texts : List Text) → new_texts ≡ texts ++ keys → (end : ℕ) → end ≡ length new_texts → (new_starts : List ℕ) → new_starts ≡ starts ++ end ∷ []
-    → AreLists new_starts new_texts × (parts_of new_starts new_texts ≡ take (i + 1) lists)
-lists_step starts texts lists i held read within keys here new_texts texts_are end end_is new_starts starts_are =
-    let more = lists_more starts texts keys end held (end_is ∙ ap length texts_are ∙ length-append texts keys) in (
-      lists_at _ new_starts _ new_texts starts_are texts_are more.0,
-      (λ j. parts_of (starts_are j) (texts_are j)) ∙ more.1 ∙ (λ j. read j ++ here j ∷ []) ∙ sym (take_more lists i keys within),
-    )
+-- the same, where the new texts and places have names of their own
+pub lists_step : (starts : List ℕ) (texts keys : List Text) → AreLists starts texts → (new_texts : List Text) → new_texts ≡ texts ++ keys → (end : ℕ) → end ≡ length new_texts
+    → (new_starts : List ℕ) → new_starts ≡ starts ++ end ∷ [] → AreLists new_starts new_texts × (parts_of new_starts new_texts ≡ parts_of starts texts ++ keys ∷ [])
+lists_step starts texts keys held new_texts texts_are end end_is new_starts starts_are =
+    let more = lists_more starts texts keys end held (end_is ∙ ap length texts_are ∙ length-append texts keys) in
+    (lists_at _ new_starts _ new_texts starts_are texts_are more.0, (λ j. parts_of (starts_are j) (texts_are j)) ∙ more.1)
+
+-- before the first list
+pub no_lists : (starts : List ℕ) (texts : List Text) → starts ≡ 0 ∷ [] → texts ≡ [] → AreLists starts texts × (parts_of starts texts ≡ [])
+no_lists starts texts starts_are texts_are = (lists_at (0 ∷ []) starts [] texts starts_are texts_are (refl, refl), (λ j. parts_of (starts_are j) (texts_are j)))
+
+-- ---- the sums over all lists
+
+pub length-part : {X : Type 0} (xs : List X) (low high : ℕ) → high ≤ length xs → length (slice_range xs low high) ≡ high - low
+length-part xs low high within = length-take-le (high - low) (drop low xs) (omega (arith, length-drop low xs))
+
+sum-parts_from : (f : Text → ℕ) (from : ℕ) (ends : List ℕ) (texts : List Text) → AreParts from ends texts → sum_by (λ keys. sum_by f keys) (parts_from from ends texts) ≡ sum_by f (drop from texts)
+sum-parts_from f from [] texts h = sym (ap (sum_by f) (drop_all from texts (omega (arith, h))))
+sum-parts_from f from (to ∷ ends) texts h =
+    let here = sum_by-cons (λ (keys : List Text). sum_by f keys) (slice_range texts from to) (parts_from to ends texts) in
+    let rest = sum-parts_from f to ends texts h.1 in
+    let seam : from + (to - from) ≡ to = omega (arith, h.0) in
+    let behind : drop (to - from) (drop from texts) ≡ drop to texts = drop-drop (to - from) from texts ∙ ap (λ (k : ℕ). drop k texts) seam in
+    let both = ap (sum_by f) (sym (take-append-drop (to - from) (drop from texts))) ∙ sum_by-append f (slice_range texts from to) (drop (to - from) (drop from texts)) in
+    omega (arith, here, rest, ap (sum_by f) behind, both)
+
+length-parts : (from : ℕ) (ends : List ℕ) (texts : List Text) → AreParts from ends texts → sum_by (λ keys. length keys) (parts_from from ends texts) + from ≡ length texts
+length-parts from [] texts h = omega (arith, h)
+length-parts from (to ∷ ends) texts h =
+    let here = sum_by-cons (λ (keys : List Text). length keys) (slice_range texts from to) (parts_from to ends texts) in
+    let size = length-part texts from to (within_texts to ends texts h.1) in
+    omega (arith, here, size, h.0, length-parts to ends texts h.1)
+
+pub lists_count : (starts : List ℕ) (texts : List Text) → AreLists starts texts → (lists : List (List Text)) → parts_of starts texts ≡ lists → length texts ≡ sum_by (λ keys. length keys) lists
+lists_count [] texts held lists is = absurd held
+lists_count (from ∷ ends) texts held lists is = omega (arith, length-parts from ends texts held.1, held.0, ap (sum_by (λ (keys : List Text). length keys)) is)
+
+pub lists_sum : (f : Text → ℕ) (starts : List ℕ) (texts : List Text) → AreLists starts texts → (lists : List (List Text)) → parts_of starts texts ≡ lists → sum_by f texts ≡ sum_by (λ keys. sum_by f keys) lists
+lists_sum f [] texts held lists is = absurd held
+lists_sum f (from ∷ ends) texts held lists is =
+    let front : drop from texts ≡ texts = ap (λ (k : ℕ). drop k texts) held.0 in
+    ap (sum_by f) (sym front) ∙ sym (sum-parts_from f from ends texts held.1) ∙ ap (sum_by (λ (keys : List Text). sum_by f keys)) is
 
 -- ---- an element of a part
 
@@ -97,6 +131,3 @@ past_part xs low high i d h within =
     let room : high - low ≤ length (drop low xs) = omega (arith, length-drop low xs) in
     let size : length (slice_range xs low high) ≡ high - low = length-take-le (high - low) (drop low xs) room in
     get_or-eq_default (slice_range xs low high) d (omega arith)
-
-pub length-part : {X : Type 0} (xs : List X) (low high : ℕ) → high ≤ length xs → length (slice_range xs low high) ≡ high - low
-length-part xs low high within = length-take-le (high - low) (drop low xs) (omega (arith, length-drop low xs))

@@ -27,6 +27,9 @@ places_behind-more i n h = let e : n - i ≡ suc (n - (i + 1)) = omega arith in 
 abbrev pub fault_behind : (ℕ → Bool) → ℕ → ℕ → Option SetRefused
 fault_behind p i n = option_map sets.TooManyValues (find p (places_behind i n))
 
+pub fault_behind-none : (p : ℕ → Bool) (n : ℕ) → option_map sets.TooManyValues (find p (range_with_len 1 n)) ≡ fault_behind p 0 n
+fault_behind-none p n = let e : n ≡ n - 0 = omega arith in ap (λ (k : ℕ). option_map sets.TooManyValues (find p (range_with_len 1 k))) e
+
 pub fault_behind-here : (p : ℕ → Bool) (i n : ℕ) → i < n → p (i + 1) ≡ true → fault_behind p i n ≡ Some (sets.TooManyValues (i + 1))
 fault_behind-here p i n h e = ap (λ places. option_map sets.TooManyValues (find p places)) (places_behind-more i n h) ∙ ap (λ b. option_map sets.TooManyValues (cond b (Some (i + 1)) (find p (places_behind (i + 1) n)))) e
 

@@ -1,7 +1,8 @@
 -- Slots: one number more, one key more, and the look for a key.
 use Rattle.std.proofs.Common.{◌≡◌, ◌≢◌, refl, ap, sym, ◌∙◌, subst, inl, inr, ℕ, zero, suc, ◌+◌, ◌-◌, ◌<◌, ◌≤◌, List, [], ◌∷◌, ◌++◌, length, get_or, true, false, arith, Bool, ◌⊎◌}
-use Rattle.std.specs.Prelude.{bytes_eq, slice_index, slice_set}
+use Rattle.std.specs.Prelude.{bytes_eq, slice_index, slice_set, Err, IfOk, IfSome, None, Ok, Option, Result, Some}
 use Rattle.std.specs.List.{All, AllByRecursion, IsDistinct}
+use Rattle.std.specs.Option.{is_some}
 use Rattle.std.proofs.lemmas.Bool.{cases_lt}
 use Rattle.std.proofs.lemmas.List.{get_or_append_left, get_or-set_other, get_or-set_same, length-set, length-append}
 use Rattle.std.proofs.lemmas.Cmp.{nat_list_eq_equiv}
@@ -11,7 +12,7 @@ use Rattle.std.proofs.lemmas.Slice.Eq.{bytes_eq-Decides}
 use Rattle.lake_model.specs.Texts.{Text}
 use Rattle.lake_model.specs.Tables.{has_key}
 use Rattle.column_set.proofs.DistinctLemmas.{no_repeat}
-use Rattle.column_set.specs.Slots.{Holds, IsAhead, IsFree, IsSlotted, Passes, Reaches, hash_of, home_of, next_of}
+use Rattle.column_set.specs.Slots.{AreFree, Holds, IsAhead, IsFree, IsSlotted, IsSlottedSet, Passes, Reaches, hash_of, home_of, most_probes, next_of}
 
 -- one step more
 pub passes_more : (size : ℕ) (slots : List ℕ) (from at steps : ℕ) → Passes size slots from at steps → 0 < slice_index slots at → Passes size slots from (next_of size at) (suc steps)
@@ -57,11 +58,14 @@ all_free [] h at = refl
 all_free (number ∷ slots) h zero = elim h.0 [ inl e ↦ e | inr e ↦ e ]
 all_free (number ∷ slots) h (suc at) = all_free slots h.1 at
 
-pub slotted_none : (slots : List ℕ) (keys : List Text) → AllByRecursion (λ number. (number ≡ 0) ⊎ (number ≡ 0)) slots → IsSlotted (length slots) slots keys 0
-slotted_none slots keys free = record { numbers = λ at. omega (arith, all_free slots free at); held = λ i less. absurd (omega arith) }
+pub all_are_free : (slots : List ℕ) → AllByRecursion (λ number. (number ≡ 0) ⊎ (number ≡ 0)) slots → AreFree slots
+all_are_free slots h = all_free slots h
 
-pub none_slotted : (keys : List Text) (slots : List ℕ) → keys ≡ [] → IsSlotted (length slots) slots keys (length keys) → IsDistinct bytes_eq keys × IsSlotted (length slots) slots keys (length keys)
-none_slotted keys slots none slotted = (subst (IsDistinct bytes_eq) (sym none) no_repeat, slotted)
+pub slotted_none : (slots : List ℕ) (keys : List Text) → AreFree slots → IsSlotted (length slots) slots keys 0
+slotted_none slots keys free = record { numbers = λ at. omega (arith, free at); held = λ i less. absurd (omega arith) }
+
+pub no_keys_slotted : (slots : List ℕ) (keys : List Text) → AreFree slots → keys ≡ [] → IsSlottedSet slots keys
+no_keys_slotted slots keys free none = subst (IsSlottedSet slots) (sym none) (record { different = no_repeat; slotted = slotted_none slots [] free })
 
 -- the next key takes a free slot
 slotted_next : (slots : List ℕ) (keys : List Text) (count at : ℕ) → IsSlotted (length slots) slots keys count → IsFree slots (home_of (length slots) (hash_of (get_or keys count []))) at
@@ -104,14 +108,26 @@ slotted_push slots keys key at hash s is free new same =
     let more = slotted_more slots (keys ++ key ∷ []) (length keys) at hash (slotted_behind (length slots) slots keys key s) (is ∙ ap hash_of (sym (last_key keys key))) slots refl free new same in
     subst (λ (n : ℕ). IsSlotted (length new) new (keys ++ key ∷ []) n) (sym (length-append keys (key ∷ []))) more
 
-pub set_push : (slots : List ℕ) (keys : List Text) (key : Text) (at hash : ℕ) → IsDistinct bytes_eq keys → has_key keys key ≡ false → IsSlotted (length slots) slots keys (length keys) → hash ≡ hash_of key
-    → IsFree slots (home_of (length slots) hash) at → (pushed : List Text) → pushed ≡ keys ++ key ∷ [] → (count : ℕ) → count ≡ length pushed
-    → IsDistinct bytes_eq pushed × IsSlotted (length (slice_set slots at count)) (slice_set slots at count) pushed (length pushed)
-set_push slots keys key at hash d absent s is free pushed pushed_is count count_is =
+pub set_push : (slots : List ℕ) (keys : List Text) (key : Text) (at hash : ℕ) → IsSlottedSet slots keys → has_key keys key ≡ false → hash ≡ hash_of key → IsFree slots (home_of (length slots) hash) at
+    → (pushed : List Text) → pushed ≡ keys ++ key ∷ [] → (count : ℕ) → count ≡ length pushed → IsSlottedSet (slice_set slots at count) pushed
+set_push slots keys key at hash s absent is free pushed pushed_is count count_is =
     let n : count ≡ length keys + 1 = count_is ∙ ap length pushed_is ∙ length-append keys (key ∷ []) in
-    let slotted = slotted_push slots keys key at hash s is free (slice_set slots at count) (ap (slice_set slots at) n) in
-    let A : List Text → Type 0 = λ (ks : List Text). IsDistinct bytes_eq ks × IsSlotted (length (slice_set slots at count)) (slice_set slots at count) ks (length ks) in
-    subst A (sym pushed_is) (IsDistinct-push nat_list_eq_equiv keys key d absent, slotted)
+    let slotted = slotted_push slots keys key at hash s.slotted is free (slice_set slots at count) (ap (slice_set slots at) n) in
+    subst (IsSlottedSet (slice_set slots at count)) (sym pushed_is) (record { different = IsDistinct-push nat_list_eq_equiv keys key s.different absent; slotted = slotted })
+
+pub if_slotted : {V E : Type 0} (keys : List Text) (r : Result (Option V) E) (items : V → List ℕ) → IsDistinct bytes_eq keys → IfOk r (λ made. IfSome made (λ slots. IsSlotted (length (items slots)) (items slots) keys (length keys)))
+    → IfOk r (λ made. IfSome made (λ slots. IsSlottedSet (items slots) keys))
+if_slotted keys (Ok (Some slots)) items d s = record { different = d; slotted = s }
+if_slotted keys (Ok None) items d s = tt
+if_slotted keys (Err e) items d s = tt
+
+-- where there are slots
+pub differ_where_slotted : {V : Type 0} (keys : List Text) (o : Option V) (items : V → List ℕ) → is_some o ≡ true → IfSome o (λ v. IsSlottedSet (items v) keys) → IsDistinct bytes_eq keys
+differ_where_slotted keys (Some v) items e s = s.different
+differ_where_slotted keys None items e s = cc e
+
+pub set_where_slotted : {V : Type 0} (keys : List Text) (o : Option V) (v : V) (items : V → List ℕ) → o ≡ Some v → IfSome o (λ w. IsSlottedSet (items w) keys) → IsSlottedSet (items v) keys
+set_where_slotted {V = V} keys o v items e s = let P : Option V → Type 0 = λ q. IfSome q (λ w. IsSlottedSet (items w) keys) in subst P e s
 
 -- ---- the look for a key: where it is one of the keys, its slot is ahead
 
@@ -133,7 +149,7 @@ ahead_first size slots keys key hash from s is start = λ i less same.
 ahead_step : (size : ℕ) (slots : List ℕ) (from step number : ℕ) → slice_index slots from ≢ number → IsAhead size slots from step number → IsAhead size slots (next_of size from) (step + 1) number
 ahead_step size slots from step number other a = by a.steps a.few a.passes
   where
-    by : (steps : ℕ) → steps + step < size → Passes size slots from a.at steps → IsAhead size slots (next_of size from) (step + 1) number
+    by : (steps : ℕ) → steps + step < most_probes → Passes size slots from a.at steps → IsAhead size slots (next_of size from) (step + 1) number
     by zero few p = absurd (other (ap (slice_index slots) p ∙ a.there))
     by (suc steps) few p = record { at = a.at; there = a.there; steps = steps; few = omega arith; passes = p.1 }
 
@@ -175,8 +191,16 @@ none_ahead size slots keys key from step all free = not_ahead keys key (λ i les
         by (suc steps) p = absurd (omega (arith, free, p.0))
 
 -- nor behind the last step
-pub none_left : (size : ℕ) (slots : List ℕ) (keys : List Text) (key : Text) (from step : ℕ) → AllAhead size slots keys key from step → size ≤ step → has_key keys key ≡ false
+pub none_left : (size : ℕ) (slots : List ℕ) (keys : List Text) (key : Text) (from step : ℕ) → AllAhead size slots keys key from step → most_probes ≤ step → has_key keys key ≡ false
 none_left size slots keys key from step all end = not_ahead keys key (λ i less same. absurd (omega (arith, (all i less same).few)))
+
+-- nor where there are no slots
+empty_slot : (slots : List ℕ) (at : ℕ) → length slots ≡ 0 → slice_index slots at ≡ 0
+empty_slot [] at none = refl
+empty_slot (number ∷ slots) at none = absurd (omega (arith, none))
+
+pub none_slotted : (slots : List ℕ) (keys : List Text) (key : Text) (size : ℕ) → IsSlotted size slots keys (length keys) → length slots ≡ 0 → has_key keys key ≡ false
+none_slotted slots keys key size s none = not_ahead keys key (λ i less same. let h = s.held i less in absurd (omega (arith, h.there, empty_slot slots h.at none)))
 
 -- and a slot whose key it is shows it
 pub found_ahead : (keys : List Text) (key : Text) (number : ℕ) → 0 < number → number ≤ length keys → bytes_eq (get_or keys (number - 1) []) key ≡ true → has_key keys key ≡ true

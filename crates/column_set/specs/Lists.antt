@@ -26,9 +26,10 @@ abbrev pub AreParts : ℕ → List ℕ → List Text → Type 0
 AreParts from [] texts = from ≡ length texts
 AreParts from (to ∷ ends) texts = (from ≤ to) × AreParts to ends texts
 
+-- and begin at its front
 abbrev pub AreLists : List ℕ → List Text → Type 0
 AreLists [] texts = ⊥
-AreLists (from ∷ ends) texts = AreParts from ends texts
+AreLists (from ∷ ends) texts = (from ≡ 0) × AreParts from ends texts
 
 -- the keys are a query: not too many, and none stands there twice
 pub record IsQuery (keys : List Text) : Type 0 where

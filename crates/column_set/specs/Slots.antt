@@ -1,7 +1,11 @@
--- Slots of a power of two, in which the numbers of keys stand: each from the home of its hash on, behind no slot that is free.
-use Rattle.std.specs.Prelude.{◌≡◌, ◌+◌, ◌-◌, ◌<◌, ◌≤◌, ℕ, zero, suc, List, [], bit_and, get_or, length, slice_index}
+-- Slots of a power of two, in which the numbers of keys stand: each a few steps from the home of its hash, behind no slot that is free.
+use Rattle.std.specs.Prelude.{◌≡◌, ◌+◌, ◌-◌, ◌<◌, ◌≤◌, ℕ, zero, suc, List, [], bit_and, bytes_eq, false, get_or, length, slice_index, true}
 use Rattle.std.specs.Hash.FoldHasher as folding
+use Rattle.std.specs.List.{IsDistinct}
+use Rattle.lake_model.specs.Tables.{has_key}
 use Rattle.lake_model.specs.Texts.{Text}
+use Rattle.column_set.specs.declared.slots.Seat.{Seat}
+use Rattle.column_set.specs.declared.slots.Seat.TheVariants.{Crowded, Free, Taken}
 
 -- the hash of a key
 unfoldable pub hash_of : Text → ℕ
@@ -19,11 +23,19 @@ abbrev pub Passes : ℕ → List ℕ → ℕ → ℕ → ℕ → Type 0
 Passes size slots from to zero = from ≡ to
 Passes size slots from to (suc steps) = (0 < slice_index slots from) × Passes size slots (next_of size from) to steps
 
--- a slot that is reached from another in fewer steps than there are slots
+-- how many slots are looked at for a key
+abbrev pub most_probes : ℕ
+most_probes = 128
+
+-- a slot that is reached from another within the slots that are looked at
 pub record Reaches (size : ℕ) (slots : List ℕ) (from to : ℕ) : Type 0 where
   pub steps : ℕ
-  pub few : steps < size
+  pub few : steps < most_probes
   pub passes : Passes size slots from to steps
+
+-- no slot is taken
+abbrev pub AreFree : List ℕ → Type 0
+AreFree slots = (at : ℕ) → slice_index slots at ≡ 0
 
 -- a slot that is free, and reached
 pub record IsFree (slots : List ℕ) (from at : ℕ) : Type 0 where
@@ -47,5 +59,16 @@ pub record IsAhead (size : ℕ) (slots : List ℕ) (from step number : ℕ) : Ty
   pub at : ℕ
   pub there : slice_index slots at ≡ number
   pub steps : ℕ
-  pub few : steps + step < size
+  pub few : steps + step < most_probes
   pub passes : Passes size slots from at steps
+
+-- the keys differ from each other, and each stands in a slot
+pub record IsSlottedSet (slots : List ℕ) (keys : List Text) : Type 0 where
+  pub different : IsDistinct bytes_eq keys
+  pub slotted : IsSlotted (length slots) slots keys (length keys)
+
+-- what a look for a key comes to: the key is there, or it is not and a slot for it is free, or it is not and none of the slots that are looked at is free
+abbrev pub IsSeat : List ℕ → List Text → Text → ℕ → Seat → Type 0
+IsSeat slots keys key home Taken = has_key keys key ≡ true
+IsSeat slots keys key home (Free at) = (has_key keys key ≡ false) × IsFree slots home at
+IsSeat slots keys key home Crowded = has_key keys key ≡ false

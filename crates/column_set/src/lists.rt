@@ -1,8 +1,10 @@
 //! Lists of keys in one region.
-ghost use Rattle.std.specs.Prelude.{◌≡◌, ◌+◌, ◌<◌, [], get_or, length, slice_index, IfOk};
+ghost use Rattle.std.specs.Prelude.{◌≡◌, ◌+◌, ◌<◌, [], get_or, length, slice_index, sum_by, IfOk, IfSome};
 ghost use Rattle.lake_model.specs.Tables.{has_key, overlap as overlap_of};
+ghost use Rattle.column_set.specs.Indexes.{IsIndexOf};
+ghost use Rattle.column_set.specs.Lists.{parts_of, AreLists};
 
-use crate::keys::KeySet;
+use crate::index::KeyIndex;
 use crate::texts::Texts;
 use no_memory::NoMemory;
 use std::alloc::Global;
@@ -18,6 +20,7 @@ pub struct KeyLists {
 
 impl Model for KeyLists {
     ghost use Rattle.std.specs.Prelude.{List, ℕ};
+    ghost use Rattle.column_set.specs.Indexes.{IsIndexOf};
     ghost use Rattle.column_set.specs.Lists.{parts_of, AreLists};
 
     ghost Value = { List (List (List ℕ)) };
@@ -28,23 +31,12 @@ impl Model for KeyLists {
 }
 
 impl KeyLists {
-    /// The keys of these sets, of which there are so many, with so many bytes, in all sets together.
-    pub fn of_sets(
-        alloc: Global,
-        sets: &[KeySet],
-        count: usize,
-        bytes: usize,
-    ) -> Result<KeyLists, NoMemory>
-        ensures { IfOk result (λ lists. lists ≡ sets.now) }
+    /// The lists of these keys, of which each begins where the one before it ends.
+    pub fn of(keys: Texts, starts: Vec<u32>) -> KeyLists
+        requires { AreLists starts.items keys }
+        ensures { result ≡ parts_of starts.items keys }
     {
-        let mut keys = Texts::with_room(alloc, count, bytes)?;
-        let mut starts = Vec::with_capacity(alloc, sets.len())?;
-        starts.push(0)?;
-        for set in sets {
-            keys.push_texts(set.texts())?;
-            starts.push(keys.len())?;
-        }
-        Ok(KeyLists { keys, starts })
+        KeyLists { keys, starts }
     }
 
     /// The keys of the list at an index, in the room that they take.
@@ -65,6 +57,20 @@ impl KeyLists {
         ensures { result ≡ length self.now }
     {
         self.starts.len() - 1
+    }
+
+    /// How many keys all lists have together.
+    pub fn key_count(&self) -> u64
+        ensures { result ≡ sum_by length self.now }
+    {
+        self.keys.len() as u64
+    }
+
+    /// How many bytes the keys of all lists have together, and `None` only where these are 2^64 or more.
+    pub fn byte_count(&self) -> Option<u64>
+        ensures { IfSome result (λ count. count ≡ sum_by (λ keys. sum_by length keys) self.now) }
+    {
+        self.keys.byte_count()
     }
 
     /// How many keys a list has.
@@ -101,14 +107,15 @@ impl KeyLists {
         false
     }
 
-    /// How many keys of a list are among those of a set.
-    pub fn overlap(&self, list: u32, set: &KeySet) -> u32
-        requires { list < length self.now }
-        ensures { result ≡ overlap_of (get_or self.now list []) set.now }
+    /// How many keys of a list are among other keys, which are found by their index.
+    pub fn overlap(&self, list: u32, keys: &Texts, index: &KeyIndex) -> u32
+        requires there { list < length self.now }
+        requires indexed { IsIndexOf index.now keys.now }
+        ensures { result ≡ overlap_of (get_or self.now list []) keys.now }
     {
         let mut count = 0;
         for i in 0..self.size(list) {
-            if set.has(self.key(list, i)) {
+            if index.has(keys, self.key(list, i)) {
                 count += 1;
             }
         }

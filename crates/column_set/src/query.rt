@@ -1,13 +1,15 @@
 //! The keys of a query.
 ghost use Rattle.std.specs.Prelude.{◌≡◌, ◌⊎◌, ◌<◌, ◌≤◌, ◌==◌, ◌∷◌, [], bytes_eq, get_or, length, position, IfErr, IfOk, None, OnOk, Some};
 ghost use Rattle.std.specs.List.{IsDistinct};
-ghost use Rattle.lake_model.specs.Queries.{query_fault, query_of};
+ghost use Rattle.lake_model.specs.Queries.{line_fault, query_fault, query_of};
 ghost use Rattle.lake_model.specs.Tables.{has_key, keys_at, overlap};
 ghost use Rattle.lake_model.specs.Texts.{all_lines};
 
-use crate::keys::{KeySet, MOST_KEYS};
+use crate::index::KeyIndex;
+use crate::keys::{KeyGatherer, MOST_KEYS};
 use crate::lists::KeyLists;
 use crate::table::TableSets;
+use crate::texts::Texts;
 use lake_model::{Keys, QueryRefused};
 use no_memory::NoMemory;
 use std::alloc::Global;
@@ -17,18 +19,20 @@ use std::str;
 /// The keys of a query, none twice and at most 4,194,304. A contract sees the list of them, in order of first sight.
 #[derive(Drop)]
 pub struct QuerySet {
-    keys: KeySet,
+    keys: Texts,
+    index: KeyIndex,
 }
 
 impl Model for QuerySet {
     ghost use Rattle.std.specs.Prelude.{List, ℕ};
+    ghost use Rattle.column_set.specs.Indexes.{IsIndexOf};
     ghost use Rattle.column_set.specs.Lists.{IsQuery};
 
     ghost Value = { List (List ℕ) };
 
     ghost view = { λ q. q.keys };
 
-    ghost invariant = { λ q. IsQuery q.keys };
+    ghost invariant = { λ q. IsQuery q.keys × IsIndexOf q.index q.keys };
 }
 
 impl QuerySet {
@@ -42,9 +46,14 @@ impl QuerySet {
         ensures sound { OnOk result (query_fault keys body.now ≡ None) }
         ensures refused { IfErr result (λ e. (e ≡ QueryRefused.NoMemory) ⊎ (query_fault keys body.now ≡ Some e)) }
     {
-        let set = read_keys(alloc, keys, body)?;
-        let _count = set.len();
-        Ok(QuerySet { keys: set })
+        let lists = gather_lines(alloc, keys, body)?;
+        let Ok((keys, index)) = lists.into_indexed(alloc) else {
+            return Err(QueryRefused::NoMemory);
+        };
+        if keys.len() as usize > MOST_KEYS {
+            return Err(QueryRefused::TooManyValues);
+        }
+        Ok(QuerySet { keys, index })
     }
 
     /// The keys of the column of a table at a place, counted from 1, as a query.
@@ -54,9 +63,8 @@ impl QuerySet {
         ensures { IfOk result (λ q. q ≡ keys_at table.now place) }
     {
         let keys = table.copied_keys(alloc, place)?;
-        Ok(QuerySet {
-            keys: KeySet::of_texts(alloc, keys)?,
-        })
+        let index = KeyIndex::of(alloc, &keys)?;
+        Ok(QuerySet { keys, index })
     }
 
     /// How many keys there are. They differ from each other.
@@ -65,7 +73,7 @@ impl QuerySet {
         ensures small { result ≤ 4194304 }
         ensures different { IsDistinct bytes_eq self.now }
     {
-        self.keys.len() as u32
+        self.keys.len()
     }
 
     /// A key, by its index in order of first sight, from 0.
@@ -73,7 +81,7 @@ impl QuerySet {
         requires { i < length self.now }
         ensures { result.now ≡ get_or self.now i [] }
     {
-        self.keys.key(i)
+        self.keys.text(i)
     }
 
     /// How many keys of the query are in a list of keys.
@@ -82,39 +90,36 @@ impl QuerySet {
         requires different { IsDistinct bytes_eq (get_or lists.now list []) }
         ensures { result ≡ overlap self.now (get_or lists.now list []) }
     {
-        lists.overlap(list, &self.keys)
+        lists.overlap(list, &self.keys, &self.index)
     }
 
     /// Whether the key is one of the query's.
     pub fn has(&self, key: &str) -> bool
         ensures { result ≡ has_key self.now key.now }
     {
-        self.keys.has(key)
+        self.index.has(&self.keys, key)
     }
 }
 
-// The distinct keys of the lines of a body.
-fn read_keys(alloc: Global, keys: Keys, body: &[u8]) -> Result<KeySet, QueryRefused>
-    ensures keys { IfOk result (λ set. set ≡ query_of keys body.now) }
-    ensures small { IfOk result (λ set. length set ≤ 4194304) }
-    ensures sound { OnOk result (query_fault keys body.now ≡ None) }
+// The distinct keys of the lines of a body, gathered as one list.
+fn gather_lines(alloc: Global, keys: Keys, body: &[u8]) -> Result<KeyGatherer, QueryRefused>
+    ensures none { IfOk result (λ lists. lists.finished ≡ []) }
+    ensures keys { IfOk result (λ lists. lists.current ≡ query_of keys body.now) }
+    ensures sound { OnOk result (line_fault 1 (all_lines body.now) ≡ None) }
     ensures refused { IfErr result (λ e. (e ≡ QueryRefused.NoMemory) ⊎ (query_fault keys body.now ≡ Some e)) }
 {
-    let mut set = no_keys(alloc, body)?;
+    let mut lists = no_keys(alloc, body)?;
     let mut buffer = String::new(alloc);
     let mut rest = body;
     for number in 1..u64::MAX {
         if rest.is_empty() {
-            if set.len() > MOST_KEYS {
-                return Err(QueryRefused::TooManyValues);
-            }
-            return Ok(set);
+            return Ok(lists);
         }
         let (line, after) = next_line(rest);
         let Ok(value) = str::from_utf8(line) else {
             return Err(QueryRefused::NotUtf8 { line: number });
         };
-        if set.add(alloc, keys, value, &mut buffer).is_err() {
+        if lists.add(alloc, keys, value, &mut buffer).is_err() {
             return Err(QueryRefused::NoMemory);
         }
         rest = after;
@@ -123,13 +128,13 @@ fn read_keys(alloc: Global, keys: Keys, body: &[u8]) -> Result<KeySet, QueryRefu
 }
 
 // No keys, with room for those of a body whose lines have about sixteen bytes.
-fn no_keys(alloc: Global, body: &[u8]) -> Result<KeySet, QueryRefused>
-    ensures none { IfOk result (λ keys. keys ≡ []) }
+fn no_keys(alloc: Global, body: &[u8]) -> Result<KeyGatherer, QueryRefused>
+    ensures none { IfOk result (λ lists. (lists.finished ≡ []) × (lists.current ≡ [])) }
     ensures refused { IfErr result (λ e. e ≡ QueryRefused.NoMemory) }
 {
-    let lines = (body.len() / 16).min(MOST_KEYS);
-    match KeySet::with_room(alloc, lines as u32) {
-        Ok(keys) => Ok(keys),
+    let lines = (body.len() / 16).min(MOST_KEYS) as u32;
+    match KeyGatherer::with_room(alloc, lines, lines) {
+        Ok(lists) => Ok(lists),
         Err(_) => Err(QueryRefused::NoMemory),
     }
 }

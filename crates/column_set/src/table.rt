@@ -1,11 +1,11 @@
 //! A table as its titles and the sets of keys of its columns, and the same table shared.
-ghost use Rattle.std.specs.Prelude.{◌≡◌, ◌⊎◌, ◌<◌, ◌≤◌, ◌^◌, ◌∷◌, [], bytes_eq, get_or, length, map, string_bytes, sum_by, IfErr, IfNone, IfOk, IfSome, None, OnOk, Some};
+ghost use Rattle.std.specs.Prelude.{◌≡◌, ◌⊎◌, ◌<◌, ◌≤◌, ◌++◌, ◌∷◌, [], bytes_eq, get_or, length, map, string_bytes, IfErr, IfOk, None, OnOk, Some};
 ghost use Rattle.std.specs.List.{AllByRecursion, IsDistinct};
 ghost use Rattle.lake_model.specs.Records.{column_at, column_count, field_at, places_of, sets_fault, table_of, text_size};
 ghost use Rattle.lake_model.specs.Tables.{column_name, has_key, keys_at, titles_of, titles_with};
 ghost use Rattle.column_set.specs.Columns.{HasDistinctKeys, IsSmall};
 
-use crate::keys::{KeySet, MOST_KEYS};
+use crate::keys::{KeyGatherer, MOST_KEYS};
 use crate::lists::KeyLists;
 use crate::name::Name;
 use crate::query::QuerySet;
@@ -67,17 +67,13 @@ impl TableSets {
         let Ok(titles) = shared_titles(alloc, name, &names) else {
             return Err(SetRefused::NoMemory);
         };
-        let members = member_count(&sets);
-        let Some(key_bytes) = key_byte_count(&sets) else {
-            return Err(SetRefused::NoMemory);
-        };
-        let Ok(sets) = KeyLists::of_sets(alloc, &sets, members as usize, key_bytes as usize) else {
+        let Some(key_bytes) = sets.byte_count() else {
             return Err(SetRefused::NoMemory);
         };
         Ok(TableSets {
             titles,
+            members: sets.key_count(),
             sets,
-            members,
             key_bytes,
         })
     }
@@ -204,72 +200,69 @@ fn read_names(alloc: Global, raw: &RawTable) -> Result<Vec<String>, NoMemory>
 }
 
 // The sets of the columns, none too large.
-fn read_sets(alloc: Global, keys: Keys, raw: &RawTable) -> Result<Vec<KeySet>, SetRefused>
-    ensures sets { IfOk result (λ sets. sets.items ≡ map (λ place. (column_at keys raw.now place).keys) (places_of raw.now)) }
-    ensures narrow { IfOk result (λ sets. length sets.items ≤ 4096) }
-    ensures small { IfOk result (λ sets. AllByRecursion IsSmall sets.items) }
+fn read_sets(alloc: Global, keys: Keys, raw: &RawTable) -> Result<KeyLists, SetRefused>
+    ensures sets { IfOk result (λ sets. sets ≡ map (λ place. (column_at keys raw.now place).keys) (places_of raw.now)) }
+    ensures narrow { IfOk result (λ sets. length sets ≤ 4096) }
+    ensures small { IfOk result (λ sets. AllByRecursion IsSmall sets) }
     ensures sound { OnOk result (sets_fault keys raw.now ≡ None) }
     ensures refused { IfErr result (λ e. (e ≡ SetRefused.NoMemory) ⊎ (sets_fault keys raw.now ≡ Some e)) }
 {
-    let mut sets = Vec::new(alloc);
+    let (Ok(mut lists), Ok(mut starts)) = (no_keys(alloc, raw), first_start(alloc, raw)) else {
+        return Err(SetRefused::NoMemory);
+    };
     let mut buffer = String::new(alloc);
     for i in 0..raw.columns() {
         let place = i + 1;
-        let Ok(set) = read_keys(alloc, keys, raw, place, &mut buffer) else {
+        let Ok(size) = read_keys(alloc, keys, raw, place, &mut lists, &mut buffer) else {
             return Err(SetRefused::NoMemory);
         };
-        if set.len() > MOST_KEYS {
+        if size as usize > MOST_KEYS {
             return Err(SetRefused::TooManyValues { place });
         }
-        if sets.push(set).is_err() {
+        if starts.push(lists.finished()).is_err() {
             return Err(SetRefused::NoMemory);
         }
     }
-    Ok(sets)
+    Ok(KeyLists::of(lists.into_texts(), starts))
 }
 
-// The keys of the column at a place. Each is written into the buffer, which all columns share.
+// No keys, with room for those of a table whose columns have few.
+fn no_keys(alloc: Global, raw: &RawTable) -> Result<KeyGatherer, NoMemory>
+    ensures { IfOk result (λ lists. (lists.finished ≡ []) × (lists.current ≡ [])) }
+{
+    let column = raw.rows().min(FIRST_ROOM) as u32;
+    KeyGatherer::with_room(alloc, column, column.saturating_mul(raw.columns()))
+}
+
+// Where the first of the columns begins among all keys, with room for where the others do.
+fn first_start(alloc: Global, raw: &RawTable) -> Result<Vec<u32>, NoMemory>
+    ensures { IfOk result (λ starts. starts.items ≡ 0 ∷ []) }
+{
+    let mut starts = Vec::with_capacity(alloc, raw.columns() as usize + 1)?;
+    starts.push(0)?;
+    Ok(starts)
+}
+
+// The keys of the column at a place, as one more list. Each is written into the buffer, which all columns share.
 fn read_keys(
     alloc: Global,
     keys: Keys,
     raw: &RawTable,
     place: u32,
+    lists: &mut KeyGatherer,
     buffer: &mut String,
-) -> Result<KeySet, NoMemory>
+) -> Result<u32, NoMemory>
     requires low { 0 < place }
     requires high { place ≤ column_count raw.now }
-    ensures { IfOk result (λ set. set ≡ (column_at keys raw.now place).keys) }
+    requires none { lists.old.current ≡ [] }
+    ensures finished { OnOk result (lists.new.finished ≡ lists.old.finished ++ (column_at keys raw.now place).keys) }
+    ensures none { OnOk result (lists.new.current ≡ []) }
+    ensures size { IfOk result (λ size. size ≡ length (column_at keys raw.now place).keys) }
 {
-    let mut set = KeySet::with_room(alloc, raw.rows().min(FIRST_ROOM) as u32)?;
     for row in 0..raw.rows() {
-        set.add(alloc, keys, raw.field(row + 1, place), buffer)?;
+        lists.add(alloc, keys, raw.field(row + 1, place), buffer)?;
     }
-    Ok(set)
-}
-
-// How many keys the sets have together.
-fn member_count(sets: &[KeySet]) -> u64
-    requires narrow { length sets.now ≤ 4096 }
-    requires small { AllByRecursion IsSmall sets.now }
-    ensures { result ≡ sum_by length sets.now }
-{
-    let mut count = 0u64;
-    for keys in sets {
-        count += keys.len() as u64;
-    }
-    count
-}
-
-// How many bytes the keys of the sets have together, and `None` only where these are 2^64 or more.
-fn key_byte_count(sets: &[KeySet]) -> Option<u64>
-    ensures count { IfSome result (λ count. count ≡ sum_by (λ keys. sum_by length keys) sets.now) }
-    ensures too_many { IfNone result (2 ^ 64 ≤ sum_by (λ keys. sum_by length keys) sets.now) }
-{
-    let mut count = 0u64;
-    for keys in sets {
-        count = count.checked_add(keys.texts().byte_count()?)?;
-    }
-    Some(count)
+    lists.close(alloc)
 }
 
 /// A table that is shared. A contract sees the table.

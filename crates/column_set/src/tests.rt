@@ -1,3 +1,4 @@
+use crate::slots::hash_key;
 use crate::{Keys, Name, QueryRefused, QuerySet, Row, Rows, SharedTable, TableSets};
 use csv_table::read_table;
 use std::alloc::Global;
@@ -160,5 +161,63 @@ fn shared_by(alloc: Global, keys: Keys) -> Result<u32, Fail> {
 fn kinds_of_keys(rt: HostRuntime) -> Result<(), Fail> {
     assert_eq!(rt; shared_by(rt.alloc(), Keys::Canonical)?, 0);
     assert_eq!(rt; shared_by(rt.alloc(), Keys::Compatibility)?, 2);
+    Ok(())
+}
+
+// The front of keys of 32 bytes whose hash is 0. The hasher takes sixteen bytes at a time, and its state after the first sixteen of
+// these keys is the number that the next eight are the bytes of, the lowest first. The xor of the two is then a factor of the hash,
+// whatever the last eight bytes are.
+const COLLIDING: &str = "joinablekewcbluzeevfwjbx";
+
+// A line for each of so many keys of one hash, each with this end, and then the same lines again.
+fn colliding_lines(alloc: Global, count: u32, end: &str) -> Result<String, Fail> {
+    let mut lines = String::new(alloc);
+    for _ in 0..2 {
+        for number in 0..count {
+            lines.push_str(format!(in alloc; "{COLLIDING}{number:08}{end}\n")?.as_str())?;
+        }
+    }
+    Ok(lines)
+}
+
+// Keys that collide are each once in a query, and are found.
+#[test]
+fn colliding_query(rt: HostRuntime) -> Result<(), Fail> {
+    let alloc = rt.alloc();
+    assert_eq!(rt; hash_key("joinablekewcbluzeevfwjbx00000007"), 0);
+    let lines = colliding_lines(alloc, 300, "")?;
+    let asked = query(alloc, lines.as_str().as_bytes())?;
+    assert_eq!(rt; asked.len(), 300);
+    assert!(rt; asked.key(299) == "joinablekewcbluzeevfwjbx00000299");
+    for (key, there) in [
+        ("joinablekewcbluzeevfwjbx00000000", true),
+        ("joinablekewcbluzeevfwjbx00000299", true),
+        ("joinablekewcbluzeevfwjbx00000300", false),
+        ("rome", false),
+    ] {
+        assert_eq!(rt; asked.has(key), there, "{key}");
+    }
+    Ok(())
+}
+
+// Keys that collide are each once in a column, beside a column of other keys, and the column asks for itself.
+#[test]
+fn colliding_column(rt: HostRuntime) -> Result<(), Fail> {
+    let alloc = rt.alloc();
+    let mut text = String::from_str(alloc, "key,city\n")?;
+    text.push_str(colliding_lines(alloc, 300, ",Rome")?.as_str())?;
+    let flooded = table(alloc, b"flooded", text.as_str().as_bytes())?;
+    assert_eq!(rt; flooded.columns(), 2);
+    assert_eq!(rt; (flooded.size(1), flooded.size(2)), (300, 1));
+    assert_eq!(rt; (flooded.members(), flooded.key_bytes()), (301, 9_604));
+    assert!(rt; flooded.key(2, 0) == "rome");
+    let asked = QuerySet::of_column(alloc, &flooded, 1)?;
+    assert_eq!(rt;
+        (flooded.overlap(1, &asked), flooded.overlap(2, &asked)),
+        (300, 0)
+    );
+    let lines = colliding_lines(alloc, 200, "")?;
+    let fewer = query(alloc, lines.as_str().as_bytes())?;
+    assert_eq!(rt; flooded.overlap(1, &fewer), 200);
     Ok(())
 }

@@ -1,5 +1,6 @@
 //! Texts in one region, which the keys of columns and queries and the names of columns are kept in.
-ghost use Rattle.std.specs.Prelude.{◌≡◌, ◌<◌, ◌≤◌, ◌^◌, ◌++◌, ◌∷◌, [], get_or, length, map, string_bytes, sum_by, IfNone, IfOk, IfSome, OnErr, OnOk};
+ghost use Rattle.std.specs.Prelude.{◌≡◌, ◌<◌, ◌≤◌, ◌+◌, ◌^◌, ◌++◌, ◌∷◌, [], drop, get_or, length, map, string_bytes, sum_by, take, IfNone, IfOk, IfSome, OnErr, OnOk};
+ghost use Rattle.column_set.specs.Sorted.{unmarked};
 
 use no_memory::NoMemory;
 use std::alloc::Global;
@@ -65,6 +66,16 @@ impl Texts {
         }
     }
 
+    /// A text by its index, from 0, among those from a place on, and an empty text past the last.
+    pub fn text_behind(&self, from: u32, i: u32) -> &str
+        ensures { result.now ≡ get_or (drop from self.now) i [] }
+    {
+        match self.spans.get(from as usize + i as usize) {
+            Some(span) => self.region.text(*span),
+            None => "",
+        }
+    }
+
     /// Puts a text behind the others, and takes more memory where the bytes that room was made for do not hold it. It is refused
     /// where memory is wanting, and from 2^32 - 1 texts or bytes on; the texts are then as they were.
     pub fn push(&mut self, text: &str) -> Result<(), NoMemory>
@@ -90,14 +101,20 @@ impl Texts {
         Ok(())
     }
 
-    /// Puts the texts of another list behind these.
-    pub fn push_texts(&mut self, others: &Texts) -> Result<(), NoMemory>
-        ensures { OnOk result (self.new ≡ self.old ++ others.now) }
+    /// Gives back the memory that the texts do not take.
+    pub fn shrink_to_fit(&mut self)
+        ensures { self.new ≡ self.old }
     {
-        for i in 0..others.len() {
-            self.push(others.text(i))?;
-        }
-        Ok(())
+        self.region.shrink_to_fit();
+        self.spans.shrink_to_fit();
+    }
+
+    /// Leaves out the marked ones of the texts from a place on, of which each has a mark. The bytes of what is left out stay in the region.
+    pub fn leave_out(&mut self, from: u32, marks: &[bool])
+        requires { from + length marks.now ≡ length self.old }
+        ensures { self.new ≡ take from self.old ++ unmarked marks.now (drop from self.old) }
+    {
+        keep_unmarked(&mut self.spans, from as usize, marks);
     }
 
     /// How many bytes the texts have together, and `None` only where these are 2^64 or more.
@@ -123,4 +140,19 @@ pub fn byte_count(strings: &[String]) -> Option<u64>
         count = count.checked_add(string.len() as u64)?;
     }
     Some(count)
+}
+
+// Leaves out the marked ones of the spans from a place on, of which each has a mark.
+fn keep_unmarked(spans: &mut Vec<Span>, from: usize, marks: &[bool])
+    requires { from + length marks.now ≡ length spans.old.items }
+    ensures { spans.new.items ≡ take from spans.old.items ++ unmarked marks.now (drop from spans.old.items) }
+{
+    let mut kept = from;
+    for (i, mark) in marks.iter().enumerate() {
+        if !*mark {
+            spans[kept] = spans[from + i];
+            kept += 1;
+        }
+    }
+    spans.truncate(kept);
 }

@@ -102,6 +102,15 @@ impl Region {
         }
     }
 
+    /// Gives back the memory that the texts do not take. The spans keep their texts.
+    pub fn shrink_to_fit(&mut self)
+        ensures bytes { self.new.bytes ≡ self.old.bytes }
+        ensures kept { KeepsSpans self.old self.new }
+    {
+        self.spare = 0;
+        self.text.shrink_to_fit();
+    }
+
     /// The text at a span of this region, lent without copying.
     pub fn text(&self, at: Span) -> &str
         requires { IsSpan self.now at }

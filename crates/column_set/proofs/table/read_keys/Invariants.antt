@@ -4,6 +4,9 @@ use Rattle.lake_model.specs.Records.{field_keys}
 use Rattle.lake_model.specs.Tables.{add_key, distinct}
 use Rattle.column_set.proofs.table.read_keys.Given as goal
 
--- the keys so far with those of the records that are left are the column's
+-- the keys so far with those of the records that are left are the column's, and the finished lists are as they were
 abbrev pub invariant-loop-row : goal.invariant-loop-row
-invariant-loop-row l = distinct (field_keys l.fn.keys l.place (drop 1 l.raw)) ≡ fold add_key l.set (field_keys l.fn.keys l.place (drop (l.row + 1) l.raw))
+invariant-loop-row l = record {
+  finished : l.lists.finished ≡ l.initial.lists.finished;
+  keys : distinct (field_keys l.fn.keys l.place (drop 1 l.raw)) ≡ fold add_key l.lists.current (field_keys l.fn.keys l.place (drop (l.row + 1) l.raw));
+}

@@ -5,6 +5,6 @@ use Rattle.column_set.proofs.lists.KeyLists.overlap.Given as goal
 
 abbrev pub invariant-loop-i : goal.invariant-loop-i
 invariant-loop-i l = record {
-  counted : l.count ≡ count_by (has_key l.set) (take l.i (get_or l.self l.list []));
+  counted : l.count ≡ count_by (has_key l.keys) (take l.i (get_or l.self l.list []));
   few : l.count ≤ l.i;
 }

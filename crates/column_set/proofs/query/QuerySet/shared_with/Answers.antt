@@ -7,4 +7,4 @@ use Rattle.column_set.proofs.query.QuerySet.shared_with.Goals as goal
 pub returns : goal.returns
 returns c =
     let column = get_or c.args.lists.now c.args.list [] in
-    c.overlap.ensures ∙ overlap_both_ways column c.self.inside.keys c.requires.different c.self.invariant.different ∙ ap (λ (keys : List Text). overlap keys column) c.self.view_is
+    c.overlap.ensures ∙ overlap_both_ways column c.self.inside.keys c.requires.different c.self.invariant.0.different ∙ ap (λ (keys : List Text). overlap keys column) c.self.view_is

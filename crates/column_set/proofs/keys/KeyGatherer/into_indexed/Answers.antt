@@ -1,0 +1,11 @@
+use Rattle.std.proofs.Common.{◌∙◌, ap, drop}
+use Rattle.column_set.proofs.GatherLemmas.{indexed_current}
+use Rattle.column_set.proofs.SlotLemmas.{set_where_slotted}
+use Rattle.column_set.proofs.keys.KeyGatherer.into_indexed.Goals as goal
+
+pub returns-in-Some-clause-keys : goal.returns-in-Some-clause-keys
+returns-in-Some-clause-keys c =
+    let set = set_where_slotted (drop c.self.inside.from c.self.inside.keys) c.self.inside.slots c.in-Some.slots (λ v. v.items) c.in-Some.is c.self.invariant.1 in
+    c.shrink_to_fit.ensures
+    ∙ indexed_current c.self.inside.from c.self.inside.keys c.self.invariant.0 (ap (λ g. g.finished) c.self.view_is ∙ c.requires) set.different
+    ∙ ap (λ g. g.current) c.self.view_is

@@ -1,0 +1,55 @@
+//! By what a key is found among texts.
+ghost use Rattle.std.specs.Prelude.{◌≡◌, length, IfOk};
+ghost use Rattle.lake_model.specs.Tables.{has_key};
+ghost use Rattle.column_set.specs.Indexes.{IsIndexOf};
+ghost use Rattle.column_set.specs.Slots.{IsSlotted};
+
+use crate::slots::{Seat, hash_key, seat_of, slots_of};
+use crate::sorted::{is_among_sorted, sorted_places};
+use crate::texts::Texts;
+use no_memory::NoMemory;
+use std::alloc::Global;
+
+/// By what a key is found among texts of which none stands twice.
+#[derive(Drop)]
+pub enum KeyIndex {
+    /// The numbers of the texts, in slots that their hashes lead to.
+    Slots(Vec<u32>),
+    /// The places of the texts, in the order of the texts. So a key is found where too many of them share a hash.
+    Places(Vec<u32>),
+}
+
+impl KeyIndex {
+    /// An index of these texts: slots, and where too many of them share a hash, their places in order.
+    pub fn of(alloc: Global, keys: &Texts) -> Result<KeyIndex, NoMemory>
+        ensures { IfOk result (λ index. IsIndexOf index keys.now) }
+    {
+        if let Some(slots) = slots_of(alloc, keys, 0)? {
+            return Ok(KeyIndex::Slots(slots));
+        }
+        Ok(KeyIndex::Places(sorted_places(alloc, keys, 0)?))
+    }
+
+    /// Whether the key is one of the texts of which this is an index. It takes the time to hash it and to compare it with a few, or
+    /// to compare it with as many as the number of the texts has bits.
+    pub fn has(&self, keys: &Texts, key: &str) -> bool
+        requires { IsIndexOf self.now keys.now }
+        ensures { result ≡ has_key keys.now key.now }
+    {
+        match self {
+            KeyIndex::Slots(slots) => is_slotted(slots, keys, key),
+            KeyIndex::Places(places) => is_among_sorted(keys, places, key),
+        }
+    }
+}
+
+// Whether the key is one of the texts, whose numbers stand in the slots.
+fn is_slotted(slots: &[u32], keys: &Texts, key: &str) -> bool
+    requires { IsSlotted (length slots.now) slots.now keys.now (length keys.now) }
+    ensures { result ≡ has_key keys.now key.now }
+{
+    match seat_of(slots, keys, 0, key, hash_key(key)) {
+        Seat::Taken => true,
+        Seat::Free(_) | Seat::Crowded => false,
+    }
+}

@@ -1,0 +1,62 @@
+//! Texts in order, for sets whose keys were chosen to collide in the hasher: repeats are found by a sort, and a key by a binary search. No
+//! choice of texts makes either take more comparisons than their number allows.
+ghost use Rattle.std.specs.Prelude.{◌≡◌, ◌≤◌, ◌++◌, drop, length, take, IfOk, OnErr, OnOk};
+ghost use Rattle.lake_model.specs.Tables.{distinct, has_key};
+ghost use Rattle.column_set.specs.Sorted.{repeats_of, AreSortedPlaces};
+
+use crate::texts::Texts;
+use no_memory::NoMemory;
+use std::alloc::Global;
+
+/// The places of the texts from one on, by their bytes, and of equal texts by the places.
+pub fn sorted_places(alloc: Global, texts: &Texts, from: u32) -> Result<Vec<u32>, NoMemory>
+    requires { from ≤ length texts.now }
+    ensures { IfOk result (λ places. AreSortedPlaces texts.now from places.items) }
+{
+    let mut places: Vec<u32> = (from..texts.len()).collect(alloc)?;
+    // The sort is stable, which leaves the places of equal texts in order.
+    places.sort_by(|a, b| texts.text(*a).cmp(texts.text(*b)))?;
+    Ok(places)
+}
+
+/// Leaves out each text, from a place on, that stands before it from that place on. It sorts them.
+pub fn leave_out_repeats(alloc: Global, texts: &mut Texts, from: u32) -> Result<(), NoMemory>
+    requires { from ≤ length texts.old }
+    ensures left { OnOk result (texts.new ≡ take from texts.old ++ distinct (drop from texts.old)) }
+    ensures refused { OnErr result (texts.new ≡ texts.old) }
+{
+    let places = sorted_places(alloc, texts, from)?;
+    let repeats = repeats_at(alloc, texts, from, &places)?;
+    texts.leave_out(from, &repeats);
+    Ok(())
+}
+
+/// Whether a text is among sorted ones, by a binary search.
+pub fn is_among_sorted(texts: &Texts, places: &[u32], key: &str) -> bool
+    requires { AreSortedPlaces texts.now 0 places.now }
+    ensures { result ≡ has_key texts.now key.now }
+{
+    places
+        .binary_search_by(|place| texts.text(*place).cmp(key))
+        .is_ok()
+}
+
+// For each text from a place on, whether an equal one stands before it from that place on. Equal texts are neighbours in the order of the
+// sorted places, the first of them in front, so a look at the neighbour in front is enough.
+fn repeats_at(
+    alloc: Global,
+    texts: &Texts,
+    from: u32,
+    places: &[u32],
+) -> Result<Vec<bool>, NoMemory>
+    requires { AreSortedPlaces texts.now from places.now }
+    ensures { IfOk result (λ repeats. repeats.items ≡ repeats_of (drop from texts.now)) }
+{
+    let mut repeats = vec![in alloc; false; places.len()]?;
+    for i in 1..places.len() {
+        let before = places[i - 1];
+        let place = places[i];
+        repeats[(place - from) as usize] = texts.text(place) == texts.text(before);
+    }
+    Ok(repeats)
+}
