@@ -9,6 +9,7 @@ use Rattle.std.proofs.lemmas.List.Folds.{list_any-append, list_any_at}
 use Rattle.std.proofs.lemmas.Map.Keys.{IsDistinct-push}
 use Rattle.std.proofs.lemmas.Map.Steps.{list_any_congr}
 use Rattle.std.proofs.lemmas.Slice.Eq.{bytes_eq-Decides}
+use Rattle.std.proofs.Math.Bool.{or-false}
 use Rattle.lake_model.specs.Texts.{Text}
 use Rattle.lake_model.specs.Tables.{add_key, distinct, has_key}
 use Rattle.column_set.proofs.OverlapLemmas.{flipped}
@@ -28,10 +29,6 @@ added_differ seen (text ∷ texts) d =
 pub distinct_differ : (texts : List Text) → IsDistinct bytes_eq (distinct texts)
 distinct_differ texts = added_differ [] texts no_repeat
 
-or_false : (a : Bool) → (a || false) ≡ a
-or_false true = refl
-or_false false = refl
-
 -- c is asked for where a holds already
 or_again : (a b c : Bool) → (b ≡ true → a ≡ true) → (a || c) ≡ (a || (b || c))
 or_again true b c h = refl
@@ -44,7 +41,7 @@ or_last false true c = refl
 or_last false false c = refl
 
 has_added : (text : Text) (seen texts : List Text) → has_key (fold add_key seen texts) text ≡ (has_key seen text || has_key texts text)
-has_added text seen [] = sym (or_false (has_key seen text))
+has_added text seen [] = sym (or-false (has_key seen text))
 has_added text seen (first ∷ texts) =
     elim (cases_Bool (has_key seen first)) [
       | inl there ↦ rw there (has_added text seen texts ∙ or_again (has_key seen text) (bytes_eq text first) (has_key texts text) (λ same. list_any_congr nat_list_eq_equiv text first seen same ∙ there))
