@@ -210,7 +210,8 @@ fn number(matches: &ArgMatches<'_>, id: &str) -> Option<u32>
     matches.get_one::<u32>(id)
 }
 
-// Reads the order that a text states.
+// Reads the order that a text states, if there is a text. Returns `Err(WordsRefused::Usage)` if the text breaks the
+// rule of orders.
 fn order_stated(
     alloc: Global,
     lanes: u32,

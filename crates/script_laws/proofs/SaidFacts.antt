@@ -11,7 +11,7 @@ use Rattle.script_model.specs.declared.Reason.TheVariants as reason
 use Rattle.script_model.specs.Words.{behind_word, digits_value, first_word, is_number, number, number_of, number_or_zero}
 use Rattle.script_model.proofs.NumberLemmas.{positive}
 
--- It holds of all that a line may say in a lane of this kind: a whole command that the line says is no fetch of a file.
+-- It holds of all that a line may say in such a lane; a whole command that a line says is no fetch of a file.
 pub record HoldsOf (P : Said → Type 0) (L : ℕ → Type 0) : Type 0 where
   pub nothing : P Nothing
   pub wrong : (why : Reason) → P (Wrong why)
