@@ -1,4 +1,4 @@
--- When a count of faults has risen. A count stops at 2 ^ 64 - 1, and from then on counts as risen by any amount.
+-- When a count of faults has risen. A count that has reached 2 ^ 64 - 1 stays there, and is then taken to have risen.
 use Rattle.std.specs.Prelude.{ℕ, ◌+◌, ◌-◌, ◌^◌, ◌≤◌, min, Result, OnErr}
 
 -- a count plus one, for a 64-bit counter that stops at its greatest number

@@ -53,7 +53,8 @@ pub enum ShelfRefused {
 /// A source of bytes.
 ///
 /// In contracts, `left` is the list of the bytes that it will still give, if these are known, and `faults` is the count
-/// of its failures, which never falls. A count stops at 2^64 - 1, and from then on counts as risen by any amount.
+/// of its failures, which never falls. A count that has reached 2^64 - 1 stays there, and from then on is taken to rise
+/// with each failure.
 pub trait Source {
     ghost left: { Self → Option (List ℕ) };
 

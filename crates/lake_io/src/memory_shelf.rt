@@ -38,7 +38,7 @@ impl Model for MemoryShelf {
     ghost view = { λ s. record { files = map seen_file s.files.items; failing = s.failing.items; calls = s.calls; faults = s.faults } };
 }
 
-/// Returns the bytes of the file at the path. The time is linear in the number of files.
+/// Returns the bytes of the file at the path. It walks over the files once.
 fn find<'a>(files: &'a [StoredFile], path: &str) -> Option<&'a [u8]>
     ensures { option_map (λ bytes. bytes.now) result ≡ file_at (map seen_file files.now) path.now }
 {
@@ -50,8 +50,7 @@ fn find<'a>(files: &'a [StoredFile], path: &str) -> Option<&'a [u8]>
     None
 }
 
-/// Puts a file with this path among the files, in the place of one that has the path. The time is linear in the number
-/// of files.
+/// Puts a file with this path among the files, in the place of one that has the path. It walks over the files once.
 fn put(files: &mut Vec<StoredFile>, path: &str, file: StoredFile) -> Result<(), NoMemory>
     requires { string_bytes file.path ≡ path.now }
     ensures ok { OnOk result (map seen_file files.new.items ≡ put_file (map seen_file files.old.items) path.now file.bytes.items) }
