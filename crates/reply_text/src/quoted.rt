@@ -54,9 +54,9 @@ fn push_all_escaped(name: &[u8], into: &mut Vec<u8>) -> Result<(), NoMemory>
     Ok(())
 }
 
-/// Appends a name between quotes: a quote and a backslash have a backslash before them, a line feed, a carriage return and a tab
-/// are `\n`, `\r` and `\t`, any other byte below 0x20 and 0x7F are `\x` and two hexadecimal digits in lower case, and any other
-/// byte stands as it is.
+/// Appends a name between quotes: a quote and a backslash have a backslash before them, a line feed, a carriage return
+/// and a tab are `\n`, `\r` and `\t`, any other byte below 0x20 and 0x7F are `\x` and two hexadecimal digits in lower
+/// case, and any other byte stands as it is.
 pub fn push_quoted(name: &str, into: &mut Vec<u8>) -> Result<(), NoMemory>
     ensures ok { OnOk result (into.new.items ≡ into.old.items ++ quoted name.now) }
     ensures kept { Keeps into.old.items into.new.items }
