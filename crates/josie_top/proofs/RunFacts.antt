@@ -181,7 +181,7 @@ ends_without rules options ends first second third written faults before after m
 
 -- ---- one batch more
 
--- the merger's commands in a batch, where these are its numbers
+-- the merger's commands in a batch, if these are its numbers
 pub merger_made : (merge : Bool) (merger : Option ℕ) (next : ℕ) (batch : Batch) → merger ≡ (if merge then Some next else None) → merges_of merger batch ≡ merger_commands merge next batch
 merger_made true merger next batch is = ap (λ (m : Option ℕ). merges_of m batch) is
 merger_made false merger next batch is = ap (λ (m : Option ℕ). merges_of m batch) is

@@ -1,4 +1,4 @@
--- A run that watches queries: what it tells, and how it ends.
+-- A run that watches queries: what it writes, and how it ends.
 use Rattle.std.proofs.Common.{◌≡◌, refl, ap, sym, ◌∙◌, subst, ℕ, ◌≤◌, inl, inr, List, [], ◌++◌, append_assoc, Bool, true, false, length, length-append, take, drop, arith}
 use Rattle.std.specs.Prelude.{Option, Some, None, if◌then◌else◌}
 use Rattle.std.specs.Io.KnownBytes.{Appends}
@@ -32,7 +32,7 @@ use Rattle.josie_top.specs.World.{Moves, World}
 use Rattle.josie_top.proofs.GivenFacts.{given_failed}
 use Rattle.josie_top.proofs.RunFacts.{nothing_done}
 
--- ---- what is told
+-- ---- what is written
 
 -- nothing is written for an empty journal
 pub told_nothing : (k : ℕ) (queries : List (List Text)) (world : World) (made : RunRecord) → made.journal ≡ [] → IsToldSoFar k queries world world made
@@ -59,7 +59,7 @@ told_for k queries before now later made after same journal told = record {
   text_is = told.text_is ∙ ap (watch_text k queries) (sym journal);
 }
 
--- the first bytes of a text, where a part of what follows was written
+-- the first bytes of a text, if a part of what follows was written
 behind_whole : (front text back part : List ℕ) → text ≡ front → IsPrefix part back → IsPrefix (text ++ part) (front ++ back)
 behind_whole front text back part is (rest, cut) = (rest, (λ i. sym is i ++ cut i) ∙ sym (append_assoc text part rest))
 

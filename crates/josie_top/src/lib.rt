@@ -138,11 +138,11 @@ fn status_of_refused(refused: WordsRefused) -> Status
     }
 }
 
-/// Runs the program: the only call that it makes. It takes the runtime, the words after the program's name, the
-/// streams, the files, the gate that is told of the moments of each command, and an empty record. If no order is
-/// stated, the lanes of a batch run at the same time, each on its own thread, and the merger beside them; what a single
-/// lane does alone, or a lane for which no thread can be created, runs on the caller's thread. The call waits for the
-/// lanes, so its contract holds if it returns.
+/// Runs the program. This is the only call that the program makes: it takes the runtime, the words after the program's
+/// name, the streams, the files, the gate that is told of the moments of each command, and an empty record. If no order
+/// is stated, the lanes of a batch run at the same time, each on its own thread, and the merger beside them; what a
+/// single lane does alone, or a lane for which no thread can be created, runs on the caller's thread. The call waits
+/// for the lanes, so its contract holds if it returns.
 pub fn run<R: Threads + Wait + Sync, S: Source, K: Sink, F: Shelf, G: Gate + Sync>(
     rt: &R,
     alloc: Global,

@@ -77,7 +77,7 @@ impl Gather {
     /// Returns the next batch of the script.
     ///
     /// A batch ends with a `sync` line, and the last one with the input. The result is `None` if the input ends without
-    /// a further command; after that, no further batch may be asked for.
+    /// a further command. After the end of the input no further batch may be asked for.
     ///
     /// The source is asked for at most 65,536 bytes at a time, and only if the bytes that are held have no further
     /// whole line. The file of a `loadfile` is fetched when its line is read; if the shelf refuses it because of a
@@ -86,8 +86,8 @@ impl Gather {
     /// # Errors
     ///
     /// Returns the first line at fault, in the order of the input and by the rules of the script grammar; a fault of
-    /// the source, before which every line that was read in full was obeyed; or `NoMemory`. After an error no further
-    /// batch may be asked for.
+    /// the source, if no line that was read in full is at fault or ends the batch; or `NoMemory`. After an error no
+    /// further batch may be asked for.
     pub fn batch<S: Source, F: Shelf>(
         &mut self,
         source: &mut S,

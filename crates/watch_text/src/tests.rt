@@ -79,7 +79,7 @@ fn one_query(rt: HostRuntime) -> Result<(), Fail> {
     tells(&rt, &mut watches, &entries, wanted)
 }
 
-// A row falls to second place and returns to the first, and each query is told only of its own changes.
+// A row falls to second place and returns to first place, and only the changes of each query are written for it.
 #[test]
 fn two_queries(rt: HostRuntime) -> Result<(), Fail> {
     let alloc = rt.alloc();
