@@ -69,8 +69,8 @@ abbrev pub HasNoFault : Options → List ℕ → World → World → Type 0
 HasNoFault options script before now = (outcomes : List File) → let made : Commands = commands standard options.lanes script outcomes in
     AreFetched before.files before.fetch_faults now.fetch_faults made.asked outcomes → made.end ≡ Whole
 
--- A script whose content is known and that has no line at fault ends well if neither the source nor the sink counts a
--- fault, or else memory runs out.
+-- If neither the source nor the sink counts a fault, a script whose content is known and that has no line at fault ends
+-- well, or memory runs out.
 abbrev pub EndsWell : Options → Status → World → World → Type 0
 EndsWell options status before now = (script : List ℕ) → before.left ≡ Some script → HasNoFault options script before now
     → (Rose before.read_faults now.read_faults → ⊥) → (Rose before.write_faults now.write_faults → ⊥) → (status ≡ Done) ⊎ (status ≡ NoMemory)

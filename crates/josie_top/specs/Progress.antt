@@ -37,7 +37,7 @@ pub record IsMade (rules : Rules) (options : Options) (batches : List Batch) (ma
   pub played : IsStated options → IsPlayedSoFar rules options batches made
   pub lanes : AllByRecursion (IsOfLanes options.lanes) batches
 
--- The gatherer has these options, and has not passed its limits.
+-- The gatherer has the standard limits and the lanes of these options, and has not passed the limit on the input.
 pub record IsGoingOn (options : Options) (gathering : Gathering) : Type 0 where
   pub limits_are : gathering.limits ≡ standard
   pub lanes_are : gathering.lanes ≡ options.lanes
