@@ -133,8 +133,7 @@ abbrev pub make_mode : List Text → Option Mode
 make_mode (seed ∷ tables ∷ rows ∷ []) = make_with (number_or_zero 4294967295 seed) (number 1000 tables) (number 5000 rows)
 make_mode words = None
 
--- ---- the words after `watch`: the number of rows that are watched of each query, and the paths of the files that hold
--- the queries
+-- ---- the words after `watch`: the number of rows watched of each query, and the paths of the files with the queries
 
 -- a path is not empty, and does not begin with `-`
 abbrev pub is_path : Text → Bool
@@ -150,8 +149,7 @@ abbrev pub watch_mode : List Text → Option Mode
 watch_mode (k ∷ path ∷ paths) = watch_with (path ∷ paths) (number 10000 k)
 watch_mode words = None
 
--- ---- the words after `check`: the path of the file that holds the trace, and then options, but neither an order nor a
--- trace
+-- ---- the words after `check`: the path of the file with the trace, then options, but neither an order nor a trace
 
 -- the options of a run whose trace is checked: it had no stated order, and wrote a trace
 abbrev pub checked_options : Options → Option Options
