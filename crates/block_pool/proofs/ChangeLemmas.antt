@@ -1,4 +1,4 @@
--- One list changes then another.
+-- One list changes, and then another.
 use Rattle.std.proofs.Common.{refl, sym, ◌∙◌}
 use Rattle.block_pool.specs.Blocks.{Blocks, Links}
 use Rattle.block_pool.specs.Chains.{AreTwo, IsOf, KeepsOthers}

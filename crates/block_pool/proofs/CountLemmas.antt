@@ -1,4 +1,4 @@
--- There are no more blocks in a list, and no more spare ones, than in the pool.
+-- A list has no more blocks than the pool, and the pool has no more spare blocks than blocks.
 use Rattle.std.proofs.Common.{◌≡◌, refl, ap, sym, ◌∙◌, ℕ, ◌+◌, ◌<◌, ◌≤◌, List, map, length, get_or, Bool, true, false, eqb, arith}
 use Rattle.std.specs.List.{IsDistinct, list_any, range_with_len}
 use Rattle.std.proofs.lemmas.Bool.{eqb-true}

@@ -10,7 +10,7 @@ use Rattle.block_pool.proofs.CountLemmas.{few_places}
 
 -- ---- more blocks
 
--- where blocks and places for items are added, each list is kept
+-- if blocks and places for items are added, each list is kept
 pub grown_kept : (before after : Blocks) (xs : List Block) (ys : List Item) → AreBlocks before → after.blocks ≡ before.blocks ++ xs → after.slots ≡ before.slots ++ ys → AllKept before after
 grown_kept before after xs ys are more_blocks more_slots chain own =
     kept before after chain (record {
@@ -29,7 +29,7 @@ all_kept before now then first second chain own =
 
 -- ---- a list is given back
 
--- a block that has an owner is not among the spare ones, of which there are so fewer than blocks
+-- a block that has an owner is not among the spare ones, so these are fewer than the blocks
 pub room_to_free : (pool : Blocks) (number : ℕ) → AreBlocks pool → number < length pool.blocks → (block_of pool.blocks number).owner ≢ nobody → length pool.free + 1 ≤ length pool.blocks
 room_to_free pool number are there owned =
     let spare : Block = block_with 0 nobody (length pool.free) in

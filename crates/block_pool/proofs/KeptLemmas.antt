@@ -1,4 +1,4 @@
--- A list of a pool stays where its blocks and their items do.
+-- A list of a pool is unchanged if its blocks and their items are.
 use Rattle.std.proofs.Common.{◌≡◌, refl, ap, sym, ◌∙◌, subst, ℕ, zero, suc, ◌+◌, ◌*◌, ◌/◌, ◌%◌, ◌<◌, List, [], map, length, get_or, arith}
 use Rattle.std.specs.List.{range_with_len}
 use Rattle.std.proofs.lemmas.List.{ext_get_or, get_or-map, length-map}
@@ -27,7 +27,7 @@ same_map f g n h =
     let at : get_or all i 0 ≡ i = get_or-range_with_len 0 n i 0 low ∙ (let z : 0 + i ≡ i = omega arith in z) in
     get_or-map f all i 0 [] inside ∙ ap f at ∙ h i low ∙ sym (get_or-map g all i 0 [] inside ∙ ap g at))
 
--- ---- a list stays where its blocks do
+-- ---- a list is unchanged if its blocks are
 
 pub block_first : (blocks : List Block) (first : ℕ) → block_at blocks first 0 ≡ first
 unfolding block_at
@@ -76,13 +76,13 @@ kept before after chain keeps is =
       same = kept_list before after chain.first chain.last chain.length keeps is;
     }
 
--- an empty list is of any pool
+-- an empty list is in any pool
 pub none_of : (pool : Blocks) (chain : Links) → chain.length ≡ 0 → IsOf pool chain
 none_of pool chain e =
     let none : blocks_for chain.length ≡ 0 = omega (arith, e) in
     record { each = λ j b. absurd (omega (arith, b, none)); ends = λ j is. absurd (omega (arith, is, none)) }
 
--- what a pool and a list are seen as, and what is held of them
+-- the models of a pool and a list, and what holds of them
 pub has_there : (pool held : Blocks) (chain links : Links) (n : ℕ → ℕ) → held ≡ pool → links ≡ chain → HasBlocks pool.blocks chain.first chain.last (n chain.length) → HasBlocks held.blocks links.first links.last (n links.length)
 has_there pool held chain links n e f has =
     subst (λ (l : Links). HasBlocks held.blocks l.first l.last (n l.length)) (sym f) (subst (λ (p : Blocks). HasBlocks p.blocks chain.first chain.last (n chain.length)) (sym e) has)

@@ -79,7 +79,7 @@ module _ (pool : Blocks) (free : List ℕ) (number : ℕ) (are : AreBlocks pool)
       spare = one_less;
     }
 
-  -- one more block of a list of which all blocks are full
+  -- one more block for a list all of whose blocks are full
   module _ (chain : Links) (own : IsOf pool chain) (some : 0 < chain.length) (full : chain.length % 16 ≡ 0) (held : Block) (at : held ≡ get_or pool.blocks chain.last held) where
     abbrev n : ℕ
     n = chain.length / 16
@@ -122,7 +122,7 @@ module _ (pool : Blocks) (free : List ℕ) (number : ℕ) (are : AreBlocks pool)
     long_more : length blocks_more ≡ length pool.blocks
     long_more = length-set linked_blocks number added ∙ length-set pool.blocks chain.last linked
 
-    -- other blocks stay
+    -- other blocks are unchanged
     stays : (x : ℕ) → x ≢ number → x ≢ chain.last → block_of blocks_more x ≡ block_of pool.blocks x
     stays x ne nl = get_or-set_other linked_blocks number x added no_block ne ∙ get_or-set_other pool.blocks chain.last x linked no_block nl
 

@@ -1,4 +1,4 @@
--- An item is written behind the last of a list.
+-- An item is written after the last one of a list.
 use Rattle.std.proofs.Common.{◌≡◌, ◌≢◌, refl, ap, sym, ◌∙◌, subst, ℕ, ◌+◌, ◌*◌, ◌/◌, ◌%◌, ◌<◌, List, [], ◌∷◌, ◌++◌, length, get_or, set, arith, get_or-set_other, get_or-set_same}
 use Rattle.std.proofs.lemmas.List.FromFn.{map-range_with_len_more}
 use Rattle.block_pool.specs.Blocks.{block_of, AreBlocks, Blocks, Item, Links}

@@ -17,7 +17,7 @@ item_at pool first i = get_or pool.slots (block_at pool.blocks first (i / 16) * 
 abbrev pub list_of : Blocks → Links → List Item
 list_of pool chain = map (item_at pool chain.first) (range_with_len 0 chain.length)
 
--- how many blocks a list of so many items has, and how many more items go into the last of them
+-- the number of blocks of a list of `n` items, and how many more items fit into the last block of a list
 abbrev pub blocks_for : ℕ → ℕ
 blocks_for n = (n + 15) / 16
 
@@ -30,7 +30,7 @@ pub record IsBlock (blocks : List Block) (first j number : ℕ) : Type 0 where
   pub owner : (block_of blocks number).owner ≡ first
   pub place : (block_of blocks number).place ≡ j
 
--- the list has so many blocks, from the first to the last
+-- the list has `n` blocks, from the first to the last
 pub record HasBlocks (blocks : List Block) (first last n : ℕ) : Type 0 where
   pub each : (j : ℕ) → j < n → IsBlock blocks first j (block_at blocks first j)
   pub ends : (j : ℕ) → j + 1 ≡ n → last ≡ block_at blocks first j
@@ -39,11 +39,11 @@ pub record HasBlocks (blocks : List Block) (first last n : ℕ) : Type 0 where
 abbrev pub IsOf : Blocks → Links → Type 0
 IsOf pool chain = HasBlocks pool.blocks chain.first chain.last (blocks_for chain.length)
 
--- two lists, of which one is empty, or which begin in different blocks
+-- one of two lists is empty, or they begin in different blocks
 abbrev pub IsApart : Links → Links → Type 0
 IsApart chain other = 0 < chain.length → 0 < other.length → chain.first ≢ other.first
 
--- the list is still of the pool, and has the items that it had
+-- the list is still in the pool, and has the items that it had
 pub record IsKept (before after : Blocks) (chain : Links) : Type 0 where
   pub own : IsOf after chain
   pub same : list_of after chain ≡ list_of before chain
@@ -52,13 +52,13 @@ pub record IsKept (before after : Blocks) (chain : Links) : Type 0 where
 abbrev pub KeepsOthers : Blocks → Blocks → Links → Links → Type 0
 KeepsOthers before after old new = (other : Links) → IsOf before other → IsApart old other → IsKept before after other × IsApart new other
 
--- from one pool to another, the blocks of this owner stay as they are, with their items
+-- from one pool to another, the blocks of this owner, and their items, are unchanged
 pub record Keeps (before after : Blocks) (first : ℕ) : Type 0 where
   pub long : length before.blocks ≤ length after.blocks
   pub blocks : (x : ℕ) → x < length before.blocks → (block_of before.blocks x).owner ≡ first → block_of after.blocks x ≡ block_of before.blocks x
   pub slots : (x r : ℕ) → x < length before.blocks → (block_of before.blocks x).owner ≡ first → r < 16 → get_or after.slots (x * 16 + r) [] ≡ get_or before.slots (x * 16 + r) []
 
--- what one more block for a list leaves: the list has it, and no list has changed
+-- what holds after a list took one more block: the list has it, and no list has changed
 pub record IsReady (before after : Blocks) (old new : Links) : Type 0 where
   pub has : HasBlocks after.blocks new.first new.last (old.length / 16 + 1)
   pub long : new.length ≡ old.length
@@ -67,7 +67,8 @@ pub record IsReady (before after : Blocks) (old new : Links) : Type 0 where
   pub apart : (other : Links) → IsOf before other → IsApart old other → 0 < other.length → new.first ≢ other.first
   pub spare : length after.free + 1 ≡ length before.free
 
--- what room for one more item leaves: the list has it, in a new block only where it had none, and no list has changed
+-- what holds after room was made for one more item: the list has it, in a new block only if it had no room, and no list
+-- has changed
 pub record IsRoomy (before after : Blocks) (old new : Links) : Type 0 where
   pub has : HasBlocks after.blocks new.first new.last (old.length / 16 + 1)
   pub long : new.length ≡ old.length
@@ -80,7 +81,7 @@ pub record IsRoomy (before after : Blocks) (old new : Links) : Type 0 where
 abbrev pub AllKept : Blocks → Blocks → Type 0
 AllKept before after = (chain : Links) → IsOf before chain → IsKept before after chain
 
--- a block was made spare, and this was the one behind it
+-- a block was made spare, and `next` was the block after it
 pub record IsFreed (before after : Blocks) (number next : ℕ) : Type 0 where
   pub behind : next ≡ (block_of before.blocks number).next
   pub long : length after.blocks ≡ length before.blocks
@@ -88,7 +89,7 @@ pub record IsFreed (before after : Blocks) (number next : ℕ) : Type 0 where
   pub slots : after.slots ≡ before.slots
   pub spare : length after.free ≡ length before.free + 1
 
--- part of the way of giving a list back: of its blocks, the first j are spare, and all other blocks are as before
+-- while a list is given back: its first j blocks are spare, and all other blocks are as before
 pub record IsGiving (before now : Blocks) (first n j number : ℕ) : Type 0 where
   pub at : j < n → number ≡ block_at before.blocks first j
   pub long : length now.blocks ≡ length before.blocks
@@ -96,7 +97,7 @@ pub record IsGiving (before now : Blocks) (first n j number : ℕ) : Type 0 wher
   pub slots : now.slots ≡ before.slots
   pub spare : length now.free ≡ length before.free + j
 
--- the blocks that hold the items from a place on, of which so many are left, are there
+-- the blocks are there that hold the `left` items from a place on
 abbrev pub IsWithin : List Block → ℕ → ℕ → ℕ → Type 0
 IsWithin blocks first place left = (j : ℕ) → j * 16 < place + left → block_at blocks first j < length blocks
 

@@ -3,7 +3,7 @@ ghost use Rattle.std.specs.Prelude.{◌≡◌};
 
 use std::marker::Model;
 
-/// A list in a pool: its first block and its last, and how many items it has. An empty list has no block.
+/// A list in a pool: its first block and its last, and the number of its items. An empty list has no block.
 #[derive(Drop)]
 pub struct Chain {
     pub(crate) first: u32,
@@ -20,7 +20,7 @@ impl Model for Chain {
 }
 
 impl Chain {
-    /// A list without items.
+    /// Returns a list without items.
     pub(crate) fn empty() -> Chain
         ensures { result.length ≡ 0 }
     {
@@ -31,7 +31,7 @@ impl Chain {
         }
     }
 
-    /// How many items the list has.
+    /// Returns the number of items of the list.
     pub fn len(&self) -> usize
         ensures { result ≡ self.now.length }
     {

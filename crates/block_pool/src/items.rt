@@ -4,7 +4,7 @@ ghost use Rattle.std.specs.Prelude.{◌≡◌, ◌∷◌, [], MatchOption};
 use crate::pool::{BLOCK, Item, Pool};
 use std::marker::Model;
 
-/// The items of a list that are still to come. A contract sees their list.
+/// The items of a list that are still to come. Its model is the list of these items.
 #[derive(Drop)]
 pub struct Items<'a> {
     pub(crate) pool: &'a Pool,
@@ -27,7 +27,7 @@ impl<'a> Model for Items<'a> {
 }
 
 impl<'a> Items<'a> {
-    /// The next item, and `None` behind the last.
+    /// Returns the next item, or `None` after the last.
     pub fn next(&mut self) -> Option<Item>
         ensures { MatchOption result (self.old ≡ []) (λ item. self.old ≡ item ∷ self.new) }
     {

@@ -1,5 +1,5 @@
-//! A pool of equal blocks for many lists that grow. A list takes a block at a time from the pool, and gives them all back at once, so that
-//! memory is asked for in one place, before the lists grow.
+//! A pool of equal blocks for many growing lists. A list takes blocks from the pool one at a time, and gives them all
+//! back at once. So memory is asked for in one place, before the lists grow.
 #![tactic(auto)]
 
 mod chain;

@@ -9,16 +9,16 @@ use no_memory::NoMemory;
 use std::alloc::Global;
 use std::marker::Model;
 
-/// What the lists are of.
+/// An item of a list.
 pub type Item = [u32; 3];
 
-/// How many items a block has.
+/// The number of items in a block.
 pub(crate) const BLOCK: usize = 16;
 
 /// The owner of a spare block.
 const NOBODY: u32 = 0xFFFF_FFFF;
 
-/// A block: the one behind it in its list, the first of that list, and its place there, from 0.
+/// A block: the next block of its list, the first block of that list, and its place there, from 0.
 #[derive(Clone, Copy)]
 pub(crate) struct Block {
     pub next: u32,
@@ -26,7 +26,8 @@ pub(crate) struct Block {
     pub place: usize,
 }
 
-/// Blocks of sixteen items for lists that grow. A contract sees the blocks; what a list holds is `list_of`.
+/// Blocks of sixteen items for growing lists. Its model has the blocks, the items and the spare blocks; the items of a
+/// list are `list_of`.
 #[derive(Drop)]
 pub struct Pool {
     blocks: Vec<Block>,
@@ -46,7 +47,7 @@ impl Model for Pool {
 }
 
 impl Pool {
-    /// A pool without blocks.
+    /// Returns a pool without blocks.
     pub fn new(alloc: Global) -> Pool
         ensures blocks { result.blocks ≡ [] }
         ensures spare { spare_of result ≡ 0 }
@@ -58,14 +59,18 @@ impl Pool {
         }
     }
 
-    /// How many blocks there are, spare or not.
+    /// Returns the number of blocks, spare or not.
     pub fn blocks(&self) -> usize
         ensures { result ≡ length self.now.blocks }
     {
         self.blocks.len()
     }
 
-    /// Adds so many spare blocks. It is refused for want of memory; each list stands, whether it is or not.
+    /// Adds `more` spare blocks. Each list is unchanged, even if memory runs out.
+    ///
+    /// # Errors
+    ///
+    /// Returns `Err(NoMemory)` if memory runs out.
     pub fn reserve(&mut self, more: usize) -> Result<(), NoMemory>
         requires { length self.old.blocks + more < 2 ^ 32 }
         ensures spare { OnOk result (spare_of self.new ≡ spare_of self.old + more) }
@@ -100,7 +105,7 @@ impl Pool {
         }
     }
 
-    /// Takes the blocks of a list back, which are spare again.
+    /// Takes back the blocks of a list, which become spare again.
     pub fn give_back(&mut self, what: Chain)
         requires { IsOf self.old what }
         ensures spare { spare_of self.new ≡ spare_of self.old + blocks_for what.length }
@@ -114,7 +119,7 @@ impl Pool {
         }
     }
 
-    // Makes a block spare, and gives the one behind it.
+    // Makes a block spare, and returns the next block of its list.
     fn free_block(&mut self, number: u32) -> u32
         requires there { number < length self.old.blocks }
         requires owned { (block_of self.old.blocks number).owner ≢ nobody }
@@ -133,7 +138,7 @@ impl Pool {
         }
     }
 
-    /// An empty list.
+    /// Returns an empty list.
     pub fn chain(&self) -> Chain
         ensures own { IsOf self.now result }
         ensures empty { result.length ≡ 0 }
@@ -141,14 +146,14 @@ impl Pool {
         Chain::empty()
     }
 
-    /// How many blocks are spare.
+    /// Returns the number of spare blocks.
     pub fn spare(&self) -> usize
         ensures { result ≡ spare_of self.now }
     {
         self.free.len()
     }
 
-    /// How many more items fit into the blocks of the list.
+    /// Returns how many more items fit into the blocks of the list.
     pub fn room(&self, of: &Chain) -> usize
         requires { IsOf self.now of.now }
         ensures { result ≡ room_of of.now }
@@ -156,7 +161,7 @@ impl Pool {
         (BLOCK - of.length % BLOCK) % BLOCK
     }
 
-    /// The items of the list, in the order in which they were added.
+    /// Returns the items of the list, in the order in which they were added.
     pub fn items(&self, of: &Chain) -> Items<'_>
         requires { IsOf self.now of.now }
         ensures { result ≡ list_of self.now of.now }
@@ -169,7 +174,7 @@ impl Pool {
         }
     }
 
-    // The item at a place of a block.
+    // Returns the item at a place of a block.
     pub(crate) fn item(&self, block: u32, place: usize) -> Item
         requires block { block < length self.now.blocks }
         requires place { place < 16 }
@@ -178,7 +183,7 @@ impl Pool {
         self.slots[block as usize * BLOCK + place]
     }
 
-    // The block behind a block.
+    // Returns the block after a block.
     pub(crate) fn behind(&self, block: u32) -> u32
         requires { block < length self.now.blocks }
         ensures { result ≡ (block_of self.now.blocks block).next }
@@ -186,7 +191,7 @@ impl Pool {
         self.blocks[block as usize].next
     }
 
-    /// Adds an item to the end of the list. It takes no memory, and takes a spare block only where the list has no room.
+    /// Adds an item to the end of the list. It takes no memory, and takes a spare block only if the list has no room.
     pub fn push(&mut self, to: &mut Chain, item: Item)
         requires own { IsOf self.old to.old }
         requires room { 0 < spare_of self.old + room_of to.old }
@@ -199,7 +204,7 @@ impl Pool {
         self.write(to, item);
     }
 
-    // Gives the list a block that has room.
+    // Makes sure that the last block of the list has room, with a new block if necessary.
     fn make_room(&mut self, to: &mut Chain)
         requires own { IsOf self.old to.old }
         requires room { 0 < spare_of self.old + room_of to.old }
@@ -233,7 +238,7 @@ impl Pool {
         to.last = number;
     }
 
-    // Gives a list whose blocks are full one more.
+    // Gives a list whose blocks are full another block.
     fn go_on(&mut self, to: &mut Chain)
         requires own { IsOf self.old to.old }
         requires long { 0 < to.old.length }

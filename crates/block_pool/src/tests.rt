@@ -1,4 +1,4 @@
-//! Two lists in a pool: by hand, and against vectors as they grow and are given back in a random order.
+//! Two lists in a pool: worked by hand, and compared with vectors while they grow and are given back in a random order.
 ghost use Rattle.std.specs.Prelude.{◌≡◌};
 ghost use Rattle.block_pool.specs.Chains.{AreTwo, IsOf, KeepsOthers};
 
@@ -6,7 +6,7 @@ use crate::{Chain, Item, Pool};
 use std::mem::replace;
 use std::test::Fail;
 
-// Adds so many items, where they fit.
+// Adds `count` items, if they fit.
 fn push_many(pool: &mut Pool, to: &mut Chain, count: u32) -> Result<(), Fail>
     requires { IsOf pool.old to.old }
     ensures own { IsOf pool.new to.new }
@@ -18,7 +18,7 @@ fn push_many(pool: &mut Pool, to: &mut Chain, count: u32) -> Result<(), Fail>
     Ok(())
 }
 
-// Adds an item, where it fits.
+// Adds an item, if it fits.
 fn push_one(pool: &mut Pool, to: &mut Chain, item: Item) -> Result<(), Fail>
     requires { IsOf pool.old to.old }
     ensures own { IsOf pool.new to.new }
@@ -41,7 +41,7 @@ fn empty(pool: &mut Pool, what: &mut Chain)
     pool.give_back(full);
 }
 
-// Whether a list has these items.
+// Returns whether a list has exactly these items.
 fn holds(pool: &Pool, of: &Chain, expected: &[Item]) -> bool
     requires { IsOf pool.now of.now }
 {
@@ -93,7 +93,7 @@ fn change_either(
     change(pool, b, of_b, drawn >> 8)
 }
 
-// Seventeen items take two blocks, and leave room for fifteen.
+// Seventeen items take two blocks, and leave room for fifteen more.
 #[test]
 fn blocks(rt: HostRuntime) -> Result<(), Fail> {
     let mut pool = Pool::new(rt.alloc());

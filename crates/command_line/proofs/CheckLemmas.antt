@@ -1,4 +1,4 @@
--- Clap reads in the plain words behind `check` what they say.
+-- Clap reads the plain words after `check` as they say.
 use Rattle.std.proofs.Common.{◌≡◌, refl, ap, ap₂, sym, ◌∙◌, ℕ, List, [], ◌∷◌, Bool, true, false, cond, codes, Option, Some, None, option_map}
 use Rattle.std.specs.Prelude.{option_and_then, slice_get}
 use Rattle.clap.specs.Kinds.{Kinds}

@@ -1,4 +1,4 @@
--- What clap's calls give, of the commands of the modes.
+-- The results of clap's calls for the commands of the modes.
 use Rattle.std.proofs.Common.{◌≡◌, ◌⊎◌, ◌≤◌, ◌∙◌, ap, ap₂, refl, sym, subst, inl, inr, ℕ, List, [], ◌∷◌, Bool, true, false, ◌&&◌, cond, codes, length, map, Option, Some, None, option_map, Result, Ok, Err, IfOk, arith}
 use Rattle.std.specs.Prelude.{⊤, IfErr, MatchOption, nat_le, ok_or, unwrap_or}
 use Rattle.std.specs.Borrow.{Bor}
@@ -31,7 +31,7 @@ use Rattle.command_line.proofs.ParsedLemmas.{number_in_range}
 
 -- ---- the commands
 
--- a command with one argument more
+-- a command with one more argument
 pub with_arg : (old new : Command) (arg : Arg) (app : App) (rule : Rule) → AddsArg old arg new → app_of old ≡ app → arg.global ≡ false → rule_of arg ≡ rule
     → app_of new ≡ with_rule app rule
 with_arg old new arg app rule adds is local rule_is = adds.shape local ∙ ap₂ with_rule is rule_is
@@ -54,7 +54,7 @@ check_is_free = refl
 
 -- ---- what a parse gives
 
--- what the matches hold is what the words say
+-- what the matches hold is what the words state
 pub said_by : {X Y : Type 0} (command app : App) (held : List Row → Option X) (words : List Text) (matches : List Row) → is_simple_and_free command ≡ true → app ≡ command
     → (is_simple app ≡ true → (matches ≡ matches_of app words) × Y) → (is_simple_and_free app ≡ true → fault_of app words ≡ [])
     → held matches ≡ held_without (fault_of command words) (held (matches_of command words))
@@ -70,7 +70,7 @@ refused_by [] held what (inl e) = inl (ap refusal_by e)
 refused_by [] held what (inr none) = absurd none
 refused_by (fault ∷ faults) held what e = inr refl
 
--- an error for another cause than memory comes only where there is a fault
+-- an error other than that memory runs out is returned only if there is a fault
 pub refused_for : {X : Type 0} (command app : App) (held : List Row → Option X) (words : List Text) (what : ErrorKind) → is_simple_and_free command ≡ true → app ≡ command
     → (is_simple_and_free app ≡ true → (what ≡ kind.OutOfMemory) ⊎ IsAmong what (fault_of app words))
     → (refusal_by what ≡ refused.NoMemory) ⊎ (held_without (fault_of command words) (held (matches_of command words)) ≡ None)
@@ -88,7 +88,7 @@ options_are matches lanes merge trace keys text lanes_is merge_is trace_is keys_
     ∙ ap₂ (λ (t : Bool) (k : Keys). f (unwrap_or (number_held (codes "lanes") matches) 1) (flag_of (codes "merge") matches) t k text) trace_is keys_are
     ∙ ap (λ (o : Option Text). f (unwrap_or (number_held (codes "lanes") matches) 1) (flag_of (codes "merge") matches) (flag_of (codes "trace") matches) (keys_held matches) o) text_is
 
--- where the order breaks its rule there are none
+-- if the order breaks its rule there are no options
 pub no_options : (matches : List Row) (lanes : ℕ) (merge : Bool) (text : Option Text) (e : WordsRefused) → lanes ≡ unwrap_or (number_held (codes "lanes") matches) 1
     → merge ≡ flag_of (codes "merge") matches → text ≡ first_of (codes "order") matches
     → (e ≡ refused.NoMemory) ⊎ (order_stated lanes merge text ≡ None) → (e ≡ refused.NoMemory) ⊎ (options_held matches ≡ None)
@@ -193,7 +193,7 @@ no_path : (o : Option ℕ) → watch_of o None ≡ None
 no_path None = refl
 no_path (Some k) = refl
 
--- where there are not 1 to 16 paths there is no mode
+-- without 1 to 16 paths there is no mode
 pub no_paths : (matches : List Row) (e : WordsRefused) → (e ≡ refused.NoMemory) ⊎ (paths_held matches ≡ None) → (e ≡ refused.NoMemory) ⊎ (watch_held matches ≡ None)
 no_paths matches e (inl memory) = inl memory
 no_paths matches e (inr none) = inr (ap (watch_of (number_held (codes "k") matches)) none ∙ no_path (number_held (codes "k") matches))

@@ -1,4 +1,4 @@
--- Clap reads in the plain words behind `make` what they say.
+-- Clap reads the plain words after `make` as they say.
 use Rattle.std.proofs.Common.{◌≡◌, refl, ap, ap₂, ◌∙◌, ℕ, List, [], ◌∷◌, true, false, codes, Option, Some, None, arith}
 use Rattle.std.specs.Prelude.{fold}
 use Rattle.clap.specs.Faults.{check_fault, defaults_fault, fault_of, settle_fault, turn_fault, walk_fault}

@@ -1,4 +1,4 @@
--- Clap reads in plain words what they say.
+-- Clap reads plain words as they say.
 use Rattle.std.proofs.Common.{◌≡◌, ◌≤◌, ◌-◌, refl, inl, inr, ◌⊎◌, ap, ap₂, sym, ◌∙◌, ◌&&◌, ◌^◌, ℕ, arith, drop, length, map, take, Result, Ok, Err, List, [], ◌∷◌, Bool, true, false, cond, codes, Option, Some, None, option_map, true≢false}
 use Rattle.std.specs.Prelude.{⊤, IfErr, IfOk, IsErr, MatchResult, bytes_eq, nat_lt, option_and_then, unwrap_or}
 use Rattle.std.specs.List.{list_all, slice_index_or}
@@ -22,7 +22,7 @@ use Rattle.command_line.proofs.MakeLemmas.{make_is_read}
 use Rattle.command_line.proofs.OptionLemmas.{run_is_read}
 use Rattle.command_line.proofs.WatchLemmas.{watch_is_read}
 
--- The mode that plain words say is the one that is read in them
+-- The mode that plain words state is the one that is read from them.
 pub plain_is_read : (words : List Text) (mode : Mode) → plain_mode words ≡ Some mode → mode_read words ≡ Some mode
 plain_is_read [] mode e = cc e
 plain_is_read (word ∷ words) mode e =
@@ -44,7 +44,7 @@ plain_is_read (word ∷ words) mode e =
     by false false false true e = check_is_read words mode e
     by false false false false e = cc e
 
--- what `get_one` reads of the text of a flag
+-- what `get_one` reads from the text of a flag
 pub flag_read : (E : Type 0) (text : Option Text) (value : Option Bool) → (text ≡ None → value ≡ None) → ((t : Text) → text ≡ Some t → ReadsOne {E = E} ParsesBool t value)
     → unwrap_or value false ≡ option_map_or (λ t. bytes_eq t (codes "true")) text false
 flag_read E None value none read = ap (λ (v : Option Bool). unwrap_or v false) (none refl)
@@ -83,7 +83,7 @@ same_read E F t (Some n) None x y = absurd (y.1 x.0)
 same_read E F t None (Some k) x y = absurd (x.1 y.0)
 same_read E F t None None x y = refl
 
--- what `get_one` reads of the text of a number
+-- what `get_one` reads from the text of a number
 pub number_is : (E : Type 0) (Gives : Text → Result ℕ E → Type 0) → ((t : Text) (r : Result ℕ E) → Gives t r → ParsesUnsigned 32 10 t r)
     → (text : Option Text) (value : Option ℕ) → (text ≡ None → value ≡ None) → ((t : Text) → text ≡ Some t → ReadsOne {E = E} Gives t value)
     → value ≡ option_and_then number_read text
@@ -94,7 +94,7 @@ number_is E Gives parses (Some t) value none read = same_read E ⊤ t value (num
     plainly (Some n) same = parses t (Ok n) same
     plainly None other = (other.0, parses t (Err other.0) other.1)
 
--- what is read in all words is said by plain ones
+-- what is read from any words is what plain words state
 pub plain_by : (words : List Text) (r : Result Given WordsRefused) → IfOk r (λ given. mode_read words ≡ Some (mode_of given)) → IfErr r (λ e. (e ≡ refused.NoMemory) ⊎ (mode_read words ≡ None))
     → (mode : Mode) → plain_mode words ≡ Some mode → MatchResult r (λ given. mode_of given ≡ mode) (λ e. e ≡ refused.NoMemory)
 plain_by words (Ok given) read none mode plain =

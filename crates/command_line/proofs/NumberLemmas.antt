@@ -1,4 +1,4 @@
--- Clap reads a number in decimal digits as the number that it is.
+-- Clap reads a number in decimal digits as that number.
 use Rattle.std.proofs.Common.{◌≡◌, ◌≤◌, ◌<◌, ◌+◌, ◌-◌, ◌*◌, ◌^◌, refl, ap, ap₂, sym, ◌∙◌, subst, ℕ, [], ◌∷◌, Bool, true, false, ◌&&◌, cond, Some, None, arith, drop, length}
 use Rattle.std.specs.Prelude.{◌==◌, bytes_eq, fold, nat_le, nat_lt, option_and_then}
 use Rattle.std.specs.List.{list_all}
@@ -20,7 +20,7 @@ abbrev pub IsValue : Text → Type 0
 IsValue [] = ⊥
 IsValue (byte ∷ bytes) = (byte == 45) ≡ false
 
--- clap takes the text for a number in the range, and reads n in it
+-- clap takes the text for a number in the range, which is n
 pub record IsRead (least most : ℕ) (text : Text) (n : ℕ) : Type 0 where
   pub word : IsValue text
   pub accepted : accepts false (between least most) text ≡ true
@@ -59,7 +59,7 @@ all_numerals (digit ∷ digits) all =
     let small : nat_lt (digit_value digit) 10 ≡ true = lt-ltb (digit_value digit) 10 (omega (arith, bounds, value_is digit parts.0)) in
     ap₂ (λ (a b : Bool). a && b) small (all_numerals digits parts.1)
 
--- with no sign before it
+-- without a sign before it
 read_plainly : (digit : ℕ) (digits : Text) → is_digit digit ≡ true → (without_minus (digit ∷ digits) ≡ digit ∷ digits) × (without_leading_plus (digit ∷ digits) ≡ digit ∷ digits)
 read_plainly digit digits e =
     let bounds = digit_is digit e in
@@ -102,7 +102,7 @@ number_is_read least most (digit ∷ digits) n low high e = by (is_number (digit
     by true is false fits e = cc e
     by false is fits _ e = cc e
 
--- the same, or the one digit 0
+-- the same, or the single digit 0
 pub number_or_zero_is_read : (most : ℕ) (text : Text) (n : ℕ) → most < 2 ^ 32 → number_or_zero most text ≡ Some n → IsRead 0 most text n
 number_or_zero_is_read most text n high e = by (bytes_eq text (48 ∷ [])) refl e
   where

@@ -1,4 +1,4 @@
--- What clap's matches hold of plain options, and that clap has no fault to name. Clap reads in the plain words behind `run` what they say.
+-- What clap's matches hold for plain options, without a fault. Clap reads the plain words after `run` as they say.
 use Rattle.std.proofs.Common.{◌≡◌, refl, ap, ap₂, ◌∙◌, ℕ, List, [], ◌∷◌, Bool, true, false, not, ◌||◌, cond, codes, Option, Some, None, option_map, arith}
 use Rattle.std.specs.Prelude.{bytes_eq, fold, option_and_then, slice_get, unwrap_or}
 use Rattle.std.specs.List.{AllByRecursion}

@@ -1,4 +1,4 @@
--- How clap walks over the options behind `run`, and behind the path that follows `check`.
+-- How clap walks over the options after `run`, and after the path that follows `check`.
 use Rattle.std.proofs.Common.{◌≡◌, refl, ap, ap₂, ◌∙◌, ℕ, List, [], ◌∷◌, ◌++◌, Bool, true, false, ◌&&◌, cond, codes, Option, Some, None, is_some, option_map}
 use Rattle.clap.specs.Faults.{settle_fault, turn_fault}
 use Rattle.clap.specs.Kinds.{Kinds, or_else}
@@ -50,7 +50,7 @@ held rows pending = record { rows = rows; pending = pending; skip = 0 }
 abbrev pub before : List Row → Pending → ℕ → Waiting → Walk
 before rows pending position waiting = record { held = held rows pending; waiting = waiting; position = position; is_trailing = false; stopped = None }
 
--- where the walk stands between two words
+-- where the walk is between two words
 abbrev pub between : Reader → List Row → Pending → Waiting → Walk
 between reader rows pending waiting = before rows pending (position reader) waiting
 

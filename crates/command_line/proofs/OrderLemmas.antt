@@ -1,4 +1,4 @@
--- How an order is read, and what range its lanes keep.
+-- How an order is read, and in what range its lanes are.
 use Rattle.std.proofs.Common.{◌≡◌, ◌≤◌, ◌∙◌, refl, ap, sym, subst, ℕ, List, [], ◌∷◌, ◌++◌, Bool, true, false, map, drop, length, Option, Some, None, option_map, Result, Ok, Err, IfOk, arith}
 use Rattle.std.specs.Prelude.{◌==◌}
 use Rattle.std.specs.Borrow.{Bor}
@@ -14,7 +14,7 @@ module _ {X Y : Type 0} (f : X → Option Y) where
   abbrev pub IsReadTo : List X → ℕ → List Y → Type 0
   IsReadTo xs i ys = option_map (λ more. ys ++ more) (all_there (map f (drop i xs))) ≡ all_there (map f xs)
 
-  -- what holds of each that is read holds of all
+  -- what holds of each element that is read holds of all
   pub all_keep : (P : Y → Type 0) → ((x : X) (y : Y) → f x ≡ Some y → P y) → (xs : List X) (ys : List Y) → all_there (map f xs) ≡ Some ys → AllByRecursion P ys
   all_keep P each [] ys e = subst (AllByRecursion P) (same [] ys e) tt
     where
@@ -33,7 +33,7 @@ module _ {X Y : Type 0} (f : X → Option Y) where
 
 -- ---- parts
 
--- what is read in the parts of a text
+-- what is read from the parts of a text
 pub parts_read : {Y E : Type 0} (f : Text → Option Y) (r : Result (Option (List Y)) E) (parts : List (Bor Text)) (texts : List Text)
     → IfOk r (λ o. o ≡ all_there (map (λ part. f part.now) parts)) → map (λ part. part.now) parts ≡ texts → IfOk r (λ o. o ≡ all_there (map f texts))
 parts_read f (Err e) parts texts read are = tt

@@ -1,4 +1,4 @@
--- A number that clap has read lies in the range of its argument.
+-- A number that clap has read is in the range of its argument.
 use Rattle.std.proofs.Common.{◌≡◌, ◌∙◌, ◌≤◌, ◌<◌, ◌^◌, ◌&&◌, refl, ap, sym, subst, inl, inr, ℕ, zero, suc, List, [], ◌∷◌, map, length, Bool, true, not, codes, Option, Some, None, option_map, arith, true≢false}
 use Rattle.std.specs.Prelude.{⊤, bytes_eq, option_and_then, slice_get}
 use Rattle.std.specs.Borrow.{Bor}
@@ -28,7 +28,7 @@ use Rattle.command_line.proofs.ModeLemmas.{number_gives}
 
 -- ---- the place of an argument, by the rules
 
--- the rule at this place alone has the name
+-- only the rule at this place has the name
 abbrev pub stands_alone : Text → List Rule → ℕ → Bool
 stands_alone id [] place = true
 stands_alone id (rule ∷ rules) zero = list_all (λ other. not (bytes_eq other.id id)) rules
@@ -71,7 +71,7 @@ module _ (cmd : Command) (m : ArgMatches) (p : IsParsedFrom cmd m) (simple : has
       let parts = and_parts (shape_of cmd).is_plain _ simple in
       (p.from.same_groups (simple_groups cmd parts.1)).1 ∙ (plain_fields cmd parts.0).groups
 
-  -- the argument at a place, which alone has its name
+  -- the argument at a place, the only one with its name
   module _ (k : ℕ) (d : Arg) (lt : k < length (args_of cmd)) (id : Text) (is : (slice_index_or (args_of cmd) k d).id.now ≡ id) (some : id ≡ [] → ⊥)
       (own : IsAuto (slice_index_or (args_of cmd) k d) → ⊥) (alone : stands_alone id (map rule_of (args_of cmd)) k ≡ true) (q : ValueParser)
       (parser : (slice_index_or (args_of cmd) k d).value_parser ≡ Some q) where
@@ -111,7 +111,7 @@ module _ (cmd : Command) (m : ArgMatches) (p : IsParsedFrom cmd m) (simple : has
         let accepted = value_is v.now (first_of_all (λ w. PassesArg p.built id w.now) e.1.vals.items v all first) in
         (reading, accepted.0, accepted.1)
 
-    -- the text that is read of the argument passed its parser
+    -- the text that is read for the argument passed its parser
     pub text_read : (t : Text) → one_text (found_of m) id ≡ Some t → (u : Text) × (t ≡ read_as (reading_of q) u) × (ignore_case : Bool) × Accepts ignore_case q u
     text_read t e = go (matched_of (found_of m) id) refl e
       where
@@ -158,14 +158,14 @@ argument_at (arg ∷ args) (suc place) rule e =
     let got = argument_at args place rule e in
     (got.0, omega (arith, got.1), got.2)
 
--- the name is no argument's that clap makes by itself
+-- the name is not that of an argument that clap makes itself
 abbrev pub is_own : Text → Bool
 is_own id = not (bytes_eq id []) && (not (bytes_eq id (codes "help")) && not (bytes_eq id (codes "version")))
 
 not_named : (id name : Text) → not (bytes_eq id name) ≡ true → id ≡ name → ⊥
 not_named id name other same = true≢false (sym (sym (ap not ((bytes_eq-Decides id name).1 same)) ∙ other))
 
--- a number that a parse of this command gave lies in its range
+-- a number that a parse of this command gave is in its range
 pub number_in_range : (cmd : Command) (m : ArgMatches) → IsParsedFrom cmd m → (app : App) → app_of cmd ≡ app → has_simple_rules app.top ≡ true
     → (place : ℕ) (rule : Rule) → rule_at app.top.rules place ≡ Some rule → stands_alone rule.id app.top.rules place ≡ true → is_own rule.id ≡ true
     → (least most : ℕ) → rule.parser ≡ Some (between least most) → most < 2 ^ 32

@@ -1,4 +1,4 @@
--- Clap walks over plain words, of a run or behind the path of a trace, without a fault.
+-- Clap walks over plain words, of a run or after the path of a trace, without a fault.
 use Rattle.std.proofs.Common.{◌≡◌, refl, ap, ap₂, sym, ◌∙◌, subst, ℕ, List, [], ◌∷◌, Bool, true, false, not, ◌&&◌, cond, codes, Option, Some, None, is_some, option_map, true≢false, arith, map}
 use Rattle.std.specs.Prelude.{⊤, ◌==◌, bytes_eq, fold}
 use Rattle.std.specs.List.{onto_first, slice_split}
@@ -17,7 +17,7 @@ use Rattle.command_line.proofs.OptionWordLemmas.{Agrees, OfCheck, OfRun, Pending
 
 -- ---- the values that plain words have
 
--- what may be given: anything to a run, but neither an order nor a trace behind the path of a trace
+-- what may be given: anything for a run, but neither an order nor a trace after the path of a trace
 abbrev pub Allows : Reader → Given → Type 0
 Allows OfRun given = ⊤
 Allows (OfCheck path) given = (given.order ≡ None) × (given.trace ≡ false)
@@ -45,7 +45,7 @@ abbrev is_profile_value : Argument → Bool
 is_profile_value ProfileValue = true
 is_profile_value _ = false
 
--- the argument that the word is, by the tests of its names
+-- the argument that the word names, by the tests of its names
 abbrev chosen : (lanes order merge trace profile : Bool) → Argument
 chosen lanes order merge trace profile =
     cond lanes LanesValue (cond order OrderValue (cond merge MergeFlag (cond trace TraceFlag (cond profile ProfileValue NoArgument))))
@@ -118,12 +118,12 @@ profile_kept given TraceFlag e = (refl, refl)
 profile_kept given ProfileValue e = absurd (true≢false e)
 profile_kept given NoArgument e = (refl, refl)
 
--- one word keeps the value of an argument that has it, where the next word is not awaited as that value
+-- one word keeps the value of an argument that has one, if the next word is not awaited as that value
 abbrev KeepsByWord : (Given → Option Text) → (Awaited → Bool) → Type 0
 KeepsByWord value awaits = (given : Given) (awaited : Awaited) (word text : Text) → value given ≡ Some text → awaits awaited ≡ false
     → (value (take_word given awaited word).given ≡ Some text) × (awaits (take_word given awaited word).awaited ≡ false)
 
--- the name of an argument that has its value is no argument
+-- the name of an argument that has a value is no argument
 named_again : (word name text : Text) (value : Option Text) → value ≡ Some text → (bytes_eq word name && not (is_some value)) ≡ false
 named_again word name text value has = ap (λ (o : Option Text). bytes_eq word name && not (is_some o)) has ∙ and_false (bytes_eq word name)
 
@@ -267,7 +267,7 @@ order_fits given NoValue text options has e = by (lanes_said given.lanes) (profi
 
 -- ---- the walk over plain words
 
--- clap walks over the words without a fault, and holds then what was given
+-- clap walks over the words without a fault, and then holds what was given
 pub record Walks (reader : Reader) (words : List Text) (walk : Walk) (given : Given) : Type 0 where
   pub rows : List Row
   pub pending : Pending
@@ -286,12 +286,12 @@ more_walked reader word words walk next given turn step w = record {
   stands = w.stands;
 }
 
--- words that give these options, behind those that gave what is given
+-- words that give these options, after those that gave what is given
 abbrev WalksAll : Reader → List Text → Type 0
 WalksAll reader words = (given : Given) (rows : List Row) (pending : Pending) (options : Options) → Stands reader given rows pending
     → GivesOptions reader options (take_words given NoValue words) → Walks reader words (between reader rows pending idle) (take_words given NoValue words).given
 
--- the same of the words behind a value
+-- the same for the words after a value
 abbrev WalksBehind : Reader → List Text → Type 0
 WalksBehind reader [] = ⊤
 WalksBehind reader (text ∷ words) = WalksAll reader words
@@ -315,7 +315,7 @@ lanes_step reader (text ∷ words) more given rows pending options stands none e
     (more_walked reader text words _ _ _ (lanes_value_turn now reader text is.word) (lanes_value now reader text is.word)
     (more with_text now (Some (codes "lanes", text ∷ [])) options later e))
 
--- words behind the path of a trace that state an order are not allowed
+-- words after the path of a trace that state an order are not allowed
 order_step : (reader : Reader) (words : List Text) → WalksBehind reader words → (given : Given) (rows : List Row) (pending : Pending) (options : Options) → Stands reader given rows pending
     → given.order ≡ None → GivesOptions reader options (take_words given OrderNext words)
     → Walks reader (codes "--order" ∷ words) (between reader rows pending idle) (take_words given OrderNext words).given
@@ -368,7 +368,7 @@ merge_step reader words more given rows pending options stands off e =
     } in
     more_walked reader (codes "--merge") words _ _ _ (merge_turn rows pending reader stands.settles new) (merge_walk rows pending reader) (more merging _ None options later e)
 
--- and those that ask for a trace are not allowed either
+-- nor are those that ask for a trace
 trace_step : (reader : Reader) (words : List Text) → WalksAll reader words → (given : Given) (rows : List Row) (pending : Pending) (options : Options) → Stands reader given rows pending
     → given.trace ≡ false → GivesOptions reader options (take_words (record given { trace = true }) NoValue words)
     → Walks reader (codes "--trace" ∷ words) (between reader rows pending idle) (take_words (record given { trace = true }) NoValue words).given
@@ -393,7 +393,7 @@ absent : (o : Option Text) → not (is_some o) ≡ true → o ≡ None
 absent None e = refl
 absent (Some text) e = absurd (true≢false (sym e))
 
--- what the words take where the first is one of the arguments, or none
+-- what the words take if the first is one of the arguments, or none
 abbrev taken_by : Given → List Text → (lanes order merge trace profile : Bool) → Taken
 taken_by given words lanes order merge trace profile =
     let next = take_argument given (chosen lanes order merge trace profile) in

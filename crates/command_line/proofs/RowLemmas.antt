@@ -32,12 +32,12 @@ missing_row id change missing (row ∷ rows) none = by (bytes_eq row.id id) none
     by true e below = absurd (true≢false e)
     by false e below = ap (λ (more : List Row). row ∷ more) (below e)
 
--- values of a name that has no row are one row more
+-- values for a name that has no row are one more row
 pub one_row_more : (id : Text) (how : Reading) (source : ValueSource) (values : List Text) (rows : List Row) → has_row id rows ≡ false
     → with_values id how source values rows ≡ rows ++ row_with id how source values ∷ []
 one_row_more id how source values rows none = missing_row id (more_values source values) (row_with id how source values ∷ []) rows none
 
--- and so are those of a use that takes out what was there
+-- and so are those of a use that removes the earlier ones
 pub used_once : (id : Text) (how : Reading) (source : ValueSource) (values : List Text) (rows : List Row) → has_row id rows ≡ false
     → with_values id how source values (without id rows) ≡ rows ++ row_with id how source values ∷ []
 used_once id how source values rows none =

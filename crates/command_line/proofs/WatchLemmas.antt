@@ -1,4 +1,4 @@
--- Clap reads in the plain words behind `watch` what they say.
+-- Clap reads the plain words after `watch` as they say.
 use Rattle.std.proofs.Common.{◌≡◌, ◌≤◌, refl, ap, ap₂, ◌∙◌, subst, ℕ, List, [], ◌∷◌, ◌++◌, append_assoc, Bool, true, false, ◌&&◌, cond, codes, length, Option, Some, None, arith}
 use Rattle.std.specs.Prelude.{fold, nat_le}
 use Rattle.std.specs.List.{list_all}
@@ -31,7 +31,7 @@ path_rows (path ∷ paths) = row_with (codes "path") reading.AsWritten CommandLi
 abbrev rows_with : Text → List Text → List Row
 rows_with k paths = row_with (codes "k") reading.WithoutMinus CommandLine (k ∷ []) ∷ path_rows paths
 
--- behind a path, which is pending; the paths before it have their row
+-- after a path, which is pending; the paths before it have their row
 abbrev behind : Text → List Text → Text → Walk
 behind k paths last = before (rows_with k paths) (Some (codes "path", last ∷ [])) 2 positional
 
@@ -72,7 +72,7 @@ module _ (k : Text) where
 
 -- ---- the paths
 
--- clap walks over the words without a fault, and holds then these rows
+-- clap walks over the words without a fault, and then holds these rows
 record Ends (words : List Text) (walk : Walk) (rows : List Row) : Type 0 where
   pub no_fault : walk_fault top [] walk words ≡ []
   pub settles : settle_fault top.rules false (fold (walked top.rules []) walk words).held ≡ []
@@ -91,7 +91,7 @@ last_settled : (k : Text) (paths : List Text) (last : Text) → (settled top.rul
 last_settled k [] last = refl
 last_settled k (path ∷ paths) last = refl
 
--- the rest of the paths, behind one that is pending
+-- the rest of the paths, after one that is pending
 rest_walked : (k : Text) (words paths : List Text) (last : Text) → list_all is_path words ≡ true → Ends words (behind k paths last) (rows_with k (paths ++ last ∷ words))
 unfolding walk_fault
 rest_walked k [] paths last all = record { no_fault = refl; settles = refl; ends = last_settled k paths last }

@@ -1,4 +1,4 @@
--- What the words of a command line say, as clap reads them.
+-- What the words of a command line mean, as clap reads them.
 use Rattle.std.specs.Prelude.{ℕ, ◌^◌, ◌≡◌, ◌<◌, ◌≤◌, ◌&&◌, pos, Bool, true, false, if◌then◌else◌, List, [], ◌∷◌, bytes_eq, codes, length, map, nat_le, nat_lt, string_bytes, Option, Some, None, option_and_then, option_map, unwrap_or}
 use Rattle.std.specs.Option.{option_map_or}
 use Rattle.std.specs.Str.Parse.{digits_value, without_leading_plus}
@@ -38,7 +38,7 @@ abbrev pub refusal_by : ErrorKind → WordsRefused
 refusal_by kind.OutOfMemory = refused.NoMemory
 refusal_by _ = refused.Usage
 
--- ---- the commands that clap reads the words behind a mode with
+-- ---- the commands with which clap reads the words after a mode
 
 -- a number in a range
 abbrev pub between : ℕ → ℕ → ValueParser
@@ -56,7 +56,7 @@ profile_option = record (new_rule (codes "profile")) { long = Some (codes "profi
 abbrev pub flag_option : Text → Rule
 flag_option name = record (new_rule name) { long = Some name; action = Some SetTrue }
 
--- an argument without a name before it, which has to be there
+-- a required argument without a name before it
 abbrev pub number_word : Text → ValueParser → Rule
 number_word name parser = record (new_rule name) { required = true; action = Some Set; parser = Some parser }
 
@@ -64,7 +64,7 @@ number_word name parser = record (new_rule name) { required = true; action = Som
 abbrev pub path_words : Rule
 path_words = record (new_rule (codes "path")) { required = true; action = Some Append }
 
--- one word, which has to be there, a path
+-- one required word, a path
 abbrev pub path_word : Rule
 path_word = record (new_rule (codes "path")) { required = true; action = Some Set }
 
@@ -83,7 +83,7 @@ make_command = with_rule (with_rule (with_rule (bare (codes "make"))
 abbrev pub watch_command : App
 watch_command = with_rule (with_rule (bare (codes "watch")) (number_word (codes "k") (between 1 10000))) path_words
 
--- the path of the trace, and the options of `run` but for an order and a trace
+-- the path of the trace, and the options of `run` without an order and a trace
 abbrev pub check_command : App
 check_command = with_rule (with_rule (with_rule (with_rule (bare (codes "check"))
     path_word) lanes_option) (flag_option (codes "merge"))) profile_option
@@ -93,7 +93,7 @@ check_command = with_rule (with_rule (with_rule (with_rule (bare (codes "check")
 abbrev pub flag_of : Text → List Row → Bool
 flag_of id matches = option_map_or (λ text. bytes_eq text (codes "true")) (one_of id matches) false
 
--- the number of 32 bits that the text is read as
+-- the 32-bit number that the text is read as
 abbrev pub number_read : Text → Option ℕ
 number_read text =
     let digits = without_leading_plus text in
@@ -102,12 +102,12 @@ number_read text =
 abbrev pub number_held : Text → List Row → Option ℕ
 number_held id matches = option_and_then number_read (one_of id matches)
 
--- the order that the text states, where there is one; none where it breaks the rule of orders
+-- the order that the text states, if there is one; none if it breaks the rule of orders
 abbrev pub order_stated : ℕ → Bool → Option Text → Option (Option (List (List ℕ)))
 order_stated lanes merge None = Some None
 order_stated lanes merge (Some text) = option_map Some (model.order_of lanes merge text)
 
--- the kind of keys of the profile, which is 1 where none is said
+-- the kind of keys of the profile, which is 1 if none is given
 abbrev pub keys_held : List Row → Keys
 keys_held matches = model.keys_of_profile (unwrap_or (number_held (codes "profile") matches) 1)
 
@@ -118,7 +118,7 @@ options_held matches =
     option_map (λ order. options_with lanes order merge (flag_of (codes "trace") matches) (keys_held matches))
     (order_stated lanes merge (first_of (codes "order") matches))
 
--- none where clap has a fault to name
+-- none if clap reports a fault
 abbrev pub held_without : {X : Type 0} → Kinds → Option X → Option X
 held_without [] held = held
 held_without (fault ∷ faults) held = None
@@ -132,7 +132,7 @@ make_held matches = model.make_with (number_held (codes "seed") matches) (number
 abbrev pub make_words : List Text → Option model.Mode
 make_words words = held_without (fault_of make_command words) (make_held (matches_of make_command words))
 
--- the paths, where there are 1 to 16
+-- the paths, if there are 1 to 16
 abbrev pub paths_held : List Row → Option (List Text)
 paths_held matches =
     let paths = unwrap_or (all_of (codes "path") matches) [] in
@@ -168,7 +168,8 @@ names_mode (word ∷ words) =
     else if bytes_eq word (codes "watch") then true
     else bytes_eq word (codes "check")
 
--- the mode of the words: none where the first is no mode, clap refuses the words behind it, the order breaks its rule, or there are more than 16 paths
+-- the mode of the words: none if the first is no mode, clap refuses the words after it, the order breaks its rule, or
+-- there are more than 16 paths
 abbrev pub mode_read : List Text → Option model.Mode
 mode_read [] = None
 mode_read (word ∷ words) =

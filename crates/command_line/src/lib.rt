@@ -1,5 +1,5 @@
-//! The words of a command line: the mode of the program, with the options of a run, the numbers of a lake to make, or the paths of
-//! watched queries; and numbers, as they are written.
+//! The words of a command line: the mode of the program, with the options of a run, the numbers of a lake to make, or
+//! the paths of watched queries; and numbers, as they are written.
 #![tactic(auto)]
 
 mod numbers;

@@ -3,10 +3,10 @@ ghost use Rattle.std.specs.Prelude.{◌≡◌, ◌≤◌, IfSome, min, option_ma
 ghost use Rattle.std.specs.List.{list_all};
 ghost use Rattle.script_model.specs.Words.{digits_value, is_digit, is_number, number, number_of, number_or_zero};
 
-/// More than every number that a command line or a script may hold.
+/// More than any number that is valid on a command line or in a script.
 const TOO_GREAT: u64 = 4294967296;
 
-/// The number, of at most `most`, in decimal digits of which the first is not 0.
+/// Reads a number of at most `most`, in decimal digits of which the first is not 0.
 pub fn read_number(text: &[u8], most: u32) -> Option<u32>
     ensures value { result ≡ number most text.now }
     ensures positive { IfSome result (λ n. 1 ≤ n) }
@@ -21,7 +21,7 @@ pub fn read_number(text: &[u8], most: u32) -> Option<u32>
     Some(value as u32)
 }
 
-/// The number, of at most `most`, in decimal digits of which the first is not 0, or the one digit 0.
+/// Reads a number of at most `most`, in decimal digits of which the first is not 0, or the single digit 0.
 pub fn read_number_or_zero(text: &[u8], most: u32) -> Option<u32>
     ensures { result ≡ number_or_zero most text.now }
 {
@@ -31,7 +31,7 @@ pub fn read_number_or_zero(text: &[u8], most: u32) -> Option<u32>
     read_number(text, most)
 }
 
-/// The number in decimal digits of which the first is not 0, and 4,294,967,296 where it is more.
+/// Reads a number in decimal digits of which the first is not 0. It returns 4,294,967,296 if the number is greater.
 pub fn read_any_number(text: &[u8]) -> Option<u64>
     ensures value { result ≡ option_map (λ n. min n 4294967296) (number_of text.now) }
     ensures positive { IfSome result (λ n. 1 ≤ n) }
@@ -42,21 +42,21 @@ pub fn read_any_number(text: &[u8]) -> Option<u64>
     Some(digits_value(text))
 }
 
-// Whether the text is decimal digits of which the first is not 0.
+// Returns whether the text is decimal digits of which the first is not 0.
 fn is_number(text: &[u8]) -> bool
     ensures { result ≡ is_number text.now }
 {
     are_digits(text) && !matches!(text, [] | [b'0', ..])
 }
 
-// Whether the text is decimal digits alone.
+// Returns whether the text has only decimal digits.
 fn are_digits(text: &[u8]) -> bool
     ensures { result ≡ list_all is_digit text.now }
 {
     text.iter().all(|byte| b'0' <= *byte && *byte <= b'9')
 }
 
-// The value of decimal digits, and 4,294,967,296 where it is more.
+// Returns the value of decimal digits, or 4,294,967,296 if it is greater.
 fn digits_value(digits: &[u8]) -> u64
     ensures { result ≡ min (digits_value digits.now) 4294967296 }
 {

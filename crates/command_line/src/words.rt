@@ -1,4 +1,4 @@
-//! The words of a command line, behind the program's name.
+//! The words of a command line, after the program's name.
 ghost use Rattle.std.specs.Prelude.{ℕ, ◌≡◌, ◌≤◌, ◌⊎◌, ◌&&◌, false, Some, None, Err, map, nat_le, pos, string_bytes, IfOk, IfErr, MatchResult, option_map};
 ghost use Rattle.clap.specs.Walk.{rule_of};
 ghost use Rattle.clap.specs.Words.{app_of, found_of, rows_of};
@@ -18,27 +18,27 @@ mod order;
 
 use order::read_order;
 
-/// What the words of a command line ask the program to do.
+/// What a command line asks the program to do.
 #[derive(Drop)]
 pub enum Mode {
-    /// A script is read and run with these options.
+    /// Reads a script and runs it with these options.
     Run(Options),
-    /// A script is written that loads this many tables of this many rows, made from the seed.
+    /// Makes a lake from the seed, with `tables` tables of `rows` rows each.
     Make { seed: u32, tables: u32, rows: u32 },
-    /// A script changes a lake, and the first `k` rows of the queries in the files at these paths are watched: 1 to 10,000 rows of each, and
-    /// 1 to 16 paths.
+    /// Watches the first `k` rows of the queries in the files at these paths while a script changes a lake: 1 to 10,000
+    /// rows of each, and 1 to 16 paths.
     Watch { k: u32, paths: Vec<String> },
-    /// The trace in the file at this path is checked, as that of a run of the script with these options. Their trace is on, and they state no
-    /// order.
+    /// Checks the trace in the file at this path as that of a run of the script with these options. Their trace is on,
+    /// and they state no order.
     Check { trace: String, options: Options },
 }
 
 /// Why the words of a command line give no mode.
 #[derive(Clone, Copy, Debug, PartialEq, Eq)]
 pub enum WordsRefused {
-    /// The first word is no mode, or the words behind it are not ones that the mode takes.
+    /// The first word is no mode, or the mode does not accept the words that follow it.
     Usage,
-    /// Memory was wanting.
+    /// Memory ran out.
     NoMemory,
 }
 
@@ -68,7 +68,7 @@ impl From<Error> for WordsRefused {
     }
 }
 
-// The number of lanes.
+// Returns the argument for the number of lanes.
 fn lanes_option<'a>(alloc: Global) -> Arg<'a>
     ensures rule { rule_of result ≡ lanes_option }
     ensures local { result.global ≡ false }
@@ -79,7 +79,7 @@ fn lanes_option<'a>(alloc: Global) -> Arg<'a>
         .value_parser(value_parser!(u32).range(1..=16))
 }
 
-// The stated order.
+// Returns the argument for the stated order.
 fn order_option<'a>(alloc: Global) -> Arg<'a>
     ensures rule { rule_of result ≡ order_option }
     ensures local { result.global ≡ false }
@@ -89,7 +89,7 @@ fn order_option<'a>(alloc: Global) -> Arg<'a>
         .action(ArgAction::Set)
 }
 
-// The profile.
+// Returns the argument for the profile.
 fn profile_option<'a>(alloc: Global) -> Arg<'a>
     ensures rule { rule_of result ≡ profile_option }
     ensures local { result.global ≡ false }
@@ -100,7 +100,7 @@ fn profile_option<'a>(alloc: Global) -> Arg<'a>
         .value_parser(value_parser!(u32).range(1..=2))
 }
 
-// A flag, off where it does not stand among the words.
+// Returns a flag, which is off if the words do not have it.
 fn flag_option<'a>(alloc: Global, name: &'a str) -> Arg<'a>
     ensures rule { rule_of result ≡ flag_option name.entry.now }
     ensures local { result.global ≡ false }
@@ -108,7 +108,7 @@ fn flag_option<'a>(alloc: Global, name: &'a str) -> Arg<'a>
     Arg::new(alloc, name).long(name).action(ArgAction::SetTrue)
 }
 
-// A number without a name before it, which has to be there.
+// Returns a required number, which has no name before it.
 fn number_word<'a>(alloc: Global, name: &'a str, parser: ValueParser<'a>) -> Arg<'a>
     ensures rule { rule_of result ≡ number_word name.entry.now parser.entry }
     ensures local { result.global ≡ false }
@@ -119,7 +119,7 @@ fn number_word<'a>(alloc: Global, name: &'a str, parser: ValueParser<'a>) -> Arg
         .value_parser(parser)
 }
 
-// The words at the end, each of them a path.
+// Returns the argument for the paths at the end, of which at least one is required.
 fn path_words<'a>(alloc: Global) -> Arg<'a>
     ensures rule { rule_of result ≡ path_words }
     ensures local { result.global ≡ false }
@@ -129,7 +129,7 @@ fn path_words<'a>(alloc: Global) -> Arg<'a>
         .action(ArgAction::Append)
 }
 
-// One word that is a path, which has to be there.
+// Returns the argument for one path, which is required.
 fn path_word<'a>(alloc: Global) -> Arg<'a>
     ensures rule { rule_of result ≡ path_word }
     ensures local { result.global ≡ false }
@@ -139,7 +139,7 @@ fn path_word<'a>(alloc: Global) -> Arg<'a>
         .action(ArgAction::Set)
 }
 
-// A command whose words are all arguments of its own.
+// Returns a command all of whose words are arguments of its own.
 fn bare<'a>(alloc: Global, name: &'a str) -> Command<'a>
     ensures { app_of result ≡ bare name.entry.now }
 {
@@ -149,7 +149,7 @@ fn bare<'a>(alloc: Global, name: &'a str) -> Command<'a>
         .disable_version_flag(true)
 }
 
-// The command that reads the words behind `run`.
+// Returns the command that reads the words after `run`.
 fn run_command<'a>(alloc: Global) -> Result<Command<'a>, NoMemory>
     ensures { IfOk result (λ command. app_of command ≡ run_app) }
 {
@@ -162,7 +162,7 @@ fn run_command<'a>(alloc: Global) -> Result<Command<'a>, NoMemory>
     Ok(command)
 }
 
-// The command that reads the words behind `make`.
+// Returns the command that reads the words after `make`.
 fn make_command<'a>(alloc: Global) -> Result<Command<'a>, NoMemory>
     ensures { IfOk result (λ command. app_of command ≡ make_app) }
 {
@@ -173,7 +173,7 @@ fn make_command<'a>(alloc: Global) -> Result<Command<'a>, NoMemory>
     Ok(command)
 }
 
-// The command that reads the words behind `watch`.
+// Returns the command that reads the words after `watch`.
 fn watch_command<'a>(alloc: Global) -> Result<Command<'a>, NoMemory>
     ensures { IfOk result (λ command. app_of command ≡ watch_app) }
 {
@@ -183,7 +183,7 @@ fn watch_command<'a>(alloc: Global) -> Result<Command<'a>, NoMemory>
     Ok(command)
 }
 
-// The command that reads the words behind `check`.
+// Returns the command that reads the words after `check`.
 fn check_command<'a>(alloc: Global) -> Result<Command<'a>, NoMemory>
     ensures { IfOk result (λ command. app_of command ≡ check_app) }
 {
@@ -195,21 +195,23 @@ fn check_command<'a>(alloc: Global) -> Result<Command<'a>, NoMemory>
     Ok(command)
 }
 
-// The value of a flag. `get_flag` would do, but its contract leaves open what a text other than `true` and `false` reads as.
+// Returns the value of a flag. This is not `get_flag`, whose contract leaves open how a text other than `true` and
+// `false` is read.
 fn flag(matches: &ArgMatches<'_>, id: &str) -> bool
     ensures { result ≡ flag_of id.now (rows_of (found_of matches.now)) }
 {
     matches.get_one::<bool>(id).unwrap_or(false)
 }
 
-// The value of an argument that is a number.
+// Returns the value of a number argument.
 fn number(matches: &ArgMatches<'_>, id: &str) -> Option<u32>
     ensures { result ≡ number_held id.now (rows_of (found_of matches.now)) }
 {
     matches.get_one::<u32>(id)
 }
 
-// The order that a text states; none where it breaks the rule of orders.
+// Reads the order that a text states, if there is a text. Returns `Err(WordsRefused::Usage)` if the text breaks the
+// rule of orders.
 fn order_stated(
     alloc: Global,
     lanes: u32,
@@ -229,7 +231,7 @@ fn order_stated(
     Ok(Some(order))
 }
 
-// The kind of keys of a profile.
+// Returns the kind of keys of a profile.
 fn keys_of_profile(profile: u32) -> Keys
     ensures { result ≡ keys_of_profile profile }
 {
@@ -239,7 +241,7 @@ fn keys_of_profile(profile: u32) -> Keys
     }
 }
 
-// The kind of keys of the profile that the matches hold; profile 1 where they hold none.
+// Returns the kind of keys of the profile in the matches, which is profile 1 if they have none.
 fn keys_held(matches: &ArgMatches<'_>) -> Keys
     ensures { result ≡ keys_held (rows_of (found_of matches.now)) }
 {
@@ -247,7 +249,7 @@ fn keys_held(matches: &ArgMatches<'_>) -> Keys
     keys_of_profile(profile)
 }
 
-// The options that the matches of `run` hold.
+// Returns the options in the matches of `run`.
 fn options_held(alloc: Global, matches: &ArgMatches<'_>) -> Result<Options, WordsRefused>
     ensures read { IfOk result (λ options. options_held (rows_of (found_of matches.now)) ≡ Some options) }
     ensures refused { IfErr result (λ e. (e ≡ WordsRefused.NoMemory) ⊎ (options_held (rows_of (found_of matches.now)) ≡ None)) }
@@ -264,7 +266,7 @@ fn options_held(alloc: Global, matches: &ArgMatches<'_>) -> Result<Options, Word
     })
 }
 
-// The options that the words behind `run` say.
+// Returns the options that the words after `run` state.
 fn run_options(alloc: Global, words: &[String]) -> Result<Options, WordsRefused>
     ensures read { IfOk result (λ options. run_words (map string_bytes words.now) ≡ Some options) }
     ensures in_range { IfOk result AreInRange }
@@ -274,7 +276,7 @@ fn run_options(alloc: Global, words: &[String]) -> Result<Options, WordsRefused>
     options_held(alloc, &matches)
 }
 
-// The numbers that the matches of `make` hold, where all are there.
+// Returns the numbers in the matches of `make`, if all are there.
 fn make_held(matches: &ArgMatches<'_>) -> Option<Mode>
     ensures { option_map mode_of result ≡ make_held (rows_of (found_of matches.now)) }
 {
@@ -284,7 +286,7 @@ fn make_held(matches: &ArgMatches<'_>) -> Option<Mode>
     Some(Mode::Make { seed, tables, rows })
 }
 
-// The mode that the words behind `make` say.
+// Returns the mode that the words after `make` state.
 fn make_mode(alloc: Global, words: &[String]) -> Result<Mode, WordsRefused>
     ensures read { IfOk result (λ mode. make_words (map string_bytes words.now) ≡ Some (mode_of mode)) }
     ensures in_range { IfOk result (λ mode. IsModeInRange (mode_of mode)) }
@@ -294,7 +296,7 @@ fn make_mode(alloc: Global, words: &[String]) -> Result<Mode, WordsRefused>
     make_held(&matches).ok_or(WordsRefused::Usage)
 }
 
-// Copies of the texts.
+// Returns copies of the texts.
 fn copied(alloc: Global, texts: &[&str]) -> Result<Vec<String>, NoMemory>
     ensures { IfOk result (λ copies. map string_bytes copies.items ≡ map (λ text. text.now) texts.now) }
 {
@@ -305,7 +307,7 @@ fn copied(alloc: Global, texts: &[&str]) -> Result<Vec<String>, NoMemory>
     Ok(copies)
 }
 
-// The paths that the matches of `watch` hold, where there are 1 to 16.
+// Returns the paths in the matches of `watch`, if there are 1 to 16.
 fn paths_held(alloc: Global, matches: &ArgMatches<'_>) -> Result<Vec<String>, WordsRefused>
     ensures read { IfOk result (λ paths. paths_held (rows_of (found_of matches.now)) ≡ Some (map string_bytes paths.items)) }
     ensures refused { IfErr result (λ e. (e ≡ WordsRefused.NoMemory) ⊎ (paths_held (rows_of (found_of matches.now)) ≡ None)) }
@@ -317,14 +319,14 @@ fn paths_held(alloc: Global, matches: &ArgMatches<'_>) -> Result<Vec<String>, Wo
     Ok(copied(alloc, texts)?)
 }
 
-// Whether so many paths may be watched.
+// Returns whether `count` paths can be watched.
 fn is_path_count(count: usize) -> bool
     ensures { result ≡ (nat_le 1 count && nat_le count 16) }
 {
     (1..=16).contains(&count)
 }
 
-// The rows and paths that the matches of `watch` hold.
+// Returns the number of rows and the paths in the matches of `watch`.
 fn watch_held(alloc: Global, matches: &ArgMatches<'_>) -> Result<Mode, WordsRefused>
     ensures read { IfOk result (λ mode. watch_held (rows_of (found_of matches.now)) ≡ Some (mode_of mode)) }
     ensures refused { IfErr result (λ e. (e ≡ WordsRefused.NoMemory) ⊎ (watch_held (rows_of (found_of matches.now)) ≡ None)) }
@@ -336,7 +338,7 @@ fn watch_held(alloc: Global, matches: &ArgMatches<'_>) -> Result<Mode, WordsRefu
     Ok(Mode::Watch { k, paths })
 }
 
-// The mode that the words behind `watch` say.
+// Returns the mode that the words after `watch` state.
 fn watch_mode(alloc: Global, words: &[String]) -> Result<Mode, WordsRefused>
     ensures read { IfOk result (λ mode. watch_words (map string_bytes words.now) ≡ Some (mode_of mode)) }
     ensures in_range { IfOk result (λ mode. IsModeInRange (mode_of mode)) }
@@ -346,7 +348,8 @@ fn watch_mode(alloc: Global, words: &[String]) -> Result<Mode, WordsRefused>
     watch_held(alloc, &matches)
 }
 
-// The options of the run whose trace is checked. Such a run wrote a trace and stated no order, so the words have no say in either.
+// Returns the options of the run whose trace is checked. Such a run wrote a trace and stated no order, so the words
+// have no say in either.
 fn options_checked(matches: &ArgMatches<'_>) -> Options
     ensures { result ≡ options_checked (rows_of (found_of matches.now)) }
 {
@@ -359,7 +362,7 @@ fn options_checked(matches: &ArgMatches<'_>) -> Options
     }
 }
 
-// The path and the options that the matches of `check` hold.
+// Returns the path and the options in the matches of `check`.
 fn check_held(alloc: Global, matches: &ArgMatches<'_>) -> Result<Mode, WordsRefused>
     ensures read { IfOk result (λ mode. check_held (rows_of (found_of matches.now)) ≡ Some (mode_of mode)) }
     ensures refused { IfErr result (λ e. (e ≡ WordsRefused.NoMemory) ⊎ (check_held (rows_of (found_of matches.now)) ≡ None)) }
@@ -374,7 +377,7 @@ fn check_held(alloc: Global, matches: &ArgMatches<'_>) -> Result<Mode, WordsRefu
     Ok(Mode::Check { trace, options })
 }
 
-// The mode that the words behind `check` say.
+// Returns the mode that the words after `check` state.
 fn check_mode(alloc: Global, words: &[String]) -> Result<Mode, WordsRefused>
     ensures read { IfOk result (λ mode. check_words (map string_bytes words.now) ≡ Some (mode_of mode)) }
     ensures in_range { IfOk result (λ mode. IsModeInRange (mode_of mode)) }
@@ -384,16 +387,20 @@ fn check_mode(alloc: Global, words: &[String]) -> Result<Mode, WordsRefused>
     check_held(alloc, &matches)
 }
 
-/// The mode that the words behind the program's name say. The first word is the mode, byte for byte, and clap reads the words behind
-/// it. `run` takes `--lanes N`, `--order LIST`, `--merge`, `--trace` and `--profile P`, each at most once and in any order: N is 1 to 16,
-/// and 1 where it is not said; LIST is pieces with `/` between, and a piece is empty, or numbers of lanes with `,` between, where 0 is the
-/// merger; P is 1 or 2, and 1 where it is not said, and by profile 2 values are compared by their compatibility forms. `make` takes a seed
-/// below 4,294,967,296, 1 to 1,000 tables, and 1 to 5,000 rows. `watch` takes a number of rows, 1 to 10,000, and 1 to 16 paths.
-/// `check` takes one path, and before or behind it `--lanes N`, `--merge` and `--profile P`, each at most once and in any order, which
-/// mean what they do behind `run`.
+/// Reads the mode that the words after the program's name state. The first word is the mode, byte for byte, and clap
+/// reads the words after it.
+///
+/// - `run` takes `--lanes N`, `--order LIST`, `--merge`, `--trace` and `--profile P`, each at most once and in any
+///   order. N is 1 to 16, with default 1. LIST is pieces separated by `/`; a piece is empty, or is lane numbers
+///   separated by `,`, of which 0 is the merger. P is 1 or 2, with default 1; with profile 2 values are compared by
+///   their compatibility forms.
+/// - `make` takes a seed below 4,294,967,296, 1 to 1,000 tables, and 1 to 5,000 rows.
+/// - `watch` takes a number of rows, 1 to 10,000, and 1 to 16 paths.
+/// - `check` takes one path, and before or after it `--lanes N`, `--merge` and `--profile P`, each at most once and in
+///   any order, with the same meaning as for `run`.
 #[tactic(auto, using(crate::proofs::ModeLemmas::plain_is_read, std::proofs::lemmas::Grind::common_steps))]
 pub fn read_words(alloc: Global, words: &[String]) -> Result<Mode, WordsRefused>
-    // plain words give what they say, or memory is wanting
+    // plain words give what they say, or memory runs out
     ensures plain { (mode : ModeOf) → plain_mode (map string_bytes words.now) ≡ Some mode
         → MatchResult result (λ given. mode_of given ≡ mode) (λ e. e ≡ WordsRefused.NoMemory) }
     // no words, or another first word

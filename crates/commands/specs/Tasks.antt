@@ -24,7 +24,7 @@ task_of (Contain a b body) = model.Contain a b body
 task_of (AsOf asked k body) = model.AsOf asked k body
 task_of (Merge all) = model.Merge all
 
--- a search asks for 1 to 10,000 columns, places count from 1, a fraction is at most 1, and a position is a number of 32 bits
+-- a search asks for 1 to 10,000 columns, places count from 1, a fraction is at most 1, and a position has 32 bits
 abbrev pub IsTaskInRange : Task → Type 0
 IsTaskInRange (Load name body) = ⊤
 IsTaskInRange (LoadFile name file) = ⊤

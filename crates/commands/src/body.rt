@@ -1,12 +1,12 @@
-//! What the block of a command holds.
+//! The block of a command.
 ghost use Rattle.std.specs.Prelude.{◌≡◌, ◌<◌, ◌≤◌, ◌↔◌, IfSome, IsNone, length};
 
 use std::marker::Model;
 
-/// How many bytes a body has at most: 64 MiB.
+/// The most bytes that a body may have: 64 MiB.
 const MOST_BODY_BYTES: usize = 67108864;
 
-/// What a block holds: any bytes, at most 67,108,864 of them. A contract sees the list of the bytes.
+/// The contents of a block: any bytes, at most 67,108,864 of them. Its model is the list of the bytes.
 #[derive(Drop)]
 pub struct Body {
     bytes: Vec<u8>,
@@ -23,7 +23,7 @@ impl Model for Body {
 }
 
 impl Body {
-    /// A body of these bytes, and `None` where they are more than 67,108,864.
+    /// Returns a body of these bytes, or `None` if there are more than 67,108,864.
     pub fn new(bytes: Vec<u8>) -> Option<Body>
         ensures body { IfSome result (λ body. body ≡ bytes.items) }
         ensures exact { IsNone result ↔ (67108864 < length bytes.items) }
@@ -34,7 +34,7 @@ impl Body {
         Some(Body { bytes })
     }
 
-    /// The bytes.
+    /// Returns the bytes.
     pub fn bytes(&self) -> &[u8]
         ensures value { result.now ≡ self.now }
         ensures short { length self.now ≤ 67108864 }

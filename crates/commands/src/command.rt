@@ -1,4 +1,4 @@
-//! Commands, and the batch of them that a script asks for.
+//! Commands, and the batches of commands that a script asks for.
 ghost use Rattle.std.specs.Prelude.{◌≡◌, ◌≤◌};
 ghost use Rattle.script_model.specs.Commands.{is_update_task, updates};
 ghost use Rattle.script_model.specs.Reading.{file_size};
@@ -8,7 +8,7 @@ use crate::body::Body;
 use column_set::Name;
 use std::marker::Model;
 
-/// What came of the fetch of a file.
+/// The result of fetching a file.
 #[derive(Drop)]
 pub enum FileBody {
     /// The bytes of the file.
@@ -22,7 +22,7 @@ pub enum FileBody {
 }
 
 impl FileBody {
-    /// How many bytes the file has, and 0 where they did not come.
+    /// Returns the number of bytes of the file, which is 0 if they could not be fetched.
     pub fn size(&self) -> u64
         ensures { result ≡ file_size (file_of self.now) }
     {
@@ -36,35 +36,36 @@ impl FileBody {
 /// What a command asks for.
 #[derive(Drop)]
 pub enum Task {
-    /// The table of the name is loaded from the body, which is CSV.
+    /// Loads a table under this name from the body, which is CSV.
     Load { name: Name, body: Body },
-    /// The table of the name is loaded from a file, which is CSV.
+    /// Loads a table under this name from a file, which is CSV.
     LoadFile { name: Name, file: FileBody },
-    /// The live table of the name is dropped.
+    /// Drops the live table of this name.
     Drop { name: Name },
-    /// The table of the body, which is CSV, takes the place of the live table of the name.
+    /// Replaces the live table of this name by the table in the body, which is CSV.
     Replace { name: Name, body: Body },
-    /// The live tables are listed.
+    /// Lists the live tables.
     Tables,
-    /// The `k` columns with the greatest overlap with the lines of the body are searched for, `k` from 1 to 10,000.
+    /// Searches for the `k` columns with the greatest overlap with the lines of the body; `k` is 1 to 10,000.
     Search { k: u32, body: Body },
-    /// The `k` columns with the greatest overlap with the column at the place of the live table of the name are searched for, `k` from 1
-    /// to 10,000, and places from 1. That table is excepted.
+    /// Searches for the `k` columns with the greatest overlap with the column at this place of the live table of this
+    /// name, leaving out that table; `k` is 1 to 10,000, and places count from 1.
     Like { k: u32, name: Name, place: u32 },
-    /// The columns that hold at least `a` of `b` parts of the lines of the body are searched for, all of them; `a` is 1 to `b`, and `b` at
-    /// most 10,000.
+    /// Searches for all columns that hold at least `a` of `b` parts of the lines of the body; `a` is 1 to `b`, and `b`
+    /// is at most 10,000.
     Contain { a: u32, b: u32, body: Body },
-    /// The tables that were live after the first `asked` entries of the journal, which may be 0, are searched for the `k` columns with the
-    /// greatest overlap with the lines of the body, `k` from 1 to 10,000.
+    /// Searches the tables that were live after the first `asked` entries of the journal for the `k` columns with the
+    /// greatest overlap with the lines of the body; `asked` may be 0, and `k` is 1 to 10,000.
     AsOf { asked: u64, k: u32, body: Body },
-    /// Parts of the layout are merged: the first four adjacent ones of one tier, or else the first of which half or more of the tables are
-    /// dropped; or, where `all` says so, the whole layout.
+    /// Merges parts of the layout: the first four adjacent ones of one tier, or else the first part half or more of
+    /// whose tables were dropped or replaced; if `all` is set, the whole layout.
     Merge { all: bool },
 }
 
-/// A command of a script. A contract sees its number, its lane and its task. Commands are numbered from 1, in the order of the
-/// script, and lanes from 1. The `k` of a search is 1 to 10,000, and so is that of a like, whose place counts from 1; the fraction
-/// of a contain is above 0 and at most 1. A search of the past asks for at most 4,294,967,295 entries, and its `k` is 1 to 10,000.
+/// A command of a script. Its model has its number, its lane and its task. Commands are numbered from 1, in the order
+/// of the script, and lanes from 1. The `k` of a search is 1 to 10,000, and so is that of a like, whose place counts
+/// from 1; the fraction of a contain is above 0 and at most 1. A search of the past asks for at most 4,294,967,295
+/// entries, and its `k` is 1 to 10,000.
 #[derive(Drop)]
 pub struct Command {
     pub number: u64,
@@ -86,14 +87,14 @@ impl Model for Command {
 }
 
 impl Command {
-    /// The number of the command, counted from 1 in the order of the script.
+    /// Returns the number of the command, counted from 1 in the order of the script.
     pub fn number(&self) -> u64
         ensures { result ≡ self.now.number }
     {
         self.number
     }
 
-    /// The lane of the command, counted from 1.
+    /// Returns the lane of the command, counted from 1.
     pub fn lane(&self) -> u32
         ensures value { result ≡ self.now.lane }
         ensures low { 1 ≤ result }
@@ -101,7 +102,7 @@ impl Command {
         self.lane
     }
 
-    /// What the command asks for.
+    /// Returns what the command asks for.
     pub fn task(&self) -> &Task
         ensures value { task_of result.now ≡ self.now.task }
         ensures in_range { IsTaskInRange result.now }
@@ -109,7 +110,7 @@ impl Command {
         &self.task
     }
 
-    // Whether the command is a load, a drop or a replace.
+    // Returns whether the command is a load, a drop or a replace.
     fn is_update(&self) -> bool
         ensures { result ≡ is_update_task self.now.task }
     {
@@ -126,7 +127,7 @@ impl Command {
     }
 }
 
-/// The commands of a batch, in the order of the script. A contract sees their list.
+/// The commands of a batch, in the order of the script. Its model is the list of the commands.
 #[derive(Drop)]
 pub struct Batch {
     commands: Vec<Command>,
@@ -142,21 +143,21 @@ impl Model for Batch {
 }
 
 impl Batch {
-    /// These commands. It takes no memory.
+    /// Returns the batch of these commands. It takes no memory.
     pub fn new(commands: Vec<Command>) -> Batch
         ensures { result ≡ commands.items }
     {
         Batch { commands }
     }
 
-    /// The commands, in the order of the script.
+    /// Returns the commands, in the order of the script.
     pub fn commands(&self) -> &[Command]
         ensures { result.now ≡ self.now }
     {
         &self.commands
     }
 
-    /// How many of the commands are loads, drops and replaces.
+    /// Returns how many of the commands are loads, drops and replaces.
     pub fn updates(&self) -> u64
         ensures { result ≡ updates self.now }
     {

@@ -1,11 +1,12 @@
-//! What the words of a command line say of a run.
+//! The options of a run that its command line states.
 ghost use Rattle.std.specs.Prelude.{◌≡◌};
 ghost use Rattle.script_model.specs.Options.{plain};
 
 use lake_model::Keys;
 use std::marker::Model;
 
-/// A piece of an order: the lanes whose turn it is in a batch, one after another, where 0 is the merger. A contract sees the list.
+/// A piece of an order: the lanes that take turns in a batch, one after another, where 0 is the merger. Its model is
+/// the list of the lanes.
 #[derive(Drop)]
 pub struct Piece {
     lanes: Vec<u32>,
@@ -20,14 +21,14 @@ impl Model for Piece {
 }
 
 impl Piece {
-    /// The piece of these lanes. It takes no memory.
+    /// Returns the piece of these lanes. It takes no memory.
     pub fn new(lanes: Vec<u32>) -> Piece
         ensures { result ≡ lanes.items }
     {
         Piece { lanes }
     }
 
-    /// The lanes.
+    /// Returns the lanes.
     pub fn list(&self) -> &[u32]
         ensures { result.now ≡ self.now }
     {
@@ -35,7 +36,7 @@ impl Piece {
     }
 }
 
-/// A stated order: a piece for each batch. A contract sees the list of the pieces.
+/// A stated order: a piece for each batch. Its model is the list of the pieces.
 #[derive(Drop)]
 pub struct Order {
     pieces: Vec<Piece>,
@@ -50,14 +51,14 @@ impl Model for Order {
 }
 
 impl Order {
-    /// The order of these pieces. It takes no memory.
+    /// Returns the order of these pieces. It takes no memory.
     pub fn new(pieces: Vec<Piece>) -> Order
         ensures { result ≡ pieces.items }
     {
         Order { pieces }
     }
 
-    /// The pieces.
+    /// Returns the pieces.
     pub fn list(&self) -> &[Piece]
         ensures { result.now ≡ self.now }
     {
@@ -65,8 +66,8 @@ impl Order {
     }
 }
 
-/// What the words of a command line say of a run: how many lanes there are, in which order their steps are taken where one is stated,
-/// whether a merger runs beside them, whether replies are written with a trace, and by which match values are the same.
+/// What a command line states of a run: the number of lanes, the order of their steps if one is stated, whether a
+/// merger runs beside them, whether replies are written with a trace, and by which kind of keys values are compared.
 #[derive(Drop)]
 pub struct Options {
     pub lanes: u32,
@@ -85,8 +86,8 @@ impl Model for Options {
 }
 
 impl Options {
-    /// One lane, no stated order, no merger and no trace, and values that are the same by canonical caseless matching. It takes no
-    /// memory.
+    /// Returns the options of one lane, with no stated order, no merger and no trace, where values are compared by
+    /// canonical caseless matching. It takes no memory.
     pub fn plain() -> Options
         ensures { result ≡ plain }
     {

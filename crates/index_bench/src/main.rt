@@ -1,7 +1,7 @@
-//! How long the segment of one table takes to build, alone: `index_bench COLUMNS ROWS` prints a line with how many members the table
-//! has, and then a line with the nanoseconds that `segment_build::build` took for each. The table is always the same for a size
-//! ([`text`] makes it); its text, its fields and its sets are made before the first line, and the index between the two. Without a
-//! size it prints one line that says how it is called.
+//! Times the build of the segment of one table, alone. `index_bench COLUMNS ROWS` prints a line with the number of the
+//! table's members, and then a line with the nanoseconds that `segment_build::build` took for each member. The table is
+//! always the same for a size ([`text`] makes it). Its text, its fields and its sets are made before the first line,
+//! and the index between the two. Without a size the program prints one line with its usage.
 #![tactic(auto)]
 
 mod size;
@@ -20,10 +20,10 @@ use std::time::{Clock, Instant};
 /// How the program is called.
 const USAGE: &str = "usage: index_bench COLUMNS ROWS (1 to 1024 columns, 1 to 10000000 rows)";
 
-/// More members than a segment may have are not measured.
+/// The most members that a segment may have; a table with more is not measured.
 const MOST_MEMBERS: u64 = u32::MAX as u64;
 
-/// The size that the two arguments ask for, and `None` where they ask for none.
+/// Returns the size that the two arguments ask for, or `None` if they give none.
 fn size_asked<R: Env + AllocGlobal>(rt: &R) -> Result<Option<Size>> {
     let mut words = env::args(rt)?.skip(1);
     let (Some(columns), Some(rows), None) = (words.next(), words.next(), words.next()) else {
@@ -32,7 +32,7 @@ fn size_asked<R: Env + AllocGlobal>(rt: &R) -> Result<Option<Size>> {
     Ok(Size::read(&columns, &rows))
 }
 
-/// The table of this size, read as every table is.
+/// Returns the table of this size, read as every table is.
 fn table_of_size(alloc: Global, size: Size) -> Result<SharedTable> {
     let text = text::table_text(alloc, size)?;
     let Ok(raw) = read_table(alloc, text.as_bytes(), 1_024) else {
@@ -47,7 +47,7 @@ fn table_of_size(alloc: Global, size: Size) -> Result<SharedTable> {
     Ok(SharedTable::new(alloc, sets)?)
 }
 
-/// Builds the segment of the table alone, and tells how many nanoseconds that took.
+/// Builds the segment of the table alone, and returns how many nanoseconds that took.
 fn build_nanoseconds(rt: &impl Clock, alloc: Global, table: &SharedTable) -> Result<u128> {
     let _columns = table.table().columns();
     if table.table().members() > MOST_MEMBERS {
@@ -60,7 +60,7 @@ fn build_nanoseconds(rt: &impl Clock, alloc: Global, table: &SharedTable) -> Res
     Ok(start.elapsed(rt)?.as_nanos())
 }
 
-/// Makes the table of this size, tells its members, and measures the index.
+/// Makes the table of this size, prints the number of its members, and measures the build of the index.
 fn measure<R: Clock + Print + AllocGlobal>(rt: &R, size: Size) -> Result<()> {
     let table = table_of_size(rt.alloc(), size)?;
     let members = table.table().members();

@@ -1,13 +1,13 @@
 //! The size of a table, as it is asked for.
 ghost use Rattle.std.specs.Prelude.{◌≤◌, IfSome};
 
-/// How many columns the table has at most.
+/// The most columns that the table may have.
 const MOST_COLUMNS: u32 = 1024;
 
-/// How many rows the table has at most.
+/// The most rows that the table may have.
 const MOST_ROWS: u32 = 10_000_000;
 
-/// How many columns a table has, 1 to 1,024, and how many rows below its header, 1 to 10,000,000.
+/// The number of columns of a table, 1 to 1,024, and of its rows below the header, 1 to 10,000,000.
 #[derive(Clone, Copy)]
 pub struct Size {
     pub columns: u32,
@@ -15,7 +15,7 @@ pub struct Size {
 }
 
 impl Size {
-    /// The size that two words ask for, and `None` where they are no numbers in range.
+    /// Reads the size from two words. The result is `None` if they are not numbers in range.
     pub fn read(columns: &str, rows: &str) -> Option<Size>
         ensures some_columns { IfSome result (λ size. 1 ≤ size.columns) }
         ensures few_columns { IfSome result (λ size. size.columns ≤ 1024) }
@@ -29,7 +29,7 @@ impl Size {
     }
 }
 
-// The number that the word is, from 1 to the most.
+// Reads the number in a word, from 1 to `most`.
 fn number_to(word: &str, most: u32) -> Option<u32>
     ensures low { IfSome result (λ number. 1 ≤ number) }
     ensures high { IfSome result (λ number. number ≤ most) }

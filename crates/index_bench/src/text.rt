@@ -1,13 +1,13 @@
-//! The text of a table of a size: CSV with numbers as its values. The value of a row in a column is `row * 7 + column * 13` modulo
-//! [`modulus`]. The values of a column differ from each other, and most columns share values with others, as the modulus is about
-//! twice the number of rows: with ten columns a value stands in five of them.
+//! The text of a table of a given size: CSV with numbers as its values. The value of a row in a column is `row * 7 +
+//! column * 13` modulo [`modulus`]. The values of a column are distinct, and most columns share values with others,
+//! since the modulus is about twice the number of rows: with ten columns a value is in five of them.
 ghost use Rattle.std.specs.Prelude.{◌<◌};
 
 use crate::size::Size;
 use std::alloc::{AllocError, Global};
 use std::fmt::Write;
 
-/// The CSV text of the table of this size, with its header.
+/// Returns the CSV text of the table of this size, with its header.
 pub fn table_text(alloc: Global, size: Size) -> Result<String, AllocError> {
     let mut text = String::new(alloc);
     push_header(&mut text, size)?;
@@ -17,19 +17,19 @@ pub fn table_text(alloc: Global, size: Size) -> Result<String, AllocError> {
     Ok(text)
 }
 
-// The number of the values of which the columns take theirs. It is above the number of rows, and not divisible by 7.
+// Returns how many values the columns choose from. It is greater than the number of rows, and not divisible by 7.
 fn modulus(rows: u32) -> u64
     ensures { rows < result }
 {
     rows as u64 / 7 * 14 + 15
 }
 
-// The value of a row in a column.
+// Returns the value of a row in a column.
 fn value_at(size: Size, row: u32, column: u32) -> u64 {
     (row as u64 * 7 + column as u64 * 13) % modulus(size.rows)
 }
 
-// Adds the header's line: each column has its number as its name.
+// Adds the line of the header: the name of each column is its number.
 fn push_header(text: &mut String, size: Size) -> Result<(), AllocError> {
     for column in 0..size.columns {
         push_comma(text, column)?;
@@ -48,7 +48,7 @@ fn push_row(text: &mut String, size: Size, row: u32) -> Result<(), AllocError> {
     text.push('\n')
 }
 
-// Adds the comma in front of the field of a column, which the first has not.
+// Adds the comma before the field of a column; the first column has none.
 fn push_comma(text: &mut String, column: u32) -> Result<(), AllocError> {
     if column == 0 {
         return Ok(());

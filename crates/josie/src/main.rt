@@ -1,4 +1,5 @@
-//! The program: it reads a script from standard input, writes the replies to standard output, and ends with the status of the run.
+//! The program: it reads a script from standard input, writes the replies to standard output, and ends with the status
+//! of the run.
 #![tactic(auto)]
 
 use josie_top::{GivenWhy, Reason, RunRecord, Status, run};
@@ -65,7 +66,7 @@ See README.md, docs/FORMATS.md and the manual page docs/josie.1.";
 /// What `--version` alone prints.
 const VERSION: &str = "josie 0.1.0";
 
-/// The words behind the program's name. A word that is not UTF-8 puts the command line at fault.
+/// Returns the words after the program's name. A word that is not UTF-8 puts the command line at fault.
 fn words_of<R: Env + AllocGlobal>(rt: &R) -> Result<Vec<String>, Status> {
     let mut words = Vec::new(rt.alloc());
     match env::args(rt) {
@@ -84,7 +85,7 @@ fn words_of<R: Env + AllocGlobal>(rt: &R) -> Result<Vec<String>, Status> {
     }
 }
 
-/// The exit code of a status.
+/// Returns the exit code of a status.
 fn code(status: Status) -> u8 {
     match status {
         Status::Done => 0,
@@ -98,7 +99,7 @@ fn code(status: Status) -> u8 {
     }
 }
 
-/// What is wrong with a line, in words.
+/// Returns what is wrong with a line, in words.
 fn reason_text(reason: Reason) -> &'static str {
     match reason {
         Reason::LineTooLong => "line too long",
@@ -126,7 +127,8 @@ fn explain_given<R: Eprint>(rt: &R, path: u32, why: GivenWhy) -> io::Result<()> 
     }
 }
 
-/// Prints one line on standard error where the status is not 0. Where it can't be printed, the exit code still tells.
+/// Prints one line on standard error if the status is not `Done`. If the line can't be printed, the exit code still
+/// shows the status.
 fn explain<R: Eprint>(rt: &R, status: Status) {
     let _printed = match status {
         Status::Done => Ok(()),
@@ -143,7 +145,7 @@ fn explain<R: Eprint>(rt: &R, status: Status) {
     };
 }
 
-/// The text that `--help` or `--version`, alone, asks for.
+/// Returns the text that `--help` or `--version`, as the only word, asks for.
 fn about(words: &[String]) -> Option<&'static str> {
     if words.len() != 1 {
         return None;

@@ -54,7 +54,7 @@ reading_more options first second third before after batches found batch is read
   goes = goes_on options before after reading.goes limits_are lanes_are within;
 }
 
--- the script ended with these batches
+-- the script ended, and these are its batches
 read_whole : (options : Options) (first second third : World) (before after : Gathering) (batches later : List Batch) (given : List ℕ) (asked : List Text) (outcomes : List File)
     → IsReading options first second before batches → Consumes second.left third.left given → AreFetched second.files second.fetch_faults third.fetch_faults asked outcomes
     → IsWhole before after third.left given asked outcomes later → IsReadWhole options first third (batches ++ later)
@@ -68,7 +68,7 @@ read_whole options first second third before after batches later given asked out
   script = script_whole options first second third.left before after batches later given asked outcomes reading.been reading.goes whole;
 }
 
--- behind a last batch
+-- after a last batch
 pub whole_with : (options : Options) (first second third : World) (before after : Gathering) (batches : List Batch) (found : Option Batch) (batch : Batch) → found ≡ Some batch → IsReading options first second before batches
     → (took : Taken (Ok found) second.left third.left second.files second.fetch_faults third.fetch_faults) → Gathers (Ok found) before after third.left took.given took.asked took.outcomes
     → after.ended ≡ true → IsReadWhole options first third (batches ++ batch ∷ [])
@@ -76,7 +76,7 @@ whole_with options first second third before after batches found batch is readin
     read_whole options first second third before after batches (batch ∷ []) took.given took.asked took.outcomes reading took.gave took.fetched
     (not_synced before after third.left took.given took.asked took.outcomes batch over (subst (λ (f : Option Batch). Gathers (Ok f) before after third.left took.given took.asked took.outcomes) is gathers))
 
--- behind a `sync`, or without a command
+-- after a `sync`, or without a command
 pub whole_without : (options : Options) (first second third : World) (before after : Gathering) (batches : List Batch) (found : Option Batch) → found ≡ None → IsReading options first second before batches
     → (took : Taken (Ok found) second.left third.left second.files second.fetch_faults third.fetch_faults) → Gathers (Ok found) before after third.left took.given took.asked took.outcomes
     → IsReadWhole options first third batches
@@ -85,7 +85,7 @@ whole_without options first second third before after batches found is reading t
     (read_whole options first second third before after batches [] took.given took.asked took.outcomes reading took.gave took.fetched
     (subst (λ (f : Option Batch). Gathers (Ok f) before after third.left took.given took.asked took.outcomes) is gathers))
 
--- the gatherer gave no batch, as the script is at fault, the source failed, or memory ran out
+-- the gatherer gave no batch, because the script is at fault, the source failed, or memory ran out
 pub stopped_by : (options : Options) (first second third : World) (before after : Gathering) (batches : List Batch) (why : ScriptEnd) → IsReading options first second before batches
     → (took : Taken (Err why) second.left third.left second.files second.fetch_faults third.fetch_faults) → Gathers (Err why) before after third.left took.given took.asked took.outcomes
     → IsStoppedAt options (status_of_end why) first third
@@ -119,7 +119,7 @@ stopped_by options first second third before after batches end.NoMemory reading 
   row = tt;
 }
 
--- memory ran out behind a batch
+-- memory ran out after a batch
 pub stopped_behind : (options : Options) (first second third : World) (before : Gathering) (batches : List Batch) (more : List ℕ) → IsReading options first second before batches
     → Consumes second.left third.left more → IsStoppedAt options status.NoMemory first third
 stopped_behind options first second third before batches more reading gave = record {
@@ -187,13 +187,13 @@ unjudged_whole options before now batches whole = record { given = whole.given; 
 
 -- ---- the trace
 
--- a file came
+-- a file was fetched
 pub file_came : (path : Text) (before : World) (files : Option (List shelf.File)) (faults : ℕ) (file : File) → files ≡ before.files → CameOf before.files before.fetch_faults faults path file
     → AreGiven (path ∷ []) before (record before { files = files; fetch_faults = faults }) (file ∷ [])
 file_came path before files faults file same came =
     record { fetched = (faults, came, refl); same = ap (λ (f : Option (List shelf.File)). record before { files = f; fetch_faults = faults }) same }
 
--- and it held the trace
+-- the file held the trace
 pub checked_by : (path : Text) (options : Options) (trace : Text) (result : Status) (before begun now : World) (made : RunRecord) → AreGiven (path ∷ []) before begun (Bytes trace ∷ [])
     → IsChecked (standard_rules options.keys) options trace result begun now → made ≡ empty plain → Checks path options result before now made
 checked_by path options trace result before begun now made came checked none = by result checked
@@ -213,7 +213,7 @@ checked_by path options trace result before begun now made came checked none = b
 
 -- ---- completeness
 
--- a file that failed was counted, and else it is missing or too long
+-- a file that failed was counted; otherwise it is missing or too long
 fault_ends : (path : Text) (number : ℕ) (why : GivenWhy) (before now : World) (file : File) → AreGiven (path ∷ []) before now (file ∷ []) → trace_fault file ≡ Some why
     → (Rose before.fetch_faults now.fetch_faults → ⊥) → EndsInVerdict (status.Given number why)
 fault_ends path number why before now (Bytes bytes) came is still = cc is
@@ -223,7 +223,8 @@ fault_ends path number why before now Failed came is still =
 fault_ends path number why before now Missing came is still = subst (λ (w : GivenWhy). EndsInVerdict (status.Given number w)) (let same : given.Missing ≡ why = cc is in same) tt
 fault_ends path number why before now TooLong came is still = subst (λ (w : GivenWhy). EndsInVerdict (status.Given number w)) (let same : given.TooLong ≡ why = cc is in same) tt
 
--- without a fault it ends with a verdict, for the script or the trace's file, or memory runs out
+-- without a fault the run ends with a verdict, with a fault of the script or of the trace's file, or because memory
+-- runs out
 pub check_ends_well : (path : Text) (options : Options) (result : Status) (before now : World) (made : RunRecord) → Checks path options result before now made → Moves ⊥ result before now
     → (Rose before.read_faults now.read_faults → ⊥) → (Rose before.write_faults now.write_faults → ⊥) → (Rose before.fetch_faults now.fetch_faults → ⊥) → EndsInVerdict result
 check_ends_well path options status.Done before now made met moves reads writes fetches = tt

@@ -90,7 +90,7 @@ one_taken told before mid now k paths path watched after taken one = record {
       ∙ ap (watches_with []) (sym (map-append (λ (keys : List Text). watch_with keys k) taken.queries (one.keys ∷ [])));
 }
 
--- the next of some paths, behind those before it
+-- the next path, after those before it
 pub paths_more : (paths : List (String Global)) (n : ℕ) (path : String Global) (text : Text) → path ≡ get_or paths n path → text ≡ string_bytes path → n < length paths
     → (take n (map string_bytes paths) ++ text ∷ [] ≡ take (n + 1) (map string_bytes paths)) × (length (take n (map string_bytes paths)) ≡ n)
 paths_more paths n path text at is within =
@@ -143,7 +143,7 @@ unfolding given_read
 bytes_refused bytes refused why (inl memory) other said = absurd (other memory)
 bytes_refused bytes refused why (inr fault) other said = ap (keys_given bytes) fault ∙ said
 
--- a file that came is not at fault for its reading
+-- a file that was fetched is not at fault for its reading
 bytes_came : (bytes : List ℕ) → given_read (Bytes bytes) ≡ NotGiven given.Failed → ⊥
 unfolding given_read
 bytes_came bytes = by (query_fault Canonical bytes)
@@ -174,7 +174,7 @@ fetched_size told before now [] (file ∷ files) fetched = absurd fetched
 fetched_size told before now (path ∷ paths) [] fetched = absurd fetched
 fetched_size told before now (path ∷ paths) (file ∷ files) (between, came, rest) = let same = fetched_size told between now paths files rest in omega (arith, same)
 
--- nothing was fetched behind it
+-- nothing was fetched after it
 fetched_none : (told : Option (List shelf.File)) (before now : ℕ) (paths : List Text) (files : List File) → AreFetched told before now paths files → length files ≡ 0 → now ≡ before
 fetched_none told before now [] [] fetched none = fetched
 fetched_none told before now [] (file ∷ files) fetched none = absurd fetched
@@ -182,7 +182,7 @@ fetched_none told before now (path ∷ paths) [] fetched none = absurd fetched
 fetched_none told before now (path ∷ paths) (file ∷ files) fetched none = absurd (omega (arith, none))
 
 module _ (told : Option (List shelf.File)) (path now : ℕ) where
-  -- where the first fault is that of a file that could not be read, a fault was counted
+  -- if the first fault is that of a file that could not be read, a fault was counted
   pub failed_rose : (n before : ℕ) (paths : List Text) (files : List File) → AreFetched told before now paths files → queries_from n files ≡ FaultIn path given.Failed → n + length files ≡ path + 1 → Rose before now
   unfolding queries_from given_read
   failed_rose n before [] [] fetched e many = cc e

@@ -17,7 +17,7 @@ use Rattle.list_laws.proofs.ListLemmas.{all_append}
 use Rattle.lake_desk.specs.Together.{IsOneBatchMore}
 use Rattle.josie_top.specs.Progress.{AddsAnswers, HasOneMore}
 
--- ---- a batch that is right stays right where the journal goes on
+-- ---- a right batch stays right when the journal grows
 
 between_stays : (from to : ℕ) (journal behind : List Entry) → from ≤ to → to ≤ length journal → between from to (journal ++ behind) ≡ between from to journal
 between_stays from to journal behind up within =
@@ -46,7 +46,7 @@ synced_within rules lanes merge next journal from (batch ∷ batches) (sync ∷ 
 answers_size : (rules : Rules) (lanes : ℕ) (journal : List Entry) (from to : ℕ) (commands : List Command) (answers : List Answered) → IsBatchRight rules lanes journal from to commands answers → length answers ≡ length commands
 answers_size rules lanes journal from to commands answers right = sym (length-map answers (λ (a : Answered). a.who)) ∙ ap (λ (ws : List Who). length ws) right.answered ∙ length-map commands who_of
 
--- as many are there as are taken
+-- there are as many elements as are taken
 taken_size : {X : Type 0} (n : ℕ) (xs : List X) → length (take n xs) ≡ n → n ≤ length xs
 taken_size zero xs e = omega arith
 taken_size (suc n) [] e = absurd (omega (arith, e))

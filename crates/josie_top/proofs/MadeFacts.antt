@@ -1,4 +1,4 @@
--- The record of batches that were played one behind another.
+-- The record of batches that were played one after another.
 use Rattle.std.specs.List.{AllByRecursion}
 use Rattle.std.proofs.Common.{◌≡◌, refl, ap, sym, ◌∙◌, subst, ℕ, suc, ◌+◌, List, [], ◌∷◌, ◌++◌, Bool, true, false, length, map, take, drop, get_or, sum_by, arith, length-append}
 use Rattle.std.specs.Prelude.{if◌then◌else◌, Option}
@@ -78,7 +78,7 @@ made_more rules options batches before now batch merges piece turns stated is af
           ∙ sym (batches_go_on rules options.lanes options.merge 1 batches batch (pieces_of options.order) so_far.denials turns (empty options) so_far.size);
     })
 
--- One batch more was played in the stated order, whatever came before.
+-- One more batch was played in the stated order, whatever was played before.
 pub ordered_more : (rules : Rules) (lanes number : ℕ) (merger : Option ℕ) (batch : Batch) (piece : List ℕ) (before now : RunRecord) → IsStated before.options → IsOfLanes before.options.lanes batch
     → lanes ≡ before.options.lanes → piece ≡ get_or (pieces_of before.options.order) number []
     → (turns : List Bool) × (now ≡ batch_after rules lanes batch (merges_of merger batch) piece turns before) → HasOneMore rules number merger batch before now

@@ -25,7 +25,7 @@ one_batch : (rules : Rules) (batch : Batch) (turns : List Bool) → played rules
 unfolding played_from
 one_batch rules batch turns = refl
 
--- What the batch makes of an empty record is the record of the lake, with its options and its end.
+-- Playing the batch on an empty record gives the record of the lake, with its options and its end.
 pub lake_made : (rules : Rules) (seed tables rows : ℕ) (batch : Batch) (turns : List Bool) (made now : RunRecord) → batch ≡ made_batch seed tables rows → IsOfLanes 1 batch
     → made ≡ batch_after rules 1 batch [] [] turns (empty plain) → now ≡ with_end true (record made { options = made_options }) → IsLakeMade rules seed tables rows now
 lake_made rules seed tables rows batch turns made now batch_is lanes is closed =

@@ -1,4 +1,4 @@
--- What was read call by call was read in one.
+-- What was read call by call is the same as what one call reads.
 use Rattle.std.proofs.Common.{◌≡◌, refl, ap, sym, ◌∙◌, ℕ, suc, ◌≤◌, List, [], ◌∷◌, ◌++◌, append_assoc, length, flat_map}
 use Rattle.std.specs.Prelude.{Option}
 use Rattle.std.proofs.lemmas.List.{append-nil}
@@ -16,7 +16,7 @@ use Rattle.list_laws.proofs.ListLemmas.{all_append}
 use Rattle.script_text.specs.Outcomes.{AreFetched, AreFetchedSoFar}
 use Rattle.script_text.specs.Gathering.{ReadsOn, reading_at}
 
--- ---- lines behind lines
+-- ---- lines after lines
 
 -- these batches and paths came before
 abbrev read_before : List Batch → List Text → LinesRead → LinesRead
@@ -48,7 +48,7 @@ reads_more from before mid after bytes more held left outcomes others made later
       ∙ ap (read_before made asked) (second.reads to_come);
 }
 
--- ---- what comes behind whole lines
+-- ---- what follows whole lines
 
 abbrev pub given_before : List Batch → List Text → Commands → Commands
 given_before batches asked made = commands_with (batches ++ made.batches) made.end (asked ++ made.asked)
@@ -71,6 +71,6 @@ outcomes_size files first second [] (outcome ∷ outcomes) h = absurd h
 outcomes_size files first second (path ∷ asked) [] h = absurd h
 outcomes_size files first second (path ∷ asked) (outcome ∷ outcomes) (between, came, others) = ap (λ (n : ℕ). suc n) (outcomes_size files between second asked outcomes others)
 
--- fetches behind which the count rose no further, or for want of memory
+-- fetches after which the count rose no further, or memory ran out
 pub fetched_so_far : (files : Option (List shelf.File)) (first second third : ℕ) (asked : List Text) (outcomes : List File) → AreFetched files first second asked outcomes → second ≤ third → AreFetchedSoFar files first third asked outcomes
 fetched_so_far files first second third asked outcomes h k = record { between = second; fetched = h; later = k }

@@ -41,7 +41,7 @@ grammar_is options gathering goes = ap (λ (l : ScriptLimits). grammar_of l gath
 used_within : (options : Options) (gathering : Gathering) → IsGoingOn options gathering → gathering.reading.used ≤ (grammar_of standard options.lanes).input
 used_within options gathering goes = subst (λ (l : ScriptLimits). gathering.reading.used ≤ l.input) goes.limits_are goes.within
 
--- The whole script: the batches that were read, and what the rest gives.
+-- The whole script: the batches that were read, and what the rest of the bytes gives.
 pub script_front : (options : Options) (before now : World) (left : Option (List ℕ)) (gathering : Gathering) (batches : List Batch)
     → (been : AreRead options before now gathering batches) → IsGoingOn options gathering → (more : List ℕ) (later : List File)
     → script_of options (been.outcomes ++ later) (been.given ++ more) left ≡ given_before batches been.asked (commands_from (grammar_of standard options.lanes) (reading_at gathering.reading [] later) ((gathering.held ++ more) ++ left_of left))
@@ -64,7 +64,7 @@ front_fetches : (script rest : Commands) (batches : List Batch) (asked : List Te
 front_fetches script rest batches asked outcomes is size few =
     subst (λ (b : List Batch). sum_by fetches b ≤ length outcomes) (sym (front_batches script rest batches asked is)) (subst (λ (n : ℕ). sum_by fetches batches ≤ n) (sym size) few)
 
--- a run that ends behind some batches, whose source may have more
+-- a run that ends after some batches, whose source may have more
 pub cut : (rules : Rules) (options : Options) (outcomes : List File) (came : List Text → Type 0) (script rest : Commands) (left : Option (List ℕ)) (taken : List ℕ) (made : RunRecord) (batches : List Batch) (asked : List Text)
     → script ≡ given_before batches asked rest → length outcomes ≡ length asked → sum_by fetches batches ≤ length asked → came asked → IsRecordOf rules options batches made → made.ended ≡ false
     → IsPrefix taken (text made) → IsPrefix (answers_text options.trace (take (answer_count options.merge (take (length batches - 1) script.batches)) made.answers)) taken
@@ -87,7 +87,7 @@ fetched_on before mid now asked paths outcomes others moved first second =
     fetched_join before.files before.fetch_faults mid.fetch_faults now.fetch_faults asked paths outcomes others first
     (subst (λ (files : Option (List shelf.File)). AreFetched files mid.fetch_faults now.fetch_faults paths others) moved.files second)
 
--- a run that ends between two batches, all whose text is written
+-- a run that ends between two batches, all of whose text is written
 pub meets_between : (rules : Rules) (options : Options) (before mid now : World) (gathering : Gathering) (batches : List Batch) (made : RunRecord) (more : List ℕ)
     → (been : AreRead options before mid gathering batches) → IsGoingOn options gathering → IsMade rules options batches made → (writ : AreWritten options before mid made)
     → Consumes mid.left now.left more → mid.fetch_faults ≤ now.fetch_faults → now.written ≡ mid.written → Meets rules options status.NoMemory before now made
@@ -112,7 +112,7 @@ meets_between rules options before mid now gathering batches made more been goes
       late = tt;
     }
 
--- ---- a batch that was answered, and whose text was written in part
+-- ---- a batch that was answered, and whose text was written only in part
 
 -- the text of one batch more
 batch_text : (options : Options) (before now : RunRecord) (new : List Answered) → now.options ≡ options → now.answers ≡ before.answers ++ new → now.ended ≡ false
@@ -131,7 +131,7 @@ first_answers options script rest batches batch asked before now new is count ar
     ∙ ap (λ (b : List Batch). take (answer_count options.merge b) now.answers) there
     ∙ ap (λ (n : ℕ). take n now.answers) (sym count) ∙ ap (take (length before.answers)) are ∙ take-append_seam before.answers new
 
--- The run ended while a batch's text was written.
+-- The run ended while the text of a batch was being written.
 pub cut_within : (rules : Rules) (options : Options) (outcomes : List File) (came : List Text → Type 0) (script rest : Commands) (left : Option (List ℕ)) (before now : RunRecord) (new : List Answered) (batches : List Batch) (batch : Batch) (asked : List Text) (taken part : List ℕ)
     → script ≡ given_before (batches ++ batch ∷ []) asked rest → length outcomes ≡ length asked → sum_by fetches (batches ++ batch ∷ []) ≤ length asked → came asked
     → IsMade rules options batches before → IsMade rules options (batches ++ batch ∷ []) now → now.answers ≡ before.answers ++ new
@@ -165,7 +165,7 @@ script_whole options first second left before now batches later more paths other
     end_of None bytes h = append-nil bytes
     end_of (Some more) bytes h = ap (λ (m : List ℕ). bytes ++ m) h ∙ append-nil bytes
 
--- such a script as batches and then nothing
+-- such a script as its batches and then nothing
 pub whole_front : (script : Commands) (batches : List Batch) (asked : List Text) → script ≡ commands_with batches Whole asked → script ≡ given_before batches asked (commands_with [] Whole [])
 whole_front script batches asked is =
     is ∙ ap (λ (b : List Batch). commands_with b Whole asked) (sym (append-nil batches)) ∙ ap (λ (a : List Text). commands_with (batches ++ []) Whole a) (sym (append-nil asked))
@@ -183,7 +183,7 @@ done rules options came script left batches asked made taken is fetched at_end i
   written = ap (λ (t : List ℕ). t ++ text_behind options.trace (length made.answers) (with_end true made)) taken_is ∙ sym (text_ended options made is_made.options_are);
 }
 
--- All batches were answered, and their text was written, but of the journal's only a part.
+-- All batches were answered and their text was written, but the text of the journal only in part.
 pub cut_at_end : (rules : Rules) (options : Options) (outcomes : List File) (came : List Text → Type 0) (script : Commands) (left : Option (List ℕ)) (batches : List Batch) (asked : List Text) (made : RunRecord) (taken part : List ℕ)
     → script ≡ commands_with batches Whole asked → length outcomes ≡ length asked → sum_by fetches batches ≤ length asked → came asked → IsAtEnd left → IsMade rules options batches made
     → taken ≡ answers_text options.trace made.answers → IsPrefix part (text_behind options.trace (length made.answers) (with_end true made))
@@ -232,7 +232,7 @@ refused rules options before mid now gathering batches made taken more paths oth
       written = taken_is ∙ sym (text_unended options made is.options_are not_ended);
     }
 
--- what was begun, where these lines came whole
+-- the script so far, if these lines were read in full
 begun_is : (options : Options) (outcomes : List File) (given held : List ℕ) (batches : List Batch) (after : Reading) (asked : List Text)
     → ReadsOn (grammar_of standard options.lanes) (start []) given outcomes batches after held asked → NoFeed held → (later : List File) → begun options (outcomes ++ later) given ≡ read_with batches (Stands (reading_at after asked later))
 begun_is options outcomes given held batches after asked lines_read no_feed later =
@@ -242,7 +242,7 @@ begun_is options outcomes given held batches after asked lines_read no_feed late
     ap (λ (ls : Lines). ls.ended) (lines ∙ whole) ∙ ap (λ (ls : Lines). lines_read.lines ++ ls.ended) (lines_none held no_feed) ∙ append-nil lines_read.lines in
     ap (read (grammar_of standard options.lanes) (read_with [] (Stands (start (outcomes ++ later))))) ends ∙ lines_read.reads later
 
--- what was begun, where the source failed
+-- the script so far, if the source failed
 pub begun_unfinished : (options : Options) (before mid : World) (gathering : Gathering) (batches : List Batch) (more : List ℕ) (paths : List Text) (others : List File)
     → (been : AreRead options before mid gathering batches) → IsGoingOn options gathering → (unfinished : IsUnfinished gathering more paths others)
     → begun options (been.outcomes ++ others) (been.given ++ more) ≡ read_with (batches ++ []) (Stands (reading_at unfinished.reading (been.asked ++ paths) []))
@@ -253,7 +253,7 @@ begun_unfinished options before mid gathering batches more paths others been goe
     ap (λ (o : List File). begun options o (been.given ++ more)) (sym (append-nil (been.outcomes ++ others)))
     ∙ begun_is options (been.outcomes ++ others) (been.given ++ more) unfinished.held (batches ++ []) unfinished.reading (been.asked ++ paths) all unfinished.rest []
 
--- The source failed behind these batches.
+-- The source failed after these batches.
 pub broken_off : (rules : Rules) (options : Options) (before mid now : World) (gathering : Gathering) (batches : List Batch) (made : RunRecord) (taken more : List ℕ) (paths : List Text) (others : List File)
     → HasMoved before mid → (been : AreRead options before mid gathering batches) → IsGoingOn options gathering → IsMade rules options batches made → taken ≡ answers_text options.trace made.answers
     → AreFetched mid.files mid.fetch_faults now.fetch_faults paths others → IsUnfinished gathering more paths others
@@ -311,7 +311,7 @@ late_start options = record {
   fewer = omega arith;
 }
 
--- A batch more was gathered, and the source read late for it.
+-- One more batch was gathered, and the source was read late for it.
 pub late_more : (options : Options) (before now : World) (gathering : Gathering) (batches : List Batch) (Idle : Type 0) (more : List ℕ) (others : List File)
     → (been : AreRead options before now gathering batches) → IsGoingOn options gathering → IsLateSoFar options been.given been.outcomes (length batches - 1) → ReadsLate Idle gathering more others
     → IsLateSoFar options (been.given ++ more) (been.outcomes ++ others) (length batches)
@@ -352,7 +352,7 @@ late_more options before now gathering batches Idle more others been goes late (
       fewer = omega (arith, length-append batches []);
     }
 
--- The source was read late, where more batches were answered.
+-- The source was read late if more batches were answered.
 pub late_within : (options : Options) (given : List ℕ) (outcomes : List File) (most : ℕ) (made : RunRecord) → IsLateSoFar options given outcomes most → most < length made.syncs → IsReadLate options given outcomes made
 late_within options given outcomes most made late more =
     let begun_here : begun options outcomes late.first ≡ read_with late.batches (Stands (reading_at late.reading late.asked late.later)) =

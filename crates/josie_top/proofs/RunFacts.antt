@@ -64,7 +64,7 @@ moved_on first second = record {
 pub sink_moved : (written : Option (List ℕ)) (faults : ℕ) (world : World) → world.write_faults ≤ faults → HasMoved world (with_sink written faults world)
 sink_moved written faults world later = record { files = refl; reads = omega arith; writes = later; fetches = omega arith }
 
--- Causes that came later.
+-- Causes that arose later.
 pub moves_since : {refused : Type 0} {before mid now : World} (result : Status) → HasMoved before mid → Moves refused result mid now → Moves refused result before now
 moves_since result moved since = record {
   moved = moved_on moved since.moved;
@@ -78,12 +78,12 @@ pub moves_freely : {refused : Type 0} {before now : World} (result : Status) →
     → Moves refused result before now
 moves_freely result moved usage read wrote = record { moved = moved; usage = λ is. absurd (usage is); read_fault = λ is. absurd (read is); write_fault = λ is. absurd (wrote is) }
 
--- Running out of memory has no other cause.
+-- Running out of memory needs no other cause.
 pub memory_moves : {refused : Type 0} {before now : World} → HasMoved before now → Moves refused status.NoMemory before now
 memory_moves moved = moves_freely status.NoMemory moved
     (λ no. let e : status.NoMemory ≡ status.Usage = no in cc) (λ no. let e : status.NoMemory ≡ status.ReadFault = no in cc) (λ no. let e : status.NoMemory ≡ status.WriteFault = no in cc)
 
--- Nor has a run that ends well.
+-- Nor does a run that ends well.
 pub done_moves : {refused : Type 0} {before now : World} → HasMoved before now → Moves refused status.Done before now
 done_moves moved = moves_freely status.Done moved
     (λ no. let e : status.Done ≡ status.Usage = no in cc) (λ no. let e : status.Done ≡ status.ReadFault = no in cc) (λ no. let e : status.Done ≡ status.WriteFault = no in cc)
@@ -114,7 +114,7 @@ whole_fetches : (options : Options) (outcomes : List File) (given : List ℕ) (l
 whole_fetches options outcomes given left batches asked is =
     subst (λ (script : Commands). sum_by fetches script.batches ≤ length script.asked) is (script_fetches standard options.lanes (given ++ left_of left) outcomes)
 
--- All batches were answered and written, and the rest of the text as this status has it.
+-- All batches were answered and written, and the rest of the text as this status says.
 finished : (rules : Rules) (options : Options) (ends : Status) (before mid : World) (written : Option (List ℕ)) (faults : ℕ) (given : List ℕ) (outcomes : List File) (asked : List Text) (batches : List Batch) (made now : RunRecord)
     → Consumes before.left mid.left given → IsAtEnd mid.left → AreFetched before.files before.fetch_faults mid.fetch_faults asked outcomes → script_of options outcomes given mid.left ≡ commands_with batches Whole asked
     → IsMade rules options batches made → (writ : AreWritten options before mid made) → now ≡ with_end true made → IsWritten ends mid.written written (text_behind options.trace (length made.answers) (with_end true made))
@@ -158,7 +158,7 @@ finished rules options status.ReadFault before mid written faults given outcomes
 finished rules options status.Refuted before mid written faults given outcomes asked batches made now gave at_end fetched script is writ closed none = absurd none
 finished rules options (status.Script line why) before mid written faults given outcomes asked batches made now gave at_end fetched script is writ closed none = absurd none
 
--- what was written before stands, where nothing was written since
+-- what was written before is unchanged if nothing was written since
 still_written : (options : Options) (before mid now : World) (made : RunRecord) → now.written ≡ mid.written → AreWritten options before mid made → AreWritten options before now made
 still_written options before mid now made unwritten writ = record {
   taken = writ.taken;
@@ -166,7 +166,7 @@ still_written options before mid now made unwritten writ = record {
   text_is = writ.text_is;
 }
 
--- The input ended behind a `sync`, or behind no command.
+-- The input ended after a `sync`, or without a further command.
 pub ends_without : {number next : ℕ} {found : Option Batch} (rules : Rules) (options : Options) (ends : Status) (first second third : World) (written : Option (List ℕ)) (faults : ℕ) (before after : Gathering) (made now : RunRecord)
     → IsUnderWay rules options first second before made number next → (took : Taken (Ok found) second.left third.left second.files second.fetch_faults third.fetch_faults) → third.written ≡ second.written
     → IsWhole before after third.left took.given took.asked took.outcomes [] → now ≡ with_end true made → IsWritten ends third.written written (text_behind options.trace (length made.answers) (with_end true made))
@@ -181,7 +181,7 @@ ends_without rules options ends first second third written faults before after m
 
 -- ---- one batch more
 
--- the merger's commands in a batch, where these are its numbers
+-- the merger's commands in a batch, if these are its numbers
 pub merger_made : (merge : Bool) (merger : Option ℕ) (next : ℕ) (batch : Batch) → merger ≡ (if merge then Some next else None) → merges_of merger batch ≡ merger_commands merge next batch
 merger_made true merger next batch is = ap (λ (m : Option ℕ). merges_of m batch) is
 merger_made false merger next batch is = ap (λ (m : Option ℕ). merges_of m batch) is
@@ -233,7 +233,7 @@ counted_more batches batch used0 used number next counted grows =
       few = omega (arith, counted.few, grows, more, few_updates batch);
     }
 
--- the merger's numbers in a batch: each stands for a byte that was read
+-- the merger's numbers in a batch are in range: there is at most one for each byte that was read
 pub next_fits : (batches : List Batch) (batch : Batch) (used0 used number next : ℕ) (limits : ScriptLimits) → AreCounted batches used0 number next → used0 + length batch ≤ used → used ≤ limits.input → limits ≡ standard
     → next + updates batch < 2 ^ 64
 next_fits batches batch used0 used number next limits counted grows within is =
@@ -286,7 +286,7 @@ ends_with rules options ends first second third written last faults later before
 
 -- ---- ends within a batch
 
--- what the whole script begins with, behind one batch more
+-- what the whole script begins with, up to and including one more batch
 record Begins (options : Options) (outcomes : List File) (given : List ℕ) (left : Option (List ℕ)) (batches : List Batch) (asked : List Text) : Type 0 where
   pub rest : Commands
   pub is : script_of options outcomes given left ≡ given_before batches asked rest
@@ -316,7 +316,7 @@ begins rules options first second third before after made batch way has (inr who
       few = whole_fetches options (way.been.outcomes ++ took.outcomes) (way.been.given ++ took.given) third.left (way.batches ++ batch ∷ []) (way.been.asked ++ took.asked) script;
     }
 
--- a run that is cut for want of memory
+-- a run that is cut because memory ran out
 cut_so_far : (rules : Rules) (options : Options) (outcomes : List File) (before now : World) (script : Commands) (left : Option (List ℕ)) (taken : List ℕ) (made : RunRecord)
     → IsCutOff rules options outcomes (λ paths. AreFetched before.files before.fetch_faults now.fetch_faults paths outcomes) script left taken made
     → IsCutOff rules options outcomes (λ paths. AreFetchedSoFar before.files before.fetch_faults now.fetch_faults paths outcomes) script left taken made
@@ -330,7 +330,7 @@ cut_so_far rules options outcomes before now script left taken made row = record
   holds = row.holds;
 }
 
--- a run that is cut, by why its text is not written whole
+-- a run that is cut, by why its text was not written in full
 cut_meets : (rules : Rules) (options : Options) (why : WriteStop) (before now : World) (made : RunRecord) (given taken : List ℕ) (outcomes : List File)
     → Consumes before.left now.left given → Appends before.written now.written taken
     → IsCutOff rules options outcomes (λ paths. AreFetched before.files before.fetch_faults now.fetch_faults paths outcomes) (script_of options outcomes given now.left) now.left taken made
@@ -340,7 +340,7 @@ cut_meets rules options stop.Failed before now made given taken outcomes gave wr
 cut_meets rules options stop.NoMemory before now made given taken outcomes gave wrote row late =
     record { given = given; taken = taken; outcomes = outcomes; gave = gave; took = wrote; row = inr (cut_so_far rules options outcomes before now _ now.left taken made row); late = tt }
 
--- The batch was answered, but its text not written whole.
+-- The batch was answered, but its text was not written in full.
 pub ends_writing : {number next : ℕ} (rules : Rules) (options : Options) (why : WriteStop) (first second third : World) (written : Option (List ℕ)) (faults : ℕ) (before after : Gathering) (made now : RunRecord) (batch : Batch) (new : List Answered) (part : List ℕ)
     → (way : IsUnderWay rules options first second before made number next) → IsBegun second third before after batch
     → IsMade rules options (way.batches ++ batch ∷ []) now → now.answers ≡ made.answers ++ new → IsPrefix part (text_behind options.trace (length made.answers) now) → Appends third.written written part
@@ -394,7 +394,7 @@ begun {Idle = Idle} first second before after found batch is moved unwritten =
     → IfSome found (λ (b : Batch). (before.reading.used < after.reading.used) × (before.reading.used + length b ≤ after.reading.used)) → IsBegun first second before after batch)
     (sym is) (begun_with first second before after batch moved unwritten)
 
--- A run whose record stands.
+-- A run whose record is unchanged.
 pub stands_still : {number next : ℕ} (rules : Rules) (options : Options) (first second : World) (before : Gathering) (made now : RunRecord)
     → now ≡ made → IsUnderWay rules options first second before made number next → IsUnderWay rules options first second before now number next
 stands_still {number = number} {next = next} rules options first second before made now same way =
@@ -446,7 +446,7 @@ answered_ends {from = from} rules options ends first third written last faults l
     ends_with rules options ends first is.mid third written last faults later is.gathering_before after is.record_before mid now is.batch is.adds.new is.way is.begun over is.is_made is.adds.are took_all closed
     (subst (λ (o : Options). IsWritten ends written last (text_behind o.trace (length mid.answers) (with_end true mid))) is.is_made.options_are rest)
 
--- It was not written whole.
+-- It was not written in full.
 pub answered_stops : {from number next : ℕ} (rules : Rules) (options : Options) (why : WriteStop) (first third : World) (written : Option (List ℕ)) (faults : ℕ) (after : Gathering) (now : RunRecord)
     → IsAnswered rules options first third after now from number next → (part : List ℕ) → IsPrefix part (text_behind now.options.trace from now) → Appends third.written written part
     → Meets rules options (status_of_stop why) first (with_sink written faults third) now
@@ -454,7 +454,7 @@ answered_stops {from = from} rules options why first third written faults after 
     let begins_all = subst (IsPrefix part) (answers_behind rules options (is.way.batches ++ is.batch ∷ []) is.record_before now from is.is_made is.first_is) beginning in
     ends_writing rules options why first is.mid third written faults is.gathering_before after is.record_before now is.batch is.adds.new part is.way is.begun is.is_made is.adds.are begins_all took
 
--- Memory was wanting between two batches.
+-- Memory ran out between two batches.
 pub ends_between : {number next : ℕ} (rules : Rules) (options : Options) (first second third : World) (before : Gathering) (made : RunRecord) (given : List ℕ)
     → IsUnderWay rules options first second before made number next → Consumes second.left third.left given → second.fetch_faults ≤ third.fetch_faults → third.written ≡ second.written
     → Meets rules options status.NoMemory first third made
@@ -512,7 +512,7 @@ not_refused rules options line why before now made script met told whole =
 
 -- ---- which end gives which status
 
--- Only a source that failed ends a run so, and none for its words.
+-- Only a failed source ends a run with a read fault, and no run ends because its words are refused.
 pub end_moves : {refused : Type 0} {before now : World} (why : ScriptEnd) → HasMoved before now → (why ≡ end.ReadFault → Rose before.read_faults now.read_faults) → Moves refused (status_of_end why) before now
 end_moves (end.Script line reason) moved read = moves_freely (status.Script line reason) moved
     (λ no. let e : status.Script line reason ≡ status.Usage = no in cc) (λ no. let e : status.Script line reason ≡ status.ReadFault = no in cc) (λ no. let e : status.Script line reason ≡ status.WriteFault = no in cc)
@@ -524,7 +524,7 @@ end_moves end.ReadFault moved read = record {
 }
 end_moves end.NoMemory moved read = memory_moves moved
 
--- Only a sink that failed ends a run so.
+-- Only a failed sink ends a run with a write fault.
 pub stop_moves : {refused : Type 0} {before now : World} (why : WriteStop) → HasMoved before now → (why ≡ stop.Failed → Rose before.write_faults now.write_faults) → Moves refused (status_of_stop why) before now
 stop_moves stop.Failed moved wrote = record {
   moved = moved;
@@ -551,7 +551,7 @@ nothing_made (Make seed tables rows) world made is = record { taken = []; took =
 nothing_made (Watch k paths) world made is = inl (record { unread = refl; unwritten_is = refl; empty_is = is })
 nothing_made (Check trace options) world made is = inl (record { unread = refl; unwritten_is = refl; empty_is = is })
 
--- The mode that the words say; any, where they say none.
+-- The mode that the words state; any mode if they state none.
 record Said (said : Option Mode) (result : Status) (world : World) (made : RunRecord) : Type 0 where
   pub mode : Mode
   pub is : IsSaid said mode
@@ -561,7 +561,7 @@ said_by : (said : Option Mode) (world : World) (made : RunRecord) → made ≡ e
 said_by None world made is = record { mode = Run plain; is = tt; met = nothing_done (standard_rules Canonical) plain world made is }
 said_by (Some mode) world made is = record { mode = mode; is = refl; met = nothing_made mode world made is }
 
--- The words are refused, or memory ran out for them.
+-- The words are refused, or memory ran out while they were read.
 pub words_refused : (said : Option Mode) (why : WordsRefused) (world : World) (made : RunRecord) → made ≡ empty plain
     → (why ≡ words.NoMemory) ⊎ (said ≡ None) → (result : Status) → result ≡ status_of_refused why → (mode : Mode) × IsSaid said mode × MeetsMode mode result world world made
 words_refused said words.NoMemory world made is why result same =
@@ -582,13 +582,13 @@ refused_moves said words.Usage world (inr none) result same = subst (λ (s : Sta
   write_fault = λ no. absurd (let e : status.Usage ≡ status.WriteFault = no in cc);
 })
 
--- Words that say a mode are not refused.
+-- Words that state a mode are not refused.
 pub moves_said : {refused : Type 0} {before now : World} (result : Status) → Moves ⊥ result before now → Moves refused result before now
 moves_said result moves = record { moved = moves.moved; usage = λ is. absurd (moves.usage is); read_fault = moves.read_fault; write_fault = moves.write_fault }
 
 -- ---- completeness
 
--- Without a fault a script that has none ends well, or memory runs out.
+-- Without a fault a script that has no line at fault ends well, or memory runs out.
 pub ends_well : (rules : Rules) (options : Options) (result : Status) (before now : World) (made : RunRecord) → Meets rules options result before now made → Moves ⊥ result before now → EndsWell options result before now
 ends_well rules options status.Done before now made met moves = λ script told whole quiet still. inl refl
 ends_well rules options status.NoMemory before now made met moves = λ script told whole quiet still. inr refl
@@ -599,7 +599,7 @@ ends_well rules options status.WriteFault before now made met moves = λ script 
 ends_well rules options status.Refuted before now made met moves = λ script told whole quiet still. absurd met.row
 ends_well rules options (status.Script line why) before now made met moves = λ script told whole quiet still. absurd (not_refused rules options line why before now made script met told whole)
 
--- Words that are refused say no mode, or memory ran out for them.
+-- Words that are refused state no mode, or memory ran out while they were read.
 pub refused_ends_well : (said : Option Mode) (why : WordsRefused) (world : World) → (why ≡ words.NoMemory) ⊎ (said ≡ None) → (result : Status) → result ≡ status_of_refused why → (mode : Mode) → said ≡ Some mode → EndsModeWell mode result world world
 refused_ends_well said words.NoMemory world why result same mode says = subst (λ (s : Status). EndsModeWell mode s world world) (sym same) (memory_ends_well mode)
   where
@@ -611,7 +611,7 @@ refused_ends_well said words.NoMemory world why result same mode says = subst (�
 refused_ends_well said words.Usage world (inl same_word) result same mode says = absurd (let e : words.Usage ≡ words.NoMemory = same_word in cc)
 refused_ends_well said words.Usage world (inr none) result same mode says = absurd (let no : None ≡ Some mode = sym none ∙ says in cc)
 
--- A lake that is made ends well, or for its sink.
+-- A lake that is made ends well, or its sink fails, or memory runs out.
 pub make_ends_well : (result : Status) (before now : World) → (result ≡ status.Done) ⊎ (result ≡ status.WriteFault) ⊎ (result ≡ status.NoMemory) → Moves ⊥ result before now
     → (Rose before.write_faults now.write_faults → ⊥) → (result ≡ status.Done) ⊎ (result ≡ status.NoMemory)
 make_ends_well result before now (inl done) moves still = inl done

@@ -15,7 +15,7 @@ not_due : (trace : Bool) → (trace && false) ≡ false
 not_due true = refl
 not_due false = refl
 
--- answers behind answers
+-- answers after answers
 pub answers_more : (trace : Bool) (xs ys : List Answered) → answers_text trace (xs ++ ys) ≡ answers_text trace xs ++ answers_text trace ys
 answers_more trace xs ys =
     ap (λ (lines : List Text). flat_map line_text lines) (flat_map-append (written_lines trace) xs ys)
@@ -28,7 +28,7 @@ text_unended options made are not_ended =
     ∙ ap (λ (b : Bool). answers_text options.trace made.answers ++ journal_text (options.trace && b) made.journal) not_ended
     ∙ ap (λ (b : Bool). answers_text options.trace made.answers ++ journal_text b made.journal) (not_due options.trace) ∙ append-nil (answers_text options.trace made.answers)
 
--- the text behind the answers that were there
+-- the text after the answers that were there
 pub text_more : (trace : Bool) (before now : RunRecord) (new : List Answered) → now.answers ≡ before.answers ++ new → now.ended ≡ false
     → answers_text trace now.answers ≡ answers_text trace before.answers ++ text_behind trace (length before.answers) now
 text_more trace before now new are not_ended =

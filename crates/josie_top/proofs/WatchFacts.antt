@@ -1,4 +1,4 @@
--- A run that watches queries: what it tells, and how it ends.
+-- A run that watches queries: what it writes, and how it ends.
 use Rattle.std.proofs.Common.{◌≡◌, refl, ap, sym, ◌∙◌, subst, ℕ, ◌≤◌, inl, inr, List, [], ◌++◌, append_assoc, Bool, true, false, length, length-append, take, drop, arith}
 use Rattle.std.specs.Prelude.{Option, Some, None, if◌then◌else◌}
 use Rattle.std.specs.Io.KnownBytes.{Appends}
@@ -32,14 +32,14 @@ use Rattle.josie_top.specs.World.{Moves, World}
 use Rattle.josie_top.proofs.GivenFacts.{given_failed}
 use Rattle.josie_top.proofs.RunFacts.{nothing_done}
 
--- ---- what is told
+-- ---- what is written
 
--- nothing is told of an empty journal
+-- nothing is written for an empty journal
 pub told_nothing : (k : ℕ) (queries : List (List Text)) (world : World) (made : RunRecord) → made.journal ≡ [] → IsToldSoFar k queries world world made
 unfolding Rattle.record_model.specs.Watched.lines_behind
 told_nothing k queries world made none = record { taken = []; took = Appends-nil world.written; text_is = sym (ap (watch_text k queries) none) }
 
--- what a batch changed was told too
+-- what a batch changed was written too
 pub told_more : (k : ℕ) (queries : List (List Text)) (before mid now : World) (made later : RunRecord) → IsToldSoFar k queries before mid made → take (length made.journal) later.journal ≡ made.journal
     → Appends mid.written now.written (watch_text_behind k queries made.journal (drop (length made.journal) later.journal)) → IsToldSoFar k queries before now later
 told_more k queries before mid now made later told begins more =
@@ -51,7 +51,7 @@ told_more k queries before mid now made later told begins more =
       text_is = ap (λ (t : List ℕ). t ++ text) told.text_is ∙ sym (watch_text_on k queries [] made.journal (drop (length made.journal) later.journal)) ∙ ap (watch_text k queries) whole;
     }
 
--- what was told stays so where the journal stays
+-- what was written stays the same if the journal does
 pub told_for : (k : ℕ) (queries : List (List Text)) (before now later : World) (made after : RunRecord) → later.written ≡ now.written → after.journal ≡ made.journal → IsToldSoFar k queries before now made → IsToldSoFar k queries before later after
 told_for k queries before now later made after same journal told = record {
   taken = told.taken;
@@ -59,15 +59,15 @@ told_for k queries before now later made after same journal told = record {
   text_is = told.text_is ∙ ap (watch_text k queries) (sym journal);
 }
 
--- the first bytes of a text, where a part of what follows was written
+-- the first bytes of a text, if a part of what follows was written
 behind_whole : (front text back part : List ℕ) → text ≡ front → IsPrefix part back → IsPrefix (text ++ part) (front ++ back)
 behind_whole front text back part is (rest, cut) = (rest, (λ i. sym is i ++ cut i) ∙ sym (append_assoc text part rest))
 
--- all that was told is the beginning of the whole text
+-- all that was written is the beginning of the whole text
 told_begins : (k : ℕ) (queries : List (List Text)) (before now : World) (made : RunRecord) → (told : IsToldSoFar k queries before now made) → IsPrefix told.taken (watched_text k queries made)
 told_begins k queries before now made told = ((if made.ended then end_text made.journal else []), ap (λ (t : List ℕ). t ++ (if made.ended then end_text made.journal else [])) (sym told.text_is))
 
--- and the whole text, where the source was not read to its end
+-- and it is the whole text if the source was not read to its end
 told_whole : (k : ℕ) (queries : List (List Text)) (before now : World) (made : RunRecord) → (told : IsToldSoFar k queries before now made) → made.ended ≡ false → told.taken ≡ watched_text k queries made
 told_whole k queries before now made told unended =
     told.text_is ∙ sym (append-nil (watch_text k queries made.journal)) ∙ ap (λ (b : Bool). watch_text k queries made.journal ++ (if b then end_text made.journal else [])) (sym unended)
@@ -107,7 +107,7 @@ watched_nothing k queries world made is = record {
   told = (watched_text k queries made, refl);
 }
 
--- the part of what a batch changed that was written where the text was not written whole
+-- the part that was written of what a batch changed, if the text was not written in full
 pub watched_stopped : (k : ℕ) (queries : List (List Text)) (before mid now : World) (made later : RunRecord) (why : WriteStop) (part : List ℕ) → IsToldSoFar k queries before mid made
     → take (length made.journal) later.journal ≡ made.journal → IsPrefix part (watch_text_behind k queries made.journal (drop (length made.journal) later.journal)) → Appends mid.written now.written part
     → Meets (standard_rules Canonical) made_options (status_of_stop why) (unwritten before) (unwritten now) later → IsWatched k queries (status_of_stop why) before now later
@@ -171,7 +171,7 @@ module _ (k : ℕ) (queries : List (List Text)) (before mid now : World) (made :
     told = ap (λ (t : List ℕ). t ++ end_text made.journal) told.text_is ∙ sym text_is;
   }
 
-  -- or not whole
+  -- or not in full
   pub watched_cut : (why : WriteStop) (part : List ℕ) → IsPrefix part (end_text made.journal) → Appends mid.written now.written part → IsWatched k queries (status_of_stop why) before now made
   watched_cut why part beginning took = by why
     where
@@ -185,13 +185,13 @@ module _ (k : ℕ) (queries : List (List Text)) (before mid now : World) (made :
       by stop.Failed = record { beneath = status.Done; ends = inl refl; ran = ran_now; taken = told.taken ++ part; took = all; told = begins }
       by stop.NoMemory = record { beneath = status.Done; ends = inl refl; ran = ran_now; taken = told.taken ++ part; took = all; told = begins }
 
-  -- or there was no memory for it
+  -- or memory ran out for it
   pub watched_unwritten : now.written ≡ mid.written → IsWatched k queries status.NoMemory before now made
   watched_unwritten still = watched_cut stop.NoMemory [] (end_text made.journal, refl) (subst (λ (w : Option (List ℕ)). Appends mid.written w []) (sym still) (Appends-nil mid.written))
 
 -- ---- the journal
 
--- what is played goes on from the journal before it
+-- playing extends the journal
 played_grows : (rules : Rules) (lanes : ℕ) (merger : Option ℕ) (batch : Batch) (piece : List ℕ) (turns : List Bool) (before now : RunRecord) → IsOfLanes lanes batch
     → now ≡ batch_after rules lanes batch (merges_of merger batch) piece turns before → (more : List Entry) × (now.journal ≡ before.journal ++ more)
 played_grows rules lanes None batch piece turns before now of_lanes is =
@@ -206,14 +206,14 @@ pub batch_grows : (rules : Rules) (lanes : ℕ) (merger : Option ℕ) (batch : B
 batch_grows rules lanes merger batch piece before now of_lanes same (turns, is) =
     played_grows rules lanes merger batch piece turns before now (subst (λ (n : ℕ). IsOfLanes n batch) (sym same) of_lanes) is
 
--- what goes on from a journal begins with it
+-- what extends a journal begins with it
 pub journal_begins : (before after more : List Entry) → after ≡ before ++ more → (length before ≤ length after) × (take (length before) after ≡ before)
 journal_begins before after more is = (
   omega (arith, ap (λ (j : List Entry). length j) is, length-append before more),
   ap (take (length before)) is ∙ take-append-le (length before) before more (omega arith) ∙ take_all (length before) before (omega arith),
 )
 
--- ---- the sink behind a run whose replies are not written
+-- ---- the sink of a run whose replies are not written
 
 rose_never : Rose 0 0 → ⊥
 rose_never rose = omega (arith, rose)
@@ -248,7 +248,7 @@ watched_all k paths result before begun now files queries made are read watched 
     by status.Refuted w = absurd w.ends
     by status.NoMemory w = inr (all status.NoMemory w)
 
--- without a fault it ends for its own words and files, or memory runs out
+-- without a fault it ends as its script or files say, or because memory runs out
 pub watch_ends_well : (k : ℕ) (paths : List Text) (result : Status) (before now : World) (made : RunRecord) → Watches k paths result before now made → Moves ⊥ result before now
     → (Rose before.read_faults now.read_faults → ⊥) → (Rose before.write_faults now.write_faults → ⊥) → (Rose before.fetch_faults now.fetch_faults → ⊥) → EndsQuietly result
 watch_ends_well k paths status.Done before now made met moves reads writes fetches = tt

@@ -1,4 +1,4 @@
--- What a run that checks a trace comes to.
+-- What holds after a run that checks a trace.
 use Rattle.std.specs.Prelude.{ℕ, ◌≡◌, ◌⊎◌, ⊤, Bool, true, false, List, [], ◌∷◌, codes, Option, Some, None}
 use Rattle.std.specs.Io.KnownBytes.{Appends, Consumes, IsAtEnd}
 use Rattle.lake_model.specs.Texts.{Text}
@@ -31,7 +31,7 @@ trace_fault Failed = Some given.Failed
 trace_fault Missing = Some given.Missing
 trace_fault TooLong = Some given.TooLong
 
--- The file of this path was fetched, and holds no trace. Nothing was read from the source, or written.
+-- The file at this path was fetched, and holds no trace. Nothing was read from the source or written.
 pub record HasNoTrace (path : Text) (why : GivenWhy) (before now : World) : Type 0 where
   pub file : File
   pub came : AreGiven (path ∷ []) before now (file ∷ [])
@@ -39,7 +39,7 @@ pub record HasNoTrace (path : Text) (why : GivenWhy) (before now : World) : Type
 
 -- ---- the verdict
 
--- a right record of these batches has the trace for its text, or none has
+-- a right record of these batches has the trace as its text, or no right record has
 abbrev pub IsVerdict : Rules → Options → List Batch → Text → Bool → Type 0
 IsVerdict rules options batches trace true = (made : RunRecord) × IsTraceOf rules options batches trace made
 IsVerdict rules options batches trace false = (made : RunRecord) → IsTraceOf rules options batches trace made → ⊥
@@ -60,7 +60,7 @@ pub record IsFaultAt (came : List Text → Type 0) (script : Commands) (line : �
   pub fault : script.end ≡ FaultAt line reason
   pub fetched : came script.asked
 
--- The source failed, and no line that came whole is at fault.
+-- The source failed, and no line that was read in full is at fault.
 pub record IsCutShort (came : List Text → Type 0) (begun : LinesRead) : Type 0 where
   pub no_fault : HasNoFault begun.reached
   pub fetched : came (asked_by begun.reached)
@@ -76,7 +76,7 @@ StopRow options outcomes came WriteFault given left = ⊥
 StopRow options outcomes came Refuted given left = ⊥
 StopRow options outcomes came NoMemory given left = ⊤
 
--- the row of a status, of the bytes that the source gave, of what it has left, and of the bytes that the sink took
+-- the row of a status, for the bytes that the source gave, what it has left, and the bytes that the sink took
 abbrev pub CheckRow : Rules → Options → Text → List File → (List Text → Type 0) → Status → List ℕ → Option (List ℕ) → List ℕ → Type 0
 CheckRow rules options trace outcomes came Done given left taken = IsJudged rules options trace came (script_of options outcomes given left) left true × (taken ≡ verdict_text true)
 CheckRow rules options trace outcomes came (Script line reason) given left taken = StopRow options outcomes came (Script line reason) given left × (taken ≡ [])
@@ -88,7 +88,7 @@ CheckRow rules options trace outcomes came WriteFault given left taken =
 CheckRow rules options trace outcomes came Refuted given left taken = IsJudged rules options trace came (script_of options outcomes given left) left false × (taken ≡ verdict_text false)
 CheckRow rules options trace outcomes came NoMemory given left taken = StopRow options outcomes came NoMemory given left × (taken ≡ [])
 
--- What the source gave, what was fetched for the script, and what the sink took; and of these the row of the status.
+-- What the source gave, what was fetched for the script, and what the sink took; and for these, the row of the status.
 pub record IsChecked (rules : Rules) (options : Options) (trace : Text) (status : Status) (before now : World) : Type 0 where
   pub given : List ℕ
   pub taken : List ℕ
@@ -99,7 +99,7 @@ pub record IsChecked (rules : Rules) (options : Options) (trace : Text) (status 
 
 -- ---- the whole
 
--- The file of this path held the trace, and the script was read and judged by it. The record stays empty.
+-- The file at this path held the trace, and the script was read and judged by it. The record stays empty.
 pub record AreChecked (path : Text) (options : Options) (status : Status) (before now : World) (made : RunRecord) : Type 0 where
   pub begun : World
   pub trace : Text
@@ -107,7 +107,7 @@ pub record AreChecked (path : Text) (options : Options) (status : Status) (befor
   pub checked : IsChecked (standard_rules options.keys) options trace status begun now
   pub empty_is : made ≡ empty plain
 
--- what a run that checks the trace in the file of this path comes to
+-- what holds after a run that checks the trace in the file at this path
 abbrev pub Checks : Text → Options → Status → World → World → RunRecord → Type 0
 Checks path options Done before now made = AreChecked path options Done before now made
 Checks path options (Script line reason) before now made = AreChecked path options (Script line reason) before now made
@@ -118,7 +118,7 @@ Checks path options WriteFault before now made = AreChecked path options WriteFa
 Checks path options Refuted before now made = AreChecked path options Refuted before now made
 Checks path options NoMemory before now made = IsNotBegun before now made ⊎ AreChecked path options NoMemory before now made
 
--- what may come where no fault is counted: a verdict, or a fault of the script or of the trace's file
+-- the possible ends if no fault is counted: a verdict, or a fault of the script or of the trace's file
 abbrev pub EndsInVerdict : Status → Type 0
 EndsInVerdict Done = ⊤
 EndsInVerdict (Script line reason) = ⊤
@@ -133,7 +133,7 @@ EndsInVerdict NoMemory = ⊤
 
 -- ---- on the way
 
--- The batches were read so far, and the rest of the script is still to come.
+-- These batches have been read, and the rest of the script is still to come.
 pub record IsReading (options : Options) (before now : World) (gathering : Gathering) (batches : List Batch) : Type 0 where
   pub moved : HasMoved before now
   pub been : AreRead options before now gathering batches

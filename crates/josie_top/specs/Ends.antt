@@ -1,4 +1,4 @@
--- The status of a run whose words are refused, whose gatherer gives no batch, or whose text is not written whole.
+-- The status of a run whose words are refused, whose gatherer gives no batch, or whose text was not written in full.
 use Rattle.std.specs.Prelude.{ℕ, Bool, true, false, List, Option}
 use Rattle.std.specs.Io.KnownBytes.{Appends}
 use Rattle.record_model.specs.Statuses.{IsPrefix}

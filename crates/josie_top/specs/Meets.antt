@@ -1,4 +1,4 @@
--- What a run comes to: what moved, and the row of its status.
+-- What holds after a run: what moved, and the row of its status.
 use Rattle.std.specs.Prelude.{ℕ, ◌≡◌, ◌<◌, ◌≤◌, ◌⊎◌, ⊤, false, List, ◌++◌, length, Some}
 use Rattle.std.specs.Io.KnownBytes.{Consumes, Appends}
 use Rattle.lake_io.specs.Causes.{Rose}
@@ -15,7 +15,7 @@ use Rattle.option_model.specs.Makes.{MakeRow}
 use Rattle.script_text.specs.Outcomes.{AreFetched, AreFetchedSoFar}
 use Rattle.josie_top.specs.World.{World}
 
--- what came of the fetches of a run, by its status
+-- the results of the fetches of a run, by its status
 abbrev pub FetchedBy : Status → World → World → List Text → List File → Type 0
 FetchedBy Done before now asked outcomes = AreFetched before.files before.fetch_faults now.fetch_faults asked outcomes
 FetchedBy (Script line reason) before now asked outcomes = AreFetched before.files before.fetch_faults now.fetch_faults asked outcomes
@@ -26,8 +26,8 @@ FetchedBy WriteFault before now asked outcomes = AreFetched before.files before.
 FetchedBy Refuted before now asked outcomes = AreFetched before.files before.fetch_faults now.fetch_faults asked outcomes
 FetchedBy NoMemory before now asked outcomes = AreFetchedSoFar before.files before.fetch_faults now.fetch_faults asked outcomes
 
--- The bytes that came before the last read, of at most 65,536 bytes, have fewer whole batches than were answered: the replies to a batch are written before
--- the next one is read.
+-- The bytes that were read before the last read, which gave at most 65,536 bytes, have fewer whole batches than were
+-- answered: the replies to a batch are written before the next batch is read.
 pub record IsReadLate (options : Options) (given : List ℕ) (outcomes : List File) (made : RunRecord) : Type 0 where
   pub first : List ℕ
   pub last : List ℕ
@@ -35,7 +35,7 @@ pub record IsReadLate (options : Options) (given : List ℕ) (outcomes : List Fi
   pub few : length last ≤ 65536
   pub fewer : length (begun options outcomes first).batches < length made.syncs
 
--- where the sink failed before the input was read to its end, the source was read late
+-- if the sink failed before the input was read to its end, the source was read late
 abbrev pub ReadsLate : Status → Options → List ℕ → List File → RunRecord → Type 0
 ReadsLate Done options given outcomes made = ⊤
 ReadsLate (Script line reason) options given outcomes made = ⊤
@@ -46,8 +46,8 @@ ReadsLate WriteFault options given outcomes made = made.ended ≡ false → IsRe
 ReadsLate Refuted options given outcomes made = ⊤
 ReadsLate NoMemory options given outcomes made = ⊤
 
--- The bytes that the source gave and those that the sink took, where they tell their content, and what came of the fetches; and of these the row of the
--- status in the table.
+-- The bytes that the source gave and those that the sink took, if their content is known, and the results of the
+-- fetches; and for these, the row of the status in the table.
 pub record Meets (rules : Rules) (options : Options) (status : Status) (before now : World) (made : RunRecord) : Type 0 where
   pub given : List ℕ
   pub taken : List ℕ
@@ -57,18 +57,20 @@ pub record Meets (rules : Rules) (options : Options) (status : Status) (before n
   pub row : Row rules options outcomes (λ asked. FetchedBy status before now asked outcomes) status given now.left taken made
   pub late : ReadsLate status options given outcomes made
 
--- The bytes that the sink took of the summary of a lake that is made, where it tells its content, and of these the row of the status.
+-- The bytes of the summary of a made lake that the sink took, if its content is known; and for these, the row of the
+-- status.
 pub record Makes (rules : Rules) (seed tables rows : ℕ) (status : Status) (before now : World) (made : RunRecord) : Type 0 where
   pub taken : List ℕ
   pub took : Appends before.written now.written taken
   pub row : MakeRow rules seed tables rows status taken made
 
--- whatever may come of the fetches of a script between these two moments, it has no line at fault
+-- whatever the results of the fetches of a script between these two moments are, it has no line at fault
 abbrev pub HasNoFault : Options → List ℕ → World → World → Type 0
 HasNoFault options script before now = (outcomes : List File) → let made : Commands = commands standard options.lanes script outcomes in
     AreFetched before.files before.fetch_faults now.fetch_faults made.asked outcomes → made.end ≡ Whole
 
--- A script that is told and has no line at fault ends well if neither the source nor the sink counts a fault, or memory runs out.
+-- If neither the source nor the sink counts a fault, a script whose content is known and that has no line at fault ends
+-- well, or memory runs out.
 abbrev pub EndsWell : Options → Status → World → World → Type 0
 EndsWell options status before now = (script : List ℕ) → before.left ≡ Some script → HasNoFault options script before now
     → (Rose before.read_faults now.read_faults → ⊥) → (Rose before.write_faults now.write_faults → ⊥) → (status ≡ Done) ⊎ (status ≡ NoMemory)

@@ -1,4 +1,4 @@
--- What a run of each mode comes to.
+-- What holds after a run of each mode.
 use Rattle.std.specs.Prelude.{◌≡◌, ◌⊎◌, ⊤, Option, Some, None}
 use Rattle.lake_io.specs.Causes.{Rose}
 use Rattle.lake_model.specs.declared.Keys.TheVariants.{Canonical}
@@ -13,20 +13,20 @@ use Rattle.josie_top.specs.Meets.{EndsWell, Makes, Meets}
 use Rattle.josie_top.specs.Watching.{EndsQuietly, Watches}
 use Rattle.josie_top.specs.World.{World}
 
--- what a run of this mode comes to
+-- what holds after a run of this mode
 abbrev pub MeetsMode : Mode → Status → World → World → RunRecord → Type 0
 MeetsMode (Run options) status before now made = Meets (standard_rules options.keys) options status before now made
 MeetsMode (Make seed tables rows) status before now made = Makes (standard_rules Canonical) seed tables rows status before now made
 MeetsMode (Watch k paths) status before now made = Watches k paths status before now made
 MeetsMode (Check trace options) status before now made = Checks trace options status before now made
 
--- this mode is the one that the words say, where they say any
+-- this mode is the one that the words state, if they state any
 abbrev pub IsSaid : Option Mode → Mode → Type 0
 IsSaid None mode = ⊤
 IsSaid (Some said) mode = mode ≡ said
 
--- what a run of this mode comes to where nothing fails: a script has to be told, a lake that is made asks for the sink alone, and what is watched or checked
--- may be at fault itself
+-- how a run of this mode ends if nothing fails: the content of a script has to be known, a lake that is made depends on
+-- the sink alone, and queries that are watched or a trace that is checked may be at fault themselves
 abbrev pub EndsModeWell : Mode → Status → World → World → Type 0
 EndsModeWell (Run options) status before now = EndsWell options status before now
 EndsModeWell (Make seed tables rows) status before now = (Rose before.write_faults now.write_faults → ⊥) → (status ≡ Done) ⊎ (status ≡ NoMemory)

@@ -21,13 +21,15 @@ use Rattle.script_text.specs.Gathering.{Gathering, IsLate, IsSynced, IsWhole, Re
 use Rattle.script_text.specs.Gathers.{Taken}
 use Rattle.josie_top.specs.World.{HasMoved, World}
 
--- The record is that of these batches, played one after another in the stated order; at each turn of each, memory sufficed or did not.
+-- The record is that of these batches, played one after another in the stated order; at each turn of each batch, memory
+-- sufficed or ran out.
 pub record IsPlayedSoFar (rules : Rules) (options : Options) (batches : List Batch) (made : RunRecord) : Type 0 where
   pub denials : List (List Bool)
   pub size : length denials ≡ length batches
   pub played : made ≡ played_from rules options.lanes options.merge 1 batches (pieces_of options.order) denials (empty options)
 
--- The record has these options and is right for these batches, and the source is not at its end. Where an order is stated, the batches were played in it.
+-- The record has these options and is right for these batches, and the source is not at its end. If an order is stated,
+-- the batches were played in it.
 pub record IsMade (rules : Rules) (options : Options) (batches : List Batch) (made : RunRecord) : Type 0 where
   pub options_are : made.options ≡ options
   pub unended : made.ended ≡ false
@@ -35,13 +37,13 @@ pub record IsMade (rules : Rules) (options : Options) (batches : List Batch) (ma
   pub played : IsStated options → IsPlayedSoFar rules options batches made
   pub lanes : AllByRecursion (IsOfLanes options.lanes) batches
 
--- The gatherer is of these options, and goes on.
+-- The gatherer has the standard limits and the lanes of these options, and has not passed the limit on the input.
 pub record IsGoingOn (options : Options) (gathering : Gathering) : Type 0 where
   pub limits_are : gathering.limits ≡ standard
   pub lanes_are : gathering.lanes ≡ options.lanes
   pub within : gathering.reading.used ≤ gathering.limits.input
 
--- The batches were read from what the source gave, and stand in no fault.
+-- The batches were read from what the source gave, and no line so far is at fault.
 pub record AreRead (options : Options) (before now : World) (gathering : Gathering) (batches : List Batch) : Type 0 where
   pub given : List ℕ
   pub asked : List Text
@@ -50,7 +52,8 @@ pub record AreRead (options : Options) (before now : World) (gathering : Gatheri
   pub fetched : AreFetched before.files before.fetch_faults now.fetch_faults asked outcomes
   pub lines_read : ReadsOn (grammar_of standard options.lanes) (start []) given outcomes batches gathering.reading gathering.held asked
 
--- The bytes that came before the last read, of at most 65,536 bytes, have at most so many whole batches, and stand in no fault.
+-- The bytes that were read before the last read, which gave at most 65,536 bytes, have at most `most` whole batches,
+-- and no line at fault.
 pub record IsLateSoFar (options : Options) (given : List ℕ) (outcomes : List File) (most : ℕ) : Type 0 where
   pub first : List ℕ
   pub last : List ℕ
@@ -67,14 +70,14 @@ pub record IsLateSoFar (options : Options) (given : List ℕ) (outcomes : List F
   pub rest : NoFeed held
   pub fewer : length batches ≤ most
 
--- Their answers were written.
+-- The answers of the record were written.
 pub record AreWritten (options : Options) (before now : World) (made : RunRecord) : Type 0 where
   pub taken : List ℕ
   pub took : Appends before.written now.written taken
   pub text_is : taken ≡ answers_text options.trace made.answers
 
--- So many batches were read, and the merger's next number is this: it has had a number for each load and drop of theirs, of which there are at most
--- as many as bytes that they used.
+-- `number` batches were read, and the merger's next number is `next`: it has had one number for each load, drop and
+-- replace in the batches. There are at most as many of these as bytes that the batches used.
 pub record AreCounted (batches : List Batch) (used number next : ℕ) : Type 0 where
   pub number_is : length batches ≡ number
   pub next_is : next ≡ 1 + sum_by updates batches
@@ -91,13 +94,13 @@ pub record IsUnderWay (rules : Rules) (options : Options) (before now : World) (
   pub counted : AreCounted batches gathering.reading.used number next
   pub late : IsLateSoFar options been.given been.outcomes (length batches - 1)
 
--- Answers follow those that were there.
+-- The new answers follow those that were there.
 pub record AddsAnswers (before now : RunRecord) : Type 0 where
   pub new : List Answered
   pub are : now.answers ≡ before.answers ++ new
 
--- Whatever batches the record was made of, so many in number, it is now made of these and of one batch more, where the merger's commands are numbered as
--- they have to be behind them.
+-- Whatever batches the record was made of, `number` of them, it is now made of these and one more batch, if the numbers
+-- of the merger's commands in it follow those in the earlier batches.
 abbrev pub HasOneMore : Rules → ℕ → Option ℕ → Batch → RunRecord → RunRecord → Type 0
 HasOneMore rules number merger batch before now = (batches : List Batch) → length batches ≡ number
     → merges_of merger batch ≡ merger_commands before.options.merge (1 + sum_by updates batches) batch
@@ -116,7 +119,8 @@ pub record IsBegun (before now : World) (gathering_before gathering_now : Gather
   pub within : gathering_now.reading.used ≤ gathering_now.limits.input
   pub grows : gathering_before.reading.used + length batch ≤ gathering_now.reading.used
 
--- A run behind a batch that was gathered and answered, but not written: its answers follow the first ones, so many in number. `mid` is the world before the batch.
+-- A run after a batch that was gathered and answered, but not written: the answers of the batch follow the first
+-- `first` answers. `mid` is the world before the batch.
 pub record IsAnswered (rules : Rules) (options : Options) (before now : World) (gathering : Gathering) (made : RunRecord) (first number next : ℕ) : Type 0 where
   pub mid : World
   pub gathering_before : Gathering

@@ -1,4 +1,4 @@
--- What a run that watches queries comes to.
+-- What holds after a run that watches queries.
 use Rattle.std.specs.Prelude.{ℕ, ◌≡◌, ◌≤◌, ◌⊎◌, ⊤, List, [], ◌++◌, take, if◌then◌else◌, None}
 use Rattle.std.specs.Io.KnownBytes.{Appends}
 use Rattle.lake_model.specs.declared.Keys.TheVariants.{Canonical}
@@ -24,12 +24,12 @@ use Rattle.josie_top.specs.World.{World, with_sink}
 
 -- ---- the queries
 
--- The files of these paths were fetched, one after another, and nothing else was touched.
+-- The files at these paths were fetched, one after another, and nothing else was touched.
 pub record AreGiven (paths : List Text) (before now : World) (files : List File) : Type 0 where
   pub fetched : AreFetched before.files before.fetch_faults now.fetch_faults paths files
   pub same : now ≡ record before { fetch_faults = now.fetch_faults }
 
--- The path of this number is the first that gives no query. Nothing was read from the source, or written.
+-- The path with this number is the first that gives no query. Nothing was read from the source or written.
 pub record IsNotGiven (paths : List Text) (path : ℕ) (why : GivenWhy) (before now : World) (made : RunRecord) : Type 0 where
   pub files : List File
   pub are : AreGiven (take path paths) before now files
@@ -42,7 +42,7 @@ pub record IsNotGiven (paths : List Text) (path : ℕ) (why : GivenWhy) (before 
 abbrev pub unwritten : World → World
 unwritten world = with_sink None 0 world
 
--- how the run of the script has ended, by the status; one that was broken off is a run of its first batches
+-- how the run of the script ended, by the status; a run that was broken off is a run of its first batches
 abbrev pub EndsAs : Status → Status → Type 0
 EndsAs Done beneath = beneath ≡ Done
 EndsAs (Script line reason) beneath = beneath ≡ Script line reason
@@ -53,7 +53,7 @@ EndsAs WriteFault beneath = (beneath ≡ Done) ⊎ (beneath ≡ WriteFault)
 EndsAs Refuted beneath = ⊥
 EndsAs NoMemory beneath = (beneath ≡ Done) ⊎ (beneath ≡ NoMemory)
 
--- the text that tells of a record's journal, with its last line where the source was read to its end
+-- the text of a record's journal for the watched queries, with its last line if the source was read to its end
 abbrev pub watched_text : ℕ → List (List Text) → RunRecord → Text
 watched_text k queries made = watch_text k queries made.journal ++ (if made.ended then end_text made.journal else [])
 
@@ -68,8 +68,8 @@ IsTold WriteFault text taken = IsPrefix taken text
 IsTold Refuted text taken = ⊥
 IsTold NoMemory text taken = IsPrefix taken text
 
--- The script was run in an order of two empty pieces, as a run whose replies are not written; and the text that tells of its journal was written, or its first
--- bytes.
+-- The script was run in an order of two empty pieces, as a run whose replies are not written; and the text of its
+-- journal for the watched queries was written, or the first bytes of that text.
 pub record IsWatched (k : ℕ) (queries : List (List Text)) (status : Status) (before now : World) (made : RunRecord) : Type 0 where
   pub beneath : Status
   pub ends : EndsAs status beneath
@@ -78,13 +78,14 @@ pub record IsWatched (k : ℕ) (queries : List (List Text)) (status : Status) (b
   pub took : Appends before.written now.written taken
   pub told : IsTold status (watched_text k queries made) taken
 
--- What was told so far: all of the record's journal.
+-- What was written so far: the text of all of the record's journal.
 pub record IsToldSoFar (k : ℕ) (queries : List (List Text)) (before now : World) (made : RunRecord) : Type 0 where
   pub taken : List ℕ
   pub took : Appends before.written now.written taken
   pub text_is : taken ≡ watch_text k queries made.journal
 
--- A run between two batches that watches queries: as a run whose replies are not written, and all that its journal changed was told.
+-- A run between two batches that watches queries: it is a run whose replies are not written, and all that its journal
+-- changed was written.
 pub record IsWatchingOn (first now : World) (gathering : Gathering) (made : RunRecord) (number : ℕ) (watches before : WatchesOf) : Type 0 where
   pub next : ℕ
   pub way : IsUnderWay (standard_rules Canonical) made_options (unwritten first) (unwritten now) gathering made number next
@@ -109,7 +110,7 @@ pub record AreWatched (k : ℕ) (paths : List Text) (status : Status) (before no
   pub queries_are : queries_from 1 files ≡ AreQueries queries
   pub watched : IsWatched k queries status begun now made
 
--- what a run that watches the first k rows of the queries in these files comes to
+-- what holds after a run that watches the first `k` rows of the queries in these files
 abbrev pub Watches : ℕ → List Text → Status → World → World → RunRecord → Type 0
 Watches k paths Done before now made = AreWatched k paths Done before now made
 Watches k paths (Script line reason) before now made = AreWatched k paths (Script line reason) before now made
@@ -120,7 +121,7 @@ Watches k paths WriteFault before now made = AreWatched k paths WriteFault befor
 Watches k paths Refuted before now made = ⊥
 Watches k paths NoMemory before now made = IsNotBegun before now made ⊎ AreWatched k paths NoMemory before now made
 
--- what may come where no fault is counted
+-- the possible ends if no fault is counted
 abbrev pub EndsQuietly : Status → Type 0
 EndsQuietly Done = ⊤
 EndsQuietly (Script line reason) = ⊤

@@ -5,7 +5,8 @@ use Rattle.lake_io.specs.Files as shelf
 use Rattle.record_model.specs.declared.Status.{Status}
 use Rattle.record_model.specs.declared.Status.TheVariants.{ReadFault, Usage, WriteFault}
 
--- What the source has left, what the sink was given, and the files of the store, where they tell these; and how many faults each of the three has counted.
+-- What the source has left, what the sink was given, and the files of the store, if these are known; and how many
+-- faults each of the three has counted.
 pub record World : Type 0 where
   pub left : Option (List ℕ)
   pub written : Option (List ℕ)
@@ -14,7 +15,7 @@ pub record World : Type 0 where
   pub write_faults : ℕ
   pub fetch_faults : ℕ
 
--- the world of a source, a sink and a store, each by what it tells and the faults that it has counted
+-- the world of a source, a sink and a store, each given by its content and the number of faults that it has counted
 abbrev pub world_of : Option (List ℕ) → ℕ → Option (List ℕ) → ℕ → Option (List shelf.File) → ℕ → World
 world_of left read_faults written write_faults files fetch_faults = record {
   left = left;
@@ -36,8 +37,8 @@ pub record HasMoved (before now : World) : Type 0 where
   pub writes : before.write_faults ≤ now.write_faults
   pub fetches : before.fetch_faults ≤ now.fetch_faults
 
--- What a run moves that ends with this status: it ends for its words only if these are refused, and for a read or a write only if a fault of the source or of the
--- sink was counted.
+-- What a run that ends with this status moves: it ends with `Usage` only if the words are refused, and with a read or a
+-- write fault only if the source or the sink counted a fault.
 pub record Moves (refused : Type 0) (status : Status) (before now : World) : Type 0 where
   pub moved : HasMoved before now
   pub usage : status ≡ Usage → refused

@@ -18,7 +18,7 @@ use run_record::RunRecord;
 use script_text::{Gather, ScriptEnd};
 use std::alloc::Global;
 
-/// The status of a run whose gatherer gives no batch.
+/// Returns the status of a run whose gatherer gives no batch.
 pub(crate) fn status_of_end(end: ScriptEnd) -> Status
     ensures { result ≡ status_of_end end }
 {
@@ -29,7 +29,7 @@ pub(crate) fn status_of_end(end: ScriptEnd) -> Status
     }
 }
 
-/// The status of a run whose text is not written whole.
+/// Returns the status of a run whose text was not written in full.
 pub(crate) fn status_of_stop(stop: WriteStop) -> Status
     ensures { result ≡ status_of_stop stop }
 {
@@ -39,7 +39,7 @@ pub(crate) fn status_of_stop(stop: WriteStop) -> Status
     }
 }
 
-/// Closes the record, whose source was read to its end, and writes what is still due of its text.
+/// Closes the record, whose source was read to its end, and writes the rest of its text.
 fn finish<K: Sink>(alloc: Global, out: &mut RunRecord, sink: &mut K) -> Status
     ensures closed { out.new.made ≡ with_end true out.old.made }
     ensures written { IsWritten result (K.written sink.old) (K.written sink.new) (text_behind out.old.made.options.trace (length out.old.made.answers) (with_end true out.old.made)) }
@@ -54,15 +54,15 @@ fn finish<K: Sink>(alloc: Global, out: &mut RunRecord, sink: &mut K) -> Status
     }
 }
 
-/// The number of the merger's first command in a batch, where there is a merger.
+/// Returns the number of the merger's first command in a batch, if there is a merger.
 pub(crate) fn merger_from(options: &Options, next: u64) -> Option<u64>
     ensures { result ≡ (if options.now.merge then Some next else None) }
 {
     options.merge.then_some(next)
 }
 
-/// Gathers the next batch. Where there is none, it answers the status that the run ends with, and at the end of the script it has closed
-/// the record and written the rest of its text.
+/// Gathers the next batch. If there is none, it returns the status with which the run ends; at the end of the script it
+/// first closes the record and writes the rest of its text.
 pub(crate) fn begin_batch<S: Source, K: Sink, F: Shelf>(
     alloc: Global,
     gather: &mut Gather,
@@ -93,8 +93,8 @@ pub(crate) fn begin_batch<S: Source, K: Sink, F: Shelf>(
     }
 }
 
-/// Writes the replies to a batch, which begin at this answer of the record. Where the run ends with it, it answers the status, and at the
-/// end of the script it has closed the record and written the rest of its text.
+/// Writes the replies to a batch, which begin at answer `first` of the record. It returns the status if the run ends
+/// with this batch; at the end of the script it first closes the record and writes the rest of its text.
 pub(crate) fn end_batch<K: Sink>(
     alloc: Global,
     gather: &Gather,

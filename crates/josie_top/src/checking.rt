@@ -24,7 +24,7 @@ use script_text::{Gather, fetch_file};
 use std::alloc::Global;
 use trace_check::Checker;
 
-/// The trace that a file holds.
+/// Returns the trace that a file holds, or why it holds none.
 fn trace_of(file: &FileBody) -> Result<&[u8], GivenWhy>
     ensures bytes { IfOk result (λ trace. file_of file.now ≡ Bytes trace.now) }
     ensures fault { IfErr result (λ why. trace_fault (file_of file.now) ≡ Some why) }
@@ -37,7 +37,7 @@ fn trace_of(file: &FileBody) -> Result<&[u8], GivenWhy>
     }
 }
 
-/// Reads a whole script, and hands its batches to a checker that has none.
+/// Reads a whole script, and passes its batches to a checker that has none yet.
 fn read_script<S: Source, F: Shelf>(
     gather: &mut Gather,
     source: &mut S,
@@ -73,7 +73,7 @@ fn read_script<S: Source, F: Shelf>(
     Err(Status::NoMemory)
 }
 
-/// Writes a verdict, or its first bytes where the sink fails.
+/// Writes a verdict, or its first bytes if the sink fails.
 fn write_verdict<K: Sink>(verdict: bool, sink: &mut K) -> Status
     ensures written { IsVerdictWritten verdict result (K.written sink.old) (K.written sink.new) }
     ensures write_fault { result ≡ Status.WriteFault → Rose (K.faults sink.old) (K.faults sink.new) }
@@ -91,7 +91,7 @@ fn write_verdict<K: Sink>(verdict: bool, sink: &mut K) -> Status
     }
 }
 
-/// Reads a whole script, and writes whether a run of it with these options may have this trace.
+/// Reads a whole script, and writes whether a run of it with the given options can have this trace.
 fn check_trace<S: Source, K: Sink, F: Shelf>(
     alloc: Global,
     trace: &[u8],
@@ -123,8 +123,8 @@ fn check_trace<S: Source, K: Sink, F: Shelf>(
     }
 }
 
-/// Fetches the trace in the file of a path, reads a whole script, and writes whether a run of it with these options may have that trace. The
-/// source is read once the trace is there.
+/// Fetches the trace from the file at a path, reads a whole script, and writes whether a run of it with the given
+/// options can have that trace. The source is not read until the trace has been fetched.
 pub(crate) fn check<S: Source, K: Sink, F: Shelf>(
     alloc: Global,
     path: &str,

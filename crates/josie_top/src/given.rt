@@ -1,4 +1,4 @@
-//! The queries in the files that the words of the command line name.
+//! The queries in the files that the command line names.
 ghost use Rattle.std.specs.Prelude.{◌≡◌, ◌<◌, ◌≤◌, [], length, map, string_bytes, IfErr, IfOk, OnOk};
 ghost use Rattle.commands.specs.Tasks.{file_of};
 ghost use Rattle.record_model.specs.Watched.{IsGiven, given_read};
@@ -17,13 +17,13 @@ use std::alloc::Global;
 /// Why a file gives no query.
 #[derive(Clone, Copy, Debug, PartialEq, Eq)]
 pub enum GivenStop {
-    /// For this fault.
+    /// The file is at fault, for this reason.
     Fault(GivenWhy),
-    /// Memory was wanting.
+    /// Memory ran out.
     NoMemory,
 }
 
-/// The query of what came of a file: its lines are the values.
+/// Returns the query in a fetched file: its lines are the values.
 fn query_of(alloc: Global, file: &FileBody) -> Result<QuerySet, GivenStop>
     ensures keys { IfOk result (λ query. given_read (file_of file.now) ≡ IsGiven query) }
     ensures stopped { IfErr result (IsStopped (given_read (file_of file.now))) }
@@ -42,7 +42,7 @@ fn query_of(alloc: Global, file: &FileBody) -> Result<QuerySet, GivenStop>
     }
 }
 
-/// Watches the first k rows of the query in the file of this path.
+/// Watches the first `k` rows of the query in the file at a path.
 fn take_query<F: Shelf>(
     alloc: Global,
     k: u32,
@@ -69,7 +69,7 @@ fn take_query<F: Shelf>(
     }
 }
 
-/// The status of a run whose file of a path of this number gives no query.
+/// Returns the status of a run in which the file of the path with this number gives no query.
 fn status_of_given(path: u32, stop: GivenStop) -> Status
     ensures { result ≡ status_of_given path stop }
 {
@@ -79,7 +79,8 @@ fn status_of_given(path: u32, stop: GivenStop) -> Status
     }
 }
 
-/// Watches the first k rows of the query in the file of each path, one after another. The first that gives none ends it.
+/// Watches the first `k` rows of the query in the file at each path, one after another. It stops at the first file that
+/// gives no query.
 pub(crate) fn take_queries<F: Shelf>(
     alloc: Global,
     k: u32,

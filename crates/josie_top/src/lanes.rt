@@ -27,8 +27,8 @@ use std::alloc::Global;
 use std::sync::Wait;
 use std::thread::Threads;
 
-/// Runs the batches of a script, in an empty record with the run's options, until the script ends, is refused or breaks off, or the text
-/// cannot be written. The lanes of a batch run at the same time, and the merger beside them.
+/// Runs the batches of a script, into an empty record with the run's options, until the script ends, is refused or
+/// breaks off, or the text cannot be written. The lanes of a batch run at the same time, with the merger beside them.
 fn run_batches<
     'a,
     B: Bounds + Send + Sync,
@@ -78,8 +78,8 @@ fn run_batches<
     Status::NoMemory
 }
 
-/// Runs a script over an empty lake of these limits, with these options, which state no order, into an empty record. The lanes of a batch
-/// run at the same time, and the merger beside them.
+/// Runs a script over an empty lake with the given limits and options, which state no order, into an empty record. The
+/// lanes of a batch run at the same time, with the merger beside them.
 fn run_over<
     B: Bounds + Send + Sync,
     R: Threads + Wait + Sync,
@@ -140,8 +140,8 @@ fn run_over<
     )
 }
 
-/// Runs a script over an empty lake, with these options, which state no order, into an empty record. The lanes of a batch run at the
-/// same time, and the merger beside them.
+/// Runs a script over an empty lake with the given options, which state no order, into an empty record. The lanes of a
+/// batch run at the same time, with the merger beside them.
 pub(crate) fn run_lanes<R: Threads + Wait + Sync, S: Source, K: Sink, F: Shelf, G: Gate + Sync>(
     rt: &R,
     alloc: Global,

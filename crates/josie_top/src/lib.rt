@@ -1,4 +1,5 @@
-//! The top call: it reads a script batch by batch, answers the commands of each, and writes the replies before it reads on.
+//! The top call: reads a script batch by batch, answers the commands of each batch, and writes the replies before it
+//! reads on.
 #![tactic(auto)]
 
 ghost use Rattle.std.specs.Prelude.{◌≡◌, ◌⊎◌, None, Some, map, string_bytes};
@@ -37,10 +38,11 @@ mod script;
 mod watching;
 mod writing;
 
-/// Runs a script whose lanes take turns in a stated order, makes a lake, watches queries, or checks a trace, as the mode says, on one thread. Of a script it reads batch
-/// by batch from the source, answers the commands of each in the record, and writes the replies to the sink before the next batch is
-/// read; of a lake that is made it writes the summary. The statuses and what follows from each are the table of statuses, for the
-/// bytes that the source gave, the results of the fetches, and the bytes that the sink took.
+/// Runs a script whose lanes take turns in a stated order, makes a lake, watches queries, or checks a trace, depending
+/// on the mode, on one thread. It reads a script from the source batch by batch, answers the commands of each batch in
+/// the record, and writes the replies to the sink before it reads the next batch; of a lake that is made it writes the
+/// summary. The statuses, and what holds after each, are those of the table of statuses, applied to the bytes that the
+/// source gave, the results of the fetches, and the bytes that the sink took.
 pub fn run_ordered<S: Source, K: Sink, F: Shelf>(
     alloc: Global,
     mode: Mode,
@@ -56,13 +58,13 @@ pub fn run_ordered<S: Source, K: Sink, F: Shelf>(
     ensures table { let before = world_of (S.left source.old) (S.faults source.old) (K.written sink.old) (K.faults sink.old) (F.files shelf.old) (F.faults shelf.old) in
         let now = world_of (S.left source.new) (S.faults source.new) (K.written sink.new) (K.faults sink.new) (F.files shelf.new) (F.faults shelf.new) in
         MeetsMode (mode_of mode) result before now out.new.made }
-    // when each status comes, and what moved
+    // when each status is returned, and what moved
     ensures moves { let before = world_of (S.left source.old) (S.faults source.old) (K.written sink.old) (K.faults sink.old) (F.files shelf.old) (F.faults shelf.old) in
         let now = world_of (S.left source.new) (S.faults source.new) (K.written sink.new) (K.faults sink.new) (F.files shelf.new) (F.faults shelf.new) in
         Moves ⊥ result before now }
-    // where a lake is made, nothing is read and no file is fetched
+    // if a lake is made, nothing is read and no file is fetched
     ensures making { IsMaking (mode_of mode) → (source.new ≡ source.old) × (shelf.new ≡ shelf.old) }
-    // without a fault, nothing else comes but want of memory
+    // without a fault, the only other end is that memory runs out
     ensures complete { let before = world_of (S.left source.old) (S.faults source.old) (K.written sink.old) (K.faults sink.old) (F.files shelf.old) (F.faults shelf.old) in
         let now = world_of (S.left source.new) (S.faults source.new) (K.written sink.new) (K.faults sink.new) (F.files shelf.new) (F.faults shelf.new) in
         EndsModeWell (mode_of mode) result before now }
@@ -82,7 +84,8 @@ pub fn run_ordered<S: Source, K: Sink, F: Shelf>(
     }
 }
 
-/// Runs a script, makes a lake, watches queries, or checks a trace, as the mode says; a script without a stated order on threads.
+/// Runs a script, makes a lake, watches queries, or checks a trace, depending on the mode. A script without a stated
+/// order runs on threads.
 fn run_mode<R: Threads + Wait + Sync, S: Source, K: Sink, F: Shelf, G: Gate + Sync>(
     rt: &R,
     alloc: Global,
@@ -99,13 +102,13 @@ fn run_mode<R: Threads + Wait + Sync, S: Source, K: Sink, F: Shelf, G: Gate + Sy
     ensures table { let before = world_of (S.left source.old) (S.faults source.old) (K.written sink.old) (K.faults sink.old) (F.files shelf.old) (F.faults shelf.old) in
         let now = world_of (S.left source.new) (S.faults source.new) (K.written sink.new) (K.faults sink.new) (F.files shelf.new) (F.faults shelf.new) in
         MeetsMode (mode_of mode) result before now out.new.made }
-    // when each status comes, and what moved
+    // when each status is returned, and what moved
     ensures moves { let before = world_of (S.left source.old) (S.faults source.old) (K.written sink.old) (K.faults sink.old) (F.files shelf.old) (F.faults shelf.old) in
         let now = world_of (S.left source.new) (S.faults source.new) (K.written sink.new) (K.faults sink.new) (F.files shelf.new) (F.faults shelf.new) in
         Moves ⊥ result before now }
-    // where a lake is made, nothing is read and no file is fetched
+    // if a lake is made, nothing is read and no file is fetched
     ensures making { IsMaking (mode_of mode) → (source.new ≡ source.old) × (shelf.new ≡ shelf.old) }
-    // without a fault, nothing else comes but want of memory
+    // without a fault, the only other end is that memory runs out
     ensures complete { let before = world_of (S.left source.old) (S.faults source.old) (K.written sink.old) (K.faults sink.old) (F.files shelf.old) (F.faults shelf.old) in
         let now = world_of (S.left source.new) (S.faults source.new) (K.written sink.new) (K.faults sink.new) (F.files shelf.new) (F.faults shelf.new) in
         EndsModeWell (mode_of mode) result before now }
@@ -125,7 +128,7 @@ fn run_mode<R: Threads + Wait + Sync, S: Source, K: Sink, F: Shelf, G: Gate + Sy
     }
 }
 
-/// The status of words that are refused.
+/// Returns the status of a run whose command-line words are refused.
 fn status_of_refused(refused: WordsRefused) -> Status
     ensures { result ≡ status_of_refused refused }
 {
@@ -135,10 +138,11 @@ fn status_of_refused(refused: WordsRefused) -> Status
     }
 }
 
-/// The program's one call: the runtime, the words after the program's name, the streams, the files, the gate that is told of each
-/// command's moments, and an empty record. Where no order is stated, the lanes of a batch run at the same time, each on a thread, and
-/// the merger beside them; what one lane does alone, or where no thread can be made, is done on the caller's thread. It waits for the
-/// lanes, so its contract holds if it returns.
+/// Runs the program. This is the only call that the program makes: it takes the runtime, the words after the program's
+/// name, the streams, the files, the gate that is told of the moments of each command, and an empty record. If no order
+/// is stated, the lanes of a batch run at the same time, each on its own thread, and the merger beside them; what a
+/// single lane does alone, or a lane for which no thread can be created, runs on the caller's thread. The call waits
+/// for the lanes, so its contract holds if it returns.
 pub fn run<R: Threads + Wait + Sync, S: Source, K: Sink, F: Shelf, G: Gate + Sync>(
     rt: &R,
     alloc: Global,
@@ -150,21 +154,21 @@ pub fn run<R: Threads + Wait + Sync, S: Source, K: Sink, F: Shelf, G: Gate + Syn
     out: &mut RunRecord,
 ) -> Status
     requires empty { out.old.made ≡ empty plain }
-    // what was read, recorded and written, in the mode that the words say
+    // what was read, recorded and written, in the mode that the words state
     ensures table { let before = world_of (S.left source.old) (S.faults source.old) (K.written sink.old) (K.faults sink.old) (F.files shelf.old) (F.faults shelf.old) in
         let now = world_of (S.left source.new) (S.faults source.new) (K.written sink.new) (K.faults sink.new) (F.files shelf.new) (F.faults shelf.new) in
         (mode : said.Mode) × IsSaid (mode_read (map string_bytes words.now)) mode × MeetsMode mode result before now out.new.made }
     // plain words are read as they say
     ensures plain { (mode : said.Mode) → plain_mode (map string_bytes words.now) ≡ Some mode → mode_read (map string_bytes words.now) ≡ Some mode }
-    // when each status comes, and what moved
+    // when each status is returned, and what moved
     ensures moves { let before = world_of (S.left source.old) (S.faults source.old) (K.written sink.old) (K.faults sink.old) (F.files shelf.old) (F.faults shelf.old) in
         let now = world_of (S.left source.new) (S.faults source.new) (K.written sink.new) (K.faults sink.new) (F.files shelf.new) (F.faults shelf.new) in
         Moves (mode_read (map string_bytes words.now) ≡ None) result before now }
     ensures refused { mode_read (map string_bytes words.now) ≡ None → (result ≡ Status.Usage) ⊎ (result ≡ Status.NoMemory) }
     ensures untouched { mode_read (map string_bytes words.now) ≡ None → (source.new ≡ source.old) × (sink.new ≡ sink.old) × (shelf.new ≡ shelf.old) × (out.new.made ≡ out.old.made) }
-    // where a lake is made, nothing is read and no file is fetched
+    // if a lake is made, nothing is read and no file is fetched
     ensures making { (mode : said.Mode) → mode_read (map string_bytes words.now) ≡ Some mode → IsMaking mode → (source.new ≡ source.old) × (shelf.new ≡ shelf.old) }
-    // without a fault, nothing else comes but want of memory
+    // without a fault, the only other end is that memory runs out
     ensures complete { let before = world_of (S.left source.old) (S.faults source.old) (K.written sink.old) (K.faults sink.old) (F.files shelf.old) (F.faults shelf.old) in
         let now = world_of (S.left source.new) (S.faults source.new) (K.written sink.new) (K.faults sink.new) (F.files shelf.new) (F.faults shelf.new) in
         (mode : said.Mode) → mode_read (map string_bytes words.now) ≡ Some mode → EndsModeWell mode result before now }

@@ -26,7 +26,7 @@ use record_model::Status;
 use run_record::RunRecord;
 use std::alloc::Global;
 
-/// One lane, and an order of two empty pieces.
+/// Returns options with one lane and an order of two empty pieces.
 pub(crate) fn made_options(alloc: Global) -> Result<Options, NoMemory>
     ensures { IfOk result (λ options. options ≡ the_options) }
 {
@@ -41,7 +41,7 @@ pub(crate) fn made_options(alloc: Global) -> Result<Options, NoMemory>
     })
 }
 
-/// Runs the commands of the lake over an empty one, into an empty record.
+/// Runs the commands of the made lake over an empty one, into an empty record.
 fn fill_record(
     alloc: Global,
     seed: u32,
@@ -83,7 +83,7 @@ fn fill_record(
     Ok(())
 }
 
-/// Writes the summary of a record, or its first bytes where the sink fails, and nothing where memory is wanting.
+/// Writes the summary of a record: its first bytes if the sink fails, and nothing if memory runs out.
 fn write_made<K: Sink>(alloc: Global, made: &RunRecord, sink: &mut K) -> Result<(), WriteStop>
     ensures all { OnOk result (Appends (K.written sink.old) (K.written sink.new) (summary made.now.made)) }
     ensures part { OnErr result ((part : List ℕ) × IsPrefix part (summary made.now.made) × Appends (K.written sink.old) (K.written sink.new) part) }
@@ -100,7 +100,8 @@ fn write_made<K: Sink>(alloc: Global, made: &RunRecord, sink: &mut K) -> Result<
     }
 }
 
-/// Makes a lake of so many tables, of so many rows each, from the seed, asks its searches, and writes the summary of what came of them.
+/// Makes a lake of `tables` tables with `rows` rows each from the seed, runs its searches, and writes the summary of
+/// the results.
 pub fn make_lake<K: Sink>(
     alloc: Global,
     seed: u32,

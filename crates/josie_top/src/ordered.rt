@@ -31,7 +31,8 @@ use script_model::ScriptLimits;
 use script_text::Gather;
 use std::alloc::Global;
 
-/// The piece of the stated order for the batch of a number, which counts from 0: empty where the order has none.
+/// Returns the piece of the stated order for the batch with the given number, which counts from 0. The piece is empty
+/// if the order has none for it.
 fn piece_of(alloc: Global, options: &Options, number: u64) -> Result<Vec<u32>, NoMemory>
     ensures { IfOk result (λ piece. piece.items ≡ get_or (pieces_of options.now.order) number []) }
 {
@@ -44,8 +45,8 @@ fn piece_of(alloc: Global, options: &Options, number: u64) -> Result<Vec<u32>, N
     Ok(piece.list().to_vec(alloc)?)
 }
 
-/// Answers a batch, whose number counts from 0, in the order that is stated for it. Values are compared by this match. The timeline takes
-/// more of the journal where an earlier position is asked for.
+/// Answers a batch, whose number counts from 0, in the order that is stated for it, comparing values by the given kind
+/// of keys. The timeline takes more of the journal if a command asks for an earlier position.
 pub(crate) fn answer_in_order(
     alloc: Global,
     catalogue: &mut Catalogue,
@@ -77,8 +78,8 @@ pub(crate) fn answer_in_order(
     )
 }
 
-/// Runs the batches of a script, in an empty record with the run's options, until the script ends, is refused or breaks off, or the text
-/// cannot be written.
+/// Runs the batches of a script, into an empty record with the run's options, until the script ends, is refused or
+/// breaks off, or the text cannot be written.
 fn run_batches<S: Source, K: Sink, F: Shelf>(
     alloc: Global,
     gather: &mut Gather,
@@ -125,7 +126,7 @@ fn run_batches<S: Source, K: Sink, F: Shelf>(
     Status::NoMemory
 }
 
-/// Runs a script over an empty lake, with these options, which state an order, into an empty record.
+/// Runs a script over an empty lake with the given options, which state an order, into an empty record.
 pub(crate) fn run_in_order<S: Source, K: Sink, F: Shelf>(
     alloc: Global,
     options: Options,

@@ -16,8 +16,8 @@ use std::alloc::Global;
 use std::sync::Wait;
 use std::thread::Threads;
 
-/// Runs a script over an empty lake, with these options, into an empty record: in the order that they state, or on threads where they
-/// state none.
+/// Runs a script over an empty lake with the given options, into an empty record: in the order that they state, or on
+/// threads if they state none.
 pub(crate) fn run_script<R: Threads + Wait + Sync, S: Source, K: Sink, F: Shelf, G: Gate + Sync>(
     rt: &R,
     alloc: Global,

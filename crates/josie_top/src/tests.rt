@@ -1,4 +1,4 @@
-//! Runs over streams in memory, whole and failing.
+//! Runs over streams in memory, which work or fail.
 use super::{GivenWhy, Reason, RunRecord, Status, run};
 use lake_io::{Gate, MemoryShelf, MemorySink, MemorySource, NoGate, Point};
 use std::alloc::Global;
@@ -16,8 +16,8 @@ const SCRIPT: &str =
 const WRITTEN: &str =
     "1 loaded stations columns 3 members 9 at 1\n2 answer 1 of 3 at 1\n  2 stations 2 \"city\"\n3 answer 1 of 2 at 1\n  2 stations 3 \"country\"\n";
 
-// Streams in memory: the source gives pieces of so many bytes and the sink takes such; and of each stream and of the store the number of the call that fails, or 0.
-// The store has one file, `here.csv`, which holds this text.
+// Streams in memory: the source gives, and the sink takes, pieces of `piece` bytes. For each stream and for the store
+// there is the number of the call that fails, or 0. The store has one file, `here.csv`, which holds this text.
 #[derive(Clone, Copy)]
 struct Streams {
     piece: usize,
@@ -28,7 +28,7 @@ struct Streams {
     file: &'static str,
 }
 
-// None of the calls fails, and the file holds the values `c` and `x`.
+// No call fails, and the file holds the values `c` and `x`.
 const SOUND: Streams = Streams {
     piece: 64,
     failing_read: 0,
@@ -38,8 +38,8 @@ const SOUND: Streams = Streams {
     file: "c\nx\n",
 };
 
-// A gate that holds lane 1 at its pin until a command of lane 2 has ended, and lane 2 at the beginning of one until lane 1 has its pin. It
-// holds nobody for ever: then it is late.
+// A gate that holds lane 1 at its pin until a command of lane 2 has ended, and holds lane 2 at the start of a command
+// until lane 1 has its pin. It holds no lane for ever: after a while it gives up and sets `late`.
 #[derive(Drop)]
 struct Crossing {
     pinned: AtomicBool,
@@ -56,7 +56,7 @@ impl Crossing {
         }
     }
 
-    // Lets other threads run until the flag is set, or so many times.
+    // Lets other threads run until the flag is set, at most 10,000,000 times.
     fn wait_for(&self, flag: &AtomicBool) {
         for _ in 0..10_000_000 {
             if flag.load(Ordering::SeqCst) {
@@ -82,7 +82,7 @@ impl Gate for Crossing {
     }
 }
 
-// How a run of the words over no gate ends, and whether it wrote this.
+// Returns how a run of these words without a gate ends, and whether it wrote exactly this text.
 fn ends_with<R: Threads + Wait + Sync>(
     rt: &R,
     alloc: Global,
@@ -94,7 +94,7 @@ fn ends_with<R: Threads + Wait + Sync>(
     ends_at(rt, alloc, &NoGate, texts, script, streams, written)
 }
 
-// How a run of the words over this gate ends, and whether it wrote this.
+// Returns how a run of these words with this gate ends, and whether it wrote exactly this text.
 fn ends_at<R: Threads + Wait + Sync, G: Gate + Sync>(
     rt: &R,
     alloc: Global,
@@ -144,7 +144,7 @@ fn ends_at<R: Threads + Wait + Sync, G: Gate + Sync>(
     Ok((status, sink.written() == written.as_bytes()))
 }
 
-// The same of the word `run`.
+// Does the same for the single word `run`.
 fn ends<R: Threads + Wait + Sync>(
     rt: &R,
     alloc: Global,
@@ -185,7 +185,7 @@ fn writes_nothing_for_an_empty_input(rt: HostRuntime) -> Result<(), Fail> {
     Ok(())
 }
 
-// The calls are one for each piece, and one that finds the end.
+// There is one call for each piece, and one that finds the end.
 #[test]
 fn ends_at_each_failing_read_with_nothing_written(rt: HostRuntime) -> Result<(), Fail> {
     for (piece, calls) in [(1usize, 163u64), (7, 25), (64, 4)] {
@@ -267,7 +267,7 @@ fn writes_each_batch_before_it_reads_the_next(rt: HostRuntime) -> Result<(), Fai
     Ok(())
 }
 
-// How a run ends whose first write fails, and whether its source then has this left.
+// Returns how a run ends whose first write fails, and whether its source then has exactly this text left.
 fn leaves<R: Threads + Wait + Sync>(
     rt: &R,
     alloc: Global,
@@ -438,7 +438,7 @@ fn names_the_path_that_gives_no_query(rt: HostRuntime) -> Result<(), Fail> {
     Ok(())
 }
 
-// A load and a search, and the trace of a run of them.
+// A load and a search, for which the tests below have traces.
 const AUDITED: &str = "load a\nc\nx\n.\nsearch 1\nx\n.\n";
 
 const AUDIT: &str =
@@ -463,7 +463,7 @@ fn checks_a_trace(rt: HostRuntime) -> Result<(), Fail> {
     Ok(())
 }
 
-// A fault of the trace's file, of the script, of the source or of the sink, and what was written before it.
+// A fault of the trace's file, of the script, of the source or of the sink, with what was written before it.
 #[test]
 fn ends_at_what_fails_in_a_check(rt: HostRuntime) -> Result<(), Fail> {
     let fault = Status::Script {
@@ -501,7 +501,8 @@ fn ends_at_what_fails_in_a_check(rt: HostRuntime) -> Result<(), Fail> {
     Ok(())
 }
 
-// Lane 1 searches the version that it pinned, although lane 2 has changed the lake meanwhile. In the last batch the gate holds nobody.
+// Lane 1 searches the version that it pinned, although lane 2 has changed the lake meanwhile. In the last batch the
+// gate holds no lane.
 #[test]
 fn a_search_at_its_pin_holds_up_no_other_lane(rt: HostRuntime) -> Result<(), Fail> {
     let loads = "load a\nc\nx\ny\n.\nload b\nc\nx\n.\nsync\nsearch 1\nx\ny\n.\n";

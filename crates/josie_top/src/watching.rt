@@ -38,7 +38,7 @@ use script_text::Gather;
 use std::alloc::Global;
 use watch_text::{push_end, tell_entries};
 
-/// What takes the replies, which nobody reads.
+/// A sink that drops the replies, which nobody reads.
 #[derive(Drop)]
 struct Nowhere;
 
@@ -54,7 +54,7 @@ impl Sink for Nowhere {
     }
 }
 
-/// Writes the text, or its first bytes where the sink fails.
+/// Writes the text, or its first bytes if the sink fails.
 fn write_text<K: Sink>(sink: &mut K, text: &[u8]) -> Result<(), WriteStop>
     ensures all { OnOk result (Appends (K.written sink.old) (K.written sink.new) text.now) }
     ensures part { OnErr result ((part : List ℕ) × IsPrefix part text.now × Appends (K.written sink.old) (K.written sink.new) part) }
@@ -67,8 +67,8 @@ fn write_text<K: Sink>(sink: &mut K, text: &[u8]) -> Result<(), WriteStop>
     }
 }
 
-/// Tells what the entries of the record changed that were not taken yet, or the first bytes of that where the sink fails, and nothing where
-/// memory is wanting.
+/// Writes what those entries of the record changed that the watches have not taken yet: the first bytes of that if the
+/// sink fails, and nothing if memory runs out.
 fn tell_batch<K: Sink>(
     alloc: Global,
     watches: &mut Watches,
@@ -93,14 +93,14 @@ fn tell_batch<K: Sink>(
     write_text(sink, text.as_slice())
 }
 
-/// Whether a script was read to its end and answered.
+/// Returns whether a script was read to its end and answered.
 fn is_done(ended: Status) -> bool
     ensures { result ≡ is_done ended }
 {
     matches!(ended, Status::Done)
 }
 
-/// Ends a run whose script ended so: where that was read to its end, the last line is written.
+/// Ends a run whose script ended with this status. If the script was read to its end, the last line is written.
 fn end_telling<K: Sink>(alloc: Global, ended: Status, made: &RunRecord, sink: &mut K) -> Status
     ensures watched { (k : ℕ) (queries : List (List Text)) (before outside : World)
         → Meets (standard_rules Canonical) made_options ended (unwritten before) (unwritten outside) made.now.made → (ended ≡ Status.Usage → ⊥)
@@ -122,8 +122,8 @@ fn end_telling<K: Sink>(alloc: Global, ended: Status, made: &RunRecord, sink: &m
     }
 }
 
-/// Runs the batches of a script, in an empty record, until it ends, is refused or breaks off, or the text cannot be written. Behind each
-/// batch it tells what the entries of the batch changed.
+/// Runs the batches of a script, into an empty record, until the script ends, is refused or breaks off, or the text
+/// cannot be written. After each batch it writes what the entries of the batch changed.
 fn watch_batches<S: Source, K: Sink, F: Shelf>(
     alloc: Global,
     gather: &mut Gather,
@@ -167,7 +167,8 @@ fn watch_batches<S: Source, K: Sink, F: Shelf>(
     Status::NoMemory
 }
 
-/// Runs a script over an empty lake in an order of two empty pieces, into an empty record, with these queries watched.
+/// Runs a script over an empty lake, in an order of two empty pieces, into an empty record, while these queries are
+/// watched.
 fn watch_script<S: Source, K: Sink, F: Shelf>(
     alloc: Global,
     watches: &mut Watches,
@@ -207,8 +208,9 @@ fn watch_script<S: Source, K: Sink, F: Shelf>(
     )
 }
 
-/// Watches the first k rows of the queries in the files of these paths while a script changes a lake: the source is read once the queries
-/// are there, and each batch is told of before the next is read. The replies stand in the record, and are not written.
+/// Watches the first `k` rows of the queries in the files at these paths while a script changes a lake. The source is
+/// not read until the queries have been fetched, and the changes of each batch are written before the next batch is
+/// read. The replies are in the record, and are not written.
 pub(crate) fn watch<S: Source, K: Sink, F: Shelf>(
     alloc: Global,
     k: u32,

@@ -1,4 +1,4 @@
--- What a walk over a file's bytes, piece by piece, knows of a file that tells what it has left.
+-- What a walk over a file's bytes, piece by piece, shows about a file for which it is known what it has left.
 use Rattle.std.proofs.Common.{ℕ, ◌≡◌, ◌+◌, ◌<◌, List, [], ◌++◌, length, arith, ap, sym, length-append}
 use Rattle.std.proofs.lemmas.List.{append-nil}
 use Rattle.std.specs.Prelude.{Option, Some, None, IfSome}
@@ -12,7 +12,7 @@ given-length None new given most moved long = tt
 given-length (Some all) None given most moved long = absurd moved
 given-length (Some all) (Some rest) given most moved long = omega (arith, ap length moved, length-append given rest)
 
--- a file that gave more than was wanted in two pieces had more
+-- a file that gave more than was wanted, in two pieces, had more
 pub given-too-long : (old mid new : Option (List ℕ)) (bytes piece : List ℕ) (most : ℕ) → Consumes old mid bytes → Consumes mid new piece
     → most < length bytes + length piece → IfSome old (λ all. most < length all)
 given-too-long old mid new bytes piece most first second long =

@@ -1,4 +1,4 @@
--- The files of a shelf, where they are told.
+-- The files of a shelf, if they are known.
 use Rattle.std.specs.Prelude.{ℕ, ◌≡◌, ◌<◌, List, [], ◌∷◌, length, Option, Some, None, MatchOption, bytes_eq, if◌then◌else◌}
 
 -- a file, by the bytes of its path
@@ -14,23 +14,23 @@ file_at (file ∷ files) path = if bytes_eq file.path path then Some file.bytes 
 abbrev pub file_with : List ℕ → List ℕ → File
 file_with path bytes = record { path = path; bytes = bytes }
 
--- the files, with these bytes at the path: in the place of the file there, or in a file behind all others
+-- the files, with these bytes at the path: in the place of the file there, or in a new file after all others
 unfoldable pub put_file : List File → List ℕ → List ℕ → List File
 put_file [] path bytes = file_with path bytes ∷ []
 put_file (file ∷ files) path bytes =
     if bytes_eq file.path path then file_with path bytes ∷ files else file ∷ put_file files path bytes
 
--- where the files are told, the file at the path has these bytes
+-- if the files are known, the file at the path has these bytes
 abbrev pub HasFile : Option (List File) → List ℕ → List ℕ → Type 0
 HasFile None path bytes = Unit {0}
 HasFile (Some files) path bytes = file_at files path ≡ Some bytes
 
--- where the files are told, no file has the path
+-- if the files are known, no file has the path
 abbrev pub LacksFile : Option (List File) → List ℕ → Type 0
 LacksFile None path = Unit {0}
 LacksFile (Some files) path = file_at files path ≡ None
 
--- where the files are told, the file at the path has more than `most` bytes
+-- if the files are known, the file at the path has more than `most` bytes
 abbrev pub HasLongFile : Option (List File) → List ℕ → ℕ → Type 0
 HasLongFile None path most = Unit {0}
 HasLongFile (Some files) path most = MatchOption (file_at files path) ⊥ (λ bytes. most < length bytes)

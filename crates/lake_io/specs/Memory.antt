@@ -1,4 +1,4 @@
--- The objects in memory, as contracts see them. Their calls are counted from 1, and those listed in `failing` fail.
+-- The models of the objects in memory. Their calls are counted from 1, and those listed in `failing` fail.
 use Rattle.std.specs.Prelude.{ℕ, ◌-◌, Bool, ◌||◌, ◌&&◌, not, List, ◌++◌, length, take, drop, min, nat_eq, nat_lt, Option, Some, None, if◌then◌else◌}
 use Rattle.std.specs.List.{list_any}
 use Rattle.lake_io.specs.declared.ShelfRefused.{ShelfRefused}
@@ -10,7 +10,7 @@ use Rattle.lake_io.specs.Files.{File, file_at}
 abbrev pub is_listed : ℕ → List ℕ → Bool
 is_listed call failing = list_any (λ listed. nat_eq listed call) failing
 
--- a source: the bytes that it has not given, the most that it gives a call, the calls that fail, and its counts
+-- a source: the bytes that it has not given, the most that it gives in a call, the calls that fail, and its counts
 pub record SourceState : Type 0 where
   pub left : List ℕ
   pub piece : ℕ
@@ -22,11 +22,11 @@ pub record SourceState : Type 0 where
 abbrev pub read_fails : SourceState → Bool
 read_fails s = is_listed (one_more s.calls) s.failing
 
--- how many bytes a read into so much room gives
+-- how many bytes a read into `room` bytes gives
 abbrev pub read_count : SourceState → ℕ → ℕ
 read_count s room = min (min s.piece room) (length s.left)
 
--- the source behind a read into so much room
+-- the source after a read into `room` bytes
 abbrev pub after_read : SourceState → ℕ → SourceState
 after_read s room = if read_fails s
     then record s { calls = one_more s.calls; faults = one_more s.faults }
@@ -41,15 +41,16 @@ pub record SinkState : Type 0 where
   pub calls : ℕ
   pub faults : ℕ
 
--- how many bytes a write of a piece so long takes
+-- how many bytes a write of a piece of `len` bytes takes
 abbrev pub write_count : SinkState → ℕ → ℕ
 write_count s len = min (min s.piece len) (s.capacity - length s.written)
 
--- whether the next write, of a piece so long, fails: it is to fail, or the piece has bytes and no room is left
+-- whether the next write, of a piece of `len` bytes, fails: it is to fail, or the piece is not empty and no room is
+-- left
 abbrev pub write_fails : SinkState → ℕ → Bool
 write_fails s len = is_listed (one_more s.calls) s.failing || (not (nat_eq len 0) && nat_eq (s.capacity - length s.written) 0)
 
--- the sink behind a write of the piece
+-- the sink after a write of the piece
 abbrev pub after_write : SinkState → List ℕ → SinkState
 after_write s piece = if write_fails s (length piece)
     then record s { calls = one_more s.calls; faults = one_more s.faults }
@@ -66,16 +67,17 @@ pub record ShelfState : Type 0 where
 abbrev pub fetch_fails : ShelfState → Bool
 fetch_fails s = is_listed (one_more s.calls) s.failing
 
--- why these bytes of a file, or none, are not given, where at most `most` are wanted
+-- why the bytes of a file are not given, if at most `most` are wanted: there is no file, or it is too long
 abbrev pub length_refusal : Option (List ℕ) → ℕ → Option ShelfRefused
 length_refusal None most = Some Missing
 length_refusal (Some bytes) most = if nat_lt most (length bytes) then Some TooLong else None
 
--- why the next fetch is refused, if not for want of memory: it is to fail, or no file has the path, or the file is too long
+-- why the next fetch is refused, other than that memory runs out: it is to fail, or no file has the path, or the file
+-- is too long
 abbrev pub fetch_refusal : ShelfState → List ℕ → ℕ → Option ShelfRefused
 fetch_refusal s path most = if fetch_fails s then Some Failed else length_refusal (file_at s.files path) most
 
--- the shelf behind a fetch
+-- the shelf after a fetch
 abbrev pub after_fetch : ShelfState → ShelfState
 after_fetch s = if fetch_fails s
     then record s { calls = one_more s.calls; faults = one_more s.faults }

@@ -5,14 +5,14 @@ use Rattle.lake_io.specs.declared.ShelfRefused.TheVariants.{Failed, Missing, Too
 use Rattle.lake_io.specs.Causes.{Rose}
 use Rattle.lake_io.specs.Files.{File, LacksFile, HasLongFile}
 
--- a refusal, by the files where they are told and by the count of faults before the call and behind it
+-- a refusal, by the files if they are known, and by the count of faults before and after the call
 abbrev pub Refuses : Option (List File) → List ℕ → ℕ → ℕ → ℕ → ShelfRefused → Type 0
 Refuses files path most before now Failed = Rose before now
 Refuses files path most before now Missing = (now ≡ before) × LacksFile files path
 Refuses files path most before now TooLong = (now ≡ before) × HasLongFile files path most
 Refuses files path most before now NoMemory = Unit {0}
 
--- whether an answer is a failure, which is counted
+-- whether a result is a failure, which is counted
 abbrev pub is_failed : {T : Type 0} → Result T ShelfRefused → Bool
 is_failed (Ok file) = false
 is_failed (Err Failed) = true

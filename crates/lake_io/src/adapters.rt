@@ -1,4 +1,5 @@
-//! The system's own streams and files. They tell no content, and count each error: the trusted edge, of a few lines each.
+//! The system's own streams and files. Their contents are not known to contracts, and each error is counted. This is
+//! the trusted edge, a few lines for each.
 ghost use Rattle.std.specs.Prelude.{None, ◌≡◌, ◌≢◌, ◌↔◌, ◌<◌, ◌≤◌, ℕ, is_ok, IfOk, IfErr, IfSome, IsErrOf, length, vec_len, if◌then◌else◌};
 ghost use Rattle.std.specs.Io.{ReadsAtMost, WritesAtMost};
 ghost use Rattle.std.specs.Io.KnownBytes.{ReadConsumes, WriteAppends};
@@ -13,7 +14,7 @@ use std::io::{ErrorKind, Read, Stdin, Stdout, Write};
 use std::marker::Model;
 use std::rt::Files;
 
-/// How many bytes of a file are asked for at once: 64 KiB.
+/// The most bytes of a file that are asked for at once: 64 KiB.
 const PIECE: usize = 65536;
 
 /// Counts a fault. A count that has reached 2^64 - 1 stays there.
@@ -25,7 +26,7 @@ fn count_fault(faults: &mut u64) -> Failed
     Failed
 }
 
-/// Reads a stream once, and counts each of its errors.
+/// Reads from a stream once, and counts an error as a fault.
 fn read_counted<R: Read>(stream: &mut R, faults: &mut u64, into: &mut [u8]) -> Result<usize, Failed>
     ensures bound { ReadsAtMost result into.new }
     ensures bytes { ReadConsumes (R.remaining stream.old) (R.remaining stream.new) result into.new }
@@ -38,7 +39,8 @@ fn read_counted<R: Read>(stream: &mut R, faults: &mut u64, into: &mut [u8]) -> R
     }
 }
 
-/// Writes to a stream once, and an empty piece not at all. Counts each of its errors, and that it takes nothing.
+/// Writes to a stream once, or not at all if the piece is empty. It counts as a fault an error, or that the stream
+/// takes nothing.
 fn write_counted<W: Write>(stream: &mut W, faults: &mut u64, piece: &[u8]) -> Result<usize, Failed>
     ensures bound { WritesAtMost result piece.now }
     ensures some { IfOk result (λ count. 0 < length piece.now → 0 < count) }
@@ -56,7 +58,7 @@ fn write_counted<W: Write>(stream: &mut W, faults: &mut u64, piece: &[u8]) -> Re
     }
 }
 
-/// Standard input. It tells no bytes: a contract sees its count of faults.
+/// Standard input. Its bytes are not known to contracts; its model is its count of faults.
 #[derive(Drop)]
 pub struct StdSource {
     stream: Stdin,
@@ -72,7 +74,7 @@ impl Model for StdSource {
 }
 
 impl StdSource {
-    /// The stream, with no fault counted.
+    /// Returns a source over the stream, with no fault counted.
     pub fn new(stream: Stdin) -> StdSource
         ensures { result ≡ 0 }
     {
@@ -90,14 +92,14 @@ impl Source for StdSource {
         ensures bound { ReadsAtMost result into.new }
         ensures bytes { ReadConsumes None None result into.new }
         ensures cause { HasCause self.old self.new result }
-        // exactly what it counts
+        // what exactly it counts
         ensures state { self.new ≡ (if is_ok result then self.old else one_more self.old) }
     {
         read_counted(&mut self.stream, &mut self.faults, into)
     }
 }
 
-/// Standard output. It tells no bytes: a contract sees its count of faults.
+/// Standard output. Its bytes are not known to contracts; its model is its count of faults.
 #[derive(Drop)]
 pub struct StdSink {
     stream: Stdout,
@@ -113,7 +115,7 @@ impl Model for StdSink {
 }
 
 impl StdSink {
-    /// The stream, with no fault counted.
+    /// Returns a sink over the stream, with no fault counted.
     pub fn new(stream: Stdout) -> StdSink
         ensures { result ≡ 0 }
     {
@@ -126,21 +128,21 @@ impl Sink for StdSink {
 
     ghost faults = { λ s. s };
 
-    /// Writes once, and an empty piece not at all. Each error of the system is a fault, and so is a nonempty piece of which
-    /// it takes nothing.
+    /// Writes once, or not at all if the piece is empty. Each error of the system is a fault, and so is a nonempty
+    /// piece of which the system takes nothing.
     fn write(&mut self, piece: &[u8]) -> Result<usize, Failed>
         ensures bound { WritesAtMost result piece.now }
         ensures some { IfOk result (λ count. 0 < length piece.now → 0 < count) }
         ensures bytes { WriteAppends None None result piece.now }
         ensures cause { HasCause self.old self.new result }
-        // exactly what it counts
+        // what exactly it counts
         ensures state { self.new ≡ (if is_ok result then self.old else one_more self.old) }
     {
         write_counted(&mut self.stream, &mut self.faults, piece)
     }
 }
 
-/// The files of the system, by their paths. It tells no files: a contract sees its count of faults.
+/// The files of the system, by their paths. The files are not known to contracts; its model is its count of faults.
 #[derive(Drop)]
 pub struct FileShelf<'a, R> {
     rt: &'a R,
@@ -156,7 +158,7 @@ impl<'a, R> Model for FileShelf<'a, R> {
 }
 
 impl<'a, R: Files> FileShelf<'a, R> {
-    /// The files that the runtime reaches, with no fault counted.
+    /// Returns a shelf over the files that the runtime reaches, with no fault counted.
     pub fn new(rt: &'a R) -> FileShelf<'a, R>
         ensures { result ≡ 0 }
     {
@@ -164,15 +166,19 @@ impl<'a, R: Files> FileShelf<'a, R> {
     }
 }
 
-/// Room for a piece of a file. It is on the heap, and its size is no fact that a proof needs.
+/// Returns room for a piece of a file, on the heap. No proof needs its exact size.
 fn piece_room(alloc: Global) -> Result<Vec<u8>, AllocError>
     ensures { IfOk result (λ room. 0 < vec_len room) }
 {
     vec![in alloc; 0u8; PIECE]
 }
 
-/// The bytes of a file from where it stands to its end, read by way of `room`. `TooLong` where there are more than `most`,
-/// and `Failed` at an error of the system.
+/// Reads the bytes of a file from its current position to its end, using `room` as a buffer.
+///
+/// # Errors
+///
+/// Returns `TooLong` if there are more than `most` bytes, `Failed` after an error of the system, and `NoMemory` if
+/// memory runs out.
 fn read_file<F: Read>(
     alloc: Global,
     file: &mut F,
@@ -182,7 +188,7 @@ fn read_file<F: Read>(
     requires { 0 < length room.old }
     ensures short { IfOk result (λ bytes. length bytes.items ≤ most) }
     ensures found { result ≢ Err ShelfRefused.Missing }
-    // of a file that tells what it has left
+    // if it is known what the file has left
     ensures whole { IfOk result (λ bytes. IfSome (F.remaining file.old) (λ all. bytes.items ≡ all)) }
     ensures long { IsErrOf result ShelfRefused.TooLong → IfSome (F.remaining file.old) (λ all. most < length all) }
 {
@@ -204,7 +210,7 @@ fn read_file<F: Read>(
     }
 }
 
-/// Why a file that cannot be opened is refused.
+/// Returns why a file that cannot be opened is refused.
 fn open_refusal(kind: ErrorKind) -> ShelfRefused
     ensures missing { result ≡ ShelfRefused.Missing ↔ (kind ≡ ErrorKind.NotFound) }
     ensures memory { result ≡ ShelfRefused.NoMemory ↔ (kind ≡ ErrorKind.OutOfMemory) }
@@ -217,8 +223,8 @@ fn open_refusal(kind: ErrorKind) -> ShelfRefused
     }
 }
 
-/// The bytes of the file at the path, of which there may be at most `most`, or why it is refused: by the error where the
-/// system does not open it, and as [`read_file`] says where it does.
+/// Returns the bytes of the file at the path, at most `most` of them, or why the file is refused: by the error if the
+/// system does not open it, and otherwise as [`read_file`] describes.
 fn open_and_read<R: Files>(
     alloc: Global,
     rt: &R,
@@ -242,14 +248,14 @@ impl<R: Files> Shelf for FileShelf<'_, R> {
 
     ghost faults = { λ s. s };
 
-    /// Reads the file at the path. A path that the system does not find is `Missing`, and every other error of the system,
-    /// but want of memory, is a fault: a folder, a path through a file, a file that may not be read.
+    /// Reads the file at the path. A path that the system does not find is `Missing`. Every other error of the system,
+    /// except that memory runs out, is a fault: a folder, a path through a file, or a file that may not be read.
     fn fetch(&mut self, alloc: Global, path: &str, most: usize) -> Result<Vec<u8>, ShelfRefused>
         ensures later { self.old ≤ self.new }
         ensures file { IfOk result (λ bytes. HasFile None path.now bytes.items) }
         ensures short { IfOk result (λ bytes. length bytes.items ≤ most) }
         ensures refused { IfErr result (λ why. Refuses None path.now most self.old self.new why) }
-        // exactly what it counts
+        // what exactly it counts
         ensures state { self.new ≡ (if is_failed result then one_more self.old else self.old) }
     {
         let answer = open_and_read(alloc, self.rt, path, most);

@@ -1,8 +1,9 @@
-//! What the program reads, writes and fetches: a source of bytes, a sink for bytes and a shelf of files, each with a count of
-//! its faults, and a gate that is told of each moment of a command.
+//! What the program reads, writes and fetches: a source of bytes, a sink for bytes and a shelf of files, each with a
+//! count of its faults; and a gate that is told of each moment of a command.
 //!
-//! The program names these traits alone. The objects in memory stand in for the system's streams and files where a run is
-//! proved or tested, and tell all that they hold; the adapters over the system's own tell nothing but their faults.
+//! The program uses only these traits. The objects in memory replace the system's streams and files where a run is
+//! proved or tested, and contracts know all that they hold. Of the adapters over the system's own streams and files,
+//! contracts know only the faults.
 #![tactic(auto)]
 
 ghost use Rattle.std.specs.Prelude.{◌≡◌, ◌<◌, ◌≤◌, ℕ, List, Option, length, IfOk, IfErr};
@@ -27,7 +28,7 @@ pub use memory_shelf::MemoryShelf;
 pub use memory_sink::MemorySink;
 pub use memory_source::MemorySource;
 
-/// A read or a write that failed. It was counted as a fault, and moved no byte.
+/// A read or a write that failed. It was counted as a fault, and moved no bytes.
 #[derive(Clone, Copy, Debug, PartialEq, Eq, Hash, Error)]
 #[error("failed")]
 pub struct Failed;
@@ -44,42 +45,49 @@ pub enum ShelfRefused {
     /// The file has more bytes than were asked for. No fault is counted.
     #[error("too long")]
     TooLong,
-    /// Memory was wanting for the file's bytes.
+    /// Memory ran out for the file's bytes.
     #[error("no memory")]
     NoMemory,
 }
 
-/// What bytes are read from.
+/// A source of bytes.
 ///
-/// In contracts `left` is the list of the bytes that it will still give, where it tells them, and `faults` the count of its
-/// failures, which never falls. A count stops at 2^64 - 1, and is then said to rise as far as anyone asks.
+/// In contracts, `left` is the list of the bytes that it will still give, if these are known, and `faults` is the count
+/// of its failures, which never falls. A count that has reached 2^64 - 1 stays there, and from then on is taken to rise
+/// with each failure.
 pub trait Source {
     ghost left: { Self → Option (List ℕ) };
 
     ghost faults: { Self → ℕ };
 
-    /// Puts the next bytes at the front of `into` and takes them from what is left. Answers how many: at most the length of
-    /// `into`, and 0 into a nonempty slice only at the end.
+    /// Moves the next bytes from what is left to the front of `into`. It returns how many: at most the length of
+    /// `into`, and 0 for a nonempty slice only at the end.
     ///
-    /// `Failed` comes only with a fault counted, and takes nothing.
+    /// # Errors
+    ///
+    /// Returns `Failed` only with a fault counted; then nothing was moved.
     fn read(&mut self, into: &mut [u8]) -> Result<usize, Failed>
         ensures bound { ReadsAtMost result into.new }
         ensures bytes { ReadConsumes (left self.old) (left self.new) result into.new }
         ensures cause { HasCause (faults self.old) (faults self.new) result };
 }
 
-/// What bytes are written to.
+/// A sink for bytes.
 ///
-/// In contracts `written` is the list of the bytes that it has taken, where it tells them, and `faults` the count of its
-/// failures, as of a [`Source`].
+/// In contracts, `written` is the list of the bytes that it has taken, if these are known, and `faults` is the count of
+/// its failures, as for a [`Source`].
 pub trait Sink {
     ghost written: { Self → Option (List ℕ) };
 
     ghost faults: { Self → ℕ };
 
-    /// Appends the first bytes of `piece` to what is written. Answers how many: at least 1 where the piece has any.
+    /// Appends the first bytes of `piece` to what is written. It returns how many: at least 1 if the piece is not
+    /// empty.
     ///
-    /// `Failed` comes only with a fault counted, and appends nothing. An object that takes nothing of a nonempty piece fails.
+    /// # Errors
+    ///
+    /// Returns `Failed` only with a fault counted; then nothing was appended. A sink that takes nothing of a nonempty
+    /// piece fails.
     fn write(&mut self, piece: &[u8]) -> Result<usize, Failed>
         ensures bound { WritesAtMost result piece.now }
         ensures some { IfOk result (λ count. 0 < length piece.now → 0 < count) }
@@ -87,19 +95,22 @@ pub trait Sink {
         ensures cause { HasCause (faults self.old) (faults self.new) result };
 }
 
-/// What files are fetched from.
+/// A shelf from which files are fetched.
 ///
-/// In contracts `files` is the list of its files, where it tells them, and `faults` the count of its failures, as of a
-/// [`Source`]. A fetch changes no file, whatever it answers.
+/// In contracts, `files` is the list of its files, if these are known, and `faults` is the count of its failures, as
+/// for a [`Source`]. A fetch changes no file, whatever its result.
 pub trait Shelf {
     ghost files: { Self → Option (List File) };
 
     ghost faults: { Self → ℕ };
 
-    /// The bytes of the file at `path`, of which there may be at most `most`.
+    /// Returns the bytes of the file at `path`, at most `most` of them.
     ///
-    /// `Failed` comes only with a fault counted. `Missing` and `TooLong` come with none, and, where the files are told, only
-    /// where no file has the path and where the file has more than `most` bytes.
+    /// # Errors
+    ///
+    /// Returns `Failed` only with a fault counted. `Missing` and `TooLong` count no fault; if the files are known,
+    /// `Missing` is returned only if no file has the path, and `TooLong` only if the file has more than `most` bytes.
+    /// Returns `NoMemory` if memory runs out.
     fn fetch(&mut self, alloc: Global, path: &str, most: usize) -> Result<Vec<u8>, ShelfRefused>
         ensures files { files self.new ≡ files self.old }
         ensures later { faults self.old ≤ faults self.new }
@@ -111,18 +122,18 @@ pub trait Shelf {
 /// A moment of a command.
 #[derive(Clone, Copy, Debug, PartialEq, Eq, Hash)]
 pub enum Point {
-    /// Before the command's first call of the lake.
+    /// Before the command first calls the lake.
     Begin,
-    /// With the lake pinned, before the command answers from it or swaps parts of it.
+    /// After the lake is pinned, before the command answers from the pin or swaps parts of it.
     Pinned,
-    /// With the command's reply made.
+    /// After the command's reply is made.
     Ended,
 }
 
-/// What is told of each moment of a command. No turn of a lock is held meanwhile.
+/// A gate that is told of each moment of a command. No lock is held during the call.
 pub trait Gate {
-    /// The command with the number `command`, counted from 1 in the script, has come to `point` on `lane`. Lane 0 is the
-    /// merger's, which counts its own commands.
+    /// Tells the gate that the command with the number `command`, counted from 1 in the script, has reached `point` on
+    /// `lane`. Lane 0 is the merger's, which counts its own commands.
     fn at(&self, lane: u32, command: u64, point: Point);
 }
 

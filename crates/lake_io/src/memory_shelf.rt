@@ -1,4 +1,4 @@
-//! A shelf in memory, which gives the files that were added and fails where it is told to.
+//! A shelf in memory, which gives the files that were added, and fails at chosen calls.
 ghost use Rattle.std.specs.Prelude.{◌≡◌, ◌<◌, ◌≤◌, ◌++◌, ◌∷◌, ℕ, List, [], Option, Some, None, map, length, not, is_ok, option_map, MatchOption, IfOk, IfErr, IsOkUnless, IsErrOf, OnOk, OnErr, string_bytes};
 ghost use Rattle.lake_io.specs.Files.{File, HasFile, file_at, put_file};
 ghost use Rattle.lake_io.specs.Refusals.{Refuses};
@@ -10,14 +10,14 @@ use no_memory::NoMemory;
 use std::alloc::Global;
 use std::marker::Model;
 
-/// A file as it is stored: its path and a copy of its bytes.
+/// A stored file: its path and a copy of its bytes.
 #[derive(Drop)]
 struct StoredFile {
     path: String,
     bytes: Vec<u8>,
 }
 
-/// A shelf in memory. It tells its files: those that were added, one for each path.
+/// A shelf in memory. Contracts know its files: those that were added, one for each path.
 #[derive(Drop)]
 pub struct MemoryShelf {
     alloc: Global,
@@ -38,7 +38,7 @@ impl Model for MemoryShelf {
     ghost view = { λ s. record { files = map seen_file s.files.items; failing = s.failing.items; calls = s.calls; faults = s.faults } };
 }
 
-/// The bytes of the file at the path. The walk ends with the files.
+/// Returns the bytes of the file at the path. It walks over the files once.
 fn find<'a>(files: &'a [StoredFile], path: &str) -> Option<&'a [u8]>
     ensures { option_map (λ bytes. bytes.now) result ≡ file_at (map seen_file files.now) path.now }
 {
@@ -50,7 +50,7 @@ fn find<'a>(files: &'a [StoredFile], path: &str) -> Option<&'a [u8]>
     None
 }
 
-/// Puts a file of this path among the files, in the place of one that has the path. The walk ends with the files.
+/// Puts a file with this path among the files, in the place of one that has the path. It walks over the files once.
 fn put(files: &mut Vec<StoredFile>, path: &str, file: StoredFile) -> Result<(), NoMemory>
     requires { string_bytes file.path ≡ path.now }
     ensures ok { OnOk result (map seen_file files.new.items ≡ put_file (map seen_file files.old.items) path.now file.bytes.items) }
@@ -67,7 +67,7 @@ fn put(files: &mut Vec<StoredFile>, path: &str, file: StoredFile) -> Result<(), 
 }
 
 impl MemoryShelf {
-    /// A shelf with no file, of whose calls none is to fail.
+    /// Returns a shelf without files, none of whose calls is to fail.
     pub fn new(alloc: Global) -> MemoryShelf
         ensures { result ≡ record { files = []; failing = []; calls = 0; faults = 0 } }
     {
@@ -80,7 +80,8 @@ impl MemoryShelf {
         }
     }
 
-    /// Adds a file with a copy of `bytes`, in the place of one that has the path. After want of memory the shelf is as it was.
+    /// Adds a file with a copy of `bytes`, in the place of one that has the path. If memory runs out the shelf is
+    /// unchanged.
     pub fn add(&mut self, path: &str, bytes: &[u8]) -> Result<(), NoMemory>
         ensures ok { OnOk result (self.new ≡ record self.old { files = put_file self.old.files path.now bytes.now }) }
         ensures err { OnErr result (self.new ≡ self.old) }
@@ -91,8 +92,8 @@ impl MemoryShelf {
         put(&mut self.files, path, StoredFile { path: name, bytes })
     }
 
-    /// Lets the call of `fetch` with this number fail, counted from 1 since the shelf was made. After want of memory the
-    /// shelf is as it was.
+    /// Makes the call of `fetch` with this number fail, counted from 1 since the shelf was made. If memory runs out the
+    /// shelf is unchanged.
     pub fn fail_at(&mut self, call: u64) -> Result<(), NoMemory>
         ensures ok { OnOk result (self.new ≡ record self.old { failing = self.old.failing ++ call ∷ [] }) }
         ensures err { OnErr result (self.new ≡ self.old) }
@@ -101,7 +102,7 @@ impl MemoryShelf {
         Ok(())
     }
 
-    /// How many of its calls failed.
+    /// Returns how many of its calls have failed.
     pub fn faults(&self) -> u64
         ensures { result ≡ self.now.faults }
     {
@@ -120,7 +121,7 @@ impl Shelf for MemoryShelf {
         ensures file { IfOk result (λ bytes. HasFile (Some self.old.files) path.now bytes.items) }
         ensures short { IfOk result (λ bytes. length bytes.items ≤ most) }
         ensures refused { IfErr result (λ why. Refuses (Some self.old.files) path.now most self.old.faults self.new.faults why) }
-        // exactly what it does
+        // what exactly it does
         ensures answer { MatchOption (fetch_refusal self.old path.now most) (IsOkUnless result ShelfRefused.NoMemory) (λ why. IsErrOf result why) }
         ensures state { self.new ≡ after_fetch self.old }
     {

@@ -1,4 +1,4 @@
-//! A sink in memory, which keeps what it takes and fails where it is told to or is full.
+//! A sink in memory, which keeps what it takes, and fails at chosen calls or when it is full.
 ghost use Rattle.std.specs.Prelude.{◌≡◌, ◌<◌, ◌≤◌, ℕ, List, [], Option, Some, length, not, is_ok, IfOk, IfErr};
 ghost use Rattle.std.specs.Io.{WritesAtMost};
 ghost use Rattle.std.specs.Io.KnownBytes.{WriteAppends};
@@ -10,7 +10,7 @@ use no_memory::NoMemory;
 use std::alloc::Global;
 use std::marker::Model;
 
-/// A sink in memory. It tells the bytes written.
+/// A sink in memory. Contracts know the bytes written.
 #[derive(Drop)]
 pub struct MemorySink {
     written: Vec<u8>,
@@ -33,8 +33,8 @@ impl Model for MemorySink {
 }
 
 impl MemorySink {
-    /// A sink with nothing written, which takes at most `piece` bytes a call and `capacity` bytes in all. The calls of
-    /// `write` whose numbers, counted from 1, stand in `failing` fail. All its memory is taken here.
+    /// Returns a sink with nothing written, which takes at most `piece` bytes a call and `capacity` bytes in all. The
+    /// calls of `write` whose numbers, counted from 1, are in `failing` fail. All its memory is taken here.
     pub fn new(
         alloc: Global,
         capacity: usize,
@@ -56,14 +56,14 @@ impl MemorySink {
         })
     }
 
-    /// The bytes that it has taken.
+    /// Returns the bytes that it has taken.
     pub fn written(&self) -> &[u8]
         ensures { result.now ≡ self.now.written }
     {
         self.written.as_slice()
     }
 
-    /// How many of its calls failed.
+    /// Returns how many of its calls have failed.
     pub fn faults(&self) -> u64
         ensures { result ≡ self.now.faults }
     {
@@ -81,7 +81,7 @@ impl Sink for MemorySink {
         ensures some { IfOk result (λ count. 0 < length piece.now → 0 < count) }
         ensures bytes { WriteAppends (Some self.old.written) (Some self.new.written) result piece.now }
         ensures cause { HasCause self.old.faults self.new.faults result }
-        // exactly what it does
+        // what exactly it does
         ensures answer { is_ok result ≡ not (write_fails self.old (length piece.now)) }
         ensures count { IfOk result (λ n. n ≡ write_count self.old (length piece.now)) }
         ensures state { self.new ≡ after_write self.old piece.now }

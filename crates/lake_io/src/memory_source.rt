@@ -1,4 +1,4 @@
-//! A source in memory, which gives what it was made with and fails where it is told to.
+//! A source in memory, which gives the bytes that it was made with, and fails at chosen calls.
 ghost use Rattle.std.specs.Prelude.{◌≡◌, ◌<◌, ℕ, List, Option, Some, length, take, not, is_ok, IfOk, IfErr};
 ghost use Rattle.std.specs.Io.{ReadsAtMost};
 ghost use Rattle.std.specs.Io.KnownBytes.{ReadConsumes};
@@ -10,7 +10,7 @@ use no_memory::NoMemory;
 use std::alloc::Global;
 use std::marker::Model;
 
-/// A source in memory. It tells the bytes left.
+/// A source in memory. Contracts know the bytes left.
 #[derive(Drop)]
 pub struct MemorySource {
     bytes: Vec<u8>,
@@ -33,8 +33,8 @@ impl Model for MemorySource {
 }
 
 impl MemorySource {
-    /// A source of a copy of `bytes`, which gives at most `piece` bytes a call. The calls of `read` whose numbers, counted
-    /// from 1, stand in `failing` fail.
+    /// Returns a source of a copy of `bytes`, which gives at most `piece` bytes a call. The calls of `read` whose
+    /// numbers, counted from 1, are in `failing` fail.
     pub fn new(
         alloc: Global,
         bytes: &[u8],
@@ -56,14 +56,14 @@ impl MemorySource {
         })
     }
 
-    /// The bytes that it has not given yet.
+    /// Returns the bytes that it has not given yet.
     pub fn left(&self) -> &[u8]
         ensures { result.now ≡ self.now.left }
     {
         &self.bytes.as_slice()[self.position..]
     }
 
-    /// How many of its calls failed.
+    /// Returns how many of its calls have failed.
     pub fn faults(&self) -> u64
         ensures { result ≡ self.now.faults }
     {
@@ -80,7 +80,7 @@ impl Source for MemorySource {
         ensures bound { ReadsAtMost result into.new }
         ensures bytes { ReadConsumes (Some self.old.left) (Some self.new.left) result into.new }
         ensures cause { HasCause self.old.faults self.new.faults result }
-        // exactly what it does
+        // what exactly it does
         ensures answer { is_ok result ≡ not (read_fails self.old) }
         ensures count { IfOk result (λ n. n ≡ read_count self.old (length into.old)) }
         ensures state { self.new ≡ after_read self.old (length into.old) }

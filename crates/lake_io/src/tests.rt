@@ -1,4 +1,5 @@
-//! What no clause says: that the calls succeed where memory is ample, here on small runs that were worked out by hand.
+//! Tests of what no clause states: that the calls succeed while there is enough memory, on small runs worked out by
+//! hand.
 use super::*;
 use std::test::Fail;
 

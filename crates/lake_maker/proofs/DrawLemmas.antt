@@ -1,4 +1,4 @@
--- What is drawn from a state behind others is what is drawn later from the first.
+-- A draw from a later state is a later draw from the first state.
 use Rattle.std.proofs.Common.{◌≡◌, refl, ap, sym, ◌∙◌, ℕ, zero, suc, ◌+◌, ◌*◌, ◌/◌, ◌%◌, ◌-◌, [], ◌∷◌, ◌++◌, codes, decimal, flat_map, add-zero, add-suc, append_assoc, arith}
 use Rattle.std.specs.List.{range_with_len}
 use Rattle.lake_model.specs.Texts.{Text}
@@ -24,7 +24,7 @@ unfolding state_at
 state_behind s n zero = ap (state_at s) (sym (add-zero n))
 state_behind s n (suc k) = ap next_state (state_behind s n k) ∙ ap (state_at s) (sym (add-suc n k))
 
--- where the sum is known by another name
+-- the same, with the sum under another name
 pub state_there : (s n k m : ℕ) → n + k ≡ m → state_at (state_at s n) k ≡ state_at s m
 state_there s n k m e = state_behind s n k ∙ ap (state_at s) e
 
@@ -70,7 +70,7 @@ loads_more s rows tables =
 like : ℕ → ℕ → ℕ → Task
 like tables a b = Like 10 (table_name (1 + a % tables)) (1 + b % 3)
 
--- the search of two draws behind those of all tables
+-- the search of the two draws after those of all tables
 pub search_there : (s tables rows n : ℕ) → search_at (state_at (state_at s (3 * rows * tables)) (2 * n)) tables ≡ search_task s tables rows n
 unfolding like
 search_there s tables rows n =

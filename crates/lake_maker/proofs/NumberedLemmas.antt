@@ -27,7 +27,7 @@ from_lanes n (t ∷ ts) = ((omega arith, omega arith), from_lanes (n + 1) ts)
 pub numbered_lanes : (tasks : List Task) → IsOfLanes 1 (numbered tasks)
 numbered_lanes tasks = from_lanes 1 tasks
 
--- what was numbered is so with one command more
+-- numbered commands stay numbered with one more
 pub pushed_is_numbered : (before after : Batch) (number : ℕ) (task : Task) → before ≡ numbered (tasks_of before) → number ≡ length before + 1 → after ≡ before ++ command_with number 1 task ∷ []
     → after ≡ numbered (tasks_of after)
 pushed_is_numbered before after number task is_numbered behind pushed =

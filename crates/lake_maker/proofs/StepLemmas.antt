@@ -1,4 +1,4 @@
--- A turn of each loop, and the draws and texts that a function puts one behind the other.
+-- A turn of each loop, and the draws and texts that a function puts one after the other.
 use Rattle.std.proofs.Common.{◌≡◌, ap, sym, ◌∙◌, ℕ, ◌+◌, ◌*◌, ◌%◌, List, [], ◌∷◌, ◌++◌, flat_map, map, add-one, mul-suc, append_assoc, arith}
 use Rattle.std.specs.List.{range_with_len}
 use Rattle.std.proofs.lemmas.List.FromFn.{map-range_with_len_more}
@@ -90,7 +90,7 @@ searches_are : (s tables rows : ℕ) (numbers : List ℕ)
     → map (λ n. search_at (state_at (state_at s (3 * rows * tables)) (2 * n)) tables) numbers ≡ map (search_task s tables rows) numbers
 searches_are s tables rows numbers = λ i. map (λ (n : ℕ). search_there s tables rows n i) numbers
 
--- all tasks, with so many searches
+-- all tasks, with this many searches
 pub tasks_made : (s tables rows count d₀ d₁ : ℕ) (start loads all : List Task)
     → d₀ ≡ s → start ≡ []
     → d₁ ≡ state_at d₀ (3 * rows * tables)

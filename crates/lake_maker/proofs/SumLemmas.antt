@@ -6,7 +6,7 @@ use Rattle.lake_model.specs.Texts.{Text}
 use Rattle.lake_maker.specs.declared.sums.Sums.{Sums}
 use Rattle.lake_maker.specs.Sums.{sums_text}
 
--- whatever the words, the numbers, and what stands between them and at the end of a line
+-- whatever the words and the numbers are, and whatever separates them and ends a line
 pieces : (s n u v w x y z p q a b c d e f g h t₀ t₁ t₂ t₃ t₄ t₅ t₆ t₇ t₈ t₉ : Text)
     → t₁ ≡ t₀ ++ (u ++ s) ++ a → t₂ ≡ t₁ ++ (n ++ v ++ s) ++ b → t₃ ≡ t₂ ++ (n ++ w ++ s) ++ c
     → t₄ ≡ t₃ ++ (n ++ x ++ s) ++ d → t₅ ≡ t₄ ++ (s ++ y ++ s) ++ e → t₆ ≡ t₅ ++ (s ++ z ++ s) ++ f

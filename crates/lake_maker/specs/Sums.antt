@@ -17,7 +17,7 @@ abbrev pub sums_of : List Answered → Sums
 sums_of answers =
     record { tables = summed loads_in answers; members = summed members_in answers; merges = summed merges_in answers; answers = summed answers_in answers; rows = summed rows_in answers; overlap = summed overlap_in answers; reads = summed reads_in answers; probes = summed probes_in answers }
 
--- one by one
+-- sums added one by one
 abbrev pub added : Sums → Sums → Sums
 added these those =
     record { tables = these.tables + those.tables; members = these.members + those.members; merges = these.merges + those.merges; answers = these.answers + those.answers; rows = these.rows + those.rows; overlap = these.overlap + those.overlap; reads = these.reads + those.reads; probes = these.probes + those.probes }

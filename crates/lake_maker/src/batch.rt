@@ -12,10 +12,10 @@ use commands::{Batch, Task};
 use no_memory::NoMemory;
 use std::alloc::Global;
 
-// How many searches there are.
+// The number of searches.
 const SEARCHES: u32 = 50;
 
-// Appends a merge, where the table of this number is a fourth one.
+// Appends a merge if the table with this number is every fourth one.
 fn push_merge(number: u32, into: &mut Numbered) -> Result<(), NoMemory>
     ensures { OnOk result (into.new ≡ into.old ++ merge_behind number) }
 {
@@ -25,7 +25,7 @@ fn push_merge(number: u32, into: &mut Numbered) -> Result<(), NoMemory>
     into.push(Task::Merge { all: false })
 }
 
-// Appends the load of the table of this number, counted from 1, and a merge behind each fourth.
+// Appends the load of the table with this number, counted from 1, and a merge after every fourth load.
 fn push_load(
     alloc: Global,
     draws: &mut Draws,
@@ -61,7 +61,7 @@ fn push_loads(
     Ok(())
 }
 
-// Appends a search like a column of one of so many tables: two draws say which.
+// Appends a search like a column of one of `tables` tables, which two draws choose.
 fn push_search(
     alloc: Global,
     draws: &mut Draws,
@@ -81,7 +81,7 @@ fn push_search(
     })
 }
 
-// Appends so many searches.
+// Appends `count` searches.
 fn push_searches(
     alloc: Global,
     draws: &mut Draws,
@@ -98,9 +98,10 @@ fn push_searches(
     Ok(())
 }
 
-/// The batch of the lake that is made of a seed: tables `g1`, `g2`, .. of three columns and so many rows are loaded, a merge follows
-/// each fourth, and 50 searches like a column of one of the tables come behind them. All commands are of lane 1. There are 1 to 1,000
-/// tables of 1 to 5,000 rows. It takes time and memory in proportion to the tables' rows.
+/// Returns the batch of the lake that is made from a seed. It loads the tables `g1`, `g2`, .. of three columns and
+/// `rows` rows, with a merge after every fourth load, followed by 50 searches like a column of one of the tables. All
+/// commands are in lane 1. There are 1 to 1,000 tables of 1 to 5,000 rows. Time and memory are proportional to the
+/// tables' rows.
 pub fn made_batch(alloc: Global, seed: u32, tables: u32, rows: u32) -> Result<Batch, NoMemory>
     requires some_tables { 1 ≤ tables }
     requires few_tables { tables ≤ 1000 }

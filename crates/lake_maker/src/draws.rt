@@ -4,14 +4,14 @@ ghost use Rattle.option_model.specs.Generator.{draw, state_at};
 
 use std::marker::Model;
 
-// The multiplier and the increment of the generator, and how many states it has.
+// The multiplier and the increment of the generator, and the number of its states.
 const MULTIPLIER: u64 = 1664525;
 
 const INCREMENT: u64 = 1013904223;
 
 const STATES: u64 = 4294967296;
 
-// A generator of draws. A contract sees its state.
+// A generator of draws. Its model is its state.
 #[derive(Drop)]
 pub(crate) struct Draws {
     state: u32,
@@ -26,14 +26,14 @@ impl Model for Draws {
 }
 
 impl Draws {
-    // The draws of a seed.
+    // Returns the generator with this seed.
     pub(crate) fn new(seed: u32) -> Draws
         ensures { result ≡ seed }
     {
         Draws { state: seed }
     }
 
-    // The next draw: the upper 16 bits of the next state.
+    // Returns the next draw: the upper 16 bits of the next state.
     pub(crate) fn draw(&mut self) -> u32
         ensures drawn { result ≡ draw self.old 0 }
         ensures state { self.new ≡ state_at self.old 1 }

@@ -1,4 +1,5 @@
-//! A lake that is made of a seed: the batch of commands that loads its tables and searches them, and the summary of what came of these.
+//! A lake that is made from a seed: the batch of commands that loads its tables and searches them, and the summary of
+//! the replies.
 #![tactic(auto)]
 
 mod batch;

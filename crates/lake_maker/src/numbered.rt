@@ -1,4 +1,4 @@
-//! Commands of one lane, numbered as they come.
+//! Commands of one lane, numbered as they are added.
 ghost use Rattle.std.specs.Prelude.{◌≡◌, ◌++◌, ◌∷◌, [], OnOk};
 ghost use Rattle.script_model.specs.Lanes.{IsOfLanes};
 ghost use Rattle.commands.specs.Tasks.{IsTaskInRange, task_of};
@@ -9,7 +9,7 @@ use no_memory::NoMemory;
 use std::alloc::Global;
 use std::marker::Model;
 
-// Commands of lane 1, numbered from 1. A contract sees the list of their tasks.
+// Commands of lane 1, numbered from 1. Its model is the list of their tasks.
 #[derive(Drop)]
 pub(crate) struct Numbered {
     commands: Vec<Command>,
@@ -28,7 +28,7 @@ impl Model for Numbered {
 }
 
 impl Numbered {
-    // No commands. It takes no memory.
+    // Returns an empty list of commands. It takes no memory.
     pub(crate) fn new(alloc: Global) -> Numbered
         ensures { result ≡ [] }
     {
@@ -37,7 +37,7 @@ impl Numbered {
         }
     }
 
-    // Appends the command of this task.
+    // Appends the command with this task.
     pub(crate) fn push(&mut self, task: Task) -> Result<(), NoMemory>
         requires { IsTaskInRange task }
         ensures { OnOk result (self.new ≡ self.old ++ task_of task ∷ []) }
@@ -50,7 +50,7 @@ impl Numbered {
         Ok(())
     }
 
-    // The batch of these commands.
+    // Returns the batch of these commands.
     pub(crate) fn batch(self) -> Batch
         ensures batch { result ≡ numbered self }
         ensures lanes { IsOfLanes 1 result }

@@ -1,4 +1,4 @@
-//! The summary of what came of a made lake.
+//! The summary of the replies of a made lake.
 ghost use Rattle.std.specs.Prelude.{◌≡◌, ◌++◌, decimal, OnErr, OnOk};
 ghost use Rattle.lake_maker.specs.Sums.{sums_text};
 ghost use Rattle.reply_text.specs.Keeping.{Keeps};
@@ -36,9 +36,9 @@ fn push_sums(sums: Sums, into: &mut Vec<u8>) -> Result<(), NoMemory>
     push_bytes(b"\n", into)
 }
 
-/// Appends the summary of a record: how many loads were accepted and their members, how many swaps, how many searches were answered,
-/// their rows and the overlaps of these, and how many posting lists these searches read and how many sets they probed. Where memory is
-/// wanting, the text stands as it was.
+/// Appends the summary of a record: how many loads were accepted and their members, how many swaps, how many searches
+/// were answered, their rows and the overlaps of these, and how many posting lists these searches read and how many
+/// sets they probed. If memory runs out the text is unchanged.
 pub fn write_summary(of: &RunRecord, into: &mut Vec<u8>) -> Result<(), NoMemory>
     ensures ok { OnOk result (into.new.items ≡ into.old.items ++ summary of.now.made) }
     ensures err { OnErr result (into.new.items ≡ into.old.items) }

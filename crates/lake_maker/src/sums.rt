@@ -7,8 +7,9 @@ use column_set::KeptRow;
 use no_memory::NoMemory;
 use run_record::{Answered, Reply};
 
-// What came of a made lake: accepted loads and their members, accepted swaps, the searches that were answered, their rows and the
-// overlaps of these, and the posting lists that these searches read and the sets that they probed.
+// The sums over the replies of a made lake: accepted loads and their members, accepted swaps, the searches that were
+// answered, their rows and the overlaps of these, and the posting lists that these searches read and the sets that they
+// probed.
 #[derive(Clone, Copy)]
 pub(crate) struct Sums {
     pub(crate) tables: u128,
@@ -21,7 +22,7 @@ pub(crate) struct Sums {
     pub(crate) probes: u128,
 }
 
-// Nothing came of it.
+// The sums over no replies.
 const NONE: Sums = Sums {
     tables: 0,
     members: 0,
@@ -33,14 +34,14 @@ const NONE: Sums = Sums {
     probes: 0,
 };
 
-// The overlaps of rows.
+// Returns the sum of the overlaps of rows.
 fn overlap_of(rows: &[KeptRow]) -> u128
     ensures { result ≡ sum_by (λ row. row.overlap) rows.now }
 {
     rows.iter().map(|row| u128::from(row.overlap())).sum()
 }
 
-// What a reply adds to each sum.
+// Returns what a reply adds to each sum.
 fn sums_in(reply: &Reply) -> Sums
     ensures { result ≡ sums_in (reply_of reply.now) }
 {
@@ -68,14 +69,14 @@ fn sums_in(reply: &Reply) -> Sums
     }
 }
 
-// A sum. No memory holds a record whose sums take more than 128 bits.
+// Returns a sum. A record with a sum of more than 128 bits does not fit into any memory.
 fn plus(this: u128, that: u128) -> Result<u128, NoMemory>
     ensures { IfOk result (λ sum. sum ≡ this + that) }
 {
     this.checked_add(that).ok_or(NoMemory)
 }
 
-// Both, sum by sum.
+// Adds sums, one by one.
 fn add(these: Sums, those: Sums) -> Result<Sums, NoMemory>
     ensures { IfOk result (λ sums. sums ≡ added these those) }
 {
@@ -91,7 +92,7 @@ fn add(these: Sums, those: Sums) -> Result<Sums, NoMemory>
     })
 }
 
-// The sums of answers.
+// Returns the sums over answers.
 pub(crate) fn sums_of(answers: &[Answered]) -> Result<Sums, NoMemory>
     ensures { IfOk result (λ sums. sums ≡ sums_of answers.now) }
 {

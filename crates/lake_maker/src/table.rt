@@ -9,7 +9,7 @@ use no_memory::NoMemory;
 use reply_text::{push_bytes, push_number};
 use std::alloc::Global;
 
-// The name of the table of a number: `g` and the number.
+// Returns the name of the table with this number: `g` and the number.
 pub(crate) fn table_name(alloc: Global, number: u32) -> Result<Name, NoMemory>
     ensures { IfOk result (λ name. name ≡ table_name number) }
 {
@@ -22,7 +22,7 @@ pub(crate) fn table_name(alloc: Global, number: u32) -> Result<Name, NoMemory>
     Ok(name)
 }
 
-// Appends a cell: `v` and a number below this one.
+// Appends a cell: `v` and a number below `below`.
 fn push_cell(draws: &mut Draws, below: u32, into: &mut Vec<u8>) -> Result<(), NoMemory>
     requires { 0 < below }
     ensures cell { OnOk result (into.new.items ≡ into.old.items ++ cell draws.old 0 below) }
@@ -46,7 +46,7 @@ fn push_record(draws: &mut Draws, into: &mut Vec<u8>) -> Result<(), NoMemory>
     push_bytes(b"\n", into)
 }
 
-// The bytes of a table: its header and its records.
+// Returns the bytes of a table: its header and its records.
 fn table_bytes(alloc: Global, draws: &mut Draws, rows: u32) -> Result<Vec<u8>, NoMemory>
     ensures bytes { IfOk result (λ bytes. bytes.items ≡ table_text draws.old rows 0) }
     ensures state { OnOk result (draws.new ≡ state_at draws.old (3 * rows)) }
@@ -58,7 +58,7 @@ fn table_bytes(alloc: Global, draws: &mut Draws, rows: u32) -> Result<Vec<u8>, N
     Ok(bytes)
 }
 
-// A table as the body of a load. With 5,000 rows at most it is far shorter than a body may be.
+// Returns a table as the body of a load. With at most 5,000 rows it is far shorter than a body may be.
 pub(crate) fn table_body(alloc: Global, draws: &mut Draws, rows: u32) -> Result<Body, NoMemory>
     requires { rows ≤ 5000 }
     ensures body { IfOk result (λ body. body ≡ table_text draws.old rows 0) }

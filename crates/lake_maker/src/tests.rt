@@ -1,4 +1,4 @@
-//! A small lake, and the summary of nothing.
+//! A small lake, and the summary of an empty record.
 use crate::{made_batch, write_summary};
 use commands::Task;
 use run_record::RunRecord;

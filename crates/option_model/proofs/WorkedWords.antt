@@ -1,4 +1,4 @@
--- Worked words of a command line, and the mode that they say.
+-- Worked words of a command line, and the mode that they state.
 use Rattle.std.proofs.Common.{◌≡◌, refl, List, [], ◌∷◌, replicate}
 use Rattle.std.specs.Prelude.{codes, true, false, Some, None}
 use Rattle.lake_model.specs.Texts.{Text}
@@ -39,7 +39,7 @@ too_many_lanes = refl
 no_value : plain_mode (codes "run" ∷ codes "--lanes" ∷ []) ≡ None
 no_value = refl
 
--- the number of lanes may stand behind the order that names them
+-- the number of lanes may follow the order that names them
 race : plain_mode (codes "run" ∷ codes "--order" ∷ codes "1,2,1//2" ∷ codes "--lanes" ∷ codes "2" ∷ []) ≡ Some (Run (options_with 2 (Some ((1 ∷ 2 ∷ 1 ∷ []) ∷ [] ∷ (2 ∷ []) ∷ [])) false false Canonical))
 race = refl
 

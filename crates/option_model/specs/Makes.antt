@@ -1,5 +1,5 @@
--- The table of statuses of the runs that make a lake: what holds behind a run of each status, of the bytes that the sink took and of the
--- record.
+-- The table of statuses of the runs that make a lake: what holds after a run of each status, of the bytes that the sink
+-- took and of the record.
 use Rattle.std.specs.Prelude.{ℕ, ◌≡◌, ◌⊎◌, true, List, [], ◌∷◌}
 use Rattle.record_model.specs.Rules.{Rules}
 use Rattle.record_model.specs.declared.Status.{Status}

@@ -1,4 +1,4 @@
--- The plain words of a command line, behind the program's name, and the mode that they say.
+-- The plain words of a command line, after the program's name, and the mode that they state.
 use Rattle.std.specs.Prelude.{ℕ, ◌==◌, Bool, true, false, ◌&&◌, ◌||◌, not, if◌then◌else◌, List, [], ◌∷◌, length, map, bytes_eq, codes, nat_le, Option, Some, None, option_and_then, option_map, is_some}
 use Rattle.std.specs.List.{list_all, slice_split}
 use Rattle.lake_model.specs.Texts.{Text}
@@ -7,23 +7,24 @@ use Rattle.lake_model.specs.declared.Keys.TheVariants.{Canonical, Compatibility}
 use Rattle.script_model.specs.Words.{number, number_or_zero}
 use Rattle.script_model.specs.Options.{Options, options_with}
 
--- a script is run with these options; or a lake is made of a seed, so many tables, and so many rows in each; or the first k rows of the queries in
--- these files are watched while a script changes a lake; or the trace in a file is checked, as that of a run of a script with these options
+-- a script is run with these options; or a lake is made from a seed, with this number of tables and of rows in each; or
+-- the first k rows of the queries in these files are watched while a script changes a lake; or the trace in a file is
+-- checked as that of a run of a script with these options
 pub data Mode : Type 0 where
   Run : (options : Options) → Mode
   Make : (seed tables rows : ℕ) → Mode
   Watch : (k : ℕ) (paths : List Text) → Mode
   Check : (trace : Text) (options : Options) → Mode
 
--- all of them, where each is there
+-- all of them, if each is there
 abbrev pub all_there : {X : Type 0} → List (Option X) → Option (List X)
 all_there [] = Some []
 all_there (None ∷ others) = None
 all_there (Some x ∷ others) = option_map (λ xs. x ∷ xs) (all_there others)
 
--- ---- a stated order: pieces with `/` between, each of them empty, or numbers of lanes with `,` between
+-- ---- a stated order: pieces separated by `/`, each of them empty, or lane numbers separated by `,`
 
--- 0 is the merger, where there is one
+-- 0 is the merger, if there is one
 abbrev pub lane_number : ℕ → Bool → Text → Option ℕ
 lane_number lanes merge text = if merge then number_or_zero lanes text else number lanes text
 
@@ -34,7 +35,7 @@ piece_of lanes merge (byte ∷ bytes) = all_there (map (lane_number lanes merge)
 abbrev pub order_of : ℕ → Bool → Text → Option (List (List ℕ))
 order_of lanes merge text = all_there (map (piece_of lanes merge) (slice_split (λ b. b == 0x2F) text))
 
--- ---- the words behind `run`
+-- ---- the words after `run`
 
 -- what the words so far gave
 pub record Given : Type 0 where
@@ -60,7 +61,7 @@ argument_of given word =
     else if bytes_eq word (codes "--profile") && not (is_some given.profile) then ProfileValue
     else NoArgument
 
--- whether an argument's value has to come next; a word that is no argument refuses all
+-- whether an argument's value has to come next; a word that is no argument refuses the whole line
 pub data Awaited : Type 0 where
   NoValue LanesNext OrderNext ProfileNext Refused : Awaited
 
@@ -90,7 +91,7 @@ abbrev pub take_words : Given → Awaited → List Text → Taken
 take_words given awaited [] = taken given awaited
 take_words given awaited (word ∷ words) = let next = take_word given awaited word in take_words next.given next.awaited words
 
--- 1 to 16 lanes, and one where no word says how many
+-- 1 to 16 lanes, and 1 if no word gives a number
 abbrev pub lanes_said : Option Text → Option ℕ
 lanes_said None = Some 1
 lanes_said (Some text) = number 16 text
@@ -105,7 +106,7 @@ order_said lanes merge (Some (byte ∷ bytes)) = option_map Some (order_of lanes
 abbrev pub keys_of_profile : ℕ → Keys
 keys_of_profile profile = if profile == 2 then Compatibility else Canonical
 
--- profile 1 or 2, and 1 where no word says which
+-- profile 1 or 2, and 1 if no word gives one
 abbrev pub profile_said : Option Text → Option ℕ
 profile_said None = Some 1
 profile_said (Some text) = number 2 text
@@ -122,7 +123,7 @@ run_options given OrderNext = None
 run_options given ProfileNext = None
 run_options given Refused = None
 
--- ---- the words behind `make`: a seed, a number of tables, and a number of rows
+-- ---- the words after `make`: a seed, a number of tables, and a number of rows
 
 abbrev pub make_with : Option ℕ → Option ℕ → Option ℕ → Option Mode
 make_with (Some seed) (Some tables) (Some rows) = Some (Make seed tables rows)
@@ -132,7 +133,7 @@ abbrev pub make_mode : List Text → Option Mode
 make_mode (seed ∷ tables ∷ rows ∷ []) = make_with (number_or_zero 4294967295 seed) (number 1000 tables) (number 5000 rows)
 make_mode words = None
 
--- ---- the words behind `watch`: how many rows are watched of each query, and the paths of the files that hold the queries
+-- ---- the words after `watch`: the number of rows watched of each query, and the paths of the files with the queries
 
 -- a path is not empty, and does not begin with `-`
 abbrev pub is_path : Text → Bool
@@ -148,7 +149,7 @@ abbrev pub watch_mode : List Text → Option Mode
 watch_mode (k ∷ path ∷ paths) = watch_with (path ∷ paths) (number 10000 k)
 watch_mode words = None
 
--- ---- the words behind `check`: the path of the file that holds the trace, and then options, of which neither an order nor a trace is one
+-- ---- the words after `check`: the path of the file with the trace, then options, but neither an order nor a trace
 
 -- the options of a run whose trace is checked: it had no stated order, and wrote a trace
 abbrev pub checked_options : Options → Option Options
@@ -166,7 +167,7 @@ check_mode words = None
 abbrev pub run_mode : Taken → Option Mode
 run_mode taken = option_map Run (run_options taken.given taken.awaited)
 
--- the mode of plain words; none where the words are not plain
+-- the mode of plain words; none if the words are not plain
 abbrev pub plain_mode : List Text → Option Mode
 plain_mode [] = None
 plain_mode (word ∷ words) =

@@ -1,9 +1,9 @@
--- The ranges that options keep.
+-- The ranges of options.
 use Rattle.std.specs.Prelude.{ℕ, ◌≡◌, ◌≤◌, ⊤, Bool, true, List, MatchOption}
 use Rattle.std.specs.List.{AllByRecursion}
 use Rattle.script_model.specs.Options.{Options}
 
--- a piece names lanes 1 to `lanes`, and 0, which is the merger, only where there is one
+-- a piece names lanes 1 to `lanes`, and 0, the merger, only if there is one
 abbrev pub IsPieceOf : ℕ → Bool → List ℕ → Type 0
 IsPieceOf lanes merge piece = AllByRecursion (λ lane. (lane ≤ lanes) × (lane ≡ 0 → merge ≡ true)) piece
 

@@ -1,11 +1,11 @@
--- A text keeps what it had through one addition after another.
+-- A text keeps what it had through successive additions.
 use Rattle.std.proofs.Common.{◌≡◌, ◌++◌, ◌∙◌, ◌≤◌, ap, sym, inl, inr, List, ℕ, length, take, arith, length-append}
 use Rattle.std.proofs.lemmas.Bool.{cases_lt}
 use Rattle.std.proofs.lemmas.List.{take-take, take_all}
 use Rattle.std.proofs.Math.Seq.{take-append_seam}
 use Rattle.reply_text.specs.Keeping.{Keeps}
 
--- what keeps a text and more keeps the text
+-- what keeps a text with more after it keeps the text
 pub keeps_behind : (xs ys zs more : List ℕ) → ys ≡ xs ++ more → Keeps ys zs → Keeps xs zs
 keeps_behind xs ys zs more appended keeps =
     let shorter : length xs ≤ length ys = omega (arith, ap length appended, length-append xs more) in
@@ -14,7 +14,7 @@ keeps_behind xs ys zs more appended keeps =
 pub keeps_all : (xs : List ℕ) → Keeps xs xs
 keeps_all xs = record { kept = take_all (length xs) xs (omega arith) }
 
--- what keeps a text that keeps another keeps that one
+-- what keeps a text that keeps an earlier one keeps that one too
 pub keeps_on : (xs ys zs : List ℕ) → Keeps xs ys → Keeps ys zs → Keeps xs zs
 keeps_on xs ys zs first second =
     let shorter : length xs ≤ length ys = elim (cases_lt (length ys) (length xs)) [

@@ -1,4 +1,4 @@
--- Numbers of which there is one.
+-- A list of at least one number.
 use Rattle.std.proofs.Common.{◌≡◌, refl, ◌==◌, ◌∷◌, [], true, false, List, ℕ, length}
 use Rattle.std.specs.Prelude.{decimal}
 use Rattle.std.specs.List.{join_by}

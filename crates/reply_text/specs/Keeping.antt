@@ -1,4 +1,4 @@
--- A text that keeps what it had, and may have more behind it.
+-- A text that keeps what it had, and may have more after it.
 use Rattle.std.specs.Prelude.{◌≡◌, length, take}
 use Rattle.lake_model.specs.Texts.{Text}
 

@@ -1,4 +1,4 @@
-//! The text of a journal: how many entries it has, and a line for each.
+//! The text of a journal: the number of its entries, and a line for each.
 ghost use Rattle.std.specs.Prelude.{◌≡◌, ◌++◌, ◌∷◌, [], codes, decimal, flat_map, map, OnOk};
 ghost use Rattle.std.specs.List.{enumerate_from};
 ghost use Rattle.record_model.specs.Texts.{command_text, entry_line, journal_lines, listed, spaced};
@@ -84,7 +84,7 @@ fn push_entry(position: u64, entry: &Entry, into: &mut Vec<u8>) -> Result<(), No
     }
 }
 
-// The lines of entries, of which the first is at position 1.
+// The lines of entries, the first of which is at position 1.
 fn push_entries(entries: &[Entry], into: &mut Vec<u8>) -> Result<(), NoMemory>
     ensures ok { OnOk result (into.new.items ≡ into.old.items ++ flat_map line_text (map entry_line (enumerate_from 1 entries.now))) }
     ensures kept { Keeps into.old.items into.new.items }
@@ -95,9 +95,10 @@ fn push_entries(entries: &[Entry], into: &mut Vec<u8>) -> Result<(), NoMemory>
     Ok(())
 }
 
-/// Appends the text of a journal: `journal L` for its L entries, and for each a line with its position, `load`, `drop`, `replace` or
-/// `swap`, the lane and the command that made it, and the name of the table, or the numbers of the parts that gave way and the positions
-/// that were kept of them, each with commas between, or `none`.
+/// Appends the text of a journal. It begins with `journal L` for its L entries. Each entry has a line with its
+/// position; `load`, `drop`, `replace` or `swap`; the lane and the command that made it; and the name of the table or,
+/// for a swap, the numbers of the parts that were replaced and the positions kept of them. Each of these lists is
+/// separated by commas, or is `none`.
 pub fn push_journal(entries: &[Entry], into: &mut Vec<u8>) -> Result<(), NoMemory>
     ensures ok { OnOk result (into.new.items ≡ into.old.items ++ flat_map line_text (journal_lines entries.now)) }
     ensures kept { Keeps into.old.items into.new.items }

@@ -1,4 +1,5 @@
-//! The line of a layout: its position, and its parts with the load positions of each, where a mark says what was dropped.
+//! The line of a layout: its position, and its parts, each with its load positions and marks on those of dropped
+//! tables.
 ghost use Rattle.std.specs.Prelude.{◌≡◌, ◌++◌, ◌∷◌, [], Bool, List, ℕ, flat_map, if◌then◌else◌, OnOk};
 ghost use Rattle.std.specs.List.{join_by};
 ghost use Rattle.record_model.specs.Texts.{layout_line, part_text, parts_text, position_text};
@@ -10,7 +11,7 @@ use crate::words::{push_bytes, push_number, push_words};
 use no_memory::NoMemory;
 use segment_core::{Layout, Places};
 
-// What stands behind the position of a table that was dropped.
+// What follows the position of a table that was dropped.
 fn drop_mark(marked: bool) -> &'static str
     ensures { result.now ≡ (if marked then 0x2D ∷ [] else []) }
 {
@@ -27,7 +28,7 @@ fn push_position(place: &(u64, bool), into: &mut Vec<u8>) -> Result<(), NoMemory
     push_bytes(drop_mark(*marked).as_bytes(), into)
 }
 
-// Load positions with their marks, each behind a comma.
+// Load positions with their marks, each after a comma.
 fn push_further_positions(places: &[(u64, bool)], into: &mut Vec<u8>) -> Result<(), NoMemory>
     ensures ok { OnOk result (into.new.items ≡ into.old.items ++ flat_map (λ (place : ℕ × Bool). 0x2C ∷ position_text place) places.now) }
     ensures kept { Keeps into.old.items into.new.items }
@@ -39,7 +40,7 @@ fn push_further_positions(places: &[(u64, bool)], into: &mut Vec<u8>) -> Result<
     Ok(())
 }
 
-// Load positions with their marks, and a comma between.
+// Load positions with their marks, separated by commas.
 fn push_positions(places: &[(u64, bool)], into: &mut Vec<u8>) -> Result<(), NoMemory>
     ensures ok { OnOk result (into.new.items ≡ into.old.items ++ join_by position_text (0x2C ∷ []) places.now) }
     ensures kept { Keeps into.old.items into.new.items }
@@ -61,7 +62,7 @@ fn push_part(number: u64, places: &Places, into: &mut Vec<u8>) -> Result<(), NoM
     push_positions(places.list(), into)
 }
 
-// Parts, each behind a space.
+// Parts, each after a space.
 fn push_parts(parts: &[(u64, Places)], into: &mut Vec<u8>) -> Result<(), NoMemory>
     ensures ok { OnOk result (into.new.items ≡ into.old.items ++ flat_map (λ (part : ℕ × List (ℕ × Bool)). 0x20 ∷ part_text part) parts.now) }
     ensures kept { Keeps into.old.items into.new.items }
@@ -73,7 +74,7 @@ fn push_parts(parts: &[(u64, Places)], into: &mut Vec<u8>) -> Result<(), NoMemor
     Ok(())
 }
 
-// Parts, or `none`, behind a space.
+// Parts, or `none`, after a space.
 fn push_parts_or_none(parts: &[(u64, Places)], into: &mut Vec<u8>) -> Result<(), NoMemory>
     ensures ok { OnOk result (into.new.items ≡ into.old.items ++ flat_map (λ word. 0x20 ∷ word) (parts_text parts.now)) }
     ensures kept { Keeps into.old.items into.new.items }
@@ -84,8 +85,8 @@ fn push_parts_or_none(parts: &[(u64, Places)], into: &mut Vec<u8>) -> Result<(),
     push_parts(parts, into)
 }
 
-/// Appends the line of a layout, `  layout at P parts LIST`: each part is its number, a colon, and its load positions with commas
-/// between, each with `-` behind it where its table was dropped. The list is `none` where there is no part.
+/// Appends the line of a layout, `  layout at P parts LIST`. Each part is its number, a colon, and its load positions
+/// separated by commas, each followed by `-` if its table was dropped. The list is `none` if there are no parts.
 pub fn push_layout(layout: &Layout, into: &mut Vec<u8>) -> Result<(), NoMemory>
     ensures ok { OnOk result (into.new.items ≡ into.old.items ++ line_text (layout_line layout.now)) }
     ensures kept { Keeps into.old.items into.new.items }

@@ -1,4 +1,4 @@
-//! The first line of each reply: the number of its command, and the words that say what it is answered.
+//! The first line of each reply: the number of its command, and the words of the reply.
 ghost use Rattle.std.specs.Prelude.{◌≡◌, ◌++◌, ◌∷◌, ℕ, codes, decimal, OnOk};
 ghost use Rattle.script_model.specs.Words.{line_text};
 ghost use Rattle.record_model.specs.Replies as model;
@@ -144,7 +144,7 @@ fn push_merged(
     push_line("", number, &words, into)
 }
 
-/// Appends the first line of a reply to the command of this number.
+/// Appends the first line of a reply to the command with this number.
 pub fn push_first_line(number: u64, reply: &Reply, into: &mut Vec<u8>) -> Result<(), NoMemory>
     ensures ok { OnOk result (into.new.items ≡ into.old.items ++ first_line number (reply_of reply.now)) }
     ensures kept { Keeps into.old.items into.new.items }

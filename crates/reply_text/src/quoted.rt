@@ -1,4 +1,4 @@
-//! A column's name between quotes, with escapes for what would break its line.
+//! The name of a column in quotes, with escapes for what would break its line.
 ghost use Rattle.std.specs.Prelude.{◌≡◌, ◌<◌, ◌++◌, flat_map, OnOk};
 ghost use Rattle.record_model.specs.Texts.{escaped_byte, hexadecimal, quoted};
 ghost use Rattle.reply_text.specs.Keeping.{Keeps};
@@ -6,7 +6,7 @@ ghost use Rattle.reply_text.specs.Keeping.{Keeps};
 use crate::words::push_bytes;
 use no_memory::NoMemory;
 
-// A hexadecimal digit, in lower case.
+// Returns a hexadecimal digit, in lower case.
 fn hexadecimal(digit: u8) -> u8
     requires { digit < 16 }
     ensures { result ≡ hexadecimal digit }
@@ -18,7 +18,7 @@ fn hexadecimal(digit: u8) -> u8
     }
 }
 
-// Appends a byte of a name, or the escape that stands for it.
+// Appends a byte of a name, or its escape.
 fn push_escaped(byte: u8, into: &mut Vec<u8>) -> Result<(), NoMemory>
     ensures ok { OnOk result (into.new.items ≡ into.old.items ++ escaped_byte byte) }
     ensures kept { Keeps into.old.items into.new.items }
@@ -43,7 +43,7 @@ fn push_escaped(byte: u8, into: &mut Vec<u8>) -> Result<(), NoMemory>
     }
 }
 
-// Appends the bytes of a name, each or the escape that stands for it.
+// Appends the bytes of a name, or their escapes.
 fn push_all_escaped(name: &[u8], into: &mut Vec<u8>) -> Result<(), NoMemory>
     ensures ok { OnOk result (into.new.items ≡ into.old.items ++ flat_map escaped_byte name.now) }
     ensures kept { Keeps into.old.items into.new.items }
@@ -54,9 +54,9 @@ fn push_all_escaped(name: &[u8], into: &mut Vec<u8>) -> Result<(), NoMemory>
     Ok(())
 }
 
-/// Appends a name between quotes: a quote and a backslash have a backslash before them, a line feed, a carriage return and a tab
-/// are `\n`, `\r` and `\t`, any other byte below 0x20 and 0x7F are `\x` and two hexadecimal digits in lower case, and any other
-/// byte stands as it is.
+/// Appends a name in quotes. A quote or a backslash is preceded by a backslash; a line feed, a carriage return and a
+/// tab are written as `\n`, `\r` and `\t`; any other byte below 0x20, and 0x7F, as `\x` and two hexadecimal digits in
+/// lower case; and any other byte as it is.
 pub fn push_quoted(name: &str, into: &mut Vec<u8>) -> Result<(), NoMemory>
     ensures ok { OnOk result (into.new.items ≡ into.old.items ++ quoted name.now) }
     ensures kept { Keeps into.old.items into.new.items }

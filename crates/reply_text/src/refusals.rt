@@ -1,4 +1,4 @@
-//! The first line of each refusal: the number of its command, `refused`, and the words that say why.
+//! The first line of each refusal: the number of its command, `refused`, and the words that give the reason.
 ghost use Rattle.std.specs.Prelude.{◌≡◌, ◌++◌, ◌∷◌, decimal, map, OnOk};
 ghost use Rattle.record_model.specs.Replies as model;
 ghost use Rattle.script_model.specs.Words.{line_text};
@@ -26,7 +26,7 @@ fn which_word(which: Which) -> &'static str
     }
 }
 
-/// Appends `N refused WHAT`, and words.
+/// Appends `N refused WHAT`, followed by more words.
 pub fn push_refused(
     number: u64,
     what: &str,

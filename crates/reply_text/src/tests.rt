@@ -1,4 +1,4 @@
-//! The text of each reply, letter by letter.
+//! The text of each reply, byte for byte.
 use crate::{Answered, By, Reply, RunRecord, write_replies};
 use catalogue::Entry;
 use column_set::{KeptRow, KeptRows, Keys, Name, Row, SharedTable, TableSets, Titles};
@@ -12,7 +12,7 @@ use std::process::Abort;
 use std::sync::Arc;
 use std::test::Fail;
 
-// The text of a record is this, with or without a trace.
+// Checks that the text of a record is `wanted`, with or without a trace.
 fn writes(
     rt: &(impl Abort + AllocGlobal),
     record: &RunRecord,
@@ -25,7 +25,7 @@ fn writes(
     Ok(())
 }
 
-// The record of this one reply.
+// Returns the record of this one reply.
 fn answered(alloc: Global, by: By, reply: Reply) -> Result<RunRecord, NoMemory> {
     let mut record = RunRecord::new(alloc);
     record.room(1, 0)?;
@@ -33,21 +33,21 @@ fn answered(alloc: Global, by: By, reply: Reply) -> Result<RunRecord, NoMemory> 
     Ok(record)
 }
 
-// The text of a reply to command 7 of lane 1 is this.
+// Checks that the text of a reply to command 7 of lane 1 is `wanted`.
 fn shows(rt: &(impl Abort + AllocGlobal), reply: Reply, wanted: &str) -> Result<(), NoMemory> {
     let by = By::Command { number: 7, lane: 1 };
     let record = answered(rt.alloc(), by, reply)?;
     writes(rt, &record, false, wanted)
 }
 
-// With a trace, the text of a reply to command 7 of lane 1 is this.
+// Checks that with a trace the text of a reply to command 7 of lane 1 is `wanted`.
 fn traces(rt: &(impl Abort + AllocGlobal), reply: Reply, wanted: &str) -> Result<(), NoMemory> {
     let by = By::Command { number: 7, lane: 1 };
     let record = answered(rt.alloc(), by, reply)?;
     writes(rt, &record, true, wanted)
 }
 
-// The text of a reply to the merger's command 2 is this with a trace, and nothing without.
+// Checks that the text of a reply to the merger's command 2 is `wanted` with a trace, and empty without.
 fn merger_traces(
     rt: &(impl Abort + AllocGlobal),
     reply: Reply,
@@ -58,7 +58,7 @@ fn merger_traces(
     writes(rt, &record, false, "")
 }
 
-// The layout of these parts, each with its number and its load positions, at a position.
+// Returns the layout at a position with these parts, each given by its number and its load positions.
 fn layout(alloc: Global, at: u64, parts: &[(u64, &[(u64, bool)])]) -> Result<Layout, NoMemory> {
     let mut held = Vec::new(alloc);
     for (number, places) in parts {
@@ -68,7 +68,7 @@ fn layout(alloc: Global, at: u64, parts: &[(u64, &[(u64, bool)])]) -> Result<Lay
     Ok(Layout::new(at, held))
 }
 
-// A reply with no row, found for a query of one key in this layout, of which two lists were read.
+// Returns a reply without rows to a query of one key, which was searched in this layout with two lists read.
 fn nothing_found(alloc: Global, layout: Layout) -> Reply {
     Reply::Found {
         query: 1,
@@ -79,7 +79,7 @@ fn nothing_found(alloc: Global, layout: Layout) -> Reply {
     }
 }
 
-// The table of a name with the column `c`, which has the value `x`.
+// Returns the table of this name with the column `c`, which has the value `x`.
 fn table(alloc: Global, name: &[u8]) -> Result<SharedTable, Fail> {
     let name = Name::read(name).ok_or("no name")?;
     let Ok(raw) = read_table(alloc, b"c\nx\n", 1_024) else {
@@ -91,7 +91,7 @@ fn table(alloc: Global, name: &[u8]) -> Result<SharedTable, Fail> {
     Ok(SharedTable::new(alloc, sets)?)
 }
 
-// The row of a table's column, which is at place 2 of its columns.
+// Returns the row of a table's column, which is at place 2.
 fn row(alloc: Global, overlap: u32, table: Name, column: &str) -> Result<KeptRow, NoMemory> {
     let mut columns = Vec::new(alloc);
     columns.push(String::from_str(alloc, "id")?)?;

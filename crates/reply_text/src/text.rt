@@ -30,8 +30,8 @@ fn push_row(row: &KeptRow, into: &mut Vec<u8>) -> Result<(), NoMemory>
     push_line("  ", u64::from(row.overlap()), &words, into)
 }
 
-/// Appends the lines of rows: for each, its overlap, the name of its table, the place of its column in the table, counted from 1, and the
-/// column's name in quotes.
+/// Appends the lines of rows: for each, its overlap, the name of its table, the place of its column in the table,
+/// counted from 1, and the name of the column in quotes.
 pub fn push_rows(rows: &[KeptRow], into: &mut Vec<u8>) -> Result<(), NoMemory>
     ensures ok { OnOk result (into.new.items ≡ into.old.items ++ flat_map line_text (map row_line rows.now)) }
     ensures kept { Keeps into.old.items into.new.items }
@@ -70,7 +70,7 @@ fn push_tables(tables: &[(Name, u32, u64)], into: &mut Vec<u8>) -> Result<(), No
     Ok(())
 }
 
-// The lines behind the first of a reply.
+// The lines of a reply after the first.
 fn push_more_lines(reply: &Reply, into: &mut Vec<u8>) -> Result<(), NoMemory>
     ensures ok { OnOk result (into.new.items ≡ into.old.items ++ flat_map line_text (more_lines (reply_of reply.now))) }
     ensures kept { Keeps into.old.items into.new.items }
@@ -91,7 +91,7 @@ fn push_work(reads: u64, probes: u64, into: &mut Vec<u8>) -> Result<(), NoMemory
     push_line("  work reads ", reads, &words, into)
 }
 
-// The lines that a trace puts behind the rows of a search: what it read, and the layout that it searched.
+// The lines that a trace adds after the rows of a search: what it read, and the layout that it searched.
 fn push_found_trace(
     reads: u64,
     probes: u64,
@@ -105,8 +105,8 @@ fn push_found_trace(
     push_layout(layout, into)
 }
 
-// The lines that a trace puts behind a reply: what a search read and the layout that it searched, or the layout in which a merge was
-// planned.
+// The lines that a trace adds after a reply: what a search read and the layout that it searched, or the layout in which
+// a merge was planned.
 fn push_trace_lines(reply: &Reply, into: &mut Vec<u8>) -> Result<(), NoMemory>
     ensures ok { OnOk result (into.new.items ≡ into.old.items ++ flat_map line_text (trace_lines (reply_of reply.now))) }
     ensures kept { Keeps into.old.items into.new.items }
@@ -125,7 +125,7 @@ fn push_trace_lines(reply: &Reply, into: &mut Vec<u8>) -> Result<(), NoMemory>
     }
 }
 
-// The lines of an answer without what a trace adds to them.
+// The lines of an answer, without what a trace adds to them.
 fn push_plain_answer(answer: &Answered, into: &mut Vec<u8>) -> Result<(), NoMemory>
     ensures ok { OnOk result (into.new.items ≡ into.old.items ++ flat_map line_text (answer_lines false answer.now)) }
     ensures kept { Keeps into.old.items into.new.items }
@@ -135,8 +135,8 @@ fn push_plain_answer(answer: &Answered, into: &mut Vec<u8>) -> Result<(), NoMemo
     push_more_lines(&answer.reply, into)
 }
 
-/// Puts the lines of an answer, with those that a trace adds, behind others. It is refused only where memory is wanting; then what was there
-/// is still in front.
+/// Appends the lines of an answer, with those that a trace adds. If memory runs out some of them may have been
+/// appended; what was there before is unchanged.
 pub fn push_traced_answer(answer: &Answered, into: &mut Vec<u8>) -> Result<(), NoMemory>
     ensures ok { OnOk result (into.new.items ≡ into.old.items ++ flat_map line_text (answer_lines true answer.now)) }
     ensures kept { Keeps into.old.items into.new.items }
@@ -145,7 +145,7 @@ pub fn push_traced_answer(answer: &Answered, into: &mut Vec<u8>) -> Result<(), N
     push_trace_lines(&answer.reply, into)
 }
 
-// The lines of an answer. The merger's are written with a trace alone.
+// The lines of an answer. The merger's are written only with a trace.
 fn push_answer(answer: &Answered, trace: bool, into: &mut Vec<u8>) -> Result<(), NoMemory>
     ensures ok { OnOk result (into.new.items ≡ into.old.items ++ flat_map line_text (written_lines trace answer.now)) }
     ensures kept { Keeps into.old.items into.new.items }
@@ -170,7 +170,7 @@ fn push_answers(answers: &[Answered], trace: bool, into: &mut Vec<u8>) -> Result
     Ok(())
 }
 
-// The text of the answers of a record from an index on, and of its journal where that is due.
+// The text of the answers of a record from an index on, and of its journal if that is due.
 fn push_text(of: &RunRecord, first: usize, trace: bool, into: &mut Vec<u8>) -> Result<(), NoMemory>
     ensures ok { OnOk result (into.new.items ≡ into.old.items ++ text_behind trace first of.now.made) }
     ensures kept { Keeps into.old.items into.new.items }
@@ -183,11 +183,12 @@ fn push_text(of: &RunRecord, first: usize, trace: bool, into: &mut Vec<u8>) -> R
     Ok(())
 }
 
-/// Appends the text of the answers of a record from an index on, which counts from 0: for each, a line with the number of the
-/// command and what it is answered, and behind that a line for each table or row. Where memory is wanting, the text stands as it was.
+/// Appends the text of the answers of a record from the index `first` on, which counts from 0: for each, a line with
+/// the number of the command and the words of the reply, followed by a line for each table or row. If memory runs out
+/// the text is unchanged.
 ///
-/// With a trace, the merger's answers are written too, what it read stands behind each answer to a search, the layout behind each answer
-/// to a search or a merge, and the journal behind the answers where the source was read to its end.
+/// With a trace, the merger's answers are written too. What a search read follows its answer; the layout follows each
+/// answer to a search or a merge; and the journal follows the answers if the source was read to its end.
 pub fn write_replies(
     of: &RunRecord,
     first: usize,

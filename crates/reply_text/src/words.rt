@@ -1,4 +1,4 @@
-//! Numbers, words and lines, put behind what a text has already. Where memory is wanting, the text keeps what it had.
+//! Numbers, words and lines, appended to a text. If memory runs out, what the text had before is unchanged.
 ghost use Rattle.std.specs.Prelude.{◌≡◌, ◌==◌, ◌++◌, ◌∷◌, [], decimal, flat_map, if◌then◌else◌, map, OnOk};
 ghost use Rattle.std.specs.List.{join_by};
 ghost use Rattle.record_model.specs.Texts.{command_text, listed, spaced};
@@ -14,15 +14,15 @@ use no_memory::NoMemory;
 /// A word of a line.
 #[derive(Clone, Copy)]
 pub enum Word<'a> {
-    /// As it stands.
+    /// A text, as it is.
     Text(&'a str),
-    /// In decimal.
+    /// A number, in decimal.
     Number(u64),
-    /// Each in decimal, with commas between; `none` where there is none.
+    /// Numbers in decimal, separated by commas; `none` if there are none.
     Numbers(&'a [u64]),
-    /// In quotes, with escapes.
+    /// A text in quotes, with escapes.
     Quoted(&'a str),
-    /// The number of a command, behind `m` where it is the merger's.
+    /// The number of a command, after `m` if it is the merger's.
     Command(Who),
 }
 
@@ -44,14 +44,14 @@ pub fn push_number(number: u64, into: &mut Vec<u8>) -> Result<(), NoMemory>
     push_bytes(buffer.format(number).as_bytes(), into)
 }
 
-/// What stands before the number of a command: `m` for the merger, which is caller 0.
+/// Returns what precedes the number of a command: `m` for the merger, which is caller 0.
 pub fn merger_mark(caller: u32) -> &'static str
     ensures { result.now ≡ (if caller == 0 then 0x6D ∷ [] else []) }
 {
     if caller == 0 { "m" } else { "" }
 }
 
-// Appends the number of a command, behind `m` where it is the merger's.
+// Appends the number of a command, after `m` if it is the merger's.
 fn push_command(who: Who, into: &mut Vec<u8>) -> Result<(), NoMemory>
     ensures ok { OnOk result (into.new.items ≡ into.old.items ++ command_text who) }
     ensures kept { Keeps into.old.items into.new.items }
@@ -60,7 +60,7 @@ fn push_command(who: Who, into: &mut Vec<u8>) -> Result<(), NoMemory>
     push_number(who.command, into)
 }
 
-// Appends numbers in decimal, each behind a comma.
+// Appends numbers in decimal, each after a comma.
 fn push_further_numbers(numbers: &[u64], into: &mut Vec<u8>) -> Result<(), NoMemory>
     ensures ok { OnOk result (into.new.items ≡ into.old.items ++ flat_map (λ number. 0x2C ∷ decimal number) numbers.now) }
     ensures kept { Keeps into.old.items into.new.items }
@@ -72,7 +72,7 @@ fn push_further_numbers(numbers: &[u64], into: &mut Vec<u8>) -> Result<(), NoMem
     Ok(())
 }
 
-// Appends numbers in decimal, with commas between.
+// Appends numbers in decimal, separated by commas.
 fn push_joined(numbers: &[u64], into: &mut Vec<u8>) -> Result<(), NoMemory>
     ensures ok { OnOk result (into.new.items ≡ into.old.items ++ join_by decimal (0x2C ∷ []) numbers.now) }
     ensures kept { Keeps into.old.items into.new.items }
@@ -84,7 +84,7 @@ fn push_joined(numbers: &[u64], into: &mut Vec<u8>) -> Result<(), NoMemory>
     push_further_numbers(rest, into)
 }
 
-// Appends numbers in decimal, with commas between, or `none`.
+// Appends numbers in decimal, separated by commas, or `none`.
 fn push_numbers(numbers: &[u64], into: &mut Vec<u8>) -> Result<(), NoMemory>
     ensures ok { OnOk result (into.new.items ≡ into.old.items ++ listed decimal numbers.now) }
     ensures kept { Keeps into.old.items into.new.items }
@@ -109,7 +109,7 @@ fn push_word(word: &Word<'_>, into: &mut Vec<u8>) -> Result<(), NoMemory>
     }
 }
 
-/// Appends words, each with a space before it.
+/// Appends words, each after a space.
 pub fn push_words(words: &[Word<'_>], into: &mut Vec<u8>) -> Result<(), NoMemory>
     ensures ok { OnOk result (into.new.items ≡ into.old.items ++ flat_map (λ word. 0x20 ∷ word_text word) words.now) }
     ensures kept { Keeps into.old.items into.new.items }
@@ -121,7 +121,7 @@ pub fn push_words(words: &[Word<'_>], into: &mut Vec<u8>) -> Result<(), NoMemory
     Ok(())
 }
 
-/// Appends a line: what it begins with, a number, and words with a space before each.
+/// Appends a line: its beginning, a number, and words, each after a space.
 pub fn push_line(
     lead: &str,
     number: u64,

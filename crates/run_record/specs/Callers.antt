@@ -1,4 +1,4 @@
--- Who was answered. The merger is caller 0.
+-- Whose command was answered. The merger is caller 0.
 use Rattle.lake_model.specs.declared.Who.{Who}
 use Rattle.lake_model.specs.Journal.{who_with}
 use Rattle.run_record.specs.declared.record.By.{By}

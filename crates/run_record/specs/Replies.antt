@@ -1,4 +1,4 @@
--- A reply of the code, as the definitions have it.
+-- The model of a reply: a reply of the definitions.
 use Rattle.record_model.specs.Replies.{Reply}
 use Rattle.record_model.specs.Replies as model
 use Rattle.run_record.specs.declared.reply.Reply.{Reply as Declared}

@@ -1,10 +1,10 @@
--- A record with its rooms.
+-- A record with its room.
 use Rattle.std.specs.Prelude.{ℕ, ◌+◌, ◌≤◌, Bool, List, length}
 use Rattle.lake_model.specs.Journal.{Entry}
 use Rattle.script_model.specs.Options.{Options}
 use Rattle.record_model.specs.Record.{Answered, RunRecord}
 
--- a record, and how many more answers, entries and syncs there is room for
+-- a record, and how many more answers, entries and syncs it has room for
 pub record RecordOf : Type 0 where
   pub made : RunRecord
   pub answers_room : ℕ
@@ -18,6 +18,6 @@ record_with made answers_room entries_room syncs_room = record { made = made; an
 abbrev pub made_of : Options → List Entry → List Answered → List ℕ → Bool → RunRecord
 made_of options journal answers syncs ended = record { options = options; journal = journal; answers = answers; syncs = syncs; ended = ended }
 
--- there is room for so many more items
+-- there is room for `room` more items
 abbrev pub HasRoom : {X : Type 0} → List X → ℕ → ℕ → Type 0
 HasRoom items capacity room = length items + room ≤ capacity

@@ -1,4 +1,4 @@
-//! The record of a run: its journal, its answers, and how long the journal was at the end of each batch.
+//! The record of a run: its journal, its answers, and the length of the journal at the end of each batch.
 ghost use Rattle.std.specs.Prelude.{◌≡◌, ◌<◌, ◌≤◌, ◌+◌, ◌++◌, ◌∷◌, [], length, true, vec_capacity, vec_len, OnOk};
 ghost use Rattle.record_model.specs.Record.{empty, with_end};
 ghost use Rattle.script_model.specs.Options.{plain};
@@ -11,17 +11,17 @@ use no_memory::NoMemory;
 use std::alloc::Global;
 use std::marker::Model;
 
-/// Who was answered.
+/// Whose command was answered.
 #[derive(Clone, Copy, Debug, PartialEq, Eq)]
 pub enum By {
-    /// The command of this number, from 1, of a lane from 1 to 16.
+    /// The command with this number, from 1, of a lane from 1 to 16.
     Command { number: u64, lane: u32 },
-    /// The merger, which counts its commands for itself.
+    /// The merger, which counts its own commands.
     Merger { number: u64 },
 }
 
 impl By {
-    /// The number of the command.
+    /// Returns the number of the command.
     pub fn number(&self) -> u64
         ensures { result ≡ (who_by self.now).command }
     {
@@ -31,7 +31,7 @@ impl By {
         }
     }
 
-    /// The lane, or 0 for the merger.
+    /// Returns the lane, or 0 for the merger.
     pub fn caller(&self) -> u32
         ensures { result ≡ (who_by self.now).caller }
     {
@@ -42,7 +42,7 @@ impl By {
     }
 }
 
-/// A reply, with who was answered.
+/// A reply, and whose command it answers.
 #[derive(Drop)]
 pub struct Answered {
     pub by: By,
@@ -60,7 +60,7 @@ impl Model for Answered {
     ghost view = { λ a. answered_with (who_by a.by) (reply_of a.reply) };
 }
 
-/// The record of a run, its options among it, and how many more answers, entries and syncs it has room for.
+/// The record of a run, with its options, and how many more answers, entries and syncs it has room for.
 #[derive(Drop)]
 pub struct RunRecord {
     options: Options,
@@ -85,7 +85,8 @@ impl Model for RunRecord {
 }
 
 impl RunRecord {
-    /// The record of a run that has done nothing, with one lane, no stated order, no merger and no trace. It takes no memory, and has room for nothing.
+    /// Returns the record of a run that has done nothing, with one lane, no stated order, no merger and no trace. It
+    /// takes no memory, and has no room.
     pub fn new(alloc: Global) -> RunRecord
         ensures { result.made ≡ empty plain }
     {
@@ -101,14 +102,14 @@ impl RunRecord {
         }
     }
 
-    /// What the words of the command line say of the run.
+    /// Returns the options of the run.
     pub fn options(&self) -> &Options
         ensures { result.now ≡ self.now.made.options }
     {
         &self.options
     }
 
-    /// Puts these options in the place of those that the record has. It takes no memory.
+    /// Replaces the options of the record. It takes no memory.
     pub fn set_options(&mut self, what: Options)
         ensures made { self.new.made ≡ record self.old.made { options = what } }
         ensures answers_room { self.new.answers_room ≡ self.old.answers_room }
@@ -118,35 +119,35 @@ impl RunRecord {
         self.options = what;
     }
 
-    /// The journal.
+    /// Returns the journal.
     pub fn journal(&self) -> &[Entry]
         ensures { result.now ≡ self.now.made.journal }
     {
         &self.journal
     }
 
-    /// The answers, in the order of the commands of each batch.
+    /// Returns the answers, in the order of the commands of each batch.
     pub fn answers(&self) -> &[Answered]
         ensures { result.now ≡ self.now.made.answers }
     {
         &self.answers
     }
 
-    /// How long the journal was at the end of each batch.
+    /// Returns the length of the journal at the end of each batch.
     pub fn syncs(&self) -> &[u64]
         ensures { result.now ≡ self.now.made.syncs }
     {
         &self.syncs
     }
 
-    /// Whether the source was read to its end.
+    /// Returns whether the source was read to its end.
     pub fn ended(&self) -> bool
         ensures { result ≡ self.now.made.ended }
     {
         self.ended
     }
 
-    /// Says that the source was read to its end.
+    /// Notes that the source was read to its end.
     pub fn close(&mut self)
         ensures made { self.new.made ≡ with_end true self.old.made }
         ensures answers_room { self.new.answers_room ≡ self.old.answers_room }
@@ -156,12 +157,12 @@ impl RunRecord {
         self.ended = true;
     }
 
-    /// Makes room for so many more answers and entries, and for one more sync.
+    /// Makes room for `answers` more answers, `entries` more entries, and one more sync.
     pub fn room(&mut self, answers: usize, entries: usize) -> Result<(), NoMemory>
         ensures made { self.new.made ≡ self.old.made }
         ensures room { OnOk result ((answers ≤ self.new.answers_room) × (entries ≤ self.new.entries_room) × (1 ≤ self.new.syncs_room)) }
 
-        // No room gets less, also where memory is wanting.
+        // no room shrinks, even if memory runs out
         ensures answers_room { self.old.answers_room ≤ self.new.answers_room }
         ensures entries_room { self.old.entries_room ≤ self.new.entries_room }
         ensures syncs_room { self.old.syncs_room ≤ self.new.syncs_room }
@@ -199,7 +200,7 @@ impl RunRecord {
         self.entries_room -= 1;
     }
 
-    /// Notes the end of a batch: how long the journal is, for which there is room. It takes no memory.
+    /// Notes the end of a batch with the length of the journal, for which there is room. It takes no memory.
     pub fn add_sync(&mut self)
         requires { 0 < self.old.syncs_room }
         ensures made { self.new.made ≡ record self.old.made { syncs = self.old.made.syncs ++ length self.old.made.journal ∷ [] } }

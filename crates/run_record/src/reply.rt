@@ -1,25 +1,25 @@
-//! What a command is answered.
+//! The reply to a command.
 
 use column_set::{KeptRows, Name};
 use lake_model::Which;
 use segment_core::{Layout, TableLines};
 
-/// What a command is answered. A position `at` is the length of the journal that the answer stands at.
+/// The reply to a command. A position `at` is the length of the journal at which the reply was made.
 #[derive(Drop)]
 pub enum Reply {
-    /// The table was loaded, as the entry numbered `at` of the journal.
+    /// The table was loaded, as entry `at` of the journal.
     Loaded {
         name: Name,
         columns: u32,
         members: u64,
         at: u64,
     },
-    /// The table was dropped, by the entry numbered `at` of the journal.
+    /// The table was dropped, by entry `at` of the journal.
     Dropped {
         name: Name,
         at: u64,
     },
-    /// The table took the place of the live table of its name, as the entry numbered `at` of the journal.
+    /// The table replaced the live table of its name, as entry `at` of the journal.
     Replaced {
         name: Name,
         columns: u32,
@@ -31,8 +31,8 @@ pub enum Reply {
         tables: TableLines,
         at: u64,
     },
-    /// The rows that answer a query of `query` keys, over the layout that was searched. For them `reads` posting lists were read and
-    /// `probes` sets probed.
+    /// The rows that answer a query of `query` keys, over the layout that was searched. To find them, `reads` posting
+    /// lists were read and `probes` sets probed.
     Found {
         query: u32,
         rows: KeptRows,
@@ -40,15 +40,16 @@ pub enum Reply {
         probes: u64,
         layout: Layout,
     },
-    /// The rows that answer a query of `query` keys over the tables that were live after the first `asked` entries of the journal.
+    /// The rows that answer a query of `query` keys over the tables that were live after the first `asked` entries of
+    /// the journal.
     Past {
         query: u32,
         rows: KeptRows,
         asked: u64,
         at: u64,
     },
-    /// The `parts` parts that were planned gave way to one of `tables` tables, or to none where `tables` is 0, by the entry numbered
-    /// `at` of the journal. The layout is the one in which the merge was planned.
+    /// The `parts` parts that were planned were replaced by one part of `tables` tables, or by none if `tables` is 0,
+    /// by entry `at` of the journal. The layout is the one in which the merge was planned.
     Merged {
         layout: Layout,
         parts: u64,
@@ -57,22 +58,22 @@ pub enum Reply {
     },
     /// The bytes have no record.
     NoHeader,
-    /// The header has `got` fields, more than 1,024.
+    /// The header has `got` fields, more than a table may have columns.
     TooManyColumns {
         got: u64,
     },
-    /// The record, counted from 1 with the header, has `got` fields where the header has `want`.
+    /// The record `row`, counted from 1 with the header, has `got` fields, but the header has `want`.
     Unequal {
         row: u64,
         want: u64,
         got: u64,
     },
-    /// The field of the record, both counted from 1, is not UTF-8.
+    /// This field of this record, both counted from 1, is not UTF-8.
     NotUtf8 {
         row: u64,
         field: u64,
     },
-    /// The column at the place, counted from 1, has more than 4,194,304 distinct keys.
+    /// The column at this place, counted from 1, has more than 4,194,304 distinct keys.
     TooManyValues {
         place: u32,
     },
@@ -92,40 +93,41 @@ pub enum Reply {
         name: Name,
         at: u64,
     },
-    /// The live table of this name has no column at the place, which counts from 1.
+    /// The live table of this name has no column at this place, which counts from 1.
     NoColumn {
         name: Name,
         place: u32,
         at: u64,
     },
-    /// The limit would be passed by `more` beyond the `count` that there is.
+    /// The limit `which` would be passed: there are `count`, and the command would add `more`.
     Full {
         which: Which,
         count: u64,
         more: u64,
         at: u64,
     },
-    /// The line of the query, counted from 1, is not UTF-8.
+    /// This line of the query, counted from 1, is not UTF-8.
     QueryNotUtf8 {
         line: u64,
     },
     /// The query has more than 4,194,304 distinct keys.
     QueryTooLarge,
-    /// No parts of this layout are to be merged.
+    /// This layout has no parts to merge.
     NothingToMerge {
         layout: Layout,
     },
-    /// The journal is shorter than the `asked` entries that a search of the past names.
+    /// A search of the past names `asked` entries, but the journal is shorter.
     Later {
         asked: u64,
         at: u64,
     },
-    /// The merge was planned in this layout, and `gone` is the number of the first planned part that is no longer there at `at`.
+    /// The merge was planned in this layout, and `gone` is the number of the first planned part that is no longer there
+    /// at `at`.
     Stale {
         layout: Layout,
         gone: u64,
         at: u64,
     },
-    /// Memory was wanting.
+    /// Memory ran out.
     NoMemory,
 }

@@ -31,7 +31,7 @@ reading_of lines used numbered commands bytes block asked later =
 abbrev open_of : ℕ → ℕ → Front → List ℕ → Open
 open_of line lane front body = record { line = line; lane = lane; front = front; body = body }
 
--- Lines lead from one reading to another, whatever number of lines and bytes that is.
+-- Lines lead from one reading to another, whatever the number of lines and bytes is.
 record Leads (by : Grammar) (before : Reading) (lines : List Text) (numbered : ℕ) (commands : Batch) (bytes : ℕ) (block : Option Open) (asked : List Text) (later : List File) : Type 0 where
   pub line : ℕ
   pub used : ℕ
@@ -46,7 +46,7 @@ module _ (limits : ScriptLimits) (lanes : ℕ) where
   unfolding read
   one_line before after line e = ap (turned [] (before.lines + 1)) e
 
-  -- one line, and those behind it
+  -- one line, followed by others
   then_lines : (before after : Reading) (line : Text) (lines : List Text) → turn_of by line before ≡ Goes after → read by (read_with [] (Stands before)) (line ∷ lines) ≡ read by (read_with [] (Stands after)) lines
   unfolding read
   then_lines before after line lines e = ap (λ (t : Turn). read by (turned [] (before.lines + 1) t) lines) e
@@ -242,7 +242,7 @@ module _ (limits : ScriptLimits) (lanes : ℕ) where
       (line_no_feed limits command.lane (first_path paths) command.task (omega (arith, of_lanes.0.1, small)) tasks.0, body_no_feed command.task)
       (lines_whole (paths_behind command.task paths) rest small of_lanes.1 tasks.3)
 
-  -- nothing stands behind
+  -- nothing follows
   nothing_behind : (l u n : ℕ) (asked : List Text) → u ≤ limits.input → commands_from by (reading_of l u n [] 0 None asked []) [] ≡ commands_with [] Whole asked
   nothing_behind l u n asked within =
       let now : Reading = reading_of l u n [] 0 None asked [] in

@@ -78,7 +78,7 @@ number_within most n some low small =
     ∙ ap (λ (m : ℕ). if nat_le m most then Some m else None) (reads n small).value
     ∙ ap (λ (b : Bool). if b then Some n else None) (le-leb n most low)
 
--- A number that may be 0 does too.
+-- So does a number that may be 0.
 pub number_or_zero_within : (most n : ℕ) → n ≤ most → n < 2 ^ 64 → number_or_zero most (decimal n) ≡ Some n
 number_or_zero_within most zero low small = ap (number_or_zero most) (decimal_digit 0 (omega arith))
 number_or_zero_within most (suc n) low small =
@@ -86,7 +86,7 @@ number_or_zero_within most (suc n) low small =
     false_from_ne_true (bytes_eq (decimal (suc n)) (48 ∷ [])) (λ same. omega (arith, first_decimal (suc n) (omega arith) small, ap (λ (t : Text). get_or t 0 0) ((bytes_eq-Decides (decimal (suc n)) (48 ∷ [])).0 same))) in
     ap (λ (b : Bool). if b then Some 0 else number most (decimal (suc n))) other ∙ number_within most (suc n) (omega arith) low small
 
--- Its digits are a word, and stand in a line.
+-- Its digits are a word of a line.
 pub number_word : (n : ℕ) → n < 2 ^ 64 → IsWord (decimal n)
 number_word n small = (decimal_nonempty n small, no_spaces (decimal n) (reads n small).digits)
 

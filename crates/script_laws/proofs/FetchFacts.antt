@@ -38,7 +38,7 @@ says_no_fetch lanes text = said_holds IsNoFetch (λ lane. ⊤) (record {
 
 -- ---- a turn
 
--- the batches before it have so many fetches
+-- the batches before it have this many fetches
 abbrev IsAsked : ℕ → Turn → Type 0
 IsAsked n (Goes reading) = n + fetches reading.commands ≤ length reading.asked
 IsAsked n (Gives batch reading) = n + fetches batch + fetches reading.commands ≤ length reading.asked
@@ -47,7 +47,7 @@ IsAsked n (Fails why asked) = n ≤ length asked
 fetches_push : (batch : Batch) (number lane : ℕ) (task : Task) → fetches (batch ++ command_with number lane task ∷ []) ≡ fetches batch + cond (is_fetch task) 1 0
 fetches_push batch number lane task = sum_by_push (λ (command : Command). cond (is_fetch command.task) 1 0) batch (command_with number lane task)
 
--- one more command that is no fetch
+-- one more command, which is no fetch
 pushed : (n : ℕ) (reading : Reading) (number lane : ℕ) (task : Task) (asked : List Text) → n + fetches reading.commands ≤ length asked → is_fetch task ≡ false
     → n + fetches (reading.commands ++ command_with number lane task ∷ []) ≤ length asked
 pushed n reading number lane task asked h none =

@@ -1,4 +1,4 @@
--- What holds of the commands of a script, where each further command keeps it.
+-- What holds of the commands of a script, if each further command keeps it.
 use Rattle.std.proofs.Common.{◌≡◌, refl, subst, sym, ap, ◌∙◌, ℕ, ◌+◌, List, [], ◌∷◌, ◌++◌, append_assoc, Bool, true, false, length}
 use Rattle.std.specs.Prelude.{⊤, Option, None, Some, if◌then◌else◌}
 use Rattle.std.proofs.lemmas.List.{append-nil}
@@ -13,7 +13,7 @@ use Rattle.script_model.specs.Script.{Commands, FaultAt, at_end, begun_fault, co
 use Rattle.script_model.specs.Words.{without_return}
 use Rattle.script_laws.specs.ScriptLaws.{all_commands}
 
--- a line says only lanes that this holds of
+-- a line states only lanes of which this holds
 abbrev pub OfLanes : (ℕ → Type 0) → Said → Type 0
 OfLanes L Nothing = ⊤
 OfLanes L (Wrong why) = ⊤
@@ -22,7 +22,7 @@ OfLanes L (Does lane task) = L lane
 OfLanes L (Opens lane front) = L lane
 OfLanes L (Fetches lane name path) = L lane
 
--- Of so many commands it holds, also of the first ones, and one more command of such a lane keeps it.
+-- It holds of this many commands, also of the first ones, and is kept by one more command in such a lane.
 pub record Keeps (Q : Batch → ℕ → Type 0) (L : ℕ → Type 0) : Type 0 where
   pub none : Q [] 0
   pub more : (commands : Batch) (n lane : ℕ) (task : Task) → Q commands n → L lane → Q (commands ++ command_with (n + 1) lane task ∷ []) (n + 1)
@@ -33,7 +33,7 @@ module _ (Q : Batch → ℕ → Type 0) (L : ℕ → Type 0) (keeps : Keeps Q L)
   IsOpenOf None = ⊤
   IsOpenOf (Some block) = L block.lane
 
-  -- of the batches and the commands behind them
+  -- it holds of the batches and the commands after them
   abbrev Stays : List Batch → Reading → Type 0
   Stays batches reading = Q (all_commands batches ++ reading.commands) reading.numbered × IsOpenOf reading.block
 

@@ -23,7 +23,7 @@ of_lanes L = record {
 
 -- ---- numbers
 
--- numbered from 1 on, and so many
+-- numbered from 1, and this many
 abbrev IsCounted : Batch → ℕ → Type 0
 IsCounted batch n = AreNumberedFrom 1 batch × (n ≡ length batch)
 

@@ -25,7 +25,7 @@ onto_back : (byte : ℕ) (ended : List Text) (rest bytes : Text) → flat_map li
 onto_back byte [] rest bytes e = ap (λ (t : Text). byte ∷ t) e
 onto_back byte (line ∷ lines) rest bytes e = ap (λ (t : Text). byte ∷ t) e
 
--- The lines of a text and what stands behind them are the text.
+-- The lines of a text and what follows them are the text.
 pub lines_back : (text : Text) → flat_map line_text (lines_of text).ended ++ (lines_of text).rest ≡ text
 unfolding lines_of
 lines_back [] = refl
@@ -72,7 +72,7 @@ dotted_no_feed line h = elim (cases_Bool (get_or line 0 0 == 0x2E)) [
   | inr f ↦ subst (λ (b : Bool). NoFeed (cond b (0x2E ∷ line) line)) (sym f) h
 ]
 
--- what is left of a text begins as the text
+-- what is left of a text begins as the text does
 first_kept : (n : ℕ) (text : Text) → take n text ≡ 0x2E ∷ [] → get_or text 0 0 ≡ 0x2E
 first_kept zero text e = absurd (let no : [] ≡ 0x2E ∷ [] = e in cc)
 first_kept (suc n) [] e = absurd (let no : [] ≡ 0x2E ∷ [] = e in cc)
@@ -85,7 +85,7 @@ kept_end text e = by_return (get_or text (length text - 1) 0 == 0x0D) refl
     by_return true t = first_kept (length text - 1) text (sym (ap (λ (b : Bool). cond b (take (length text - 1) text) text) t) ∙ e)
     by_return false f = ap (λ (t : Text). get_or t 0 0) (sym (ap (λ (b : Bool). cond b (take (length text - 1) text) text) f) ∙ e)
 
--- a line that begins with two
+-- a line that begins with two dots
 no_end_twice : (line : Text) → is_end (0x2E ∷ 0x2E ∷ line) ≡ false
 no_end_twice line = false_from_ne_true (is_end (0x2E ∷ 0x2E ∷ line)) (λ e. too_long line ((bytes_eq-Decides (without_return (0x2E ∷ 0x2E ∷ line)) (codes ".")).0 e))
   where
@@ -116,7 +116,7 @@ dotted_no_end line = elim (cases_Bool (get_or line 0 0 == 0x2E)) [
 
 -- ---- the line of a command
 
--- no carriage return stands at its end
+-- there is no carriage return at its end
 abbrev pub EndsWell : Text → Type 0
 EndsWell text = (0 < length text) × ((get_or text (length text - 1) 0 == 0x0D) ≡ false)
 

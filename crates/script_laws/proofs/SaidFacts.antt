@@ -11,7 +11,7 @@ use Rattle.script_model.specs.declared.Reason.TheVariants as reason
 use Rattle.script_model.specs.Words.{behind_word, digits_value, first_word, is_number, number, number_of, number_or_zero}
 use Rattle.script_model.proofs.NumberLemmas.{positive}
 
--- What holds of all that a line may say whose lane is such a one: a whole command that it says is no fetch of a file.
+-- It holds of all that a line may say in such a lane; a whole command that a line says is no fetch of a file.
 pub record HoldsOf (P : Said → Type 0) (L : ℕ → Type 0) : Type 0 where
   pub nothing : P Nothing
   pub wrong : (why : Reason) → P (Wrong why)
@@ -20,7 +20,7 @@ pub record HoldsOf (P : Said → Type 0) (L : ℕ → Type 0) : Type 0 where
   pub opens : (lane : ℕ) (front : Front) → L lane → P (Opens lane front)
   pub fetches : (lane : ℕ) (name path : Text) → L lane → P (Fetches lane name path)
 
--- a lane that there is
+-- a lane that exists
 abbrev pub IsLaneOf : ℕ → ℕ → Type 0
 IsLaneOf lanes lane = (0 < lane) × (lane ≤ lanes)
 

@@ -80,7 +80,7 @@ name_no_return name h =
 by_word : (lane : ℕ) (text word : Text) → first_word text ≡ word → command_said lane text ≡ of_form lane text (find (λ form. bytes_eq form.0 word) forms)
 by_word lane text word e = ap (λ (w : Text). of_form lane text (find (λ form. bytes_eq form.0 w) forms)) e
 
--- what the words behind it say
+-- what the words after it say
 by_rest : (form : Form) (lane : ℕ) (text rest : Text) → behind_word text ≡ rest → says form lane (words (behind_word text)) (behind_word text) ≡ says form lane (words rest) rest
 by_rest form lane text rest e = ap (λ (t : Text). says form lane (words t) t) e
 

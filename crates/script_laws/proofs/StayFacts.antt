@@ -1,4 +1,4 @@
--- The batches that lines give stand, whatever follows.
+-- The batches that lines give do not change, whatever follows.
 use Rattle.std.proofs.Common.{◌≡◌, refl, ap, sym, ◌∙◌, subst, ℕ, ◌+◌, ◌-◌, ◌≤◌, List, [], ◌∷◌, ◌++◌, Bool, true, false, codes, length, take, arith, length-append}
 use Rattle.std.specs.Prelude.{if◌then◌else◌, nat_lt, Option, None, Some, ⊤}
 use Rattle.std.specs.List.{AllByRecursion}
@@ -24,7 +24,7 @@ batches_stay limits lanes text more files fits =
     let (later, is) = batches_first (grammar_of limits lanes) (start files) text more (omega (arith, fits)) in
     (later.batches, ap (λ (c : Commands). c.batches) is)
 
--- ---- behind a `sync`
+-- ---- after a `sync`
 
 -- no command is at hand, or a block is open
 abbrev OrOpen : Option Open → Reading → Type 0
@@ -48,7 +48,7 @@ module _ (limits : ScriptLimits) (lanes : ℕ) where
   unless_empty None reading turn h = h
   unless_empty (Some why) reading turn h = tt
 
-  -- a `sync` outside a block leaves no command; in a block it is a line of it
+  -- a `sync` outside a block leaves no command; in a block it is a line of the block
   line_empty : (block : Option Open) (sync : Text) (reading : Reading) → reading.block ≡ block → said lanes (without_return sync) ≡ Sync → IsEmptyTurn (line_in by block sync reading)
   line_empty None sync reading is says =
       unless_empty (line_fault by sync) reading (does by (said lanes (without_return sync)) reading)
@@ -89,7 +89,7 @@ module _ (limits : ScriptLimits) (lanes : ℕ) where
       unless_same (begun_fault by reading.block reading.bytes []) batches reading (end_turned batches (reading.lines + 1) (last_turn by reading.block [] reading))
       (ap (λ (t : Turn). (end_turned batches (reading.lines + 1) t).batches) (last_is reading.block reading) ∙ at_end_same batches reading.block reading h)
 
-  -- the lines of a text that ends with one
+  -- the lines of a text that ends with a whole line
   lines_are : (lines : List Text) → AllByRecursion NoFeed lines → lines_of (lines_text lines) ≡ lines_with lines []
   unfolding lines_of
   lines_are lines whole =

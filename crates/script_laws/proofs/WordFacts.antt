@@ -1,4 +1,4 @@
--- Words with a space behind each, as they read back.
+-- Words, each followed by a space, as they read back.
 use Rattle.std.proofs.Common.{◌≡◌, refl, ap, ◌∙◌, ℕ, ◌+◌, ◌<◌, List, [], ◌∷◌, Bool, false, cond, drop, take, length, get_or, arith}
 use Rattle.std.specs.Prelude.{◌==◌, not, filter, take_while}
 use Rattle.std.specs.List.{AllByRecursion, onto_first, prefix_len, slice_split}
@@ -8,7 +8,7 @@ use Rattle.script_model.specs.Words.{behind_spaces, behind_word, first_word, is_
 use Rattle.script_laws.specs.Printed.{with_word}
 use Rattle.list_laws.proofs.ListLemmas.{drop_seam}
 
--- a word has bytes, and no space
+-- a word has at least one byte, and no space
 abbrev pub IsWord : Text → Type 0
 IsWord word = (0 < length word) × AllByRecursion (λ byte. is_space byte ≡ false) word
 

@@ -11,11 +11,11 @@ use Rattle.script_model.specs.Words.{line_text, NoFeed, before_spaces, is_space}
 
 -- ---- the writer
 
--- a word, a space, and the text behind
+-- a word, a space, and the text that follows
 abbrev pub with_word : Text → Text → Text
 with_word word text = word ++ 0x20 ∷ text
 
--- what stands behind the lane of a command, where a file is fetched at this path
+-- what follows the lane of a command, whose file, if it has one, is fetched at this path
 abbrev pub task_text : Text → Task → Text
 task_text path (Load name body) = with_word (codes "load") name
 task_text path (LoadFile name file) = with_word (codes "loadfile") (with_word name path)
@@ -33,11 +33,11 @@ task_text path (Merge true) = with_word (codes "merge") (codes "all")
 abbrev pub command_line : Text → Command → Text
 command_line path command = with_word (0x40 ∷ decimal command.lane) (task_text path command.task)
 
--- a line of a block: a dot comes before one that begins with a dot
+-- a line of a block: a dot is put before one that begins with a dot
 abbrev pub dotted : Text → Text
 dotted line = if get_or line 0 0 == 0x2E then 0x2E ∷ line else line
 
--- the lines of a body, and the one that ends it
+-- the lines of a body, and the line that ends it
 abbrev pub block_lines : List ℕ → List Text
 block_lines body = map dotted (lines_of body).ended ++ codes "." ∷ []
 
@@ -57,7 +57,7 @@ abbrev pub first_path : List Text → Text
 first_path [] = []
 first_path (path ∷ paths) = path
 
--- the path of a task, where a file is fetched at this one
+-- the path of a task that fetches a file, which is this one
 abbrev pub paths_in : Task → Text → List Text
 paths_in (LoadFile name file) path = path ∷ []
 paths_in (Load name body) path = []
@@ -70,7 +70,7 @@ paths_in (Contain a b body) path = []
 paths_in (AsOf asked k body) path = []
 paths_in (Merge all) path = []
 
--- the paths of the commands behind one of this task
+-- the paths of the commands after one with this task
 abbrev pub paths_behind : Task → List Text → List Text
 paths_behind (LoadFile name file) paths = drop 1 paths
 paths_behind (Load name body) paths = paths
@@ -83,7 +83,7 @@ paths_behind (Contain a b body) paths = paths
 paths_behind (AsOf asked k body) paths = paths
 paths_behind (Merge all) paths = paths
 
--- the lines of a batch, whose files are fetched at these paths, in their order
+-- the lines of a batch, whose files are fetched at these paths, in order
 abbrev pub batch_lines : List Text → Batch → List Text
 batch_lines paths [] = codes "sync" ∷ []
 batch_lines paths (command ∷ commands) = command_line (first_path paths) command ∷ body_lines command.task ++ batch_lines (paths_behind command.task paths) commands
@@ -92,7 +92,7 @@ batch_lines paths (command ∷ commands) = command_line (first_path paths) comma
 abbrev pub printed : List Text → Batch → Text
 printed paths batch = flat_map line_text (batch_lines paths batch)
 
--- ---- what comes of the fetches
+-- ---- the outcomes of the fetches
 
 abbrev pub files_in : Task → List File
 files_in (LoadFile name file) = file ∷ []
@@ -112,12 +112,13 @@ files_of (command ∷ commands) = files_in command.task ++ files_of commands
 
 -- ---- a batch that can be printed
 
--- the first command has this number, and each further one the next
+-- the first command has this number, and each further command the next
 abbrev pub AreNumberedFrom : ℕ → Batch → Type 0
 AreNumberedFrom number [] = ⊤
 AreNumberedFrom number (command ∷ commands) = (command.number ≡ number) × AreNumberedFrom (number + 1) commands
 
--- A path stands at the end of a line: it has bytes, no line feed, no space before or behind, and no carriage return at its end.
+-- A path is at the end of a line: it has at least one byte, no line feed, no space at its beginning or end, and no
+-- carriage return at its end.
 pub record IsPath (path : Text) : Type 0 where
   pub some : 0 < length path
   pub utf8 : is_utf8 path ≡ true
@@ -126,7 +127,7 @@ pub record IsPath (path : Text) : Type 0 where
   pub back : before_spaces path ≡ path
   pub end : (get_or path (length path - 1) 0 == 0x0D) ≡ false
 
--- a body is lines, each with its line feed, and no longer than a block may be
+-- a body is lines, each with its line feed, and is no longer than a block may be
 abbrev pub IsBody : ScriptLimits → List ℕ → Type 0
 IsBody limits body = ((lines_of body).rest ≡ []) × (length body ≤ limits.block)
 
@@ -145,13 +146,13 @@ IsTask limits path (Contain a b body) = (1 ≤ a) × (a ≤ b) × (b ≤ 10000) 
 IsTask limits path (AsOf asked k body) = (asked ≤ 4294967295) × IsFrom1To 10000 k × IsBody limits body
 IsTask limits path (Merge all) = ⊤
 
--- each command has a task and a line within the limits, and there is a path for each file and no other
+-- each command has a task and a line within the limits, and there is one path for each file and no others
 abbrev pub AreTasks : ScriptLimits → List Text → Batch → Type 0
 AreTasks limits paths [] = paths ≡ []
 AreTasks limits paths (command ∷ commands) = IsTask limits (first_path paths) command.task × (length (command_line (first_path paths) command) ≤ limits.line)
     × (paths ≡ paths_in command.task (first_path paths) ++ paths_behind command.task paths) × AreTasks limits (paths_behind command.task paths) commands
 
--- the bytes of a task's body or file
+-- the number of bytes of a task's body or file
 abbrev pub task_size : Task → ℕ
 task_size (Load name body) = length body
 task_size (Replace name body) = length body

@@ -11,15 +11,15 @@ use Rattle.script_model.specs.Script.{Whole, commands, commands_with, grammar_of
 use Rattle.script_model.specs.Words.{line_text, NoFeed, without_return}
 use Rattle.script_laws.specs.Printed.{AreNumberedFrom, IsPrintable, files_of, printed}
 
--- the commands of all batches, in their order
+-- the commands of all batches, in order
 abbrev pub all_commands : List Batch → Batch
 all_commands batches = flat_map (λ batch. batch) batches
 
--- The commands of a script are numbered from 1 on.
+-- The commands of a script are numbered from 1.
 abbrev pub AreNumbered : Type 0
 AreNumbered = (limits : ScriptLimits) (lanes : ℕ) (bytes : List ℕ) (files : List File) → AreNumberedFrom 1 (all_commands (commands limits lanes bytes files).batches)
 
--- Where there is a lane, each command of a script is of a lane that there is.
+-- If there is a lane, each command of a script is in a lane that exists.
 abbrev pub AreOfLanes : Type 0
 AreOfLanes = (limits : ScriptLimits) (lanes : ℕ) (bytes : List ℕ) (files : List File) → 1 ≤ lanes → IsOfLanes lanes (all_commands (commands limits lanes bytes files).batches)
 
@@ -46,7 +46,7 @@ SyncedStay = (limits : ScriptLimits) (lanes : ℕ) (lines : List Text) (sync mor
     → length (lines_text (lines ++ sync ∷ []) ++ more) ≤ limits.input
     → (later : List Batch) × ((commands limits lanes (lines_text (lines ++ sync ∷ []) ++ more) files).batches ≡ (commands limits lanes (lines_text (lines ++ sync ∷ [])) files).batches ++ later)
 
--- A batch that is printed reads back, where its files come of the fetches.
+-- A printed batch reads back if its files are the outcomes of the fetches.
 abbrev pub ReadsBack : Type 0
 ReadsBack = (limits : ScriptLimits) (lanes : ℕ) (paths : List Text) (batch : Batch) → IsPrintable limits lanes paths batch
     → commands limits lanes (printed paths batch) (files_of batch) ≡ commands_with (batch ∷ []) Whole paths

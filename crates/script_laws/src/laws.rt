@@ -1,12 +1,12 @@
 //! The laws of the script grammar: each is the contract of a function that does nothing.
 ghost use Rattle.script_laws.specs.ScriptLaws.{AreNumbered, AreOfLanes, AskForFiles, BatchesStay, ReadsBack, SyncedStay};
 
-/// The commands of a script are numbered from 1 on without a gap, in their order.
+/// The commands of a script are numbered from 1 without a gap, in their order.
 pub fn numbers_law()
     ensures { AreNumbered }
 {}
 
-/// Every command of a script is of one of its lanes.
+/// Every command of a script is in one of its lanes.
 pub fn lanes_law()
     ensures { AreOfLanes }
 {}
@@ -16,8 +16,8 @@ pub fn files_law()
     ensures { AskForFiles }
 {}
 
-/// What lines say of batches stands, whatever follows them: the batches of a script up to a `sync` line are the first batches of every
-/// longer script.
+/// The batches that lines give do not change, whatever follows the lines: the batches of a script up to a `sync` line
+/// are the first batches of every longer script.
 pub fn batches_stay_law()
     ensures lines { BatchesStay }
     ensures synced { SyncedStay }

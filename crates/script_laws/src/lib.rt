@@ -1,5 +1,5 @@
-//! The laws of the script grammar: what holds of the commands of every script. There is no code here: each law is the contract of a
-//! function that does nothing.
+//! The laws of the script grammar: what holds of the commands of every script. This crate has no code: each law is the
+//! contract of a function that does nothing.
 #![tactic(auto)]
 
 mod laws;

@@ -1,4 +1,4 @@
--- What a call of a gatherer answers.
+-- What a call of a gatherer returns.
 use Rattle.std.proofs.Common.{◌≡◌, refl, ap, sym, ◌∙◌, subst, ℕ, ◌+◌, ◌≤◌, List, [], ◌∷◌, ◌++◌, true, false, length, take, drop, arith, append_assoc, append-nil, ◌⊎◌, inl, inr}
 use Rattle.std.specs.Prelude.{Option, Some, None, Ok, Err, OnOk, Result}
 use Rattle.std.specs.Io.KnownBytes.{IsAtEnd, Keeps}
@@ -24,16 +24,16 @@ use Rattle.script_text.specs.Runs.{LeadsOn}
 use Rattle.script_text.proofs.EndLemmas.{commands_end}
 use Rattle.script_text.proofs.ProgressLemmas.{Progress, after_turn, cut_push, fetched_by_join, goes_line, line_goes, lines_lead, none_so_far, reads_more, read_push, size_of_line, whole_push}
 
--- the source was not read, where it is as it was, or was read late
+-- the source was not read and is unchanged, or it was read late
 abbrev pub ReadsLate : Type 0 → Gathering → List ℕ → List File → Type 0
 ReadsLate Idle before given outcomes = (Idle × (given ≡ [])) ⊎ IsLate before given outcomes
 
--- an answer, by what was given and fetched
+-- a result, by what was given and fetched
 abbrev pub Answers : Type 0 → Result (Option Batch) ScriptEnd → Gathering → Gathering → Option (List ℕ) → Option (List ℕ) → Option (List shelf.File) → ℕ → ℕ → Type 0
 Answers Idle result before now left_before left files first last =
     (taken : Taken result left_before left files first last) × Gathers result before now left taken.given taken.asked taken.outcomes × OnOk result (ReadsLate Idle before taken.given taken.outcomes)
 
--- further outcomes, of bytes that were at hand
+-- further outcomes, for bytes that were at hand
 later_outcomes : (Idle : Type 0) (before : Gathering) (given : List ℕ) (outcomes more : List File) → ReadsLate Idle before given outcomes → ReadsLate Idle before given (outcomes ++ more)
 later_outcomes Idle before given outcomes more (inl idle) = inl idle
 later_outcomes Idle before given outcomes more (inr late) = inr (record {
@@ -83,7 +83,7 @@ module _ (Idle : Type 0) (before now : Gathering) (left_before left : Option (Li
     later_outcomes Idle before p.given p.outcomes turns.outcomes late,
   )
 
-  -- the bytes from what was held before on, with what the source has left
+  -- the bytes from what was held before, with what the source has left
   bytes_are : (before.held ++ p.given) ++ left_of left ≡ lines_text p.lines ++ (held ++ left_of left)
   bytes_are = ap (λ (xs : List ℕ). xs ++ left_of left) p.cut ∙ append_assoc (lines_text p.lines) held (left_of left)
 
@@ -107,7 +107,7 @@ module _ (Idle : Type 0) (before now : Gathering) (left_before left : Option (Li
         tt,
       )
 
-  -- What is held is at fault, however it goes on.
+  -- What is held is at fault, however the script goes on.
   pub held_faulty : (number : ℕ) (why : Reason)
       → ((paths : List Text) (later : List File) (more : List ℕ) → IsFaultOf (Script number why) paths (commands_from by (reading_at reading paths later) (held ++ more)))
       → Answers Idle (Err (Script number why)) before now left_before left files first middle
@@ -153,11 +153,11 @@ module _ (Idle : Type 0) (before now : Gathering) (left_before left : Option (Li
   finished last (Err ReadFault) late whole fits end stopped ends = absurd (ends.ended [] [])
   finished last (Err NoMemory) late whole fits end stopped ends = (taken_with (Err NoMemory) last ends.asked ends.outcomes ends.fetched, tt, tt)
 
-  -- Memory was wanting.
+  -- Memory ran out.
   pub out_of_memory : (last : ℕ) (asked : List Text) (outcomes : List File) → AreFetchedSoFar files middle last asked outcomes → Answers Idle (Err NoMemory) before now left_before left files first last
   out_of_memory last asked outcomes fetched = (taken_with (Err NoMemory) last asked outcomes fetched, tt, tt)
 
-  -- the lines that came whole have no fault and no `sync`
+  -- the lines that were read in full have no fault and no `sync`
   unfinished_now : NoFeed held → IsUnfinished before p.given p.asked p.outcomes
   unfinished_now whole = record {
     reading = reading;
@@ -186,7 +186,7 @@ module _ (Idle : Type 0) (before now : Gathering) (left_before left : Option (Li
     tt,
   )
 
--- ---- a call that is under way
+-- ---- during a call
 
 pub record IsUnder (Idle : Type 0) (before now : Gathering) (left_before left : Option (List ℕ)) (files_before files : Option (List shelf.File)) (first last source_first source_last : ℕ) : Type 0 where
   pub progress : Progress (grammar before) before.reading before.held left_before left files_before first last now.reading now.held
@@ -333,7 +333,7 @@ no_bytes : (bytes : List ℕ) → length bytes ≡ 0 → bytes ≡ []
 no_bytes [] h = refl
 no_bytes (byte ∷ bytes) h = absurd (omega (arith, h))
 
--- Where no byte came, what is held is as before.
+-- If no byte was read, what is held is as before.
 pub nothing_came : (left left_next : Option (List ℕ)) (held held_next : List ℕ) (count : ℕ) → Came left left_next held held_next count → count ≡ 0 → held_next ≡ held
 nothing_came left left_next held held_next count came none =
     came.held ∙ ap (λ (xs : List ℕ). held ++ xs) (no_bytes came.piece (came.size ∙ none)) ∙ append-nil held

@@ -18,13 +18,13 @@ use Rattle.script_model.specs.Commands.{File}
 use Rattle.script_text.specs.Gathering.{reading_at}
 use Rattle.script_text.specs.Readings.{too_long}
 
--- what an input gives, from its beginning within the limit and whether it passes the limit
+-- what an input gives, by its beginning within the limit and by whether it passes the limit
 abbrev given_by : Grammar → Reading → Text → Bool → Commands
 given_by grammar reading beginning over =
     let made = read grammar (read_with [] (Stands reading)) (lines_of beginning).ended in
     ended grammar over (lines_of beginning).rest made.batches made.reached
 
--- what lines give, where they are these
+-- what lines give, if they are these
 abbrev by_lines : Grammar → Reading → Bool → Lines → Commands
 by_lines grammar reading over lines = ended grammar over lines.rest (read grammar (read_with [] (Stands reading)) lines.ended).batches (read grammar (read_with [] (Stands reading)) lines.ended).reached
 
@@ -53,7 +53,7 @@ commands_over grammar reading held more whole past =
     ∙ ap (by_lines grammar reading true) (lines_none (take (grammar.input - reading.used) held) whole)
     ∙ no_lines grammar reading true (take (grammar.input - reading.used) held)
 
--- Its fault is one by size, or that it is too long.
+-- Its fault is one by size, or that the input is too long.
 pub over_fault : (grammar : Grammar) (part : Text) (reading : Reading) (fault : Option Reason) → fault ≡ begun_fault grammar reading.block reading.bytes part
     → ended grammar true part [] (Stands reading) ≡ commands_with [] (FaultAt (reading.lines + 1) (unwrap_or fault reason.InputTooLong)) reading.asked
 over_fault grammar part reading fault e =
@@ -99,7 +99,7 @@ pub record FailsBySize (grammar : Grammar) (reading : Reading) (held : Text) (wh
   pub begun : (more : Text) → begun_fault grammar reading.block reading.bytes (held ++ more) ≡ Some why
   pub whole : (more : Text) → turn_of grammar (held ++ more) reading ≡ Fails why reading.asked
 
--- what the end gives, where no part of the last line is at fault by its size
+-- what the end gives, if no part of the last line is at fault by its size
 abbrev stands_by : Grammar → Bool → Text → Reading → Commands
 stands_by grammar over rest reading =
     cond over (commands_with [] (FaultAt (reading.lines + 1) reason.InputTooLong) reading.asked) (end_turned [] (reading.lines + 1) (last_turn grammar reading.block rest reading))
@@ -161,7 +161,7 @@ module _ (limits : ScriptLimits) (lanes : ℕ) (reading : Reading) (held : Text)
       lt-ltb limits.line (length (without_return (held ++ more))) (omega (arith, long, size_without_return (held ++ more), length-append held more)) in
       ap (λ (b : Bool). cond {A = Option Reason} b (Some reason.LineTooLong) None) passes
 
-  -- A line outside a block of which too much has come.
+  -- A line outside a block of which too much has been read.
   pub line_fails : reading.block ≡ None → limits.line + 1 < length held → FailsBySize by reading held reason.LineTooLong
   line_fails e long = record {
     begun = λ more. ap (λ (block : Option Open). begun_fault by block reading.bytes (held ++ more)) e ∙ line_is_long long more;
@@ -176,7 +176,7 @@ module _ (limits : ScriptLimits) (lanes : ℕ) (reading : Reading) (held : Text)
   size_after : (block : Open) → limits.block + 2 < length held + length block.body → (more : Text) → limits.block < length (body_after block (held ++ more))
   size_after block long more = omega (arith, long, length-append held more, size_undotted (held ++ more), length-append block.body (undotted (held ++ more)))
 
-  -- A line of a block of which too much has come.
+  -- A line of a block of which too much has been read.
   pub block_fails : (block : Open) → reading.block ≡ Some block → length block.body ≤ limits.block → limits.block + 2 < length held + length block.body
       → FailsBySize by reading held reason.BlockTooLong
   block_fails block e short long =

@@ -23,7 +23,7 @@ no_feed_front text zero h = tt
 no_feed_front [] (suc n) h = tt
 no_feed_front (byte ∷ text) (suc n) h = (h.0, no_feed_front text n h.1)
 
--- A text in which no byte behind the first so many is a line feed.
+-- A text in which none of the `n` bytes after the first `from` is a line feed.
 pub no_feed_on : (text : Text) (from n : ℕ) → from + n ≤ length text → NoFeed (take from text)
     → ((k : ℕ) → k < n → (get_or (drop from text) k 0 == 0x0A) ≡ true → ⊥) → NoFeed (take (from + n) text)
 no_feed_on text from n within before none =
@@ -42,7 +42,7 @@ ends_line text from at within whole feed =
           ∙ ap (λ (b : ℕ). take (from + at) text ++ b ∷ drop (from + at + 1) text) byte;
     }
 
--- The first of bytes without a line feed have none.
+-- The first bytes of a text without a line feed have none.
 pub no_feed_less : (held : Text) (searched few most : ℕ) → few ≤ searched → few ≤ most → NoFeed (take searched held) → NoFeed (take few (take most held))
 no_feed_less held searched few most h k none =
     subst NoFeed (take-take few searched held h ∙ sym (take-take few most held k)) (no_feed_front (take searched held) few none)

@@ -89,7 +89,7 @@ pub two_file : (lane : ℕ) (text name : Text) (ws : List Text) → has_none ws 
 two_file lane text name [] h = cc h
 two_file lane text name (w ∷ ws) h = refl
 
--- A `loadfile` with fewer words than two.
+-- A `loadfile` with fewer than two words.
 pub few_file : (lane : ℕ) (text : Text) → has_none (words (behind_word text)) ≡ true → says LoadFileForm lane (words text) text ≡ Wrong reason.Words
 few_file lane text h =
     elim (cases_Bool (length (first_word text) == 0)) [
@@ -121,7 +121,7 @@ fetch_both lane name path e f =
 one_some : (w : Text) (ws : List Text) → ws ≡ w ∷ [] → has_none ws ≡ false
 one_some w ws e = ap has_none e
 
--- The words of a `like`, where one word stands behind the first two.
+-- The words of a `like`, if one word follows the first two.
 pub like_words : (text place : Text) → words (behind_word (behind_word text)) ≡ place ∷ [] → words text ≡ first_word text ∷ first_word (behind_word text) ∷ place ∷ []
 like_words text place e =
     let second : words (behind_word text) ≡ first_word (behind_word text) ∷ place ∷ [] =
@@ -140,7 +140,7 @@ no_like_second lane text k more h =
       | inr f ↦ ap (λ (ws : List Text). says LikeForm lane (k ∷ ws) text) (words_some more f) ∙ three_like lane text k (first_word more) (words (behind_word more)) h
     ]
 
--- Where none or more do, it is no `like`.
+-- Otherwise it is no `like`.
 pub no_like : (lane : ℕ) (text : Text) → IsNotOne (words (behind_word (behind_word text))) → says LikeForm lane (words text) text ≡ Wrong reason.Words
 no_like lane text h =
     elim (cases_Bool (length (first_word text) == 0)) [
@@ -161,13 +161,13 @@ no_like_by lane text behind behind_both e f h = no_like lane text (subst (λ (t 
 
 -- ---- `contain` and `asof`, each with two words
 
--- The words of a text, where one word stands behind the first.
+-- The words of a text, if one word follows the first.
 two_words : (text behind second : Text) → behind ≡ behind_word text → words behind ≡ second ∷ [] → words text ≡ first_word text ∷ second ∷ []
 two_words text behind second e one =
     let rest : words (behind_word text) ≡ second ∷ [] = ap words (sym e) ∙ one in
     words_more text (one_some second (words (behind_word text)) rest) ∙ ap (λ (ws : List Text). first_word text ∷ ws) rest
 
--- Where none or more do, the words are wrong.
+-- Otherwise the words are wrong.
 not_two : (form : Form) (lane : ℕ) (text behind : Text) → behind ≡ behind_word text → IsNotOne (words behind) → says form lane [] text ≡ Wrong reason.Words
     → ((first : Text) (ws : List Text) → IsNotOne ws → says form lane (first ∷ ws) text ≡ Wrong reason.Words) → says form lane (words text) text ≡ Wrong reason.Words
 not_two form lane text behind e h none more =
@@ -201,7 +201,7 @@ asof_by lane text behind asked k e one g =
 pub no_asof_by : (lane : ℕ) (text behind : Text) → behind ≡ behind_word text → IsNotOne (words behind) → says AsOfForm lane (words text) text ≡ Wrong reason.Words
 no_asof_by lane text behind e h = not_two AsOfForm lane text behind e h refl (two_asof lane text)
 
--- ---- the text behind a lane word
+-- ---- the text after a lane word
 
 pub lane_in : (lanes lane : ℕ) (text : Text) → lane ≤ lanes → bytes_eq (first_word text) (codes "sync") ≡ false → lane_said lanes (Some lane) text ≡ command_said lane text
 lane_in lanes lane text h e =

@@ -1,4 +1,4 @@
--- The bytes from one place up to another.
+-- The bytes between two places.
 use Rattle.std.proofs.Common.{◌≡◌, ap, sym, ◌∙◌, ℕ, ◌+◌, ◌-◌, ◌≤◌, List, ◌++◌, length, take, drop, arith, subst}
 use Rattle.std.specs.Prelude.{OnErr, Result, Ok, Err, IfNone, Option, None, Some}
 use Rattle.std.proofs.lemmas.List.{drop-drop, drop-take, length-drop, length-take, take-append-le}
@@ -6,18 +6,18 @@ use Rattle.std.proofs.Math.Seq.{take-add}
 use Rattle.script_model.specs.Words.{NoFeed}
 use Rattle.script_text.specs.Inputs.{IsHeld}
 
--- they are what the first bytes have behind that place
+-- they are what follows the first place in the bytes up to the second
 held_is : (start filled : ℕ) (bytes : List ℕ) → start ≤ filled → take (filled - start) (drop start bytes) ≡ drop start (take filled bytes)
 held_is start filled bytes h =
     let e : start + (filled - start) ≡ filled = omega (arith, h) in
     sym (drop-take start (filled - start) bytes) ∙ ap (λ (n : ℕ). drop start (take n bytes)) e
 
--- Where the first bytes stay, so do they.
+-- If the first bytes stay the same, so do they.
 pub held_same : (start filled : ℕ) (bytes now : List ℕ) → start ≤ filled → take filled now ≡ take filled bytes
     → take (filled - start) (drop start now) ≡ take (filled - start) (drop start bytes)
 held_same start filled bytes now h e = held_is start filled now h ∙ ap (drop start) e ∙ sym (held_is start filled bytes h)
 
--- More bytes come behind them.
+-- More bytes follow them.
 pub held_more : (start filled count : ℕ) (bytes now : List ℕ) → start ≤ filled → take filled now ≡ take filled bytes
     → take (filled + count - start) (drop start now) ≡ take (filled - start) (drop start bytes) ++ take count (drop filled now)
 held_more start filled count bytes now h e =
@@ -35,7 +35,7 @@ held_less start filled count bytes h =
     ap (take (filled - (start + count))) (sym (drop-drop count start bytes)) ∙ sym (drop-take count (filled - (start + count)) (drop start bytes))
     ∙ ap (λ (n : ℕ). drop count (take n (drop start bytes))) size
 
--- They are held still where the first bytes stay.
+-- They are still held if the first bytes stay the same.
 pub held_kept : (start filled searched : ℕ) (bytes now : List ℕ) → IsHeld start filled searched bytes → take filled now ≡ take filled bytes → filled ≤ length now → IsHeld start filled searched now
 held_kept start filled searched bytes now h e within = record {
   ordered = h.ordered;
@@ -43,7 +43,7 @@ held_kept start filled searched bytes now h e within = record {
   searched_none = subst (λ (xs : List ℕ). NoFeed (take searched xs)) (sym (held_same start filled bytes now (omega (arith, h.ordered)) e)) h.searched_none;
 }
 
--- And with more bytes behind them.
+-- And they are with more bytes after them.
 pub held_on : (start filled searched count : ℕ) (bytes now : List ℕ) → IsHeld start filled searched bytes → take filled now ≡ take filled bytes → filled + count ≤ length now → IsHeld start (filled + count) searched now
 held_on start filled searched count bytes now h e within =
     let few : searched ≤ length (take (filled - start) (drop start bytes)) = omega (arith, h.ordered, h.within, length-take (filled - start) (drop start bytes), length-drop start bytes) in

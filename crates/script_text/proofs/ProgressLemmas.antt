@@ -1,4 +1,4 @@
--- How far a call of a gatherer has come: by the bytes given, the paths asked for, and the lines read.
+-- How far a call of a gatherer is: by the bytes given, the paths asked for, and the lines read.
 use Rattle.std.proofs.Common.{◌≡◌, refl, ap, sym, ◌∙◌, subst, ℕ, ◌+◌, ◌≤◌, List, [], ◌∷◌, ◌++◌, length, take, drop, arith, append_assoc, append-nil}
 use Rattle.std.specs.Prelude.{Option, None, Result, Ok, Err}
 use Rattle.std.specs.Io.KnownBytes.{Consumes}
@@ -21,7 +21,7 @@ use Rattle.script_text.specs.Outcomes.{AreFetched, AreFetchedSoFar, FetchedBy}
 use Rattle.script_text.specs.Readings.{Turns}
 use Rattle.script_text.specs.Runs.{LeadsOn}
 
--- what an input gives behind a turn
+-- what an input gives after a turn
 abbrev pub with_batches : List Batch → Commands → Commands
 with_batches given made = commands_with (given ++ made.batches) made.end made.asked
 
@@ -30,7 +30,7 @@ after_turn grammar line (Goes reading) more = commands_from grammar reading more
 after_turn grammar line (Gives batch reading) more = with_batches (batch ∷ []) (commands_from grammar reading more)
 after_turn grammar line (Fails why asked) more = commands_with [] (FaultAt line why) asked
 
--- the lines that were read, of the bytes held before and those that were given since, and what is held now
+-- the lines that were read, of the bytes held before and those given since, and what is held now
 pub record Progress (from : Grammar) (before : Reading) (held_before : List ℕ) (left_before left_now : Option (List ℕ)) (files : Option (List shelf.File)) (faults_before faults_now : ℕ) (now : Reading) (held : List ℕ) : Type 0 where
   pub given : List ℕ
   pub asked : List Text
@@ -53,7 +53,7 @@ fetched_join files first second third (path ∷ asked) more_asked [] more h k = 
 fetched_join files first second third (path ∷ asked) more_asked (outcome ∷ outcomes) more (between, came, others) k =
     (between, came, fetched_join files between second third asked more_asked outcomes more others k)
 
--- fetches, and behind them those of a call
+-- fetches, followed by those of a call
 pub fetched_by_join : (result : Result (Option Batch) ScriptEnd) (files : Option (List shelf.File)) (first second third : ℕ) (asked more_asked : List Text) (outcomes more : List File)
     → AreFetched files first second asked outcomes → FetchedBy result files second third more_asked more → FetchedBy result files first third (asked ++ more_asked) (outcomes ++ more)
 fetched_by_join (Ok found) files first second third asked more_asked outcomes more h k = fetched_join files first second third asked more_asked outcomes more h k
@@ -65,7 +65,7 @@ fetched_by_join (Err NoMemory) files first second third asked more_asked outcome
   later = k.later;
 }
 
--- such fetches, and no other
+-- such fetches, and no others
 pub fetched_by : (result : Result (Option Batch) ScriptEnd) (files : Option (List shelf.File)) (first second : ℕ) (asked : List Text) (outcomes : List File)
     → AreFetched files first second asked outcomes → FetchedBy result files first second asked outcomes
 fetched_by (Ok found) files first second asked outcomes h = h
@@ -73,7 +73,7 @@ fetched_by (Err (Script line why)) files first second asked outcomes h = h
 fetched_by (Err ReadFault) files first second asked outcomes h = h
 fetched_by (Err NoMemory) files first second asked outcomes h = record { between = second; fetched = h; later = omega arith }
 
--- nothing that has an outcome was fetched
+-- no fetch with an outcome
 pub none_so_far : (files : Option (List shelf.File)) (first second : ℕ) → first ≤ second → AreFetchedSoFar files first second [] []
 none_so_far files first second h = record { between = first; fetched = refl; later = h }
 
@@ -145,7 +145,7 @@ module _ (from : Grammar) (before : Reading) (held_before : List ℕ) (left_befo
       ∙ read_on from (read_with [] (Stands (reading_at before [] (p.outcomes ++ (more ++ later))))) p.lines (line ∷ [])
       ∙ ap (λ (made : LinesRead). read from made (line ∷ [])) (p.reads (more ++ later))
 
-  -- what the input gives from a line on that fits
+  -- what the input gives from a line on that is within the limit
   pub goes_line : (now : Reading) (faults : ℕ) (left : Option (List ℕ)) (held : List ℕ) (p : Progress from before held_before left_before left files faults_before faults now held) (line : Text) (more later : List File) (rest : List ℕ)
       → NoFeed line → now.used + (length line + 1) ≤ from.input
       → commands_from from (reading_at before [] ((p.outcomes ++ more) ++ later)) (lines_text p.lines ++ (line ++ 0x0A ∷ rest))
@@ -163,7 +163,7 @@ module _ (from : Grammar) (before : Reading) (held_before : List ℕ) (left_befo
   pub size_of_line : (now : Reading) (held : Text) (at : ℕ) → EndsLine held at → now.used + (at + 1) ≤ from.input → now.used + (length (take at held) + 1) ≤ from.input
   size_of_line now held at line fits = subst (λ (n : ℕ). now.used + (n + 1) ≤ from.input) (sym (length-take-le at held (omega (arith, line.within)))) fits
 
-  -- The line does nothing more than to go on.
+  -- The line only goes on.
   unfoldable pub line_goes : (left : Option (List ℕ)) (faults faults_next : ℕ) (now next : Reading) (held held_next : List ℕ) (at : ℕ)
       → Progress from before held_before left_before left files faults_before faults now held → EndsLine held at → now.used + (at + 1) ≤ from.input
       → Turns (turn_of from (take at held)) (Ok None) (now.lines + 1) now next files faults faults_next → held_next ≡ drop (at + 1) held

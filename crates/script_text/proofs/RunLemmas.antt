@@ -25,7 +25,7 @@ counted_on byte true lines rest e = rw e (omega arith)
 counted_on byte false [] rest e = rw e refl
 counted_on byte false (line ∷ lines) rest e = rw e (omega arith)
 
--- A text has as many lines that a line feed ended as it has line feeds.
+-- A text has as many lines that a line feed ends as it has line feeds.
 pub lines_counted : (text : Text) → count_by (λ byte. byte == 0x0A) text ≡ length (lines_of text).ended
 unfolding lines_of
 lines_counted [] = refl
@@ -33,7 +33,7 @@ lines_counted (byte ∷ text) =
     sum_by-cons (λ b. cond (b == 0x0A) 1 0) byte text ∙ ap (λ (n : ℕ). cond (byte == 0x0A) 1 0 + n) (lines_counted text)
     ∙ counted_on byte (byte == 0x0A) (lines_of text).ended (lines_of text).rest refl
 
--- A count that has nothing left to count.
+-- A count with nothing left to count.
 pub all_counted : (text rest : Text) (count : ℕ) → count + count_by (λ byte. byte == 0x0A) rest ≡ count_by (λ byte. byte == 0x0A) text → (length rest == 0) ≡ true → count ≡ length (lines_of text).ended
 all_counted text [] count e none =
     let all : count ≡ count + 0 = omega arith in
@@ -42,7 +42,7 @@ all_counted text (byte ∷ rest) count e none = let empty : length (byte ∷ res
 
 -- ---- where a text has a run
 
--- A line feed and a dot behind it are found.
+-- A dot after a line feed is found.
 pub dot_found : (text : Text) (k : ℕ) → k + 1 < length text → get_or text k 0 ≡ 0x0A → get_or text (k + 1) 0 ≡ 0x2E → OccursAt text (0x0A ∷ 0x2E ∷ []) k
 dot_found text k lt feed dot = record {
   fits = omega (arith, lt);
@@ -54,7 +54,7 @@ dot_found text k lt feed dot = record {
     reads (suc zero) below = dot
     reads (suc (suc j)) below = absurd (omega (arith, below))
 
--- The first bytes of a text have no such dot where it has none.
+-- The first bytes of a text have no such dot if the text has none.
 pub no_dot_before : (text : Text) (n : ℕ) → ((k : ℕ) → k + 1 < n → k + 1 < length text → get_or text k 0 ≡ 0x0A → get_or text (k + 1) 0 ≡ 0x2E → ⊥) → NoDotBehind (take n text)
 no_dot_before text n none k lt feed dot =
     let few : k + 1 < n = shorter text n (k + 1) lt in
@@ -79,7 +79,8 @@ no_dot_first text zero e = refl
 no_dot_first [] (suc n) e = refl
 no_dot_first (byte ∷ text) (suc n) e = e
 
--- a text that goes on from the start of a line, or from within one, with lines that are whole, and none that starts in it begins with a dot
+-- a text that continues from the start of a line, or from within one, and ends with a whole line; no line that starts
+-- in it begins with a dot
 abbrev RunsOn : Bool → Text → Type 0
 RunsOn at_start [] = at_start ≡ true
 RunsOn at_start (byte ∷ text) = ((at_start && byte == 0x2E) ≡ false) × RunsOn (byte == 0x0A) text
@@ -144,7 +145,7 @@ run_lines (byte ∷ text) front plain on =
           (run_lines text (front ++ byte ∷ []) (plain_push front byte plain none on.0) (subst (λ (b : Bool). RunsOn b text) (none ∙ within_line front byte) on.1))
     ]
 
--- A text is a run that does not begin with a dot, has none behind a line feed, and ends in one.
+-- A text is a run if it does not begin with a dot, has no dot after a line feed, and ends in a line feed.
 pub is_run : (text : Text) → (get_or text 0 0 == 0x2E) ≡ false → NoDotBehind text → EndsInFeed text → IsRun text
 is_run text first none ends = run_lines text [] (tt, refl) (runs_on text true first none ends (λ empty. refl))
 
@@ -168,7 +169,7 @@ reading_parts before lines used block = record before { lines = lines; used = us
 abbrev grown : Open → List ℕ → Open
 grown block bytes = record block { body = block.body ++ bytes }
 
--- so many more lines, of these bytes, in the block
+-- this many more lines, of these bytes, in the block
 abbrev pub with_run : Open → ℕ → List ℕ → Reading → Reading
 with_run block count bytes before = reading_parts before (before.lines + count) (before.used + length bytes) (Some (grown block bytes))
 
@@ -188,7 +189,7 @@ module _ (limits : ScriptLimits) (lanes : ℕ) where
   body_is block line e =
       ap (λ (text : Text). (block.body ++ text) ++ 0x0A ∷ []) (cond-false _ _ _ e) ∙ append_assoc block.body line (0x0A ∷ [])
 
-  -- A line that does not begin with a dot and that fits comes to the body of the block.
+  -- A line that does not begin with a dot and that fits is added to the body of the block.
   plain_turn : (line : Text) (before : Reading) (block : Open) (paths : List Text) (later : List File) → before.block ≡ Some block → IsPlain line
       → length (block.body ++ line_text line) ≤ limits.block → before.bytes + length (block.body ++ line_text line) ≤ limits.bytes
       → turn_of by line (reading_at before paths later) ≡ Goes (reading_at (with_run block 1 (line_text line) before) paths later)
@@ -202,7 +203,7 @@ module _ (limits : ScriptLimits) (lanes : ℕ) where
       ∙ ap (λ (f : Option Reason). unless_fault f reading (Goes (with_body block body reading))) (fits_body limits lanes before.bytes body h k)
       ∙ ap (λ (n : ℕ). Goes (reading_at (reading_parts before (before.lines + 1) (before.used + n) (Some (grown block (line_text line)))) paths later)) size
 
-  -- Lines none of which begins with a dot and that fit come to the body of the block, all at once.
+  -- Lines that fit, none of which begins with a dot, are added to the body of the block all at once.
   pub run_leads : (lines : List Text) (before : Reading) (block : Open) → before.block ≡ Some block → AllByRecursion IsPlain lines
       → length block.body + length (lines_text lines) ≤ limits.block → before.bytes + (length block.body + length (lines_text lines)) ≤ limits.bytes
       → Leads by before lines (with_run block (length lines) (lines_text lines) before)
@@ -239,7 +240,7 @@ run_ended bytes run =
     ap (λ (text : Text). (lines_of text).ended) (run.cut ∙ sym (append-nil (lines_text run.lines)))
     ∙ ap (λ (lines : Lines). lines.ended) (lines_whole run.lines [] (whole_of run.lines run.plain)) ∙ append-nil run.lines
 
--- The lines of a run that fits lead to where its bytes have come to the body of the block.
+-- The lines of a run that fits lead to the reading with its bytes in the body of the block.
 pub run_pushed : (limits : ScriptLimits) (lanes : ℕ) (bytes : List ℕ) (before after : Reading) (block : Open) → before.block ≡ Some block → IsRun bytes
     → length block.body + length bytes ≤ limits.block → before.bytes + (length block.body + length bytes) ≤ limits.bytes → after ≡ with_run block (length (lines_of bytes).ended) bytes before
     → Leads (grammar_of limits lanes) before (lines_of bytes).ended after
@@ -255,7 +256,7 @@ pub none_lead : (from : Grammar) (before : Reading) (held : List ℕ) → LeadsO
 unfolding read
 none_lead from before held = record { lines = []; whole = tt; cut = refl; leads = λ paths later. refl }
 
--- A run with which the bytes at hand begin leads on.
+-- A run at the beginning of the bytes at hand leads on.
 pub run_leads_on : (from : Grammar) (before after : Reading) (held run : List ℕ) (most : ℕ) → IsRun run → run ≡ take (length run) (take most held) → Leads from before (lines_of run).ended after → LeadsOn from before after held (drop (length run) held)
 run_leads_on from before after held run most is first leads =
     let size : length run ≡ length (take (length run) (take most held)) = ap length first in

@@ -30,7 +30,7 @@ unfetched step result line before after files faults turned = record {
   turned = λ paths later. subst (λ (ps : List Text). Turned result line after ps later (step (reading_at before paths later))) (sym (append-nil paths)) (turned paths later);
 }
 
--- Where memory was wanting, nothing is said.
+-- If memory ran out, nothing is claimed.
 pub no_memory : (step : Reading → Turn) (line : ℕ) (before after : Reading) (files : Option (List shelf.File)) (first second : ℕ) → first ≤ second → Turns step (Err NoMemory) line before after files first second
 no_memory step line before after files first second h = record { asked = []; outcomes = []; fetched = none_so_far files first second h; turned = λ paths later. tt }
 
@@ -115,9 +115,9 @@ last_end grammar (Some block) [] before after paths later some e h = absurd (bot
 last_end grammar (Some block) (byte ∷ bytes) before after paths later some e h =
     cond-true (is_end (byte ∷ bytes)) (Goes (block_ended block (reading_at before paths later))) (Goes (reading_at before paths later)) e ∙ ap (λ (r : Reading). Goes (reading_at r paths later)) (sym h)
 
--- ---- what a step of the code says of the definition's
+-- ---- what a step of the code means for the definition
 
--- A step is another's, of a reading that was counted.
+-- A step is that of another function, on a reading in which the line was counted.
 pub turns_by : (step other : Reading → Turn) (result : Result (Option Batch) ScriptEnd) (line number : ℕ) (before middle after : Reading) (files : Option (List shelf.File)) (first second : ℕ)
     → line ≡ number → ((paths : List Text) (later : List File) → other (reading_at before paths later) ≡ step (reading_at middle paths later))
     → Turns step result number middle after files first second → Turns other result line before after files first second
@@ -158,7 +158,7 @@ module _ (grammar : Grammar) (rest : Text) (before : Reading) (files : Option (L
         (ends (paths ++ turns.asked) later);
   }
 
-  -- It has one.
+  -- The last line has a fault.
   pub ends_fail : (after : Reading) (e : ScriptEnd) → begun_fault grammar before.block before.bytes rest ≡ None
       → Turns (last_turn grammar before.block rest) (Err e) (before.lines + 1) before after files first second → Ends the_end (Err e) before files first second
   ends_fail after (Script at why) none turns = record {
@@ -173,7 +173,7 @@ module _ (grammar : Grammar) (rest : Text) (before : Reading) (files : Option (L
   ends_fail after ReadFault none turns = absurd (turns.turned [] [])
   ends_fail after NoMemory none turns = record { asked = turns.asked; outcomes = turns.outcomes; fetched = turns.fetched; ended = λ paths later. tt }
 
-  -- It is at fault by its size.
+  -- The last line is at fault by its size.
   pub ends_begun : (why : Reason) → second ≡ first → begun_fault grammar before.block before.bytes rest ≡ Some why → Ends the_end (Err (Script (before.lines + 1) why)) before files first second
   ends_begun why same fault = record {
     asked = [];

@@ -18,7 +18,7 @@ is_some_word word = not (length word == 0)
 abbrev is_letter : ℕ → Bool
 is_letter byte = not (is_space byte)
 
--- ---- the first word of a text that begins with none of its spaces
+-- ---- the first word of a text whose leading spaces were dropped
 
 abbrev front : Text → ℕ
 front text = prefix_len is_letter text
@@ -51,7 +51,7 @@ cut_at : (text : Text) → Cut text
 cut_at [] = record { parts = []; split = refl; others = refl }
 cut_at (byte ∷ text) = elim (cases_Bool (is_space byte)) [ inl t ↦ cut_space byte text t | inr f ↦ cut_letter byte text f (cut_at text) ]
 
--- ---- spaces in front
+-- ---- leading spaces
 
 pub words_behind_spaces : (text : Text) → words (behind_spaces text) ≡ words text
 words_behind_spaces [] = refl
@@ -90,12 +90,12 @@ words_cut text =
     sym cut.others ∙ ap (λ (n : ℕ). words (drop n t)) (sym (word_size text)) ∙ sym (words_behind_spaces (drop (length (first_word text)) t)) in
     sym (words_behind_spaces text) ∙ ap (filter is_some_word) cut.split ∙ ap (λ (ws : List Text). cond (is_some_word (first_word text)) (first_word text ∷ ws) ws) rest
 
--- A text whose first word is empty has none.
+-- A text whose first word is empty has no words.
 pub words_none : (text : Text) → (length (first_word text) == 0) ≡ true → words text ≡ []
 words_none text e =
     sym (words_behind_spaces text) ∙ ap words (nothing_left text (sym (word_size text) ∙ eqb-true (length (first_word text)) 0 e))
 
--- Any other has that word, and then the others.
+-- Any other text has that word, followed by the others.
 pub words_some : (text : Text) → (length (first_word text) == 0) ≡ false → words text ≡ first_word text ∷ words (behind_word text)
 words_some text e = words_cut text ∙ ap (λ (b : Bool). cond (not b) (first_word text ∷ words (behind_word text)) (words (behind_word text))) e
 
@@ -104,7 +104,7 @@ behind_none text e =
     let none : length (first_word text) ≡ 0 = eqb-true (length (first_word text)) 0 e in
     words_behind_spaces (drop (length (first_word text)) (behind_spaces text)) ∙ ap (λ (n : ℕ). words (drop n (behind_spaces text))) none ∙ words_behind_spaces text ∙ words_none text e
 
--- A text with a word behind its first has both.
+-- A text with a word after its first has both.
 pub words_more : (text : Text) → has_none (words (behind_word text)) ≡ false → words text ≡ first_word text ∷ words (behind_word text)
 words_more text h =
     elim (cases_Bool (length (first_word text) == 0)) [
@@ -123,7 +123,7 @@ none_is : (ws : List Text) → has_none ws ≡ true → ws ≡ []
 none_is [] h = refl
 none_is (w ∷ ws) h = cc h
 
--- Only one word.
+-- A text with one word.
 pub words_one : (text : Text) → (length (first_word text) == 0) ≡ false → has_none (words (behind_word text)) ≡ true → words text ≡ first_word text ∷ []
 words_one text f h = words_some text f ∙ ap (λ (ws : List Text). first_word text ∷ ws) (none_is (words (behind_word text)) h)
 

@@ -42,7 +42,7 @@ front_of (Search k) = model.SearchBlock k
 front_of (Contain a b) = model.ContainBlock a b
 front_of (AsOf asked k) = model.AsOfBlock asked k
 
--- a search asks for 1 to 10,000 columns, a fraction is at most 1, and a position is a number of 32 bits
+-- a search asks for 1 to 10,000 columns, a fraction is at most 1, and a position has 32 bits
 abbrev pub IsFrontInRange : Front → Type 0
 IsFrontInRange (Load name) = ⊤
 IsFrontInRange (Replace name) = ⊤
@@ -61,7 +61,7 @@ said_of (Fetches lane name path) = model.Fetches lane name path.now
 abbrev pub IsLane : ℕ → ℕ → Type 0
 IsLane lanes lane = (0 < lane) × (lane ≤ lanes)
 
--- its lane and its numbers are in range, and where it is a whole command, that has no body
+-- its lane and its numbers are in range, and a whole command has no body
 abbrev pub IsSaidInRange : ℕ → Said → Type 0
 IsSaidInRange lanes Nothing = ⊤
 IsSaidInRange lanes Sync = ⊤
@@ -69,7 +69,7 @@ IsSaidInRange lanes (Opens lane front) = IsLane lanes lane × IsFrontInRange fro
 IsSaidInRange lanes (Does lane task) = IsLane lanes lane × IsTaskInRange task × (body_size (task_of task) ≡ 0)
 IsSaidInRange lanes (Fetches lane name path) = IsLane lanes lane
 
--- what is said, or what is wrong with it
+-- what a line says, or what is wrong with it
 abbrev pub Says : model.Said → Result Said Reason → Type 0
 Says said (Ok answer) = said ≡ said_of answer
 Says said (Err reason) = said ≡ model.Wrong reason

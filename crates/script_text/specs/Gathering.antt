@@ -1,4 +1,4 @@
--- How far a gatherer is, and what each of its batches comes from.
+-- How far a gatherer is, and what each of its batches is made from.
 use Rattle.std.specs.Prelude.{ℕ, ◌≡◌, ◌≤◌, Bool, true, false, List, [], ◌∷◌, ◌++◌, flat_map, length, Option}
 use Rattle.std.specs.List.{AllByRecursion}
 use Rattle.std.specs.Io.KnownBytes.{IsAtEnd}
@@ -10,7 +10,8 @@ use Rattle.script_model.specs.Reading.{Grammar, Reading, Stands, read, read_with
 use Rattle.script_model.specs.Script.{Whole, FaultAt, commands_with, commands_from, grammar_of, left_of}
 use Rattle.script_model.specs.Words.{line_text, NoFeed}
 
--- what was read, the bytes at hand behind that, whether no further batch may be asked for, the limits, and the number of lanes
+-- what was read, the bytes at hand after that, whether no further batch may be asked for, the limits, and the number of
+-- lanes
 pub record Gathering : Type 0 where
   pub reading : Reading
   pub held : List ℕ
@@ -24,7 +25,7 @@ gathering_with reading held ended limits lanes = record { reading = reading; hel
 abbrev pub grammar : Gathering → Grammar
 grammar gathering = grammar_of gathering.limits gathering.lanes
 
--- the reading that has asked for these paths, where these outcomes come of the fetches that follow
+-- the reading that has asked for these paths, and for which the fetches that follow have these outcomes
 abbrev pub reading_at : Reading → List Text → List File → Reading
 reading_at reading asked later = record reading { asked = asked; later = later }
 
@@ -32,7 +33,8 @@ reading_at reading asked later = record reading { asked = asked; later = later }
 abbrev pub lines_text : List Text → List ℕ
 lines_text lines = flat_map line_text lines
 
--- These bytes are whole lines, which give these batches and no fault, and what stands behind them; `asked` are the paths that they ask for.
+-- These bytes are whole lines, which give these batches and no fault, followed by the bytes that are held; `asked` are
+-- the paths that the lines ask for.
 pub record ReadsOn (from : Grammar) (before : Reading) (bytes : List ℕ) (outcomes : List File) (made : List Batch) (after : Reading) (held : List ℕ) (asked : List Text) : Type 0 where
   pub lines : List Text
   pub whole : AllByRecursion NoFeed lines
@@ -50,19 +52,19 @@ pub record IsWhole (before now : Gathering) (left : Option (List ℕ)) (given : 
   pub commands : commands_from (grammar before) (reading_at before.reading [] outcomes) (before.held ++ given) ≡ commands_with batches Whole asked
   pub ended : now.ended ≡ true
 
--- The line is the first at fault, also where the source goes on.
+-- The line is the first at fault, even if the source has more bytes.
 pub record IsFaulty (before : Gathering) (left : Option (List ℕ)) (given : List ℕ) (asked : List Text) (outcomes : List File) (line : ℕ) (reason : Reason) : Type 0 where
   pub commands : commands_from (grammar before) (reading_at before.reading [] outcomes) ((before.held ++ given) ++ left_of left) ≡ commands_with [] (FaultAt line reason) asked
 
--- The lines that came whole have no fault and no `sync`.
+-- The lines that were read in full have no fault and no `sync`.
 pub record IsUnfinished (before : Gathering) (given : List ℕ) (asked : List Text) (outcomes : List File) : Type 0 where
   pub reading : Reading
   pub held : List ℕ
   pub lines_read : ReadsOn (grammar before) before.reading (before.held ++ given) outcomes [] reading held asked
   pub rest : NoFeed held
 
--- The source gave no further bytes while a whole batch was at hand: the lines that came whole with all of these bytes but the last, of at most 65,536
--- bytes, have no fault and no `sync`.
+-- The source was asked for no further bytes while a whole batch was at hand: the lines that are whole in all of these
+-- bytes but those of the last read, at most 65,536, have no fault and no `sync`.
 pub record IsLate (before : Gathering) (given : List ℕ) (outcomes : List File) : Type 0 where
   pub first : List ℕ
   pub last : List ℕ

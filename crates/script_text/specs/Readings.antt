@@ -48,7 +48,7 @@ state_with reading rules = record { reading = reading; rules = rules }
 abbrev pub grammar_by : Rules → Grammar
 grammar_by rules = grammar_of rules.limits rules.lanes
 
--- each limit is at most the standard one, and there is a lane
+-- each limit is at most the standard one, and there is at least one lane
 pub record AreRules (rules : Rules) : Type 0 where
   pub line : rules.limits.line ≤ 4096
   pub block : rules.limits.block ≤ 67108864
@@ -57,12 +57,13 @@ pub record AreRules (rules : Rules) : Type 0 where
   pub input : rules.limits.input ≤ 68719476736
   pub lanes : 1 ≤ rules.lanes
 
--- the open block comes with a line that has no number yet, it has a lane, and its body so far is within the limits
+-- the command of the open block has no number yet but has used a byte, its lane exists, and its body so far is within
+-- the limits
 abbrev pub IsWithin : Rules → ℕ → ℕ → ℕ → Option Open → Type 0
 IsWithin rules used numbered bytes None = ⊤
 IsWithin rules used numbered bytes (Some block) = (numbered < used) × (1 ≤ block.lane) × (block.lane ≤ rules.lanes) × (length block.body ≤ rules.limits.block) × (bytes + length block.body ≤ rules.limits.bytes)
 
--- each line and each command has a byte, and all is within the limits
+-- each line and each command has a byte, and everything is within the limits
 pub record IsBounded (rules : Rules) (lines used numbered : ℕ) (commands : Batch) (bytes : ℕ) (block : Option Open) : Type 0 where
   pub rules_are : AreRules rules
   pub lines_within : lines ≤ used
@@ -74,7 +75,7 @@ pub record IsBounded (rules : Rules) (lines used numbered : ℕ) (commands : Bat
 
 -- ---- what lines give
 
--- what a turn is by the answer of the code: it goes on to a reading, gives a batch, or fails at this line
+-- a turn by the result of the code: it goes on to a reading, gives a batch, or fails at this line
 abbrev pub Turned : Result (Option Batch) ScriptEnd → ℕ → Reading → List Text → List File → Turn → Type 0
 Turned (Ok None) line reading asked later turned = turned ≡ turn.Goes (reading_at reading asked later)
 Turned (Ok (Some batch)) line reading asked later turned = turned ≡ turn.Gives batch (reading_at reading asked later)
@@ -89,37 +90,37 @@ pub record Turns (step : Reading → Turn) (result : Result (Option Batch) Scrip
   pub fetched : FetchedBy result files faults_before faults_now asked outcomes
   pub turned : (paths : List Text) (later : List File) → Turned result line after (paths ++ asked) later (step (reading_at before paths (outcomes ++ later)))
 
--- the commands of a batch that was given or goes on are at most one more than before
+-- a batch that was given or goes on has at most one command more than before
 abbrev pub GrowsByOne : Result (Option Batch) ScriptEnd → Batch → Batch → Type 0
 GrowsByOne (Ok None) before after = length after ≤ length before + 1
 GrowsByOne (Ok (Some batch)) before after = (after ≡ []) × (length batch ≤ length before)
 GrowsByOne (Err e) before after = ⊤
 
--- the same at the end of a script, where the last line has so many bytes
+-- the same at the end of a script, whose last line has `size` bytes
 abbrev pub GrowsAtEnd : Option Batch → ℕ → Batch → Batch → Type 0
 GrowsAtEnd None size before after = length after ≤ length before + size
 GrowsAtEnd (Some batch) size before after = (0 < size) × (length batch ≤ length before)
 
--- the batch as a list
+-- the batch as a list of none or one
 abbrev pub batches_of : Option Batch → List Batch
 batches_of None = []
 batches_of (Some batch) = batch ∷ []
 
--- an answer that gives no batch
+-- the same result, which gives no batch
 abbrev pub none_given : Result Unit ScriptEnd → Result (Option Batch) ScriptEnd
 none_given (Ok done) = Ok None
 none_given (Err e) = Err e
 
--- what a turn is by the answer of the code, where it gives no batch
+-- a turn by the result of the code, if it gives no batch
 abbrev pub GoesOn : Result Unit ScriptEnd → ℕ → Reading → List Text → List File → Turn → Type 0
 GoesOn result line reading asked later turn = Turned (none_given result) line reading asked later turn
 
--- a line without its dot that comes to the body of a block
+-- adds a line, without its dot, to the body of a block
 abbrev pub added : Grammar → Open → Text → Reading → Turn
 added grammar block text reading =
     unless_fault (body_fault grammar reading.bytes ((block.body ++ text) ++ 0x0A ∷ [])) reading (turn.Goes (with_body block ((block.body ++ text) ++ 0x0A ∷ []) reading))
 
--- the fault of a line that is too long, by whether it stands in a block
+-- the fault of a line that is too long, by whether it is in a block
 abbrev pub too_long : Option Open → Reason
 too_long None = reason.LineTooLong
 too_long (Some block) = reason.BlockTooLong

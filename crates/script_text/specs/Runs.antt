@@ -26,17 +26,17 @@ NoDotBehind text = (k : ℕ) → k + 1 < length text → get_or text k 0 ≡ 0x0
 abbrev pub EndsInFeed : Text → Type 0
 EndsInFeed text = 0 < length text → get_or text (length text - 1) 0 ≡ 0x0A
 
--- so many more bytes fit into the open block, by each limit
+-- `size` more bytes fit into the open block, by every limit
 pub record HasRoom (rules : Rules) (reading : Reading) (size : ℕ) : Type 0 where
   pub block : IfSome reading.block (λ block. (length block.body + size ≤ rules.limits.block) × (reading.bytes + (length block.body + size) ≤ rules.limits.bytes))
   pub input : reading.used + size ≤ rules.limits.input
 
--- These lines lead from one reading to another, whatever was asked for before and comes later.
+-- These lines lead from one reading to another, whatever was asked for before or is fetched later.
 abbrev pub Leads : Grammar → Reading → List Text → Reading → Type 0
 Leads from before lines after = (paths : List Text) (later : List File)
     → read from (read_with [] (Stands (reading_at before paths later))) lines ≡ read_with [] (Stands (reading_at after paths later))
 
--- These bytes are whole lines, which lead from one reading to another, and what stands behind them.
+-- These bytes are whole lines, which lead from one reading to another, followed by the bytes that are held.
 pub record LeadsOn (from : Grammar) (before after : Reading) (bytes held : List ℕ) : Type 0 where
   pub lines : List Text
   pub whole : AllByRecursion NoFeed lines

@@ -1,4 +1,4 @@
-//! The block of a command, while its lines still come.
+//! The open block of a command, whose lines are still being read.
 ghost use Rattle.std.specs.Prelude.{◌≡◌, ◌+◌, ◌++◌, ◌∷◌, ◌≤◌, OnOk, [], length};
 ghost use Rattle.script_model.specs.Saying.{closed};
 ghost use Rattle.commands.specs.Tasks.{IsTaskInRange, task_of};
@@ -11,7 +11,8 @@ use no_memory::NoMemory;
 use std::alloc::Global;
 use std::marker::Model;
 
-/// A block whose end is still to come. A contract sees the line of its command, its lane, what that line said, and the body so far.
+/// A block whose end has not been read yet. Its model has the line of its command, the lane, what that line said, and
+/// the body so far.
 #[derive(Drop)]
 pub(crate) struct OpenBlock {
     /// The line of the command, counted from 1.
@@ -36,7 +37,7 @@ impl Model for OpenBlock {
 }
 
 impl OpenBlock {
-    // A block that the line of this number opens.
+    // Returns an empty block that the line with this number opens.
     pub(crate) fn new(alloc: Global, line: u64, lane: u32, front: Front) -> OpenBlock
         requires { IsFrontInRange front }
         ensures { result ≡ open_with line lane (front_of front) [] }
@@ -49,28 +50,28 @@ impl OpenBlock {
         }
     }
 
-    // The line of the command.
+    // Returns the line of the command.
     pub(crate) fn line(&self) -> u64
         ensures { result ≡ self.now.line }
     {
         self.line
     }
 
-    // The lane of the command.
+    // Returns the lane of the command.
     pub(crate) fn lane(&self) -> u32
         ensures { result ≡ self.now.lane }
     {
         self.lane
     }
 
-    // How many bytes the body has so far.
+    // Returns the number of bytes that the body has so far.
     pub(crate) fn size(&self) -> u64
         ensures { result ≡ length self.now.body }
     {
         self.body.len() as u64
     }
 
-    // Adds a line of the block without the dot that it begins with, and the line feed that ended it.
+    // Adds a line of the block, without the dot that it began with, and the line feed that ended it.
     pub(crate) fn push_line(&mut self, text: &[u8]) -> Result<(), NoMemory>
         ensures added { OnOk result (self.new ≡ record self.old { body = self.old.body ++ text.now ++ 0x0A ∷ [] }) }
         ensures size { length self.new.body ≤ length self.old.body + (length text.now + 1) }
@@ -81,7 +82,7 @@ impl OpenBlock {
         Ok(())
     }
 
-    // Adds lines of the block, each with its line feed, of which none begins with a dot.
+    // Adds lines of the block, each with its line feed, none of which begins with a dot.
     pub(crate) fn push_lines(&mut self, lines: &[u8]) -> Result<(), NoMemory>
         ensures added { OnOk result (self.new ≡ record self.old { body = self.old.body ++ lines.now }) }
         ensures size { length self.new.body ≤ length self.old.body + length lines.now }
@@ -91,7 +92,7 @@ impl OpenBlock {
         Ok(())
     }
 
-    // What the command asks for, with the body so far.
+    // Returns what the command asks for, with the body so far.
     pub(crate) fn into_task(self) -> Task
         requires { length self.body ≤ 67108864 }
         ensures task { task_of result ≡ closed self.front self.body }

@@ -8,12 +8,14 @@ use commands::{Body, FileBody};
 use lake_io::{Shelf, ShelfRefused};
 use std::alloc::Global;
 
-/// How many bytes a file has at most: 64 MiB.
+/// The most bytes that a file may have: 64 MiB.
 const MOST_FILE_BYTES: usize = 67108864;
 
-/// What comes of the fetch of the file at the path, of at most 67,108,864 bytes: its bytes, or why there are none.
+/// Fetches the file at a path, of at most 67,108,864 bytes, and returns its bytes, or why there are none.
 ///
-/// It is refused only for want of memory.
+/// # Errors
+///
+/// Returns `Err(ScriptEnd::NoMemory)` if memory runs out; there is no other error.
 pub fn fetch_file<F: Shelf>(alloc: Global, shelf: &mut F, path: &str) -> Result<FileBody, ScriptEnd>
     ensures came { IfOk result (λ file. CameOf (F.files shelf.old) (F.faults shelf.old) (F.faults shelf.new) path.now (file_of file)) }
     ensures refused { IfErr result (λ e. e ≡ ScriptEnd.NoMemory) }

@@ -16,16 +16,16 @@ use std::str;
 /// The greatest `k` that a search may ask for.
 const MOST_ROWS: u32 = 10000;
 
-/// The most parts that a fraction may count.
+/// The greatest number of parts in a fraction.
 const MOST_PARTS: u32 = 10000;
 
-/// The most entries of the journal that a search of the past may ask for.
+/// The greatest number of entries of the journal that a search of the past may ask for.
 const MOST_ENTRIES: u32 = u32::MAX;
 
 /// The greatest place of a column.
 const MOST_PLACE: u32 = u32::MAX;
 
-/// The commands, by their words.
+/// The kinds of commands, one for each command word.
 #[derive(Clone, Copy, Debug, PartialEq, Eq)]
 pub(crate) enum Form {
     Load,
@@ -41,7 +41,7 @@ pub(crate) enum Form {
     Sync,
 }
 
-/// What the line says that opens a block.
+/// What a line says that opens a block.
 #[derive(Drop)]
 pub(crate) enum Front {
     Load { name: Name },
@@ -54,21 +54,21 @@ pub(crate) enum Front {
 /// What a line says.
 #[derive(Drop)]
 pub(crate) enum Said<'a> {
-    /// It is skipped.
+    /// The line is skipped.
     Nothing,
-    /// It ends the batch.
+    /// The line ends the batch.
     Sync,
-    /// It opens the block of a command.
+    /// The line opens the block of a command.
     Opens {
         lane: u32,
         front: Front,
     },
-    /// It is a whole command.
+    /// The line is a whole command.
     Does {
         lane: u32,
         task: Task,
     },
-    /// It is a load of a file.
+    /// The line is a load of a file.
     Fetches {
         lane: u32,
         name: Name,
@@ -76,7 +76,7 @@ pub(crate) enum Said<'a> {
     },
 }
 
-// What the line says, or what is wrong with it. Lanes are 1 to `lanes`.
+// Returns what the line says, or what is wrong with it. Lanes are 1 to `lanes`.
 pub(crate) fn read_said(lanes: u32, line: &[u8]) -> Result<Said<'_>, Reason>
     requires { 1 ≤ lanes }
     ensures said { Says (said lanes line.now) result }
@@ -91,7 +91,7 @@ pub(crate) fn read_said(lanes: u32, line: &[u8]) -> Result<Said<'_>, Reason>
     }
 }
 
-// The command of a text behind a lane word of these digits.
+// Reads the command in a text that follows a lane word with these digits.
 fn lane_said<'a>(lanes: u32, digits: &[u8], text: &'a [u8]) -> Result<Said<'a>, Reason>
     ensures said { Says (lane_said lanes (number_of digits.now) text.now) result }
     ensures in_range { IfOk result (IsSaidInRange lanes) }
@@ -108,7 +108,7 @@ fn lane_said<'a>(lanes: u32, digits: &[u8], text: &'a [u8]) -> Result<Said<'a>, 
     command_said(lane as u32, text)
 }
 
-// The command of a text without its lane.
+// Reads the command in a text without its lane word.
 fn command_said(lane: u32, text: &[u8]) -> Result<Said<'_>, Reason>
     requires { 0 < lane }
     ensures said { Says (command_said lane text.now) result }
@@ -120,7 +120,7 @@ fn command_said(lane: u32, text: &[u8]) -> Result<Said<'_>, Reason>
     says(form, lane, behind_word(text))
 }
 
-// The command of the word.
+// Returns the kind of command that the word names.
 fn read_form(word: &[u8]) -> Option<Form>
     ensures { option_map form_of result ≡ option_map (λ form. form.1) (find (λ form. bytes_eq form.0 word.now) forms) }
 {
@@ -160,7 +160,7 @@ fn read_form(word: &[u8]) -> Option<Form>
     None
 }
 
-// The command of this form, where the text stands behind its command word.
+// Reads a command of this kind, of which `text` is what follows the command word.
 fn says(form: Form, lane: u32, text: &[u8]) -> Result<Said<'_>, Reason>
     requires { 0 < lane }
     ensures said { Says (says (form_of form) lane (words text.now) text.now) result }
@@ -300,7 +300,7 @@ fn like_said(lane: u32, text: &[u8]) -> Result<Said<'_>, Reason>
     read_like(lane, first_word(text), first_word(behind_k), place)
 }
 
-// A search by the column at a place of a table.
+// Reads a search by the column at a place of a table.
 fn read_like(lane: u32, k: &[u8], name: &[u8], place: &[u8]) -> Result<Said<'static>, Reason>
     requires { 0 < lane }
     ensures said { Says (like_said lane k.now name.now place.now) result }
@@ -333,7 +333,7 @@ fn contain_said(lane: u32, text: &[u8]) -> Result<Said<'_>, Reason>
     read_contain(lane, first_word(text), b)
 }
 
-// A search for the columns that hold at least `a` of `b` parts of the lines of the block.
+// Reads a search for the columns that hold at least `a` of `b` parts of the lines of the block.
 fn read_contain(lane: u32, a: &[u8], b: &[u8]) -> Result<Said<'static>, Reason>
     requires { 0 < lane }
     ensures said { Says (contain_said lane a.now b.now) result }
@@ -366,7 +366,7 @@ fn asof_said(lane: u32, text: &[u8]) -> Result<Said<'_>, Reason>
     read_asof(lane, first_word(text), k)
 }
 
-// A search of the tables that were live after the first `asked` entries of the journal.
+// Reads a search of the tables that were live after the first `asked` entries of the journal.
 fn read_asof(lane: u32, asked: &[u8], k: &[u8]) -> Result<Said<'static>, Reason>
     requires { 0 < lane }
     ensures said { Says (asof_said lane asked.now k.now) result }

@@ -25,11 +25,11 @@ use script_model::{Reason, ScriptLimits};
 use std::alloc::Global;
 use std::marker::Model;
 
-/// How many bytes the source is asked for at once: 64 KiB.
+/// The most bytes that the source is asked for at once: 64 KiB.
 const PIECE: usize = 65536;
 
-/// Gathers the commands of a script into batches. A contract sees what was read, the bytes at hand, whether no further batch may be asked
-/// for, the limits, and the number of lanes.
+/// Gathers the commands of a script into batches. Its model has what was read, the bytes at hand, whether no further
+/// batch may be asked for, the limits, and the number of lanes.
 #[derive(Drop)]
 pub struct Gather {
     ended: bool,
@@ -49,7 +49,8 @@ impl Model for Gather {
 }
 
 impl Gather {
-    /// Nothing was read. There is a lane, and each limit is at most the standard one.
+    /// Returns a gatherer that has read nothing. There is at least one lane, and each limit is at most the standard
+    /// one.
     pub fn new(alloc: Global, lanes: u32, limits: ScriptLimits) -> Result<Gather, NoMemory>
         requires lanes { 1 ≤ lanes }
         requires line { limits.line ≤ 4096 }
@@ -66,21 +67,27 @@ impl Gather {
         })
     }
 
-    /// Whether no further batch may be asked for.
+    /// Returns whether no further batch may be asked for.
     pub fn ended(&self) -> bool
         ensures { result ≡ self.now.ended }
     {
         self.ended
     }
 
-    /// The next batch of the script.
+    /// Returns the next batch of the script.
     ///
-    /// A batch ends with a `sync` line, and the last one with the input; there is none where the input ends without a further command. Refused
-    /// is the first line at fault in the order of the input, as the script grammar has it; a fault of the source, which leaves no line that
-    /// came whole unsaid; and want of memory. After a refusal, and behind the end of the input, no further batch may be asked for.
+    /// A batch ends with a `sync` line, and the last one with the input. The result is `None` if the input ends without
+    /// a further command. After the end of the input no further batch may be asked for.
     ///
-    /// The source is asked for at most 65,536 bytes at a time, and only where what is held has no further whole line. The file of a `loadfile` is
-    /// fetched when its line is read, and a refusal by the shelf for a fault, a missing path or its length becomes the outcome of that command.
+    /// The source is asked for at most 65,536 bytes at a time, and only if the bytes that are held have no further
+    /// whole line. The file of a `loadfile` is fetched when its line is read; if the shelf refuses it because of a
+    /// fault, a missing path or its length, that is the outcome of the command.
+    ///
+    /// # Errors
+    ///
+    /// Returns the first line at fault, in the order of the input and by the rules of the script grammar; a fault of
+    /// the source, if no line that was read in full is at fault or ends the batch; or `NoMemory`. After an error no
+    /// further batch may be asked for.
     pub fn batch<S: Source, F: Shelf>(
         &mut self,
         source: &mut S,
@@ -103,7 +110,7 @@ impl Gather {
         ensures later { (S.faults source.old ≤ S.faults source.new) × (F.faults shelf.old ≤ F.faults shelf.new) }
         ensures files { F.files shelf.new ≡ F.files shelf.old }
     {
-        // It is ended but for the time behind a `sync`.
+        // The gatherer counts as ended, except after a `sync`.
         self.set_ended(true);
         'lines: loop {
             let Some(at) = self.find_line() else {
@@ -120,7 +127,7 @@ impl Gather {
         }
     }
 
-    // From now on a further batch may be asked for, or not.
+    // Sets whether no further batch may be asked for.
     fn set_ended(&mut self, ended: bool)
         requires { ended ≡ false → self.old.reading.commands ≡ [] }
         ensures set { self.new ≡ record self.old { ended = ended } }
@@ -129,7 +136,7 @@ impl Gather {
         self.ended = ended;
     }
 
-    // Where the first line ends that is held whole and lies within the limit.
+    // Returns where the first whole line ends that is held and within the limit.
     fn find_line(&mut self) -> Option<usize>
         ensures same { self.new ≡ self.old }
         ensures found { IfSome result (λ at. EndsLine self.old.held at × (self.old.reading.used + (at + 1) ≤ self.old.limits.input)) }
@@ -139,7 +146,7 @@ impl Gather {
         self.input.find_line(self.reader.room())
     }
 
-    // Reads the first line that is held, which has so many bytes.
+    // Reads the first line that is held, which has `at` bytes.
     fn read_line<F: Shelf>(&mut self, shelf: &mut F, at: usize) -> Result<Option<Batch>, ScriptEnd>
         requires ended { self.old.ended ≡ true }
         requires line { EndsLine self.old.held at }
@@ -159,7 +166,7 @@ impl Gather {
         answer
     }
 
-    // Reads the whole lines that are held by which an open block goes on, as far as they can be read at once.
+    // Reads the whole lines that are held and that continue an open block, as far as they can be read at once.
     fn read_run(&mut self) -> Result<(), NoMemory>
         requires { self.old.ended ≡ true }
         ensures leads { OnOk result (LeadsOn (grammar self.old) self.old.reading self.new.reading self.old.held self.new.held) }
@@ -174,7 +181,8 @@ impl Gather {
         Ok(())
     }
 
-    // Reads once from the source, where what is held is not too long. The answer is how many bytes came, and 0 only at the end.
+    // Reads once from the source, if what is held is not too long. It returns how many bytes the source gave, 0 only at
+    // its end.
     fn read_more<S: Source>(&mut self, source: &mut S) -> Result<usize, ScriptEnd>
         requires ended { self.old.ended ≡ true }
         requires line { NoFeed (take (self.old.limits.input - self.old.reading.used) self.old.held) }
@@ -192,7 +200,7 @@ impl Gather {
         self.input.read(source, most)
     }
 
-    // How many bytes may be read, where what is held is not too long.
+    // Returns how many bytes may be read, if what is held is not too long.
     fn room_to_read(&self) -> Result<usize, ScriptEnd>
         requires line { NoFeed (take (self.now.limits.input - self.now.reading.used) self.now.held) }
         ensures fits { IfOk result (λ most. (0 < most) × (most ≤ 65536) × (self.now.reading.used + length self.now.held + most ≤ self.now.limits.input + 1)) }
@@ -215,7 +223,7 @@ impl Gather {
         Ok((room - held.len() + 1).min(PIECE))
     }
 
-    // The last batch, where the input is at its end, and what is held is its last line.
+    // Returns the last batch. The input is at its end, and what is held is its last line.
     fn finish<F: Shelf>(&mut self, shelf: &mut F) -> Result<Option<Batch>, ScriptEnd>
         requires ended { self.old.ended ≡ true }
         requires fits { self.old.reading.used + length self.old.held ≤ self.old.limits.input }

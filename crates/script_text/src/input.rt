@@ -1,4 +1,4 @@
-//! The bytes at hand, which came from a source and were not used yet.
+//! The bytes at hand: they were read from a source, and have not been used yet.
 ghost use Rattle.std.specs.Prelude.{◌≡◌, ◌<◌, ◌≤◌, ◌+◌, ◌++◌, ◌⊎◌, Err, IfErr, IfNone, IfOk, IfSome, OnErr, OnOk, [], drop, length, take, vec_len};
 ghost use Rattle.std.specs.Io.KnownBytes.{Consumes, IsAtEnd, Keeps};
 ghost use Rattle.script_model.specs.Words.{NoFeed};
@@ -12,15 +12,15 @@ use no_memory::NoMemory;
 use std::alloc::Global;
 use std::marker::Model;
 
-/// The bytes that came from a source and were not used yet. A contract sees their list.
+/// The bytes that were read from a source and have not been used yet. Its model is the list of these bytes.
 #[derive(Drop)]
 pub(crate) struct Input {
-    /// Where bytes are put, and zeroed once.
+    /// The buffer, which is zeroed once.
     bytes: Vec<u8>,
     /// Where the bytes at hand begin, and where they end.
     start: usize,
     filled: usize,
-    /// How many of them have no line feed, as far as is known.
+    /// How many of the bytes at hand are known to have no line feed.
     searched: usize,
 }
 
@@ -36,7 +36,7 @@ impl Model for Input {
 }
 
 impl Input {
-    // No byte came.
+    // Returns an input without bytes.
     pub(crate) fn new(alloc: Global) -> Input
         ensures { result ≡ [] }
     {
@@ -48,14 +48,14 @@ impl Input {
         }
     }
 
-    // The bytes at hand.
+    // Returns the bytes at hand.
     pub(crate) fn held(&self) -> &[u8]
         ensures { result.now ≡ self.now }
     {
         &self.bytes.as_slice()[self.start..self.filled]
     }
 
-    // Where the first line ends that stands whole in the first `most` bytes at hand.
+    // Returns where the first line ends that lies whole in the first `most` bytes at hand.
     pub(crate) fn find_line(&mut self, most: usize) -> Option<usize>
         ensures same { self.new ≡ self.old }
         ensures found { IfSome result (λ at. EndsLine self.old at × (at < most)) }
@@ -71,7 +71,7 @@ impl Input {
         found
     }
 
-    // So many bytes were used.
+    // Drops the first `count` bytes, which have been used.
     pub(crate) fn use_up(&mut self, count: usize)
         requires { count ≤ length self.old }
         ensures { self.new ≡ drop count self.old }
@@ -80,7 +80,7 @@ impl Input {
         self.searched = 0;
     }
 
-    // Reads once from the source, at most so many bytes. The answer is how many came, and 0 only at the end of the source.
+    // Reads once from the source, at most `most` bytes. It returns how many bytes the source gave, 0 only at its end.
     pub(crate) fn read<S: Source>(
         &mut self,
         source: &mut S,
@@ -102,7 +102,7 @@ impl Input {
         Ok(count)
     }
 
-    // Moves the bytes at hand to the front, where there is no room for so many bytes behind them.
+    // Moves the bytes at hand to the front if there is no room for `more` bytes after them.
     fn move_for(&mut self, more: usize)
         ensures { self.new ≡ self.old }
     {
@@ -119,7 +119,7 @@ impl Input {
     }
 }
 
-// Sees to it that there is room for so many bytes behind the first `filled`.
+// Makes room for `more` bytes after the first `filled`.
 fn lengthen(bytes: &mut Vec<u8>, filled: usize, more: usize) -> Result<(), NoMemory>
     requires filled { filled ≤ vec_len bytes.old }
     requires few { more ≤ 65536 }
@@ -135,7 +135,7 @@ fn lengthen(bytes: &mut Vec<u8>, filled: usize, more: usize) -> Result<(), NoMem
     Ok(())
 }
 
-// Reads once from the source, at most so many bytes, which come behind the first `filled`.
+// Reads once from the source, at most `most` bytes, into the place after the first `filled`.
 fn read_behind<S: Source>(
     source: &mut S,
     bytes: &mut [u8],
@@ -160,7 +160,7 @@ fn read_behind<S: Source>(
     }
 }
 
-// Where the first line feed is, where the first `from` bytes have none.
+// Returns where the first line feed is. The first `from` bytes have none.
 fn first_feed(text: &[u8], from: usize) -> Option<usize>
     requires within { from ≤ length text.now }
     requires searched { NoFeed (take from text.now) }

@@ -1,11 +1,11 @@
-//! Lines, as they are cut from a script and from a block.
+//! The lines of a script and of a block.
 ghost use Rattle.std.specs.Prelude.{◌≡◌, ◌==◌, get_or};
 ghost use Rattle.std.specs.List.{list_all};
 ghost use Rattle.script_model.specs.Words.{without_return};
 ghost use Rattle.script_model.specs.Reading.{is_end, undotted};
 ghost use Rattle.script_model.specs.Saying.{is_skipped};
 
-// The line without one carriage return at its end.
+// Returns the line without the carriage return at its end, if it has one; only one is dropped.
 pub(crate) fn without_return(line: &[u8]) -> &[u8]
     ensures { result.now ≡ without_return line.now }
 {
@@ -15,21 +15,21 @@ pub(crate) fn without_return(line: &[u8]) -> &[u8]
     }
 }
 
-// Whether the line ends a block: a dot, alone or followed by one carriage return.
+// Returns whether the line ends a block: a dot, alone or followed by one carriage return.
 pub(crate) fn is_end(line: &[u8]) -> bool
     ensures { result ≡ is_end line.now }
 {
     matches!(without_return(line), b".")
 }
 
-// Whether the text begins with a dot.
+// Returns whether the text begins with a dot.
 pub(crate) fn begins_with_dot(text: &[u8]) -> bool
     ensures { result ≡ (get_or text.now 0 0 == 0x2E) }
 {
     matches!(text, [b'.', ..])
 }
 
-// The line of a block without the dot that it begins with.
+// Returns the line of a block without the dot that it begins with, if it does.
 pub(crate) fn undotted(line: &[u8]) -> &[u8]
     ensures { result.now ≡ undotted line.now }
 {
@@ -39,14 +39,14 @@ pub(crate) fn undotted(line: &[u8]) -> &[u8]
     }
 }
 
-// Whether the line is skipped: it is empty, has only spaces, or begins with `#`.
+// Returns whether the line is skipped: it is empty, has only spaces, or begins with `#`.
 pub(crate) fn is_skipped(line: &[u8]) -> bool
     ensures { result ≡ is_skipped line.now }
 {
     is_blank(line) || matches!(line, [b'#', ..])
 }
 
-// Whether the line is empty or has only spaces.
+// Returns whether the line is empty or has only spaces.
 fn is_blank(line: &[u8]) -> bool
     ensures { result ≡ list_all (λ byte. byte == 0x20) line.now }
 {

@@ -1,4 +1,4 @@
-//! How far a script was read, and what each line does.
+//! How far a script has been read, and what each line does.
 ghost use Rattle.std.specs.Prelude.{◌<◌, ◌≡◌, ◌≢◌, ◌+◌, ◌-◌, ◌≤◌, ℕ, IfErr, IfOk, IfSome, IsSome, List, None, OnOk, Some, [], drop, false, length};
 ghost use Rattle.lake_io.specs.Refusals.{Refuses};
 ghost use Rattle.lake_model.specs.Texts.{Text, lines_of};
@@ -30,23 +30,23 @@ use std::alloc::Global;
 use std::marker::Model;
 use std::mem;
 
-/// How far a script was read, and by which rules. A contract sees the reading of the definitions, which keeps no paths that were asked for,
-/// and the rules. After a refusal nothing is known of the reading.
+/// How far a script has been read, and by which rules. Its model is the reading of the definitions, without the paths
+/// that were asked for, and the rules. After an error nothing is known of the reading.
 #[derive(Drop)]
 pub(crate) struct Reader {
     alloc: Global,
     rules: Rules,
-    /// How many lines were read.
+    /// The number of lines that were read.
     lines: u64,
-    /// How many bytes these lines and their line feeds have.
+    /// The number of bytes of these lines and their line feeds.
     used: u64,
-    /// How many commands were numbered.
+    /// The number of commands that were numbered.
     numbered: u64,
-    /// The commands of the batch whose blocks have ended.
+    /// The commands of the batch that are complete, with their blocks.
     commands: Vec<Command>,
-    /// How many bytes the bodies and the files of the batch have.
+    /// The number of bytes of the bodies and files of the batch.
     bytes: u64,
-    /// The block whose end is still to come.
+    /// The block whose end has not been read yet.
     block: Option<OpenBlock>,
 }
 
@@ -63,7 +63,7 @@ impl Model for Reader {
 }
 
 impl Reader {
-    // Nothing was read.
+    // Returns a reader that has read nothing.
     pub(crate) fn new(alloc: Global, rules: Rules) -> Reader
         requires { AreRules rules }
         ensures { result ≡ state_with (start []) rules }
@@ -80,7 +80,7 @@ impl Reader {
         }
     }
 
-    // How many bytes may still come.
+    // Returns how many more bytes the input may have.
     pub(crate) fn room(&self) -> usize
         ensures value { result ≡ self.now.rules.limits.input - self.now.reading.used }
         ensures within { self.now.reading.used + result ≤ self.now.rules.limits.input }
@@ -89,7 +89,7 @@ impl Reader {
         (self.rules.limits.input - self.used) as usize
     }
 
-    // What is wrong, by its size alone, with a line of which these bytes have come, and the line of the fault.
+    // Returns what is wrong, by its size alone, with a line of which only these bytes have been read.
     pub(crate) fn begun_fault(&self, part: &[u8]) -> Option<Reason>
         ensures { result ≡ begun_fault (grammar_by self.now.rules) self.now.reading.block self.now.reading.bytes part.now }
     {
@@ -106,7 +106,7 @@ impl Reader {
         )
     }
 
-    // How many lines were read.
+    // Returns the number of lines that were read.
     pub(crate) fn lines(&self) -> u64
         ensures value { result ≡ self.now.reading.lines }
         ensures small { result ≤ 68719476736 }
@@ -114,7 +114,7 @@ impl Reader {
         self.lines
     }
 
-    // The fault of a line, or of a block, that is too long.
+    // Returns the fault of a line, or of a block, that is too long.
     pub(crate) fn too_long(&self) -> Reason
         ensures { result ≡ too_long self.now.reading.block }
     {
@@ -124,7 +124,7 @@ impl Reader {
         }
     }
 
-    // The longest part of a line that need not be too long.
+    // Returns the longest part of a line with which the line may still be short enough.
     pub(crate) fn longest(&self) -> usize
         ensures line { self.now.reading.block ≡ None → result ≡ self.now.rules.limits.line + 1 }
         ensures block { IfSome self.now.reading.block (λ block. result + length block.body ≡ self.now.rules.limits.block + 2) }
@@ -136,7 +136,7 @@ impl Reader {
         }
     }
 
-    // Reads a line that a line feed ended, without its line feed.
+    // Reads a line that a line feed ended; `line` is without the line feed.
     pub(crate) fn read_line<F: Shelf>(
         &mut self,
         shelf: &mut F,
@@ -160,7 +160,7 @@ impl Reader {
         Ok(None)
     }
 
-    // Reads what stands behind the last line feed, and gives the last batch.
+    // Reads what follows the last line feed, and returns the last batch.
     pub(crate) fn finish<F: Shelf>(
         &mut self,
         shelf: &mut F,
@@ -187,7 +187,7 @@ impl Reader {
         Ok(batch)
     }
 
-    // Reads a line outside a block, which was counted.
+    // Reads a line outside a block. The line has been counted.
     fn read_command<F: Shelf>(
         &mut self,
         shelf: &mut F,
@@ -262,7 +262,7 @@ impl Reader {
         Ok(())
     }
 
-    // One more command, which has no body.
+    // Adds a command without a body.
     fn add_command(&mut self, lane: u32, task: Task) -> Result<(), ScriptEnd>
         requires bytes { self.old.reading.bytes ≤ self.old.rules.limits.bytes }
         requires counted { self.old.reading.numbered < self.old.reading.used }
@@ -279,7 +279,7 @@ impl Reader {
         Ok(())
     }
 
-    // One more command, whose file is fetched.
+    // Fetches a file, and adds the command that loads it.
     fn load_file<F: Shelf>(
         &mut self,
         shelf: &mut F,
@@ -305,7 +305,7 @@ impl Reader {
         Ok(())
     }
 
-    // Reads a line of the block, which was counted.
+    // Reads a line of the block. The line has been counted.
     fn read_block_line(&mut self, line: &[u8]) -> Result<(), ScriptEnd>
         requires counted { self.old.reading.numbered < self.old.reading.used }
         requires block { IsSome self.old.reading.block }
@@ -321,7 +321,7 @@ impl Reader {
         Ok(())
     }
 
-    // Adds a line to the body of the block, where the limits have room for it.
+    // Adds a line to the body of the block, if the limits have room for it.
     fn push_line(&mut self, text: &[u8]) -> Result<(), ScriptEnd>
         requires { IsSome self.old.reading.block }
         ensures turn { (paths : List Text) (later : List File) → IfSome self.old.reading.block (λ block. GoesOn result self.old.reading.lines self.new.reading paths later (added (grammar_by self.old.rules) block text.now (reading_at self.old.reading paths later))) }
@@ -343,8 +343,8 @@ impl Reader {
         Ok(())
     }
 
-    // Reads the longest run of whole lines with which the bytes begin and by which the block goes on, none of which begins with a dot. The
-    // answer is how many bytes the run has.
+    // Reads the longest run of whole lines at the beginning of the bytes that continue the block, none of which begins
+    // with a dot. It returns the number of bytes of the run.
     pub(crate) fn read_run(&mut self, held: &[u8]) -> Result<usize, NoMemory>
         ensures leads { IfOk result (λ count. LeadsOn (grammar_by self.old.rules) self.old.reading self.new.reading held.now (drop count held.now)) }
         ensures used { IfOk result (λ count. self.new.reading.used ≡ self.old.reading.used + count) }
@@ -362,7 +362,7 @@ impl Reader {
         Ok(run.len())
     }
 
-    // How many bytes may still come to the block, by each limit.
+    // Returns how many more bytes the block may have, by every limit.
     fn block_room(&self) -> usize
         requires { IsSome self.now.reading.block }
         ensures room { (size : ℕ) → size ≤ result → HasRoom self.now.rules self.now.reading size }
@@ -377,7 +377,7 @@ impl Reader {
         in_block.min(in_batch).min(in_input) as usize
     }
 
-    // Adds a run of lines to the block, where the limits have room for it.
+    // Adds a run of lines to the block. The limits have room for it.
     fn push_run(&mut self, run: &[u8]) -> Result<(), NoMemory>
         requires block { IsSome self.old.reading.block }
         requires run { IsRun run.now }
@@ -396,7 +396,7 @@ impl Reader {
         block.push_lines(run)
     }
 
-    // Ends the block, and its command comes.
+    // Ends the block, and adds its command.
     fn close_block(&mut self) -> Result<(), NoMemory>
         requires counted { self.old.reading.numbered < self.old.reading.used }
         requires block { IsSome self.old.reading.block }
@@ -412,7 +412,7 @@ impl Reader {
         self.push_command(lane, block.into_task(), size)
     }
 
-    // Reads what stands behind the last line feed, which is a line where it has a byte.
+    // Reads what follows the last line feed, which is a line if it is not empty.
     fn read_last_line<F: Shelf>(
         &mut self,
         shelf: &mut F,
@@ -443,7 +443,8 @@ impl Reader {
         Ok(None)
     }
 
-    // The batch at the end of the script: what its last line gave, or the commands at hand, where there are any.
+    // Returns the batch at the end of the script: the one that its last line gave, or the commands at hand, if there
+    // are any.
     fn end(&mut self, last: Option<Batch>) -> Result<Option<Batch>, ScriptEnd>
         requires last { IsLast last self.old.reading.commands self.old.reading.block }
         requires lanes { IfSome last (IsOfLanes self.old.rules.lanes) }
@@ -469,7 +470,7 @@ impl Reader {
         Ok(Some(self.take_batch()))
     }
 
-    // The commands of the batch, which ends.
+    // Ends the batch, and returns its commands.
     fn take_batch(&mut self) -> Batch
         ensures batch { result ≡ self.old.reading.commands }
         ensures ended { self.new ≡ record self.old { reading = batch_ended self.old.reading } }
@@ -480,7 +481,7 @@ impl Reader {
         Batch::new(commands)
     }
 
-    // One more command, of so many bytes.
+    // Adds a command of `size` bytes.
     fn push_command(&mut self, lane: u32, task: Task, size: u64) -> Result<(), NoMemory>
         requires lane { IsLane self.old.rules.lanes lane }
         requires in_range { IsTaskInRange task }
@@ -501,7 +502,7 @@ impl Reader {
         Ok(())
     }
 
-    // Refuses a further command where the batch is full.
+    // Refuses a further command if the batch is full.
     fn refuse_full(&self) -> Result<(), ScriptEnd>
         ensures room { OnOk result (length self.now.reading.commands < self.now.rules.limits.commands) }
         ensures full { IfErr result (λ e. (e ≡ ScriptEnd.Script self.now.reading.lines Reason.BatchCommands) × (self.now.rules.limits.commands ≤ length self.now.reading.commands)) }
@@ -512,7 +513,7 @@ impl Reader {
         Ok(())
     }
 
-    // Refuses so many more bytes where the batch has no room for them.
+    // Refuses `size` more bytes if the batch has no room for them.
     fn refuse_bytes(&self, size: u64) -> Result<(), ScriptEnd>
         ensures room { OnOk result (self.now.reading.bytes + size ≤ self.now.rules.limits.bytes) }
         ensures full { IfErr result (λ e. (e ≡ ScriptEnd.Script self.now.reading.lines Reason.BatchBytes) × (self.now.rules.limits.bytes < self.now.reading.bytes + size)) }
@@ -523,7 +524,7 @@ impl Reader {
         Ok(())
     }
 
-    // A fault of the line that was counted last.
+    // Returns a fault of the line that was counted last.
     fn fault(&self, reason: Reason) -> ScriptEnd
         ensures { result ≡ ScriptEnd.Script self.now.reading.lines reason }
     {
@@ -533,7 +534,7 @@ impl Reader {
         }
     }
 
-    // What is wrong with a line outside a block, by its size alone.
+    // Returns what is wrong with a line outside a block, by its size alone.
     fn line_fault(&self, line: &[u8]) -> Option<Reason>
         ensures { result ≡ line_fault (grammar_by self.now.rules) line.now }
     {

@@ -9,7 +9,7 @@ pub enum ScriptEnd {
     Script { line: u64, reason: Reason },
     /// The source failed, and counted a fault.
     ReadFault,
-    /// Memory was wanting.
+    /// Memory ran out.
     NoMemory,
 }
 

@@ -12,7 +12,8 @@ pub(crate) struct Rules {
     pub(crate) lanes: u32,
 }
 
-// What is wrong with the body of a block of so many bytes, where the other bodies and files of the batch have `bytes`.
+// Returns what is wrong with the body of a block of `size` bytes, if the other bodies and files of the batch have
+// `bytes`.
 pub(crate) fn size_fault(rules: &Rules, bytes: u64, size: u64) -> Option<Reason>
     requires rules { AreRules rules.now }
     requires bytes { bytes ≤ rules.now.limits.bytes }

@@ -6,10 +6,10 @@ ghost use Rattle.script_text.specs.Runs.{EndsInFeed, IsRun, NoDotBehind};
 use crate::line::begins_with_dot;
 use memchr::{memmem, memrchr};
 
-/// How many bytes are counted at once.
+/// The most bytes that are counted at once: below 256, so that a count fits into one byte.
 const COUNTED: usize = 192;
 
-// The longest run of whole lines with which the text begins, none of which begins with a dot.
+// Returns the longest run of whole lines at the beginning of the text, none of which begins with a dot.
 pub(crate) fn run_of(text: &[u8]) -> &[u8]
     ensures run { IsRun result.now }
     ensures first { result.now ≡ take (length result.now) text.now }
@@ -20,7 +20,7 @@ pub(crate) fn run_of(text: &[u8]) -> &[u8]
     whole_lines(before_dot(text))
 }
 
-// The text up to the first of its lines, but for the very first, that begins with a dot.
+// Returns the text up to the first of its lines that begins with a dot, not counting the very first line.
 fn before_dot(text: &[u8]) -> &[u8]
     ensures none { NoDotBehind result.now }
     ensures first { result.now ≡ take (length result.now) text.now }
@@ -31,7 +31,7 @@ fn before_dot(text: &[u8]) -> &[u8]
     }
 }
 
-// The text up to its last line feed.
+// Returns the text up to and including its last line feed.
 fn whole_lines(text: &[u8]) -> &[u8]
     ensures whole { EndsInFeed result.now }
     ensures first { result.now ≡ take (length result.now) text.now }
@@ -42,7 +42,7 @@ fn whole_lines(text: &[u8]) -> &[u8]
     }
 }
 
-// How many lines of the text a line feed ended.
+// Returns how many lines of the text are ended by a line feed.
 pub(crate) fn line_count(text: &[u8]) -> usize
     ensures count { result ≡ length (lines_of text.now).ended }
     ensures few { result ≤ length text.now }
@@ -57,7 +57,7 @@ pub(crate) fn line_count(text: &[u8]) -> usize
     count
 }
 
-// How many line feeds a short text has. A counter of one byte lets the compiler count many bytes at once.
+// Returns how many line feeds a short text has. A counter of one byte lets the compiler count many bytes at once.
 fn feed_count(text: &[u8]) -> u8
     requires { length text.now ≤ 192 }
     ensures { result ≡ count_by (λ byte. byte == 0x0A) text.now }

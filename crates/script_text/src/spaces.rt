@@ -1,9 +1,9 @@
-//! Words, as they are cut from a line.
+//! The words of a line.
 ghost use Rattle.std.specs.Prelude.{◌≡◌, ◌∷◌, [], IfNone, IfSome, not, position, take_while};
 ghost use Rattle.script_model.specs.Words.{before_spaces, behind_spaces, behind_word, first_word, is_space, words};
 ghost use Rattle.script_text.specs.Fronts.{IsNotOne, has_none};
 
-// The text without the spaces that it begins with.
+// Returns the text without the spaces that it begins with.
 pub(crate) fn behind_spaces(text: &[u8]) -> &[u8]
     ensures { result.now ≡ behind_spaces text.now }
 {
@@ -14,7 +14,7 @@ pub(crate) fn behind_spaces(text: &[u8]) -> &[u8]
     text
 }
 
-// The text without the spaces that it ends with.
+// Returns the text without the spaces that it ends with.
 pub(crate) fn before_spaces(text: &[u8]) -> &[u8]
     ensures { result.now ≡ before_spaces text.now }
 {
@@ -25,14 +25,14 @@ pub(crate) fn before_spaces(text: &[u8]) -> &[u8]
     text
 }
 
-// The first word of the text, which is empty where there is none.
+// Returns the first word of the text, empty if there is none.
 pub(crate) fn first_word(text: &[u8]) -> &[u8]
     ensures { result.now ≡ first_word text.now }
 {
     before_space(behind_spaces(text))
 }
 
-// The text up to its first space.
+// Returns the text up to its first space.
 fn before_space(text: &[u8]) -> &[u8]
     ensures { result.now ≡ take_while (λ byte. not (is_space byte)) text.now }
 {
@@ -42,14 +42,14 @@ fn before_space(text: &[u8]) -> &[u8]
     }
 }
 
-// Where the first space is.
+// Returns where the first space is.
 fn first_space(text: &[u8]) -> Option<usize>
     ensures { result ≡ position is_space text.now }
 {
     text.iter().position(|byte| *byte == b' ')
 }
 
-// What stands behind the first word of the text and the spaces that follow it.
+// Returns what follows the first word of the text and the spaces after it.
 pub(crate) fn behind_word(text: &[u8]) -> &[u8]
     ensures { result.now ≡ behind_word text.now }
 {
@@ -58,14 +58,14 @@ pub(crate) fn behind_word(text: &[u8]) -> &[u8]
     behind_spaces(&text[word.len()..])
 }
 
-// Whether the text has no word.
+// Returns whether the text has no word.
 pub(crate) fn has_no_word(text: &[u8]) -> bool
     ensures { result ≡ has_none (words text.now) }
 {
     first_word(text).is_empty()
 }
 
-// The one word of the text.
+// Returns the word of the text if it has exactly one.
 pub(crate) fn only_word(text: &[u8]) -> Option<&[u8]>
     ensures one { IfSome result (λ word. words text.now ≡ word.now ∷ []) }
     ensures other { IfNone result (IsNotOne (words text.now)) }

@@ -1,4 +1,4 @@
-//! Worked scripts: what each gives, from the rules by hand.
+//! Worked scripts, with what the rules give for each by hand.
 
 use super::*;
 use lake_io::{MemoryShelf, MemorySource};
@@ -61,7 +61,7 @@ fn push_task(text: &mut String, task: &Task) -> Result<(), AllocError> {
     }
 }
 
-// The bytes of a file, or what came instead.
+// Returns the bytes of a file, or why there are none.
 fn shown_file(file: &FileBody) -> &str {
     match file {
         FileBody::Bytes(body) => str::from_utf8(body.bytes()).unwrap_or("?"),
@@ -71,7 +71,7 @@ fn shown_file(file: &FileBody) -> &str {
     }
 }
 
-// Adds what a gatherer gives: each batch in brackets, and then its end.
+// Adds what a gatherer gives: each batch in brackets, and then how the script ends.
 fn push_batches(
     text: &mut String,
     gather: &mut Gather,
@@ -106,7 +106,8 @@ fn two_files(alloc: Global) -> Result<MemoryShelf, Fail> {
     Ok(shelf)
 }
 
-// What a new gatherer makes of a script in pieces of this size, where the call of `read` with the number `failing` fails.
+// Returns what a new gatherer gives for a script in pieces of this size, where the call of `read` with the number
+// `failing` fails.
 fn given(
     alloc: Global,
     mut gather: Gather,
@@ -121,13 +122,13 @@ fn given(
     Ok(text)
 }
 
-// The same, by the standard limits.
+// Does the same with the standard limits.
 fn given_standard(alloc: Global, script: &str, piece: usize, failing: u64) -> Result<String, Fail> {
     let gather = Gather::new(alloc, 2, ScriptLimits::standard())?;
     given(alloc, gather, script, piece, failing)
 }
 
-// The same, by limits that small scripts reach.
+// Does the same with limits that small scripts reach.
 fn given_small(alloc: Global, script: &str, piece: usize) -> Result<String, Fail> {
     let limits = ScriptLimits {
         line: 16,
@@ -140,7 +141,7 @@ fn given_small(alloc: Global, script: &str, piece: usize) -> Result<String, Fail
     given(alloc, gather, script, piece, 0)
 }
 
-// Whether the script gives this in pieces of each size.
+// Returns whether the script gives this in pieces of each size.
 fn gives(alloc: Global, script: &str, want: &str) -> Result<bool, Fail> {
     for piece in [1, 7, 64, 4096] {
         let got = given_standard(alloc, script, piece, 0)?;
@@ -151,7 +152,7 @@ fn gives(alloc: Global, script: &str, want: &str) -> Result<bool, Fail> {
     Ok(true)
 }
 
-// The same, by small limits.
+// Does the same with small limits.
 fn gives_small(alloc: Global, script: &str, want: &str) -> Result<bool, Fail> {
     for piece in [1, 7, 4096] {
         let got = given_small(alloc, script, piece)?;
@@ -162,7 +163,7 @@ fn gives_small(alloc: Global, script: &str, want: &str) -> Result<bool, Fail> {
     Ok(true)
 }
 
-// A line so many times, and then the last.
+// Returns a line `count` times, followed by the last one.
 fn repeated(alloc: Global, line: &str, count: usize, last: &str) -> Result<String, AllocError> {
     let mut script = String::new(alloc);
     for _ in 0..count {
@@ -177,7 +178,7 @@ const WORKED: [(&str, &str); 75] = [
     ("\n  \n# x\n#\n\r\n", "end"),
     ("tables", "[1@1 tables;]"),
     ("tables\r\n\r", "[1@1 tables;]"),
-    // what `sync` ends, also an empty batch
+    // what a `sync` ends, even an empty batch
     ("tables\nsync\ndrop a\n", "[1@1 tables;][2@1 drop a;]"),
     ("sync\nsync\n", "[][]end"),
     ("sync", "[]"),
@@ -269,7 +270,7 @@ const WORKED: [(&str, &str); 75] = [
     ("loadfile a\n", "line 1 Words"),
     ("loadfile a  \n", "line 1 Words"),
     ("loadfile é a.csv\n", "line 1 Words"),
-    // the first line at fault is named, behind the batches before it
+    // the first line at fault is named, after the batches before it
     (
         "tables\nsync\nfind\ntables\n",
         "[1@1 tables;]line 3 Unknown",
@@ -338,7 +339,7 @@ fn keeps_the_limits(rt: HostRuntime) -> Result<(), Fail> {
     Ok(())
 }
 
-// A line, how often it stands, what stands behind these lines, and the end.
+// A line, how often it is repeated, what follows these lines, and the end.
 const LONG: [(&str, usize, &str, &str); 6] = [
     ("##\n", 66, "##", "end"),
     ("##\n", 66, "#\n", "end"),

@@ -1,4 +1,4 @@
--- What is told of a query, and of entries, one after another.
+-- The lines for a query, and for entries, one after another.
 use Rattle.std.proofs.Common.{◌≡◌, refl, ap, sym, ◌∙◌, ℕ, zero, suc, ◌+◌, ◌<◌, ◌≤◌, arith, List, [], ◌∷◌, ◌++◌, Bool, true, false, cond, append_assoc, flat_map, map, length, get_or, take}
 use Rattle.std.specs.List.{enumerate_from}
 use Rattle.std.proofs.lemmas.List.{append-nil, take_more}
@@ -73,9 +73,9 @@ text_more k queries journal entries watched before i entry start text after with
     added ∙ ap (λ (t : Text). text ++ t) told ∙ ap (λ (t : Text). t ++ new) so_far ∙ append_assoc start old new
     ∙ ap (λ (t : Text). start ++ t) (sym (watch_text_on k queries journal (take i entries) (entry ∷ [])) ∙ ap (watch_text_behind k queries journal) (sym item))
 
--- ---- what was taken where memory ran out
+-- ---- what was taken when memory ran out
 
--- of an entry, behind the first i
+-- of an entry after the first i
 pub begun_more : (start before after : WatchesOf) (entries : List Entry) (i : ℕ) (entry : Entry) → i < length entries → entry ≡ get_or entries i entry
     → before ≡ watches_with (start.journal ++ take i entries) start.queries → HasTaken before after (entry ∷ []) → HasTaken start after entries
 begun_more start before after entries i entry within same earlier begun = by begun.count begun.few begun.taken

@@ -1,5 +1,6 @@
-//! The text that tells where the first rows of watched queries change: for each entry of a journal, and each query whose first rows differ
-//! from those before the entry, a line with the entry's position and the number of the query, and its rows.
+//! The text of where the first rows of watched queries change: for each entry of a journal, and each query whose first
+//! rows differ from those before the entry, a line with the entry's position and the number of the query, followed by
+//! its rows.
 #![tactic(auto)]
 
 mod told;

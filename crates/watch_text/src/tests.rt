@@ -1,4 +1,4 @@
-//! The text of worked runs, letter by letter. All columns are named c.
+//! The text of worked runs, byte for byte. All columns are named c.
 use crate::{push_end, tell_entries};
 use catalogue::{Entry, Who};
 use column_set::{Keys, Name, QuerySet, SharedTable, TableSets};
@@ -18,7 +18,7 @@ fn name(text: &str) -> Result<Name, Fail> {
     Ok(Name::read(text.as_bytes()).ok_or("no name")?)
 }
 
-// The load of a table of this name and these CSV bytes.
+// Returns the load of a table with this name and these CSV bytes.
 fn load(alloc: Global, title: &str, text: &str) -> Result<Entry, Fail> {
     let raw = read_table(alloc, text.as_bytes(), 1_024)?;
     let table = TableSets::build(alloc, Keys::Canonical, name(title)?, &raw)?;
@@ -29,7 +29,7 @@ fn drop_table(title: &str) -> Result<Entry, Fail> {
     Ok(Entry::dropped(WHO, name(title)?))
 }
 
-// A merge of the first part.
+// Returns a merge of the first part.
 fn merge(alloc: Global) -> Result<Entry, Fail> {
     let from = Numbers::new(vec![in alloc; 1]?);
     let kept = Numbers::new(vec![in alloc; 1]?);
@@ -40,7 +40,7 @@ fn query(alloc: Global, body: &str) -> Result<QuerySet, Fail> {
     Ok(QuerySet::read(alloc, Keys::Canonical, body.as_bytes())?)
 }
 
-// The loads of s and t, the drop of t, and the load of u.
+// Returns the loads of s and t, the drop of t, and the load of u.
 fn grows_and_shrinks(alloc: Global) -> Result<Vec<Entry>, Fail> {
     let mut entries = Vec::new(alloc);
     entries.push(load(alloc, "s", "c\na\n")?)?;
@@ -50,7 +50,8 @@ fn grows_and_shrinks(alloc: Global) -> Result<Vec<Entry>, Fail> {
     Ok(entries)
 }
 
-// The text of entries, of which the second half is told behind the first, and the last line, are this.
+// Checks that the text of the entries, of which the second half is written after the first, with the last line, is
+// `wanted`.
 fn tells(
     rt: &(impl Abort + AllocGlobal),
     watches: &mut Watches,
@@ -66,7 +67,7 @@ fn tells(
     Ok(())
 }
 
-// A better table comes and goes, and one that has nothing to do with the query is not told.
+// A better table is loaded and dropped, and a table that shares nothing with the query is not reported.
 #[test]
 fn one_query(rt: HostRuntime) -> Result<(), Fail> {
     let alloc = rt.alloc();
@@ -78,7 +79,7 @@ fn one_query(rt: HostRuntime) -> Result<(), Fail> {
     tells(&rt, &mut watches, &entries, wanted)
 }
 
-// A row falls behind the first and comes back, and each query is told what concerns it.
+// A row falls to second place and returns to first place, and only the changes of each query are written for it.
 #[test]
 fn two_queries(rt: HostRuntime) -> Result<(), Fail> {
     let alloc = rt.alloc();
@@ -91,7 +92,7 @@ fn two_queries(rt: HostRuntime) -> Result<(), Fail> {
     tells(&rt, &mut watches, &entries, wanted)
 }
 
-// One entry changes both queries; a merge changes none; and the drop of the one table leaves no row.
+// One entry changes both queries, a merge changes neither, and the drop of the only table leaves no row.
 #[test]
 fn no_row_is_left(rt: HostRuntime) -> Result<(), Fail> {
     let alloc = rt.alloc();

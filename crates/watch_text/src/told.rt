@@ -15,7 +15,7 @@ use reply_text::Word::{Number, Text};
 use reply_text::{push_line, push_rows};
 use std::alloc::Global;
 
-// `AT query NUMBER rows R`, and the rows of the query.
+// `AT query NUMBER rows R`, followed by the rows of the query.
 fn push_change(
     alloc: Global,
     watches: &Watches,
@@ -38,7 +38,7 @@ fn push_change(
     push_rows(rows.list(), into)
 }
 
-// What the last entry changed of the query of this number.
+// Appends what the last entry changed in the rows of the query with this number.
 fn tell_query(
     alloc: Global,
     watches: &Watches,
@@ -56,7 +56,7 @@ fn tell_query(
     push_change(alloc, watches, number, into)
 }
 
-// What the last entry changed of the queries.
+// Appends what the last entry changed in the rows of the queries.
 fn tell_queries(alloc: Global, watches: &Watches, into: &mut Vec<u8>) -> Result<(), NoMemory>
     ensures ok { OnOk result (into.new.items ≡ into.old.items ++ flat_map line_text (told_from (before_last watches.now.journal) watches.now.journal 1 watches.now.queries)) }
     ensures kept { Keeps into.old.items into.new.items }
@@ -67,7 +67,7 @@ fn tell_queries(alloc: Global, watches: &Watches, into: &mut Vec<u8>) -> Result<
     Ok(())
 }
 
-// Takes an entry, and tells what it changed of the queries.
+// Takes an entry, and appends what it changed in the rows of the queries.
 fn tell_entry(
     alloc: Global,
     watches: &mut Watches,
@@ -83,10 +83,14 @@ fn tell_entry(
     tell_queries(alloc, watches, into)
 }
 
-/// Takes entries of the journal, one after another, and appends what each changes: for each query whose first rows differ from those
-/// before the entry, by its number, a line with the entry's position and its rows.
+/// Takes entries of the journal, one after another, and appends what each changes: for each query whose first rows
+/// differ from those before the entry, in the order of their numbers, a line with the entry's position, followed by the
+/// rows.
 ///
-/// `Err(NoMemory)` may leave the first of the entries taken and some text appended. What was there before stays.
+/// # Errors
+///
+/// Returns `Err(NoMemory)` if memory runs out. Then the first of the entries may have been taken and some text
+/// appended; the text that was there before is unchanged.
 pub fn tell_entries(
     alloc: Global,
     watches: &mut Watches,
@@ -104,7 +108,7 @@ pub fn tell_entries(
     Ok(())
 }
 
-/// Appends the last line, `end L`, for a journal of so many entries.
+/// Appends the last line, `end L`, for a journal of `entries` entries.
 pub fn push_end(entries: u64, into: &mut Vec<u8>) -> Result<(), NoMemory>
     ensures ok { (journal : List EntryOf) → length journal ≡ entries → OnOk result (into.new.items ≡ into.old.items ++ end_text journal) }
     ensures kept { Keeps into.old.items into.new.items }

@@ -1,4 +1,4 @@
-//! A stated order, as it is written: pieces with `/` between, each of them empty, or numbers of lanes with `,` between.
+//! A stated order, as it is written: pieces separated by `/`, each of them empty, or lane numbers separated by `,`.
 ghost use Rattle.std.specs.Prelude.{◌≡◌, ◌==◌, IfOk, map};
 ghost use Rattle.std.specs.List.{slice_split};
 ghost use Rattle.option_model.specs.Plain.{all_there, lane_number, order_of, piece_of};
@@ -8,7 +8,7 @@ use commands::{Order, Piece};
 use no_memory::NoMemory;
 use std::alloc::Global;
 
-// The order that a text states; none where it breaks the rule.
+// Reads the order that a text states. The result is `None` if the text breaks the rule of orders.
 pub(super) fn read_order(
     alloc: Global,
     lanes: u32,
@@ -21,14 +21,14 @@ pub(super) fn read_order(
     read_pieces(alloc, lanes, merge, parts.as_slice())
 }
 
-// The parts of a text, with the byte between.
+// Returns the parts of a text, split at the byte.
 fn parts<'a>(alloc: Global, text: &'a [u8], byte: u8) -> Result<Vec<&'a [u8]>, NoMemory>
     ensures { IfOk result (λ parts. map (λ part. part.now) parts.items ≡ slice_split (λ b. b == byte) text.entry.now) }
 {
     Ok(text.split(|b| *b == byte).collect(alloc)?)
 }
 
-// The order whose pieces stand in these parts.
+// Reads the order whose pieces are these parts.
 fn read_pieces(
     alloc: Global,
     lanes: u32,
@@ -47,7 +47,7 @@ fn read_pieces(
     Ok(Some(Order::new(pieces)))
 }
 
-// A piece: nothing, or numbers of lanes.
+// Reads a piece, which is empty or lane numbers.
 fn read_piece(
     alloc: Global,
     lanes: u32,
@@ -63,7 +63,7 @@ fn read_piece(
     read_lanes(alloc, lanes, merge, parts.as_slice())
 }
 
-// The piece whose lanes stand in these parts.
+// Reads the piece whose lanes are these parts.
 fn read_lanes(
     alloc: Global,
     lanes: u32,
@@ -82,7 +82,7 @@ fn read_lanes(
     Ok(Some(Piece::new(numbers)))
 }
 
-// The number of a lane, or 0 for the merger where there is one.
+// Reads the number of a lane, or 0 for the merger if there is one.
 fn read_lane(lanes: u32, merge: bool, text: &[u8]) -> Option<u32>
     ensures { result ≡ lane_number lanes merge text.now }
 {

@@ -5,9 +5,10 @@ use lake_model::Keys;
 use std::alloc::Global;
 use std::test::Fail;
 
-/// What the words, which single spaces part, say in small: of a run its lanes, whether an order is stated, and its flags and profile; of a
-/// lake to make its three numbers; of watched queries how many rows, how many paths, and the length of the last path; of a check the lanes of the
-/// run, its flags and profile, and the length of the path. None where they are refused.
+/// Returns the mode that the words, separated by single spaces, state, as four numbers: for a run its lanes, whether an
+/// order is stated, its flags and its profile; for a lake to make its three numbers; for watched queries the number of
+/// rows, the number of paths, and the length of the last path; for a check the lanes of the run, its flags and profile,
+/// and the length of the path. The result is `None` if they are refused.
 fn said(alloc: Global, line: &str) -> Result<Option<[u32; 4]>, Fail> {
     let words = words_of(alloc, line)?;
     said_by(alloc, words.as_slice())

@@ -1,5 +1,5 @@
-//! Runs over several batches in which each call of the source, of the sink and of the store fails in turn: the status, and what was
-//! written, as the table of statuses has it.
+//! Runs over several batches in which each call of the source, of the sink and of the store fails in turn: the status,
+//! and what was written, are those of the table of statuses.
 use super::{SOUND, Streams, ends_with};
 use crate::Status;
 use std::alloc::Global;
@@ -17,19 +17,19 @@ const ENDED: [(&str, &str); 2] = [
     ),
 ];
 
-// The batch that ends with the script, and the replies to it.
+// The last batch, which the end of the script ends, and the replies to it.
 const LAST: (&str, &str) = (
     "replace routes\nfrom,to\nQuito,Lima\n.\nlike 2 routes 1\ntables\nmerge\n",
     "7 replaced routes columns 2 members 2 at 5\n8 answer 0 of 1 at 5\n9 tables 1 at 5\n  routes columns 2 members 2\n10 merged 1 parts into 0 tables at 6\n",
 );
 
-// One for each piece of 64 bytes of the script, and one that finds the end.
+// One read for each piece of 64 bytes of the script, and one that finds the end.
 const READS: u64 = 5;
 
-// One for each piece of 64 bytes of a batch's replies.
+// One write for each piece of 64 bytes of a batch's replies.
 const WRITES: u64 = 8;
 
-// Ways to run commands of lane 1: on threads, and in a stated order.
+// Ways to run the commands of lane 1: on threads, and in a stated order.
 const WAYS: [[&str; 2]; 3] = [
     ["run", "--lanes=1"],
     ["run", "--lanes=2"],
@@ -49,7 +49,8 @@ fn whole(alloc: Global) -> Result<(String, String), Fail> {
     Ok((script, written))
 }
 
-// What is written where the source gives so many bytes of the script and then fails: the replies to the batches whose `sync` came whole.
+// Returns what is written if the source gives `given` bytes of the script and then fails: the replies to the batches
+// whose `sync` was read in full.
 fn written_of(alloc: Global, given: usize) -> Result<String, Fail> {
     let mut written = String::new(alloc);
     let mut end = 0usize;
@@ -62,7 +63,8 @@ fn written_of(alloc: Global, given: usize) -> Result<String, Fail> {
     Ok(written)
 }
 
-// How much the sink has taken after one call more. The replies to each batch are sent for themselves, in pieces of 64 bytes.
+// Returns how much the sink has taken after one more call. The replies to each batch are sent separately, in pieces of
+// 64 bytes.
 fn one_call_more(taken: usize) -> usize {
     let mut end = 0usize;
     for (_, replies) in ENDED {
@@ -131,12 +133,12 @@ fn ends_at_each_failing_write_with_what_was_taken_before(rt: HostRuntime) -> Res
     Ok(())
 }
 
-// Four files are asked for, of which the second is missing.
+// Four files are fetched, of which the second is missing.
 const FILES: &str =
     "loadfile a here.csv\nloadfile b missing.csv\nsearch 2\nx\n.\nsync\nloadfile c here.csv\nmerge all\ndrop a\nsearch 2\nX\n.\nsync\nloadfile a here.csv\ntables\n";
 
-// The number of the fetch that fails, and what is written. A file that failed is the reply to its command, which adds nothing; the
-// source and the sink go on.
+// The number of the fetch that fails, and what is written. A failed fetch is the reply to its command, which adds
+// nothing; the source and the sink carry on.
 const FETCHED: [(u64, &str); 6] = [
     (
         0,

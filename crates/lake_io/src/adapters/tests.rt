@@ -1,4 +1,4 @@
-//! What the system's own streams and files do, which no clause says.
+//! Tests of what the system's own streams and files do, which no clause states.
 use super::*;
 use std::fs;
 use std::test::Fail;
@@ -7,7 +7,8 @@ const FOLDER: &str = "lake_io_test";
 
 const FILE: &str = "lake_io_test/file";
 
-/// The bytes of a file that is read in three pieces. No two pieces are alike, since 251 divides no piece.
+/// Returns the bytes of a file that is read in three pieces. No two pieces are alike, since 251 divides the length of
+/// no piece.
 fn long_bytes(alloc: Global) -> Result<Vec<u8>, AllocError> {
     let mut bytes = Vec::new(alloc);
     for i in 0..140000u32 {
@@ -45,7 +46,7 @@ fn file_shelf_gives_whole_files_and_refuses_the_rest(rt: HostRuntime) -> Result<
 
 #[test]
 fn standard_input_is_read_and_ends(rt: HostRuntime) {
-    // A run of tests has nothing on its standard input.
+    // A test run has nothing on its standard input.
     let mut source = StdSource::new(rt.stdin());
     let mut room = [b'.'; 4];
     assert_eq!(rt; source.read(&mut room), Ok(0));
