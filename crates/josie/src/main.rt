@@ -32,7 +32,7 @@ const HELP: &str = "josie run [--lanes N] [--order LIST] [--merge] [--trace] [--
     asof A K            finds the K columns that shared the most values with the lines that follow, up
                         to a line `.`, when the lake's history had A entries: the `at` of a reply
     merge               merges four adjacent parts of the index of one size, or else rewrites a part
-                        half of whose tables were dropped or replaced
+                        of which half or more of the tables were dropped or replaced
     merge all           merges the whole index into one part; no merge changes an answer
     sync                ends a batch: its replies are written before more is read
     @L ...              a command of lane L; without `@L` the lane is 1
