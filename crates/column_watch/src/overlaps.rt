@@ -64,8 +64,8 @@ fn count_column(
     count_hits(alloc, holders, queries, table, place, &hits)
 }
 
-// Returns the keys of the column at a place that have the hash of a key of some query. No key of a query is read yet:
-// these reads will be cache misses, which do not wait for one another if nothing else comes between them.
+// Returns the keys of the column at a place that have the hash of a key of some query. It reads no key of a query: its
+// look-ups are cache misses, which do not wait for one another as long as nothing else comes between them.
 fn column_hits(
     alloc: Global,
     holders: &Holders,
