@@ -1,4 +1,4 @@
-//! A table that was put by a load or a replace.
+//! A table that a load or a replace put.
 ghost use Rattle.std.specs.Prelude.{◌≡◌, nat_lt, None, Some};
 ghost use Rattle.asof_search.specs.Puts.{has_ended, put_with, was_live};
 
@@ -23,7 +23,7 @@ impl Model for Put {
 }
 
 impl Put {
-    /// The put of a table at a position, which nothing took away.
+    /// Returns the put of a table at a position, which nothing took away.
     pub(crate) fn new(position: u64, table: SharedTable) -> Put
         ensures { result ≡ put_with position table None }
     {
@@ -34,14 +34,14 @@ impl Put {
         }
     }
 
-    /// Its position in the journal.
+    /// Returns its position in the journal.
     pub(crate) fn position(&self) -> u64
         ensures { result ≡ self.now.position }
     {
         self.position
     }
 
-    /// Its table.
+    /// Returns its table.
     pub(crate) fn table(&self) -> &SharedTable
         ensures { result.now ≡ self.now.table }
     {
@@ -65,7 +65,7 @@ impl Put {
         }
     }
 
-    /// Its table is taken away at a position.
+    /// Records that the table is taken away at a position.
     pub(crate) fn end_at(&mut self, position: u64)
         ensures { self.new ≡ put_with self.old.position self.old.table (Some position) }
     {
