@@ -27,7 +27,7 @@ count-cons p x xs = sum_by-cons (λ y. once (p y)) x xs
 abbrev less : Row → Row → Bool
 less a b = is_lt (row_cmp a b)
 
--- if j + 1 rows come no later than x, the last of these is no later either
+-- if j + 1 rows come no later than x, the one at index j comes no later than x
 worst_of : (j : ℕ) (x : Row) (ys : List Row) → Ordered less (less_order row_cmp_total) ys → j + 1 ≤ count_by (no_later row_cmp x) ys → (w : Row) × (slice_get ys j ≡ Some w) × (less x w ≡ false)
 worst_of j x [] up h = absurd (omega arith)
 worst_of zero x (y ∷ ys) up h = by (less x y) refl

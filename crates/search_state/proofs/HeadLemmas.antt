@@ -26,7 +26,8 @@ module _ {X : Type 0} {R : X → X → Ordering} (total : IsTotalOrder R) where
   abbrev Begins : X → List X → Type 0
   Begins x ys = (rest : List X) × (ys ≡ x ∷ rest)
 
-  -- an element that comes before all those after it, and before which all those before it come, none of them later
+  -- an element that comes before all those listed before it, and no later than all those listed after it, is the first
+  -- in order
   pub first_in_order : (before after : List X) (x : X) → AllByRecursion (λ y. less x y ≡ true) before → AllByRecursion (λ y. less y x ≡ false) after → Begins x (in_order R (before ++ x ∷ after))
   unfolding in_order put_in_order
   first_in_order [] after x h g = (in_order R after, stays total x (in_order R after) (all_in_order total (λ y. less y x ≡ false) after g))
