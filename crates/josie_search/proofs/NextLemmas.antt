@@ -18,7 +18,7 @@ use Rattle.josie_search.specs.State.{IsAt}
 use Rattle.part_columns.specs.Tallies.{tally_at, tally_of}
 use Rattle.josie_search.proofs.OpenLemmas.{first_beaten, first_open, none_high, none_opens}
 
--- what the code gives the chooser is what the definition gives it
+-- the code and the definition give the chooser the same summary
 sum_same : (last : Option Row) (progress : Progress) (lengths : List ℕ) (c : Titled) (set : List ℕ) (x : ℕ) (found : List ℕ) → 0 < length found
     → summary_with last progress lengths (seen_by c set (length lengths - progress.read) x found) ≡ summary_of lengths progress.read (tally_of set found) (overlap_of last)
 sum_same last progress lengths c set x [] h = absurd (omega arith)
@@ -74,7 +74,7 @@ module _ (says : Summary → Bool) (query : Query) (before : List Row) (part : S
       ap (choice says part progress last) head
       ∙ ap (λ c. cond c (Some (read_next part progress)) None) (ap (unseen_open (left_of part progress)) (threshold_same last) ∙ e)
 
-  -- what the chooser makes of the first open column is the next look
+  -- the look that follows from the first open column and the chooser is the next look
   pub next_chosen : (column : Option ℕ) → IsHead query part progress last column → ((x : ℕ) → column ≡ Some x → 0 < (seen_at part progress x).count) → chosen says part.number lengths part.query progress.read tallies (overlap_of last) column ≡ next_look says query before part progress
   next_chosen None head some = by (unseen_open (length part.query - progress.read) (threshold_of (overlap_of last))) refl
     where

@@ -12,8 +12,8 @@ use std::cmp::Reverse;
 use std::collections::BinaryHeap;
 use std::marker::Model;
 
-/// A column that may be open, by its rank, and an upper limit on its bound: `number` itself, or, if it goes by counts,
-/// `number` plus the lists that are left.
+/// A column that may be open, by its rank, and an upper limit on its bound: `number` itself, or, if `by_count` is set,
+/// `number` plus the number of lists that are left.
 #[derive(Clone, Copy)]
 pub(crate) struct Candidate {
     pub by_count: bool,
@@ -22,10 +22,10 @@ pub(crate) struct Candidate {
 }
 
 /// The candidates of a part, and the lowest bound for which they are kept. A column may be among them more than once,
-/// or with a number above its bound. A column with at least as many tokens left as there are lists left goes by its
-/// count, so that its number stays valid while lists are read; the others go by their bounds. The struct also keeps
-/// account of what the last filling cost. Its model is the two heaps, the lowest bound, the number of candidates, and
-/// the room.
+/// or with a number above its bound. A column with at least as many tokens left as there are lists left is held by its
+/// count, so that its number stays valid while lists are read; the others are held by their bounds. The struct also
+/// keeps account of what the last filling cost. Its model is the two heaps, the lowest bound, the number of candidates,
+/// and the room.
 #[derive(Drop)]
 pub(crate) struct Candidates {
     sized: BinaryHeap<(u32, Reverse<u32>)>,
@@ -48,7 +48,7 @@ impl Model for Candidates {
 }
 
 impl Candidates {
-    /// Returns an empty set of candidates, kept for no bound, with room for two entries of each column in each heap.
+    /// Returns an empty set of candidates, kept for no bound, with room for two of each column.
     pub(crate) fn new(alloc: Global, columns: u32) -> Result<Candidates, NoMemory>
         ensures room { IfOk result (λ made. made.room ≡ 2 * columns) }
     {
@@ -69,7 +69,7 @@ impl Candidates {
         self.low
     }
 
-    /// Whether there is room for `more` more candidates.
+    /// Returns whether there is room for `more` more candidates.
     pub(crate) fn has_room(&self, more: usize) -> bool
         ensures { result ≡ true → self.now.many + more ≤ self.now.room }
     {
@@ -113,7 +113,7 @@ impl Candidates {
         self.debt = self.debt.saturating_sub(postings);
     }
 
-    /// Whether the last filling is paid off.
+    /// Returns whether the last filling is paid off.
     pub(crate) fn is_paid(&self) -> bool {
         self.debt == 0
     }

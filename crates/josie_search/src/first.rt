@@ -124,7 +124,8 @@ fn mend(
     }
 }
 
-// Whether a column has to be held for bounds of `low` or more, and its bound is lower than the candidate's number.
+// Returns whether a column has to be held for bounds of `low` or more, and its bound is lower than the candidate's
+// number.
 fn has_fallen(columns: &Columns, left: u32, low: u32, top: Candidate, column: u32) -> bool
     requires column { column < length columns.now.tallies }
     requires small { (tally_at columns.now.tallies column).count + left < 2 ^ 32 }

@@ -12,7 +12,7 @@ use crate::candidates::{Candidates, candidate_of};
 use part_columns::{Columns, most_of};
 use segment_core::Posting;
 
-/// Whether a column has to be held for bounds of `low` or more.
+/// Returns whether a column has to be held for bounds of `low` or more.
 pub(crate) fn goes_in(columns: &Columns, left: u32, low: u32, column: u32) -> bool
     requires column { column < length columns.now.tallies }
     requires small { (tally_at columns.now.tallies column).count + left < 2 ^ 32 }

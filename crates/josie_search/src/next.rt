@@ -81,7 +81,8 @@ pub(crate) fn next_look<C: Chooser>(
     choose(looks, part, tokens, read, columns, chooser, worst, column)
 }
 
-// Returns what a chooser makes of the best open column, if there is one; `worst` is the overlap of the k-th known row.
+// Returns the look that follows from the best open column, if there is one, and from what the chooser says of it;
+// `worst` is the overlap of the k-th known row.
 fn choose<C: Chooser>(
     looks: &Looks<'_>,
     part: u32,

@@ -35,7 +35,7 @@ pub(crate) fn row_of<'a>(
     Some(row)
 }
 
-// Whether a table of this name is the excepted one.
+// Returns whether a table of this name is the excepted one.
 fn is_excepted(except: Option<&Name>, name: &Name) -> bool
     ensures { result ≡ is_excepted (option_copied except.entry) name.now }
 {

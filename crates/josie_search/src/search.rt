@@ -42,8 +42,9 @@ impl<'a, 'q> Model for Prepared<'a, 'q> {
 
 /// Prepares a search, and takes all that it needs: the query's tokens of each part; a tally, a mark and room for four
 /// candidates for each column of the part with the most columns; the first k rows; and room in the log for as many
-/// looks as the search can take. For each part these are the lists of the query's tokens, plus either their postings or
-/// the part's columns, whichever are fewer. The search leaves out the columns of the table named `except`, if any.
+/// looks as the search can take. In each part these are one for each list of the query's tokens, plus one for each of
+/// their postings or one for each column of the part, whichever are fewer. The search leaves out the columns of the
+/// table named `except`, if any.
 ///
 /// Returns `Err(NoMemory)` only if memory runs out; running the search takes no memory.
 pub fn prepare<'a, 'q>(
@@ -102,11 +103,11 @@ fn ask_parts(
 }
 
 impl<'a, 'q> Prepared<'a, 'q> {
-    /// Returns the answer to the query: the k columns of the live tables that share the most keys with it (Zhu, Deng,
-    /// Nargesian and Miller, JOSIE, SIGMOD 2019, problem statement), of those that share at least one, or all of these
-    /// if there are fewer. They are ordered by greater overlap, then by the bytes of the table's name, then by those of
-    /// the column's name, and then by place, which also settles ties for the last row. The columns of the excepted
-    /// table, if any, are left out.
+    /// Returns the answer to the query: of the columns of the live tables that share a key with it, the k that share
+    /// the most (Zhu, Deng, Nargesian and Miller, JOSIE, SIGMOD 2019, problem statement), or all if there are fewer.
+    /// They are ordered by greater overlap, then by the bytes of the table's name, then by those of the column's name,
+    /// and then by place, which also settles ties for the last row. The columns of the excepted table, if any, are left
+    /// out.
     ///
     /// The answer is the same for every chooser; the chooser decides which lists are read and which columns are probed
     /// for it. No list is read and no column is probed twice, and no list is read and no column probed in a part once

@@ -15,8 +15,8 @@ use part_columns::Columns;
 use segment_core::Looks;
 use topk_heap::TopK;
 
-/// Whether this column, the witness, shows that the next list is read: fewer than k rows are known, so that a probe
-/// gains nothing, and the overlap that the witness may reach exceeds every count so far by so much that the best
+/// Returns whether this column, the witness, shows that the next list is read: fewer than k rows are known, so that a
+/// probe gains nothing, and the overlap that the witness may reach exceeds every count so far by so much that the best
 /// column, which may reach as much, has too many tokens left for a probe. This saves the look for the best column, and
 /// its cost does not depend on how many columns were seen.
 pub(crate) fn surely_reads<C: Chooser>(

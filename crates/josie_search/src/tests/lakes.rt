@@ -30,7 +30,7 @@ pub(crate) fn table(alloc: Global, name: &str, text: &str) -> Result<SharedTable
     Ok(SharedTable::new(alloc, table)?)
 }
 
-// Whether the tables are few and small enough to make a segment of them.
+// Returns whether the tables are few and small enough to make a segment of them.
 fn are_few(tables: &[SharedTable]) -> bool
     ensures columns { OnTrue result (sum_by (λ t. length t.columns) tables.now < 2 ^ 32) }
     ensures members { OnTrue result (sum_by members tables.now < 2 ^ 32) }
@@ -46,7 +46,7 @@ fn are_few(tables: &[SharedTable]) -> bool
     true
 }
 
-// Whether the names of two tables differ.
+// Returns whether the names of two tables differ.
 fn differ(first: &SharedTable, second: &SharedTable) -> bool
     ensures { OnTrue result (first.now.name ≢ second.now.name) }
 {
@@ -80,7 +80,7 @@ fn part(
 }
 
 impl Tables {
-    // Whether all names are different.
+    // Returns whether all names are different.
     fn differ(&self) -> bool
         ensures first_second { OnTrue result (self.now.first.name ≢ self.now.second.name) }
         ensures first_third { OnTrue result (self.now.first.name ≢ self.now.third.name) }

@@ -65,7 +65,7 @@ impl Plain {
         (chance(self.chances.wrapping_add(column.wrapping_mul(7_000))) % 2) as usize
     }
 
-    // Whether a column has the value.
+    // Returns whether a column has the value.
     fn has(&self, column: u64, value: usize) -> bool {
         for record in 0..self.records {
             if self.value(column, record) == value {
@@ -237,7 +237,7 @@ fn query(alloc: Global, asked: &[usize]) -> Result<QuerySet, Fail> {
     Ok(QuerySet::read(alloc, Keys::Canonical, body.as_str().as_bytes())?)
 }
 
-// Whether a row equals that of the plain model.
+// Returns whether a row equals that of the plain model.
 fn is_counted(row: &Row<'_>, counted: Counted) -> bool {
     let (left, name, title, place) = counted;
     row.overlap.saturating_add(left) == 100
