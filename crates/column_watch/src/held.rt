@@ -55,21 +55,21 @@ impl Held {
         }
     }
 
-    // Whether the row is of a table with another name.
+    // Returns whether the row is of a table with another name.
     fn is_of_other(&self, name: &Name) -> bool
         ensures { result ≡ not (bytes_eq self.now.table name.now) }
     {
         self.titles.table().bytes() != name.bytes()
     }
 
-    // Whether the two rows are equal.
+    // Returns whether the two rows are equal.
     fn is_same(&self, other: &Held) -> bool
         ensures { result ≡ is_eq (row_cmp self.now other.now) }
     {
         self.row().order(&other.row()).is_eq()
     }
 
-    // Whether this row comes before the other in an answer.
+    // Returns whether this row comes before the other in an answer.
     fn is_before(&self, other: &Held) -> bool
         ensures { result ≡ is_lt (row_cmp self.now other.now) }
     {
@@ -106,14 +106,14 @@ pub(crate) fn first_of(rows: &[Held], k: u32) -> &[Held]
     &rows[..rows.len().min(k as usize)]
 }
 
-/// Whether the rows differ from those before.
+/// Returns whether the rows differ from those before.
 pub(crate) fn differ(before: &[Held], after: &[Held]) -> bool
     ensures { Tells result before.now after.now }
 {
     before.len() != after.len() || !all_equal(before, after)
 }
 
-// Whether each row equals the one at its index in the other list, which is as long.
+// Returns whether each row equals the one at its index in the other list, which is as long.
 fn all_equal(before: &[Held], after: &[Held]) -> bool
     requires { length before.now ≡ length after.now }
     ensures { Tells (not result) before.now after.now }

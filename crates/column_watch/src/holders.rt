@@ -68,7 +68,7 @@ impl Holders {
         }
     }
 
-    /// Whether one of the keys may have the hash. It reads no text.
+    /// Returns whether one of the keys may have the hash. It reads no text.
     pub(crate) fn has_hash(&self, hash: u32) -> bool
         ensures { result ≡ false → AllByRecursion (λ at. at.hash ≡ hash → ⊥) self.now }
     {
@@ -261,7 +261,7 @@ fn holders_among(queries: &[Watched], keys: &[KeyAt], hash: u32, key: &str) -> u
     search_holders(queries, rest, hash, key)
 }
 
-// Whether one of the keys equals a key of this hash.
+// Returns whether one of the keys equals a key of this hash.
 fn is_key(queries: &[Watched], at: KeyAt, hash: u32, key: &str) -> bool
     ensures { result ≡ bytes_eq (sorted_by (map (λ state. state.keys) queries.now) at) (hash ∷ key.now) }
 {

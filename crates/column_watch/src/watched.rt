@@ -71,7 +71,7 @@ impl Watched {
         self.rows.len() as u64
     }
 
-    /// Whether the last entry changed the first k rows.
+    /// Returns whether the last entry changed the first k rows.
     pub(crate) fn changed(&self) -> bool
         ensures { result ≡ self.now.changed }
     {

@@ -73,8 +73,8 @@ impl Watches {
 
     /// Takes the next entry of the journal. A load or a replace costs its own table, each key of which is looked up
     /// once for all queries, and, for each row that it gives a query, a binary search and a move of the rows after it.
-    /// A drop or a replace costs a walk over the rows of the queries. A swap changes no answer. To find what changed
-    /// costs the first k rows of each query.
+    /// A drop or a replace costs a walk over the rows of the queries. A swap changes no answer. Finding out what
+    /// changed costs the first k rows of each query.
     ///
     /// Returns `Err(NoMemory)` only if memory runs out, and then nothing has changed.
     pub fn take(&mut self, entry: &Entry) -> Result<(), NoMemory>
@@ -113,7 +113,7 @@ impl Watches {
         self.journal.len() as u64
     }
 
-    /// Whether the last entry changed the answer to a query; false before the first entry.
+    /// Returns whether the last entry changed the answer to a query; false before the first entry.
     pub fn changed(&self, w: u32) -> bool
         requires low { 1 ≤ w }
         requires high { w ≤ length self.now.queries }

@@ -92,7 +92,7 @@ fn counted(
     Ok(rows)
 }
 
-// Whether a row equals that of the plain model.
+// Returns whether a row equals that of the plain model.
 fn is_counted(row: &Row<'_>, counted: Counted) -> bool {
     let (left, table, place) = counted;
     row.overlap.saturating_add(left) == 100
