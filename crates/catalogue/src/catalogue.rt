@@ -24,8 +24,8 @@ use std::sync::Arc;
 /// The journal of a lake and the limits that it keeps; these two are its model. It also keeps the newest version, which
 /// is the layout of the journal, the positions of the loads and replaces of the live tables by name, and the counts.
 ///
-/// A load, a drop or a replace changes the newest version in place, and costs its own table and a logarithm. Only if a
-/// pin holds that version is the list of its parts copied, once. No table and no segment is ever copied.
+/// A load, a drop or a replace changes the newest version in place, and costs its own table and a logarithm. If a pin
+/// holds that version, the list of its parts is also copied, once. No table and no segment is ever copied.
 #[derive(Drop)]
 pub struct Catalogue {
     pub(crate) alloc: Global,
@@ -93,7 +93,7 @@ impl Catalogue {
         Ok(Pin::new(Arc::try_clone(&self.version)?))
     }
 
-    /// Whether a table of the name is live. It takes time logarithmic in the number of live tables.
+    /// Returns whether a table of the name is live. It takes time logarithmic in the number of live tables.
     pub fn live(&self, name: &Name) -> bool
         ensures { result ≡ is_live self.now.journal name.now }
     {
@@ -111,8 +111,8 @@ impl Catalogue {
     /// Loads a table: appends an entry of this caller and command to the journal, and returns its position, counted
     /// from 1. The segment is that of this one table. No table is copied.
     ///
-    /// Returns an error if a table of its name is live, else for the first limit of the lake that would be passed, or
-    /// if memory runs out. Then nothing has changed.
+    /// Returns `Err(Repeated)` if a table of its name is live, else `Err(Full)` for the first limit of the lake that
+    /// would be passed, or `Err(NoMemory)` if memory runs out. Then nothing has changed.
     pub fn load(
         &mut self,
         who: Who,
@@ -179,7 +179,7 @@ impl Catalogue {
         None
     }
 
-    // Appends a load that nothing refuses to the journal. All that can run out of memory comes first.
+    // Appends to the journal a load that nothing refuses. Everything that may run out of memory comes first.
     fn accept_load(
         &mut self,
         who: Who,
@@ -207,8 +207,8 @@ impl Catalogue {
     /// Drops the live table of a name: appends an entry of this caller and command to the journal, and returns its
     /// position, counted from 1. Pins that were made earlier keep the table.
     ///
-    /// Returns an error if no table of the name is live, else if one more load, drop or replace would pass their limit,
-    /// or if memory runs out. Then nothing has changed.
+    /// Returns `Err(Unknown)` if no table of the name is live, else `Err(Full)` if one more load, drop or replace would
+    /// pass their limit, or `Err(NoMemory)` if memory runs out. Then nothing has changed.
     pub fn drop_table(&mut self, who: Who, name: &Name) -> Result<u64, DropRefused>
         ensures accepted { IfOk result (λ at. (drop_refusal self.old.limits name.now self.old.journal ≡ None) × (self.new ≡ catalogue_with self.old.limits (self.old.journal ++ entry_with who (Dropped name.now) ∷ [])) × (at ≡ length self.new.journal)) }
         ensures err { OnErr result (self.new ≡ self.old) }
@@ -257,7 +257,7 @@ impl Catalogue {
         place
     }
 
-    // Appends a drop that nothing refuses to the journal. All that can run out of memory comes first.
+    // Appends to the journal a drop that nothing refuses. Everything that may run out of memory comes first.
     fn accept_drop(&mut self, who: Who, name: &Name) -> Result<u64, NoMemory>
         requires { drop_refusal self.old.limits name.now self.old.journal ≡ None }
         ensures ok { IfOk result (λ at. (self.new ≡ catalogue_with self.old.limits (self.old.journal ++ entry_with who (Dropped name.now) ∷ [])) × (at ≡ length self.new.journal)) }
@@ -346,7 +346,7 @@ fn counts_without(counts: Counts) -> Counts
     }
 }
 
-// Whether a count that is within its limit would pass it with `more` added.
+// Returns whether a count that is within its limit would pass it with `more` added.
 fn is_passed(count: u64, more: u64, limit: u64) -> bool
     requires { count ≤ limit }
     ensures { result ≡ nat_lt limit (count + more) }

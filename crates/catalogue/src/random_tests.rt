@@ -47,7 +47,7 @@ impl Plain {
         self.loads.iter().filter(|load| !load.marked).count()
     }
 
-    // Whether a table of the name is live.
+    // Returns whether a table of the name is live.
     fn has(&self, name: usize) -> bool {
         for load in &self.loads {
             if load.name == name && !load.marked {

@@ -19,8 +19,9 @@ impl Catalogue {
     /// journal, and returns its position, counted from 1. The segment is that of this one table. No table is copied,
     /// and pins that were made earlier keep the old one.
     ///
-    /// Returns an error if no table of its name is live, else for the first limit of the lake that would be passed,
-    /// which cannot be that of the live tables, or if memory runs out. Then nothing has changed.
+    /// Returns `Err(Unknown)` if no table of its name is live, else `Err(Full)` for the first limit of the lake that
+    /// would be passed, which cannot be that of the live tables, or `Err(NoMemory)` if memory runs out. Then nothing
+    /// has changed.
     pub fn replace(
         &mut self,
         who: Who,
@@ -55,7 +56,7 @@ impl Catalogue {
         })
     }
 
-    // Appends a replace that nothing refuses to the journal. All that can run out of memory comes first.
+    // Appends to the journal a replace that nothing refuses. Everything that may run out of memory comes first.
     fn accept_replace(
         &mut self,
         who: Who,

@@ -25,9 +25,10 @@ impl Catalogue {
     /// journal, and returns its position, counted from 1. Marks that were set after the plan are carried over. Pins
     /// that were made earlier keep the parts.
     ///
-    /// Returns an error if a planned part is no longer in the layout, or if memory runs out. Then nothing has changed.
-    /// A swap does not count as an update. It costs two binary searches for each planned part, and a walk over the
-    /// positions of these parts; if a pin holds the newest version, the list of its parts is copied too.
+    /// Returns `Err(Stale)` if a planned part is no longer in the layout, or `Err(NoMemory)` if memory runs out. Then
+    /// nothing has changed. A swap does not count as an update. It costs two binary searches for each planned part, and
+    /// a walk over the positions of these parts; if a pin holds the newest version, the list of its parts is copied
+    /// too.
     pub fn swap(&mut self, who: Who, merged: Merged) -> Result<u64, SwapRefused>
         requires planned { merged.at ≤ length self.old.journal }
         requires merges { IsMergeOf (layout (take merged.at self.old.journal)) merged }
@@ -76,7 +77,7 @@ impl Catalogue {
         None
     }
 
-    // Appends a swap that nothing refuses to the journal. All that can run out of memory comes first.
+    // Appends to the journal a swap that nothing refuses. Everything that may run out of memory comes first.
     fn accept_swap(&mut self, who: Who, merged: Merged) -> Result<u64, NoMemory>
         requires planned { merged.at ≤ length self.old.journal }
         requires merges { IsMergeOf (layout (take merged.at self.old.journal)) merged }
@@ -135,7 +136,7 @@ impl Catalogue {
     }
 }
 
-// Whether a part has this number and these positions.
+// Returns whether a part has this number and these positions.
 fn is_part(part: &Part, number: u64, positions: &Numbers) -> bool
     ensures { result ≡ (nat_eq part.now.number number && bytes_eq (loads_of part.now) positions.now) }
 {
@@ -210,7 +211,7 @@ fn add_marks(
     Ok(())
 }
 
-// Whether the position is the kept one at index `others`.
+// Returns whether the position is the kept one at index `others`.
 fn is_next(kept: &[u64], others: usize, position: u64) -> bool
     ensures { result ≡ is_first position (drop others kept.now) }
 {
