@@ -50,7 +50,7 @@ pub(crate) fn past_parts(
     Ok(parts)
 }
 
-// Whether none of these puts is of the first `asked` entries.
+// Returns whether none of these puts is of the first `asked` entries.
 fn is_later(puts: &[Put], asked: u64) -> bool
     requires { Rises (positions_put puts.now) }
     ensures later { result ≡ true → filter (was_live asked) puts.now ≡ [] }

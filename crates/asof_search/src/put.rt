@@ -5,8 +5,8 @@ ghost use Rattle.asof_search.specs.Puts.{has_ended, put_with, was_live};
 use column_set::SharedTable;
 use std::marker::Model;
 
-/// A load or a replace: its position in the journal, counted from 1; a share of its table; and the position of the drop or the replace
-/// that took the table away, if one did.
+/// A load or a replace: its position in the journal, counted from 1; a share of its table; and the position of the drop
+/// or the replace that took the table away, if one did.
 #[derive(Drop)]
 pub(crate) struct Put {
     position: u64,
@@ -48,14 +48,14 @@ impl Put {
         &self.table
     }
 
-    /// Whether its table was live after the first `asked` entries.
+    /// Returns whether its table was live after the first `asked` entries.
     pub(crate) fn was_live(&self, asked: u64) -> bool
         ensures { result ≡ was_live asked self.now }
     {
         self.position <= asked && !self.has_ended(asked)
     }
 
-    // Whether the first `asked` entries took its table away.
+    // Returns whether the first `asked` entries took its table away.
     fn has_ended(&self, asked: u64) -> bool
         ensures { result ≡ has_ended asked self.now.end }
     {

@@ -67,8 +67,8 @@ impl Puts {
         }
     }
 
-    // Puts a table at a position, where the live one of its name ends, if there is one. All that can run out of memory
-    // comes first.
+    // Puts a table at a position, where the live one of its name ends, if there is one. Everything that may run out of
+    // memory comes first.
     fn put(&mut self, position: u64, table: &SharedTable) -> Result<(), NoMemory>
         ensures ok { OnOk result (self.new ≡ map (end_put table.now.name position) self.old ++ put_with position table.now None ∷ []) }
         ensures err { OnErr result (self.new ≡ self.old) }

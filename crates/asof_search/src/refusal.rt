@@ -4,7 +4,7 @@ use no_memory::NoMemory;
 /// Says why there is no pin of an earlier position.
 #[derive(Clone, Copy, Debug, PartialEq, Eq)]
 pub enum PastRefused {
-    /// More entries were asked for than the `at` that were taken.
+    /// More entries were asked for than were taken; `at` is how many were taken.
     Later { at: u64 },
     /// Memory ran out.
     NoMemory,

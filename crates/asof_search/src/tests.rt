@@ -177,7 +177,8 @@ fn one_name(rt: HostRuntime) -> Result<(), Fail> {
     expect(&rt, &mut timeline, 3, &[("a", 1, 2)])
 }
 
-// The tables are in the order of their loads, and a replace puts its table at the end. A merge, which is the fourth entry, changes nothing.
+// The tables are in the order of their loads, and a replace puts its table at the end. A merge, which is the fourth
+// entry, changes nothing.
 #[test]
 fn order_and_a_merge(rt: HostRuntime) -> Result<(), Fail> {
     let alloc = rt.alloc();

@@ -22,8 +22,8 @@ use std::sync::Arc;
 // How many loads and replaces a full block has.
 const BLOCK: usize = 256;
 
-/// The entries of a journal, taken one after another, which gives for each earlier position a pin of the tables that
-/// were live there. Its model is the list of the entries that were taken.
+/// The entries of a journal, taken one after another; each earlier position can be pinned with the tables that were
+/// live there. Its model is the list of the entries that were taken.
 ///
 /// Besides the entries it keeps what their loads and replaces put, with the position at which each was taken away; and,
 /// once an earlier position is asked for, the segments of these tables in blocks of 256, and the version of the
@@ -90,8 +90,8 @@ impl Timeline {
 
     /// Takes the next entries of the journal, one after another, each at the cost of [`Timeline::take`].
     ///
-    /// Returns `Err(NoMemory)` only if memory runs out. Then only the first of them, or none, were taken, after those
-    /// that were taken before.
+    /// Returns `Err(NoMemory)` only if memory runs out. Then only a beginning of `entries`, perhaps none of them, was
+    /// taken after what was taken before.
     pub fn take_all(&mut self, entries: &[Entry]) -> Result<(), NoMemory>
         requires legal { is_legal (self.old ++ entries.now) ≡ true }
         requires few { length (loads_of (self.old ++ entries.now)) < 2 ^ 32 }
@@ -172,7 +172,7 @@ impl Timeline {
     }
 }
 
-/// What was live after the first `asked` entries of a journal is the same for each longer journal.
+/// States that what was live after the first `asked` entries of a journal is the same for each longer journal.
 pub fn past_law()
     ensures stays { PastStays }
 {}
