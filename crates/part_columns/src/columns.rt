@@ -61,7 +61,7 @@ impl Columns {
         self.tallies[slot as usize]
     }
 
-    /// Whether the row of a column is known.
+    /// Returns whether the row of a column is known.
     pub fn is_known(&self, column: u32) -> bool
         requires { column < length self.now.tallies }
         ensures { result ≡ get_or self.now.known column false }

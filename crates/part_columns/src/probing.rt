@@ -61,7 +61,7 @@ fn count_among(others: &[u32], tokens: &[u32]) -> usize
     tokens.iter().filter(|token| has(others, **token)).count()
 }
 
-// Whether the token is among these, which rise.
+// Returns whether the token is among these, which rise.
 fn has(tokens: &[u32], token: u32) -> bool
     requires { IsStrictlyIncreasing tokens.now }
     ensures { result ≡ is_among tokens.now token }
