@@ -32,7 +32,7 @@ counted_on least before count told is = record {
   below = λ h. (let low = is.below (omega (arith, h)) in omega (arith, low, h));
 }
 
--- what is told of the tokens after the last hit also holds for all of them
+-- the number for the tokens after the last hit, plus the count of the tally, is exact from `least` on for all tokens
 pub probed_from : (set qs : List ℕ) (i least wanted told : ℕ) (left tail : List ℕ) (tally : Tally) → Rising set → Rising qs → 0 < tally.count → tally ≡ tally_of set (hits set (take i qs))
     → left ≡ drop i qs → tail ≡ drop (tally.position + 1) set → wanted ≡ least - tally.count → IsExactFrom wanted (count_by (is_among left) tail) told → IsExactFrom least (length (hits set qs)) (tally.count + told)
 probed_from set qs i least wanted told left tail tally over up some e l t w is =

@@ -15,8 +15,8 @@ use column_set::Row;
 use part_columns::{Columns, Tally, most_of, push_within, row_of_column};
 use segment_core::Looks;
 
-// Whether a column that was seen may hold at least `least` of the tokens, with `left` lists left, and its table is
-// unmarked.
+// Returns whether a column that was seen may hold at least `least` of the tokens, with `left` lists left, and its table
+// is unmarked.
 fn may_hold(
     looks: &Looks<'_>,
     part: u32,

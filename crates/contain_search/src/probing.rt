@@ -77,7 +77,7 @@ fn among_from(others: &[u32], tokens: &[u32], least: usize) -> usize
     shared
 }
 
-// Whether the token is among these, which rise.
+// Returns whether the token is among these, which rise.
 fn has(tokens: &[u32], token: u32) -> bool
     requires { IsStrictlyIncreasing tokens.now }
     ensures { result ≡ is_among tokens.now token }
