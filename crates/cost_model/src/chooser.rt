@@ -11,7 +11,7 @@ pub trait Chooser {
     /// The answer to a summary: whether to probe.
     ghost says: { Self → SummaryOf → Bool };
 
-    /// Whether to probe. It takes no memory.
+    /// Returns whether to probe. It takes no memory.
     fn probe(&self, summary: &Summary) -> bool
         ensures { result ≡ says self.now summary.now };
 
