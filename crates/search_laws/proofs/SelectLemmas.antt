@@ -103,7 +103,7 @@ module _ {X : Type 0} {R : X → X → Ordering} (total : IsTotalOrder R) (exact
   pub best_IsPermutation : (k : ℕ) (xs ys : List X) → IsPermutation xs ys → best R k ys ≡ best R k xs
   best_IsPermutation k xs ys p = ap (take k) (in_order-IsPermutation total exact xs ys p)
 
-  -- nor do several such elements
+  -- several elements, each with k elements no later than itself, do not change the first k
   all_behind : (k : ℕ) (zs ys : List X) → AllByRecursion (λ z. IsBehind R k ys z) zs → best R k (zs ++ ys) ≡ best R k ys
   all_behind k [] ys h = refl
   all_behind k (z ∷ zs) ys h = best_behind k z (zs ++ ys) (let f = h.0 in omega (arith, count-append (no_later R z) zs ys)) ∙ all_behind k zs ys h.1
@@ -144,7 +144,7 @@ module _ {X : Type 0} {R : X → X → Ordering} (total : IsTotalOrder R) (exact
       let first : less x y ≡ false = o.chain x w y l (at_place (λ v. less v y ≡ false) ys j w up.0 e) in
       omega (arith, count-cons (no_later R x) y ys, ap (λ b. once (not b)) first, counted j x w ys up.1 e l)
 
-  -- an element that does not come before the k-th is behind k elements
+  -- an element that does not come before the k-th has k elements no later than itself
   pub behind_worst : (k : ℕ) (xs : List X) (x w : X) → 0 < k → slice_get (in_order R xs) (k - 1) ≡ Some w → less x w ≡ false → IsBehind R k xs x
   behind_worst k xs x w some e l = omega (arith, counted (k - 1) x w (in_order R xs) (ordered_in_order total xs) e l, count_in_order (no_later R x) xs)
 
@@ -168,7 +168,7 @@ module _ {X : Type 0} {R : X → X → Ordering} (total : IsTotalOrder R) (exact
         by r true e = r
         by r false e = (h.0 e, r)
 
-    -- leaving out elements behind k others leaves the first k
+    -- leaving out elements with k others no later than themselves leaves the first k
     pub best_filter : (k : ℕ) (before : List X) (cs : List C) → AllByRecursion (λ c. p c ≡ false → IsBehind R k (before ++ map f (filter p cs)) (f c)) cs
         → best R k (before ++ map f cs) ≡ best R k (before ++ map f (filter p cs))
     best_filter k before cs h =
