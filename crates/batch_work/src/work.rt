@@ -64,7 +64,7 @@ impl<'a> Work<'a> {
         }
     }
 
-    /// Whether the work has a pin of its own, which it takes as its first step.
+    /// Returns whether the work has a pin of its own, which it takes as its first step.
     pub fn has_pin(&self) -> bool
         ensures { result ≡ has_pin (work_of self.now).task }
     {
@@ -85,7 +85,7 @@ impl<'a> Work<'a> {
     }
 }
 
-// Whether a task has a pin of its own.
+// Returns whether a task has a pin of its own.
 fn has_pin(task: &Task) -> bool
     ensures { result ≡ has_pin (task_of task.now) }
 {
