@@ -13,7 +13,7 @@ abbrev pub EndsBy : ℕ → Option ℕ → Type 0
 EndsBy n None = ⊤
 EndsBy n (Some end) = end ≤ n
 
--- a put of the first n entries; if it was taken away, they also did that
+-- a put of the first n entries, which also took it away if anything did
 pub record IsWithin (n : ℕ) (put : PutOf) : Type 0 where
   pub position : put.position ≤ n
   pub end : EndsBy n put.end
