@@ -6,7 +6,7 @@ ghost use Rattle.segment_core.specs.Versions.{part_at, segment_at};
 
 use segment_core::Looks;
 
-/// Returns the most columns of a part that a search for these tokens can probe.
+/// Returns how many columns of a part a search for these tokens can probe at most.
 pub fn most_probes(looks: &Looks<'_>, part: u32, tokens: &[u32]) -> u32
     requires part { part < length looks.now.version.parts }
     requires tokens { All (λ token. token < length (segment_at looks.now.version.parts part).tokens) tokens.now }
