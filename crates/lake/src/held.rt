@@ -18,8 +18,8 @@ use std::marker::{Model, PhantomData};
 use std::sync::Arc;
 use turn_lock::Kept;
 
-/// What holds for a whole lake and is seen only by contracts: its limits, and the match by which the values of its
-/// tables are the same. The lake itself uses only the limits; whoever fills it uses the match.
+/// What holds for a whole lake and is seen only by contracts: its limits, and the kind of keys by which the values of
+/// its tables are compared. The lake itself uses only the limits; whoever fills it goes by the kind of keys.
 pub trait Bounds {
     ghost use Rattle.lake_model.specs.declared.Counts.{Counts};
     ghost use Rattle.lake_model.specs.declared.Keys.{Keys};

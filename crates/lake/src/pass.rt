@@ -7,7 +7,7 @@ use catalogue::Who;
 use std::marker::Model;
 
 /// A caller's right to a lake, and the beginning of its journal that the caller has seen, which is legal and within the
-/// lake's limits. It never holds the lock. Its model is the lock's pass.
+/// lake's limits. It holds no turn of the lock. Its model is the lock's pass.
 #[derive(Drop)]
 pub struct Pass<B: Bounds> {
     pub(crate) pass: turn_lock::Pass<Held<B>>,
