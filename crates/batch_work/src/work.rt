@@ -96,7 +96,7 @@ fn has_pin(task: &Task) -> bool
         | Task::Drop { .. }
         | Task::Replace { .. }
         | Task::Tables => false,
-        // Sees the journal once, when it is answered.
+        // An asof sees the journal once, when it is answered.
         Task::AsOf { .. } => false,
     }
 }
