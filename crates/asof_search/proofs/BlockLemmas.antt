@@ -1,4 +1,4 @@
--- Blocks of what was put, and the parts over them.
+-- Blocks of puts, and the parts over them.
 use Rattle.std.proofs.Common.{◌≡◌, ◌≢◌, nat_eq, refl, ap, sym, ◌∙◌, subst, ℕ, zero, suc, ◌+◌, ◌-◌, ◌*◌, ◌<◌, ◌≤◌, List, [], ◌∷◌, ◌++◌, Bool, true, false, not, ◌&&◌, length, get_or, arith, drop, take, map, min, append_assoc, append-nil, Result, Ok, Err, inl, inr}
 use Rattle.std.specs.Prelude.{flat_map, slice_set, sum_by, ◌⊎◌, IfOk}
 use Rattle.std.specs.List.{AllByRecursion, filter}
@@ -45,7 +45,7 @@ positions_are asked (put ∷ puts) = ap (λ ns. put.position ∷ ns) (positions_
 abbrev pub places_of : List Part → List Place
 places_of parts = flat_map (λ part. part.places) parts
 
--- So many parts are made, over the first blocks; the rest is still to come.
+-- b parts are made, over the first blocks; the rest is still to come.
 pub record IsUnderWay (size asked b : ℕ) (puts rest : List PutOf) (parts : List Part) : Type 0 where
   pub many : length parts ≡ b
   pub left : rest ≡ drop (b * size) puts
@@ -90,7 +90,7 @@ module _ (size asked b : ℕ) (puts rest : List PutOf) (parts : List Part) (h : 
       ap (λ ns. positions_of parts ++ ns) (sym (positions_are asked rest)) ∙ sym (map-append (λ (p : Place). p.position) (places_of parts) (map (place_of asked) rest)) ∙ ap (map (λ (p : Place). p.position)) h.all ∙ positions_are asked puts in
       rises_distinct (positions_of parts) (rises_left (positions_of parts) (positions_put rest) (subst Rises (sym all) rising))
 
--- what is left of numbers that rise, rises
+-- if numbers rise, so does any rest of them
 pub rises_right : (ms ns : List ℕ) → Rises (ms ++ ns) → Rises ns
 rises_right [] ns h = h
 rises_right (m ∷ ms) ns h = rises_right ms ns h.1
@@ -100,7 +100,7 @@ rest_rises puts rest n e h =
     let split : positions_put (take n puts) ++ positions_put (drop n puts) ≡ positions_put puts = sym (map-append (λ (p : PutOf). p.position) (take n puts) (drop n puts)) ∙ ap positions_put (take-append-drop n puts) in
     subst (λ (us : List PutOf). Rises (positions_put us)) (sym e) (rises_right (positions_put (take n puts)) (positions_put (drop n puts)) (subst Rises (sym split) h))
 
--- the members of a block are some of all
+-- the members of a block are some of all members
 pub block_light : (most size n : ℕ) (tables : List Table) → sum_by members tables < most → sum_by members (take size (drop n tables)) < most
 block_light most size n tables h =
     let outer : sum_by members (take n tables) + sum_by members (drop n tables) ≡ sum_by members tables = sym (sum_by-append members (take n tables) (drop n tables)) ∙ ap (sum_by members) (take-append-drop n tables) in
@@ -110,7 +110,7 @@ block_light most size n tables h =
 
 -- ---- kept blocks
 
--- what comes behind changes nothing of the first elements from an index on
+-- appending does not change the first n elements from an index on
 take_drop_append : {X : Type 0} (n m : ℕ) (xs ys : List X) → n ≤ length (drop m xs) → take n (drop m (xs ++ ys)) ≡ take n (drop m xs)
 take_drop_append n zero xs ys h = take-append-le n xs ys h
 take_drop_append zero (suc m) [] ys h = refl
@@ -123,7 +123,7 @@ take_of_take (suc n) zero xs h = absurd (omega (arith, h))
 take_of_take (suc n) (suc m) [] h = refl
 take_of_take (suc n) (suc m) (x ∷ xs) h = ap (λ us. x ∷ us) (take_of_take n m xs (omega (arith, h)))
 
--- more tables change nothing of what is kept of a block
+-- more tables do not change what is kept of a block
 block_stays : (size b : ℕ) (tables more block : List Table) → IsOfBlock size b tables block → IsOfBlock size b (tables ++ more) block
 block_stays size b tables more block h = record {
   small = h.small;
@@ -134,7 +134,7 @@ block_stays size b tables more block h = record {
 pub blocks_stay : (size : ℕ) (tables more : List Table) (blocks : List (List Table)) → AreBlocks size tables blocks → AreBlocks size (tables ++ more) blocks
 blocks_stay size tables more blocks h b within = block_stays size b tables more (get_or blocks b []) (h b within)
 
--- all that there is of a block
+-- all tables that a block has
 whole_block : (size b : ℕ) (tables these : List Table) → these ≡ take size (drop (b * size) tables) → IsOfBlock size b tables these
 whole_block size b tables these is =
     let long : length these ≡ min size (length (drop (b * size) tables)) = ap length is ∙ length-take size (drop (b * size) tables) in
@@ -144,7 +144,7 @@ whole_block size b tables these is =
       first = is ∙ sym (take_min size (drop (b * size) tables)) ∙ ap (λ (n : ℕ). take n (drop (b * size) tables)) (sym long);
     }
 
--- one block more, or in the place of what was kept of it
+-- one more block, or one in place of what was kept of it
 pub blocks_more : (size b : ℕ) (tables these : List Table) (before after : List (List Table)) → AreBlocks size tables before → these ≡ take size (drop (b * size) tables) → IsKeptAt b these before after → AreBlocks size tables after
 blocks_more size b tables these before after h is k c within = by (eqb_tells c b)
   where
@@ -157,11 +157,11 @@ blocks_more size b tables these before after h is k c within = by (eqb_tells c b
 pub blocks_none : (size : ℕ) (tables : List Table) → AreBlocks size tables []
 blocks_none size tables b l = absurd (omega (arith, l))
 
--- what is kept of a block is the first of all that there is of it
+-- what is kept of a block is the first of all tables that it has
 pub block_kept : (size b : ℕ) (tables these block : List Table) → these ≡ take size (drop (b * size) tables) → IsOfBlock size b tables block → block ≡ take (length block) these
 block_kept size b tables these block is h = h.first ∙ sym (take_of_take (length block) size (drop (b * size) tables) h.small) ∙ ap (take (length block)) (sym is)
 
--- in the place of another
+-- in place of another
 pub kept_there : (b : ℕ) (these : List Table) (before : List (List Table)) → b < length before → IsKeptAt b these before (slice_set before b these)
 kept_there b these before h = record {
   here = get_or-set_same before b these [] h;
@@ -173,7 +173,7 @@ kept_there b these before h = record {
 put_later : (asked : ℕ) (put : PutOf) → asked < put.position → was_live asked put ≡ false
 put_later asked put h = ap (λ b. b && not (has_ended asked put.end)) (lt-leb put.position asked h)
 
--- where the first was put later, so were all
+-- if the first was put later, so were all
 pub all_later : (asked : ℕ) (puts : List PutOf) (first : PutOf) → Rises (positions_put puts) → first ≡ get_or puts 0 first → asked < first.position → filter (was_live asked) puts ≡ []
 all_later asked [] first rising is h = refl
 all_later asked (put ∷ puts) first rising is h =
@@ -182,7 +182,7 @@ all_later asked (put ∷ puts) first rising is h =
 
 -- ---- the width of tables
 
--- one more table, of at most so many columns
+-- one more table, of at most `most` columns
 pub wider : (most n : ℕ) (puts : List PutOf) (put : PutOf) → put ≡ get_or puts n put → length put.table.columns ≤ most → n < length puts → sum_by (λ (table : Table). length table.columns) (tables_put (take n puts)) ≤ most * n
     → sum_by (λ (table : Table). length table.columns) (tables_put (take (n + 1) puts)) ≤ most * (n + 1)
 wider most n puts put is narrow within so_far =
@@ -204,13 +204,13 @@ pub part_ok : {F : Type 0} (made : Result Part F) (number asked : ℕ) (puts : L
 part_ok (Ok part) number asked puts positions tables marks e f g is = ap (λ (p : Part). p.places) is ∙ (λ i. places_with (e i) (f i) (g i)) ∙ places_are asked puts
 part_ok (Err e) number asked puts positions tables marks f g h is = tt
 
--- ---- one block more
+-- ---- one more block
 
 pub blocks_after : (size b : ℕ) (tables these : List Table) (before after : List (List Table)) → AreBlocks size tables before → these ≡ take size (drop (b * size) tables) → (after ≡ before) ⊎ IsKeptAt b these before after → AreBlocks size tables after
 blocks_after size b tables these before after h is (inl e) = subst (AreBlocks size tables) (sym e) h
 blocks_after size b tables these before after h is (inr k) = blocks_more size b tables these before after h is k
 
--- nothing is left behind as many blocks as there are puts
+-- nothing is left after as many blocks as there are puts
 pub none_left : (size asked : ℕ) (puts rest : List PutOf) → rest ≡ drop (length puts * size) puts → 0 < size → filter (was_live asked) rest ≡ []
 none_left size asked puts rest e some =
     let enough : length puts ≤ length puts * size = le-mul_of_pos_right (length puts) some in
@@ -219,7 +219,7 @@ none_left size asked puts rest e some =
 pub few_these : (most size : ℕ) (rest these : List PutOf) → these ≡ take (min size (length rest)) rest → size ≤ most → length these ≤ most
 few_these most size rest these e small = omega (arith, ap length (e ∙ take_min size rest), length-take size rest, small)
 
--- the rest of a slice, as it is cut
+-- the rest of a slice after a cut
 pub drop_rest : (n size : ℕ) (rest : List PutOf) → n ≡ min size (length rest) → take (length rest - n) (drop n rest) ≡ drop (min size (length rest)) rest
 drop_rest n size rest e =
     let enough : length (drop n rest) ≤ length rest - n = omega (arith, length-drop n rest) in

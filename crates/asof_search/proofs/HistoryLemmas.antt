@@ -1,4 +1,4 @@
--- The tables that were live after any number of entries, when one more entry is taken.
+-- The tables that were live after any number of entries, once one more entry is taken.
 use Rattle.std.proofs.Common.{◌≡◌, refl, ap, sym, ◌∙◌, subst, ℕ, zero, suc, ◌+◌, ◌<◌, ◌≤◌, List, [], ◌∷◌, ◌++◌, Bool, true, false, not, ◌&&◌, length, arith, cond, take, map, append-nil, below_more, Option, Some, None}
 use Rattle.std.specs.Prelude.{is_none, nat_le}
 use Rattle.std.specs.List.{AllByRecursion, filter}
@@ -21,7 +21,7 @@ use Rattle.asof_search.specs.History.{EndsBy, IsHistory, IsWithin, PastStays}
 
 -- ---- tests
 
--- where one list is made from another, and a test of the one says what a test of the other does
+-- if one list is made from another, and a test of the one agrees with a test of the other
 pub filter_alike : {X Y Z : Type 0} (f : X → Y) (p : Y → Bool) (q : X → Bool) (g : Y → Z) (h : X → Z) (xs : List X) → AllByRecursion (λ x. (p (f x) ≡ q x) × (g (f x) ≡ h x)) xs → map g (filter p (map f xs)) ≡ map h (filter q xs)
 filter_alike f p q g h [] a = refl
 filter_alike f p q g h (x ∷ xs) a = by (q x) a.0.0 (filter_alike f p q g h xs a.1)
@@ -30,7 +30,7 @@ filter_alike f p q g h (x ∷ xs) a = by (q x) a.0.0 (filter_alike f p q g h xs 
     by true e rest = ap (λ t. map g (cond t (f x ∷ filter p (map f xs)) (filter p (map f xs)))) e ∙ (λ i. a.0.1 i ∷ rest i)
     by false e rest = ap (λ t. map g (cond t (f x ∷ filter p (map f xs)) (filter p (map f xs)))) e ∙ rest
 
--- two filters one behind the other
+-- two filters one after the other
 filter_both : {X : Type 0} (p q : X → Bool) (xs : List X) → filter p (filter q xs) ≡ filter (λ x. q x && p x) xs
 filter_both p q [] = refl
 filter_both p q (x ∷ xs) = by (q x) (filter_both p q xs)
@@ -41,7 +41,7 @@ filter_both p q (x ∷ xs) = by (q x) (filter_both p q xs)
 
 -- ---- one put
 
--- after the last entry, and each later one, it is live as long as nothing took it away
+-- after the last entry, and each later one, it is live unless something took it away
 live_now : (n m : ℕ) (put : PutOf) → IsWithin n put → n ≤ m → was_live m put ≡ is_none put.end
 live_now n m put w h = by put.end w.end
   where
@@ -58,7 +58,7 @@ before_one asked n name put h = by put.end (has_name name put.table)
     by None false = refl
     by (Some e) b = refl
 
--- then it is live if it was, and has another name
+-- then it is live if it was live and has another name
 after_one : (n : ℕ) (name : Text) (put : PutOf) → IsWithin n put → was_live (n + 1) (end_put name (n + 1) put) ≡ (was_live n put && not (has_name name put.table))
 after_one n name put w = by put.end (has_name name put.table) w.end
   where
@@ -155,7 +155,7 @@ module _ (journal : List Entry) (entry : Entry) (puts : List PutOf) (h : IsHisto
       (λ k lower. let within : k ≤ n = omega (arith, lower) in before k within ∙ h.past k within ∙ ap live (sym (take-append-le k journal (entry ∷ []) within)))
       (now ∙ sym (live_more journal entry) ∙ ap live (sym all)) asked (omega (arith, b, longer))
 
-  -- where nothing is put
+  -- if nothing is put
   module _ (after : List PutOf) (positions : positions_put after ≡ positions_put puts) (within : AllByRecursion (IsWithin (length journal + 1)) after) (tables : tables_put after ≡ tables_put puts) (none : loads_of (entry ∷ []) ≡ [])
       (before : (asked : ℕ) → asked ≤ length journal → tables_put (filter (was_live asked) after) ≡ tables_put (filter (was_live asked) puts))
       (now : tables_put (filter (was_live (length journal + 1)) after) ≡ live_after (live journal) entry.what) where
@@ -167,7 +167,7 @@ module _ (journal : List Entry) (entry : Entry) (puts : List PutOf) (h : IsHisto
       past = past_more after before now;
     }
 
-  -- where a table is put behind what is left
+  -- if a table is put after what is left
   module _ (left : List PutOf) (table : Table) (positions : positions_put left ≡ positions_put puts) (within : AllByRecursion (IsWithin (length journal + 1)) left) (tables : tables_put left ≡ tables_put puts) (one : loads_of (entry ∷ []) ≡ table ∷ [])
       (before : (asked : ℕ) → asked ≤ length journal → tables_put (filter (was_live asked) left) ≡ tables_put (filter (was_live asked) puts))
       (now : tables_put (filter (was_live (length journal + 1)) left) ++ table ∷ [] ≡ live_after (live journal) entry.what) where
@@ -181,7 +181,7 @@ module _ (journal : List Entry) (entry : Entry) (puts : List PutOf) (h : IsHisto
       past = past_more (left ++ put_with (length journal + 1) table None ∷ []) (λ asked b. new_before asked (length journal) table left b ∙ before asked b) (new_now (length journal) table left ∙ now);
     }
 
--- a table of a name that is not live is loaded
+-- loading a table of a name that is not live takes nothing away
 nothing_ends : (journal : List Entry) (table : Table) → may_follow journal (Loaded table) ≡ true → without table.name (live journal) ≡ live journal
 nothing_ends journal table h =
     filter_all (λ (t : Table). not (has_name table.name t)) (live journal)

@@ -85,7 +85,7 @@ module _ (puts : List PutOf) (index after : Text → Option ℕ) (name : Text) (
   found_name : (q : Text) (i : ℕ) → i < length puts → bytes_eq name q ≡ true → is_open q (end_put name m (get_or puts i no_put)) ≡ false
   found_name q i b e = ap (λ (t : Text). is_open t (end_put name m (get_or puts i no_put))) (sym ((bytes_eq-Decides name q).0 e)) ∙ ended_name name m (get_or puts i no_put)
 
-  -- where the name is taken out
+  -- if the name is removed
   pub indexed_without : ((q : Text) → after q ≡ cond (bytes_eq name q) None (index q)) → IsIndexed (map (end_put name m) puts) after
   indexed_without is = record {
     found = λ q i b. let within : i < length puts = omega (arith, b, length-map puts (end_put name m)) in
@@ -101,7 +101,7 @@ module _ (puts : List PutOf) (index after : Text → Option ℕ) (name : Text) (
       stays q i true e f = let never : None ≡ Some i = sym (ap (λ b. cond b None (index q)) e) ∙ f in cc
       stays q i false e f = h.within q i (sym (ap (λ b. cond b None (index q)) e) ∙ f)
 
-  -- where the name points to one more put
+  -- if the name points to one more put
   module _ (table : Table) (named : table.name ≡ name) (is : (q : Text) → after q ≡ cond (bytes_eq name q) (Some (length puts)) (index q)) where
     past_all : (q : Text) → (o : Option ℕ) → index q ≡ o → is_at (length puts) o ≡ false
     past_all q None e = refl

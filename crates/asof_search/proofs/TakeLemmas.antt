@@ -10,7 +10,7 @@ use Rattle.lake_model.specs.Layout.{is_legal}
 use Rattle.layout_laws.proofs.LaidLemmas.{legal_journal}
 use Rattle.asof_search.proofs.HistoryLemmas.{loads_split}
 
--- so many of the entries were taken behind the first ones
+-- i of the entries were taken after the first ones
 module _ (first entries taken : List Entry) (i : ℕ) (is : taken ≡ first ++ take i entries) where
   pub taken_begins : IsPrefix taken (first ++ entries)
   taken_begins = (drop i entries, ap (λ (j : List Entry). j ++ drop i entries) is ∙ append_assoc first (take i entries) (drop i entries) ∙ ap (λ (es : List Entry). first ++ es) (take-append-drop i entries))

@@ -1,4 +1,4 @@
--- A timeline of the beginnings of a journal that is legal and small.
+-- A timeline of the first entries of a journal that is legal and small.
 use Rattle.std.proofs.Common.{◌≡◌, ap, sym, ◌∙◌, ℕ, ◌+◌, ◌<◌, ◌≤◌, List, [], ◌∷◌, ◌++◌, Bool, true, cond, length, get_or, arith, drop, take}
 use Rattle.std.specs.Prelude.{sum_by}
 use Rattle.std.proofs.lemmas.List.{length-append, take-append-drop, take_more}

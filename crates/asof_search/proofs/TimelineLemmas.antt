@@ -1,4 +1,4 @@
--- What is held beside a journal, when an entry is taken and when an earlier position is pinned.
+-- What is held besides a journal, when an entry is taken and when an earlier position is pinned.
 use Rattle.std.proofs.Common.{◌≡◌, refl, ap, sym, ◌∙◌, subst, ℕ, ◌+◌, ◌^◌, ◌<◌, ◌≤◌, List, [], ◌∷◌, ◌++◌, true, ◌&&◌, length, arith, drop, take, map, lit<, Option, Some, None}
 use Rattle.std.specs.Prelude.{sum_by}
 use Rattle.std.specs.List.{filter}
@@ -33,7 +33,7 @@ timeline_more journal entry puts blocks h legal few light =
       kept = subst (λ ts. AreBlocks 256 ts blocks) (sym tables) (blocks_stay 256 (tables_put puts) (loads_of (entry ∷ [])) blocks h.kept);
     }
 
--- the same with what is equal
+-- the same for equal values
 pub timeline_equal : (journal other : List Entry) (puts those : List PutOf) (blocks : List (List Table)) → IsTimeline journal puts blocks → other ≡ journal → those ≡ puts → IsTimeline other those blocks
 timeline_equal journal other puts those blocks h e f = subst (λ (j : List Entry). IsTimeline j those blocks) (sym e) (subst (λ (ps : List PutOf). IsTimeline journal ps blocks) (sym f) h)
 
@@ -87,7 +87,7 @@ module _ (journal now last : List Entry) (entry : Entry) (puts after : List PutO
   pub taken_view : last ≡ now ++ entry ∷ []
   taken_view = more ∙ longer
 
--- what is kept of an earlier position stays so behind an entry more
+-- what is kept of an earlier position still holds after one more entry
 pub past_more : (journal after : List Entry) (entry : Entry) (last : Option VersionOf) → IsPast journal last → after ≡ journal ++ entry ∷ [] → IsPast after last
 past_more journal after entry None past is = tt
 past_more journal after entry (Some version) past is =

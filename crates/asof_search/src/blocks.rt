@@ -1,4 +1,4 @@
-//! The parts in which an earlier position is searched: blocks of what was put, a segment each.
+//! The parts in which an earlier position is searched: blocks of puts, with a segment each.
 ghost use Rattle.std.specs.Prelude.{◌≡◌, ◌⊎◌, ◌*◌, ◌<◌, ◌≤◌, ◌^◌, [], drop, filter, flat_map, get_or, length, map, not, sum_by, take, true, false, IfOk};
 ghost use Rattle.lake_model.specs.Layout.{positions_of};
 ghost use Rattle.lake_model.specs.Tables.{members};
@@ -14,9 +14,10 @@ use segment_core::{Marks, Numbers, Part, Segment};
 use std::alloc::Global;
 use std::sync::Arc;
 
-/// The parts in which the tables are searched that were live after the first `asked` entries: a part for each block of so many puts, up to
-/// the last one with a put of these entries. A table is marked where it was not live then. The segment of a block is built when it is first
-/// asked for, and kept; that of the last block is built again where it has more tables by then.
+/// Returns the parts in which the tables are searched that were live after the first `asked` entries: a part for each
+/// block of `size` puts, up to the last block with a put of these entries. A table is marked if it was not live then.
+/// The segment of a block is built when it is first asked for, and kept; that of the last block is built again if the
+/// block has more tables by then.
 pub(crate) fn past_parts(
     alloc: Global,
     size: usize,
@@ -49,7 +50,7 @@ pub(crate) fn past_parts(
     Ok(parts)
 }
 
-// Whether nothing of this was put by the first `asked` entries.
+// Returns whether none of these puts is of the first `asked` entries.
 fn is_later(puts: &[Put], asked: u64) -> bool
     requires { Rises (positions_put puts.now) }
     ensures later { result ≡ true → filter (was_live asked) puts.now ≡ [] }
@@ -61,7 +62,8 @@ fn is_later(puts: &[Put], asked: u64) -> bool
     }
 }
 
-// The segment of the block of an index, from 0, that has these puts. It is kept, unless one of a block before it is not.
+// Returns the segment of the block at index `block`, from 0, that has these puts. The segment is kept, unless that of
+// an earlier block is not.
 fn block_segment(
     alloc: Global,
     blocks: &mut Vec<Arc<Segment>>,
@@ -82,7 +84,7 @@ fn block_segment(
     Ok(segment)
 }
 
-// Keeps the segment of the block of an index, behind the others or in the place of what was kept of this block.
+// Keeps the segment of the block at an index, after the others or in place of what was kept of this block.
 fn keep(blocks: &mut Vec<Arc<Segment>>, block: usize, segment: Arc<Segment>) -> Result<(), NoMemory>
     ensures { (map (λ b. b.value) blocks.new.items ≡ map (λ b. b.value) blocks.old.items) ⊎ IsKeptAt block segment.value (map (λ b. b.value) blocks.old.items) (map (λ b. b.value) blocks.new.items) }
 {
@@ -94,7 +96,7 @@ fn keep(blocks: &mut Vec<Arc<Segment>>, block: usize, segment: Arc<Segment>) -> 
     Ok(())
 }
 
-// The segment of the tables of at most 256 puts.
+// Returns the segment of the tables of at most 256 puts.
 fn built(alloc: Global, puts: &[Put]) -> Result<Segment, NoMemory>
     requires few { length puts.now ≤ 256 }
     requires light { sum_by members (tables_put puts.now) < 2 ^ 32 }
@@ -104,7 +106,7 @@ fn built(alloc: Global, puts: &[Put]) -> Result<Segment, NoMemory>
     build(alloc, tables_of(alloc, puts)?)
 }
 
-// Each table has at most 4,096 columns, which is known of a table that is looked at.
+// Shows that each table has at most 4,096 columns, which is known of a table once it is looked at.
 fn look_at_widths(puts: &[Put])
     ensures { sum_by (λ t. length t.columns) (tables_put puts.now) ≤ 4096 * length puts.now }
 {
@@ -113,7 +115,7 @@ fn look_at_widths(puts: &[Put])
     }
 }
 
-// A share of each table.
+// Returns a share of each table.
 fn tables_of(alloc: Global, puts: &[Put]) -> Result<Vec<SharedTable>, NoMemory>
     ensures { IfOk result (λ tables. tables.items ≡ tables_put puts.now) }
 {
@@ -124,7 +126,8 @@ fn tables_of(alloc: Global, puts: &[Put]) -> Result<Vec<SharedTable>, NoMemory>
     Ok(tables)
 }
 
-// The part of these puts, over their segment, with a mark on each table that was not live after the first `asked` entries.
+// Returns the part of these puts, over their segment, with a mark on each table that was not live after the first
+// `asked` entries.
 fn past_part(
     alloc: Global,
     number: u64,
@@ -140,7 +143,7 @@ fn past_part(
     Part::new(alloc, number, segment, positions, marks)
 }
 
-// The position of each.
+// Returns the position of each put.
 fn put_positions(alloc: Global, puts: &[Put]) -> Result<Vec<u64>, NoMemory>
     ensures { IfOk result (λ positions. positions.items ≡ positions_put puts.now) }
 {
@@ -151,7 +154,7 @@ fn put_positions(alloc: Global, puts: &[Put]) -> Result<Vec<u64>, NoMemory>
     Ok(positions)
 }
 
-// Whether each was not live after the first `asked` entries.
+// Returns, for each put, whether its table was not live after the first `asked` entries.
 fn put_marks(alloc: Global, puts: &[Put], asked: u64) -> Result<Vec<bool>, NoMemory>
     ensures { IfOk result (λ marks. marks.items ≡ map (λ put. not (was_live asked put)) puts.now) }
 {

@@ -1,5 +1,5 @@
-//! A lake as of an earlier position of its journal: the entries are taken one after another, and each earlier position is pinned with the
-//! tables that were live there, so that it is searched as any other version is.
+//! A lake as of an earlier position of its journal. The entries are taken one after another, and each earlier position
+//! can be pinned with the tables that were live there, so that it is searched as any other version is.
 #![tactic(auto)]
 
 mod blocks;

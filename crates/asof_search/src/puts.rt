@@ -1,4 +1,4 @@
-//! The tables that were put by the loads and replaces of a journal, with the live ones by their names.
+//! The tables that the loads and replaces of a journal put, with the live ones by their names.
 ghost use Rattle.std.specs.Prelude.{◌≡◌, ◌<◌, ◌∷◌, ◌++◌, [], List, ℕ, bytes_eq, if◌then◌else◌, length, map, option_copied, vec_capacity, vec_len, IfOk, IfSome, None, OnErr, OnOk, Some};
 ghost use Rattle.std.specs.BTreeMap.{get_by_text};
 ghost use Rattle.asof_search.specs.Puts.{end_index, end_put, put_with, puts_after};
@@ -12,8 +12,8 @@ use std::alloc::Global;
 use std::collections::BTreeMap;
 use std::marker::Model;
 
-/// The loads and replaces of a journal, in order. Beside them it keeps the index of the live one of each name, from 0; the names lie in
-/// order, so that no choice of names makes a look-up slow.
+/// The loads and replaces of a journal, in order. It also keeps, for each name, the index of the live one, from 0; the
+/// names are kept in order, so that no choice of names makes a look-up slow.
 #[derive(Drop)]
 pub(crate) struct Puts {
     alloc: Global,
@@ -34,7 +34,7 @@ impl Model for Puts {
 }
 
 impl Puts {
-    /// Nothing is put.
+    /// Returns an empty list of puts.
     pub(crate) fn new(alloc: Global) -> Puts
         ensures { result ≡ [] }
     {
@@ -45,14 +45,14 @@ impl Puts {
         }
     }
 
-    /// What is put, in order.
+    /// Returns the puts, in order.
     pub(crate) fn list(&self) -> &[Put]
         ensures { result.now ≡ self.now }
     {
         &self.list
     }
 
-    /// Takes what an entry at a position says. Out of memory, nothing has changed.
+    /// Takes what an entry at a position says. If memory runs out, nothing has changed.
     pub(crate) fn take(&mut self, position: u64, what: &What) -> Result<(), NoMemory>
         ensures ok { OnOk result (self.new ≡ puts_after position self.old (what_of what.now)) }
         ensures err { OnErr result (self.new ≡ self.old) }
@@ -67,7 +67,8 @@ impl Puts {
         }
     }
 
-    // Puts a table at a position, where the live one of its name ends, if there is one. What can want memory comes first.
+    // Puts a table at a position, where the live one of its name ends, if there is one. Everything that may run out of
+    // memory comes first.
     fn put(&mut self, position: u64, table: &SharedTable) -> Result<(), NoMemory>
         ensures ok { OnOk result (self.new ≡ map (end_put table.now.name position) self.old ++ put_with position table.now None ∷ []) }
         ensures err { OnErr result (self.new ≡ self.old) }
@@ -90,7 +91,7 @@ impl Puts {
     }
 }
 
-// Points a name to an index, and tells what it pointed to before. Out of memory, the names stay.
+// Points a name to an index, and returns what it pointed to before. If memory runs out, the names stay as they are.
 fn point_to(
     alloc: Global,
     live: &mut BTreeMap<String, usize>,
@@ -105,7 +106,7 @@ fn point_to(
     Ok(live.insert(key, index)?)
 }
 
-// Ends what is put at an index, if any, at a position.
+// Ends the put at an index, if there is one, at a position.
 fn end_one(puts: &mut Vec<Put>, index: Option<usize>, position: u64)
     requires { IfSome index (λ i. i < length puts.old.items) }
     ensures puts { puts.new.items ≡ end_index puts.old.items index position }

@@ -1,12 +1,12 @@
-//! Why there is no pin of the past.
+//! The reasons for which there is no pin of the past.
 use no_memory::NoMemory;
 
-/// Why there is no pin of an earlier position.
+/// Says why there is no pin of an earlier position.
 #[derive(Clone, Copy, Debug, PartialEq, Eq)]
 pub enum PastRefused {
-    /// More entries were asked for than were taken, which are `at`.
+    /// More entries were asked for than were taken; `at` is how many were taken.
     Later { at: u64 },
-    /// Memory was wanting.
+    /// Memory ran out.
     NoMemory,
 }
 

@@ -1,4 +1,4 @@
-//! Timelines of small lakes, whose live tables at each position were worked out by hand.
+//! Tests timelines of small lakes, whose live tables at each position were worked out by hand.
 ghost use Rattle.std.specs.Prelude.{◌≡◌, ◌<◌, ◌∷◌, [], ℕ, length, map, option_map, unwrap_or, IfOk, IfSome};
 ghost use Rattle.lake_model.specs.Layout.{layout};
 ghost use Rattle.lake_model.specs.Tables.{Table};
@@ -24,14 +24,14 @@ fn name(text: &str) -> Result<Name, Fail> {
     Ok(Name::read(text.as_bytes()).ok_or("no name")?)
 }
 
-// The table of a name and these CSV bytes.
+// Returns the table of a name and these CSV bytes.
 fn table(alloc: Global, title: &str, text: &str) -> Result<SharedTable, Fail> {
     let raw = read_table(alloc, text.as_bytes(), 1_024)?;
     let sets = TableSets::build(alloc, Keys::Canonical, name(title)?, &raw)?;
     Ok(SharedTable::new(alloc, sets)?)
 }
 
-// The segment of a small table.
+// Returns the segment of a small table.
 fn segment(alloc: Global, table: &SharedTable) -> Result<Arc<Segment>, Fail>
     ensures { IfOk result (λ segment. segment.value ≡ table.now ∷ []) }
 {
@@ -68,7 +68,7 @@ fn drop_table(lake: &mut Catalogue, text: &str) -> Result<(), Fail> {
     Ok(())
 }
 
-// The positions of the loads that a plan keeps.
+// Returns the positions of the loads that a plan keeps.
 fn kept_positions(alloc: Global, kept: &[(u64, SharedTable)]) -> Result<Vec<u64>, Fail>
     ensures { IfOk result (λ all. all.items ≡ map (λ (load : ℕ × Table). load.0) kept.now) }
 {
@@ -79,7 +79,7 @@ fn kept_positions(alloc: Global, kept: &[(u64, SharedTable)]) -> Result<Vec<u64>
     Ok(all)
 }
 
-// The segment of the one table that is kept, and none where none is.
+// Returns the segment of the one table that is kept, or none if none is kept.
 fn kept_segment(alloc: Global, kept: &[(u64, SharedTable)]) -> Result<Option<Arc<Segment>>, Fail>
     ensures tables { IfOk result (λ segment. unwrap_or (option_map (λ s. s.value) segment) [] ≡ map (λ (load : ℕ × Table). load.1) kept.now) }
     ensures some { IfOk result (λ segment. IfSome segment (λ s. 0 < length s.value)) }
@@ -91,7 +91,7 @@ fn kept_segment(alloc: Global, kept: &[(u64, SharedTable)]) -> Result<Option<Arc
     }
 }
 
-// What the first two parts are merged into.
+// Returns what the first two parts are merged into.
 fn merged(lake: &Catalogue, alloc: Global) -> Result<Merged, Fail>
     ensures at { IfOk result (λ merged. merged.at ≡ length lake.now.journal) }
     ensures merges { IfOk result (λ merged. IsMergeOf (layout lake.now.journal) merged) }
@@ -121,7 +121,7 @@ fn merge(lake: &mut Catalogue, alloc: Global) -> Result<(), Fail> {
     Ok(())
 }
 
-// The timeline of a small lake's journal.
+// Returns the timeline of a small lake's journal.
 fn retell(alloc: Global, lake: &Catalogue) -> Result<Timeline, Fail> {
     let counts = lake.counts();
     if counts.updates > 1_000 || counts.members > 1_000 {
@@ -134,7 +134,7 @@ fn retell(alloc: Global, lake: &Catalogue) -> Result<Timeline, Fail> {
     Ok(timeline)
 }
 
-// The name, the columns and the members of each table that was live after so many entries.
+// Expects the name, the columns and the members of each table that was live after the first `asked` entries.
 fn expect(
     rt: &(impl Abort + AllocGlobal),
     timeline: &mut Timeline,
@@ -159,7 +159,7 @@ fn lake(alloc: Global) -> Result<Catalogue, Fail> {
     Ok(Catalogue::new(alloc, Limits::standard())?)
 }
 
-// A table that is loaded, dropped, loaded again with other values, and replaced by a wider one.
+// A table is loaded, dropped, loaded again with other values, and replaced by a wider one.
 #[test]
 fn one_name(rt: HostRuntime) -> Result<(), Fail> {
     let alloc = rt.alloc();
@@ -177,7 +177,8 @@ fn one_name(rt: HostRuntime) -> Result<(), Fail> {
     expect(&rt, &mut timeline, 3, &[("a", 1, 2)])
 }
 
-// The tables are in the order of their loads, and a replace puts its table at the end. A merge, which is the fourth entry, changes nothing.
+// The tables are in the order of their loads, and a replace puts its table at the end. A merge, which is the fourth
+// entry, changes nothing.
 #[test]
 fn order_and_a_merge(rt: HostRuntime) -> Result<(), Fail> {
     let alloc = rt.alloc();
@@ -196,7 +197,7 @@ fn order_and_a_merge(rt: HostRuntime) -> Result<(), Fail> {
     expect(&rt, &mut timeline, 6, &[("a", 1, 1), ("b", 1, 1)])
 }
 
-// One position twice in a row, and again behind another.
+// One position is pinned twice in a row, and again after another.
 #[test]
 fn one_position_again(rt: HostRuntime) -> Result<(), Fail> {
     let alloc = rt.alloc();
@@ -212,7 +213,7 @@ fn one_position_again(rt: HostRuntime) -> Result<(), Fail> {
     expect(&rt, &mut timeline, 1, &[("a", 1, 1)])
 }
 
-// The lake of three hundred tables of one value, n0 to n299.
+// Returns a lake of three hundred tables of one value, n0 to n299.
 fn large_lake(alloc: Global) -> Result<Catalogue, Fail> {
     let mut lake = lake(alloc)?;
     for i in 0..300u32 {

@@ -19,14 +19,15 @@ use std::alloc::Global;
 use std::marker::Model;
 use std::sync::Arc;
 
-// How many loads and replaces a whole block has.
+// How many loads and replaces a full block has.
 const BLOCK: usize = 256;
 
-/// The entries of a journal, taken one after another, and for each earlier position a pin of the tables that were live there. A contract
-/// sees the entries that were taken.
+/// The entries of a journal, taken one after another; each earlier position can be pinned with the tables that were
+/// live there. Its model is the list of the entries that were taken.
 ///
-/// Beside the entries it keeps what their loads and replaces put, with where each was taken away; and, once an earlier position is asked
-/// for, the segments of these tables in blocks of 256, and the version of the position that was asked for last.
+/// Besides the entries it keeps what their loads and replaces put, with the position at which each was taken away; and,
+/// once an earlier position is asked for, the segments of these tables in blocks of 256, and the version of the
+/// position that was asked for last.
 #[derive(Drop)]
 pub struct Timeline {
     alloc: Global,
@@ -49,7 +50,7 @@ impl Model for Timeline {
 }
 
 impl Timeline {
-    /// No entry is taken.
+    /// Returns a timeline without entries.
     pub fn new(alloc: Global) -> Timeline
         ensures { result ≡ [] }
     {
@@ -62,17 +63,17 @@ impl Timeline {
         }
     }
 
-    /// How many entries were taken.
+    /// Returns how many entries were taken.
     pub fn taken(&self) -> u64
         ensures { result ≡ length self.now }
     {
         self.journal.len() as u64
     }
 
-    /// Takes the next entry of the journal. It costs a share of the entry, and the logarithm of how many tables are live; no table is copied
-    /// and no segment is built.
+    /// Takes the next entry of the journal. It costs a share of the entry, and the logarithm of the number of live
+    /// tables; no table is copied and no segment is built.
     ///
-    /// It is refused only where memory is wanting. Then nothing has changed.
+    /// Returns `Err(NoMemory)` only if memory runs out, and then nothing has changed.
     pub fn take(&mut self, entry: &Entry) -> Result<(), NoMemory>
         requires legal { is_legal (self.old ++ entry.now ∷ []) ≡ true }
         requires few { length (loads_of (self.old ++ entry.now ∷ [])) < 2 ^ 32 }
@@ -89,7 +90,8 @@ impl Timeline {
 
     /// Takes the next entries of the journal, one after another, each at the cost of [`Timeline::take`].
     ///
-    /// It is refused only where memory is wanting. Then the first of them are taken, or none, behind what was taken before.
+    /// Returns `Err(NoMemory)` only if memory runs out. Then only a beginning of `entries`, perhaps none of them, was
+    /// taken after what was taken before.
     pub fn take_all(&mut self, entries: &[Entry]) -> Result<(), NoMemory>
         requires legal { is_legal (self.old ++ entries.now) ≡ true }
         requires few { length (loads_of (self.old ++ entries.now)) < 2 ^ 32 }
@@ -104,15 +106,16 @@ impl Timeline {
         Ok(())
     }
 
-    /// Holds the tables that were live after the first `asked` entries, 0 to as many as were taken. No two unmarked tables of the pin have
-    /// one name, and no two positions of loads are the same. What is taken later changes nothing of the pin.
+    /// Returns a pin of the tables that were live after the first `asked` entries. The unmarked tables of the pin have
+    /// distinct names, and the positions of its loads are distinct. Entries that are taken later do not change the pin.
     ///
-    /// A position within a block of 256 loads and replaces is searched in the whole block, of which what was not live is marked. The first
-    /// pin that needs a block builds its segment, which is kept; that of the last block is built again for the first pin behind a further
-    /// load or replace. Beside that a pin costs a walk over the loads and replaces of its blocks, and nothing where it is of the position
-    /// of the pin before.
+    /// A position within a block of 256 loads and replaces is searched in the whole block, in which what was not live
+    /// is marked. The first pin that needs a block builds its segment, which is kept; that of the last block is built
+    /// again for the first pin after a further load or replace. Otherwise a pin costs a walk over the loads and
+    /// replaces of its blocks, and nothing if it is of the same position as the pin before it.
     ///
-    /// It is refused where more entries are asked for than were taken, and else only where memory is wanting.
+    /// Returns `Err(Later)` if more entries are asked for than were taken, and otherwise an error only if memory runs
+    /// out.
     pub fn pin(&mut self, asked: u64) -> Result<Pin, PastRefused>
         ensures same { self.new ≡ self.old }
         ensures at { IfOk result (λ pin. pin.at ≡ asked) }
@@ -128,7 +131,7 @@ impl Timeline {
         Ok(self.pin_past(asked)?)
     }
 
-    // Holds the tables that were live after the first `asked` entries, of those that were taken.
+    // Returns a pin of the tables that were live after the first `asked` entries, which were taken.
     fn pin_past(&mut self, asked: u64) -> Result<Pin, NoMemory>
         requires { asked ≤ length self.old }
         ensures same { self.new ≡ self.old }
@@ -141,7 +144,7 @@ impl Timeline {
         }
     }
 
-    // The pin before again, if it is of this position.
+    // Returns the last pin again, if it is of this position.
     fn last_pin(&self, asked: u64) -> Result<Option<Pin>, NoMemory>
         ensures at { IfOk result (λ last. IfSome last (λ pin. pin.at ≡ asked)) }
         ensures live { IfOk result (λ last. IfSome last (λ pin. live_of pin.parts ≡ live (take asked self.now))) }
@@ -155,7 +158,7 @@ impl Timeline {
         Ok(Some(Pin::new(Arc::try_clone(version)?)))
     }
 
-    // A pin made of the blocks of the position, which is kept for the next.
+    // Returns a pin made of the blocks of the position, and keeps its version for the next pin.
     fn new_pin(&mut self, asked: u64) -> Result<Pin, NoMemory>
         requires { asked ≤ length self.old }
         ensures same { self.new ≡ self.old }
@@ -169,7 +172,7 @@ impl Timeline {
     }
 }
 
-/// What was live after the first so many entries of a journal stays so for each longer one.
+/// States that what was live after the first `asked` entries of a journal is the same for each longer journal.
 pub fn past_law()
     ensures stays { PastStays }
 {}

@@ -1,4 +1,4 @@
--- The answers to work, gathered from lists of what was done, one list a lane.
+-- The answers to work, gathered from lists of what was done, one list for each lane.
 use Rattle.std.proofs.Common.{◌≡◌, ap, sym, ◌∙◌, ℕ, suc, ◌+◌, ◌<◌, List, [], ◌∷◌, ◌++◌, length, take, drop, get_or, Option, arith}
 use Rattle.std.specs.Prelude.{slice_set, option_to_list}
 use Rattle.std.proofs.Math.Seq.{drop-cons}
@@ -10,7 +10,8 @@ use Rattle.batch_work.specs.declared.work.Work.{Work}
 use Rattle.batch_work.specs.Works.{work_of, works_of}
 use Rattle.batch_work.proofs.WorkLemmas.{work_at, works_long}
 
--- The answers to the work from the n-th on are the next of its lane, if there is one, and then those to the work behind it.
+-- The answers to the work from the n-th on are the next answer of its lane, if there is one, and then those to the work
+-- after it.
 pub gathered_next : (works : List Work) (n l : ℕ) (now later : List (List Done)) (item : Work) (answer : Option Answered)
     → n < length works → item ≡ get_or works n item → l ≡ (work_of item).lane
     → option_to_list answer ≡ answers_of (take 1 (get_or now l []))

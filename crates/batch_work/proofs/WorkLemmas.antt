@@ -14,7 +14,7 @@ work_at works n item is within = ap work_of is ∙ sym (get_or-map work_of works
 pub works_long : (works : List Work) → length (works_of works) ≡ length works
 works_long works = length-map works work_of
 
--- the merger's commands, of which one more is added
+-- the merger's commands, to which one more is added
 abbrev merges_from : ℕ → ℕ → Batch
 merges_from first count = map (λ n. command_with n 0 (Merge false)) (range_with_len first count)
 

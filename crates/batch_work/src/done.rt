@@ -28,7 +28,7 @@ impl<'a> Model for Done<'a> {
 }
 
 impl<'a> Done<'a> {
-    /// Work with its reply.
+    /// Returns work with its reply.
     pub fn new(work: Work<'a>, reply: Reply) -> Done<'a>
         ensures { result ≡ done_with (work_of work.entry) (reply_of reply) }
     {
@@ -36,7 +36,7 @@ impl<'a> Done<'a> {
     }
 }
 
-/// The first answer to what was done, taken out.
+/// Removes the first of what was done, and returns the answer to it.
 pub fn next_answer(done: &mut VecDeque<Done<'_>>) -> Option<Answered>
     ensures answer { option_to_list result ≡ answers_of (take 1 done.old.items) }
     ensures rest { done.new.items ≡ drop 1 done.old.items }

@@ -1,4 +1,4 @@
-//! The work of a batch, whoever does it: its commands and the merges of the merger beside them, and what was done.
+//! The work of a batch, whoever does it: its commands and the merges of the merger, and what was done.
 #![tactic(auto)]
 
 mod done;

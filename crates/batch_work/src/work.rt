@@ -20,12 +20,12 @@ use std::alloc::Global;
 pub enum Work<'a> {
     /// A command of the batch.
     Given(&'a Command),
-    /// A merge by tiers, of the merger, which counts its commands for itself.
+    /// A merge by tiers of the merger, which numbers its own commands.
     Merge { number: u64 },
 }
 
 impl<'a> Work<'a> {
-    /// The lane, which is 0 for the merger.
+    /// Returns the lane, which is 0 for the merger.
     pub fn lane(&self) -> u32
         ensures { result ≡ (work_of self.now).lane }
     {
@@ -35,7 +35,7 @@ impl<'a> Work<'a> {
         }
     }
 
-    /// Who makes the entries that it adds.
+    /// Returns who makes the entries that it adds.
     pub fn who(&self) -> Who
         ensures { result ≡ who_of (work_of self.now) }
     {
@@ -51,7 +51,7 @@ impl<'a> Work<'a> {
         }
     }
 
-    /// Who is answered.
+    /// Returns who is answered.
     pub fn by(&self) -> By
         ensures { who_by result ≡ who_of (work_of self.now) }
     {
@@ -64,7 +64,7 @@ impl<'a> Work<'a> {
         }
     }
 
-    /// Whether it has a pin of its own, which is its first step.
+    /// Returns whether the work has a pin of its own, which it takes as its first step.
     pub fn has_pin(&self) -> bool
         ensures { result ≡ has_pin (work_of self.now).task }
     {
@@ -74,7 +74,7 @@ impl<'a> Work<'a> {
         }
     }
 
-    /// The policy, where it is a merge.
+    /// Returns the policy, if it is a merge.
     pub fn policy(&self) -> Option<Policy>
         ensures { result ≡ merge_policy (work_of self.now).task }
     {
@@ -85,7 +85,7 @@ impl<'a> Work<'a> {
     }
 }
 
-// Whether a task has a pin of its own.
+// Returns whether a task has a pin of its own.
 fn has_pin(task: &Task) -> bool
     ensures { result ≡ has_pin (task_of task.now) }
 {
@@ -96,12 +96,12 @@ fn has_pin(task: &Task) -> bool
         | Task::Drop { .. }
         | Task::Replace { .. }
         | Task::Tables => false,
-        // It sees the journal once, when it is answered.
+        // An asof sees the journal once, when it is answered.
         Task::AsOf { .. } => false,
     }
 }
 
-// The policy of a merge.
+// Returns the policy, if the task is a merge.
 fn merge_policy(task: &Task) -> Option<Policy>
     ensures { result ≡ merge_policy (task_of task.now) }
 {
@@ -120,8 +120,8 @@ fn merge_policy(task: &Task) -> Option<Policy>
     }
 }
 
-/// The commands of a batch, and then those of the merger, where there is one: a merge for each load, drop and replace of the batch,
-/// numbered from `merger` on.
+/// Returns the commands of a batch, and then those of the merger, if there is one: a merge for each load, drop and
+/// replace of the batch, numbered from `merger` on.
 pub fn works_of(
     alloc: Global,
     batch: &Batch,
@@ -137,7 +137,7 @@ pub fn works_of(
     Ok(works)
 }
 
-// The commands, as work.
+// Returns the commands, as work.
 fn given(alloc: Global, commands: &[Command]) -> Result<Vec<Work<'_>>, NoMemory>
     ensures { IfOk result (λ works. works_of works.items ≡ commands.now) }
 {
@@ -148,7 +148,7 @@ fn given(alloc: Global, commands: &[Command]) -> Result<Vec<Work<'_>>, NoMemory>
     Ok(works)
 }
 
-// So many merges of the merger, behind other work.
+// Appends `count` merges of the merger, numbered from `first` on.
 fn add_merges(first: u64, count: u64, works: &mut Vec<Work<'_>>) -> Result<(), NoMemory>
     requires { first + count < 2 ^ 64 }
     ensures { OnOk result (works_of works.new.items ≡ works_of works.old.items ++ map (λ n. command_with n 0 (Merge false)) (range_with_len first count)) }

@@ -72,7 +72,7 @@ load_mark name q (place ∷ places) =
 pub load_drop : (name q : Text) (parts : List Part) → load_of (map (mark name) parts) q ≡ cond (bytes_eq name q) None (load_of parts q)
 load_drop name q parts = ap (load_in q) (places_marked name parts) ∙ load_mark name q (places_of parts)
 
--- one table less
+-- one table fewer
 filter_same : (name : Text) (tables : List Table) → Lacks (map (λ table. table.name) tables) name → filter (λ table. not (has_name name table)) tables ≡ tables
 filter_same name [] h = refl
 filter_same name (table ∷ tables) h =
@@ -173,7 +173,7 @@ module _ (limits : Counts) (journal : List Entry) (version : VersionOf) (counted
       merging = merging-push [] journal (entry_with who (Dropped name)) kept.merging refl;
     }
 
-    -- the unmarked names of the layout behind the drop differ
+    -- the unmarked names of the layout after the drop are distinct
     pub names_dropped : AreDistinct (unmarked_names (map (mark name) (layout journal)))
     names_dropped =
         let names : unmarked_names (layout longer) ≡ map (λ (t : Table). t.name) (live longer) = names_of_tables (unmarked (places_of (layout longer))) ∙ ap (map (λ (t : Table). t.name)) searched_left in

@@ -1,4 +1,4 @@
--- What follows from what a catalogue keeps, and what keeps it for one more entry.
+-- What follows from what a catalogue keeps, and what preserves it for one more entry.
 use Rattle.std.proofs.Common.{◌≡◌, refl, ap, sym, ◌∙◌, subst, ℕ, List, [], ◌∷◌, ◌++◌, true, map, Option, is_some, append_assoc, append-nil}
 use Rattle.std.specs.List.{list_any}
 use Rattle.lake_model.specs.declared.Counts.{Counts}
@@ -39,7 +39,7 @@ module _ (limits : Counts) (journal : List Entry) (version : VersionOf) (counted
   pub parts_kept : version.parts ≡ layout journal
   parts_kept = ap (λ (v : VersionOf). v.parts) kept.current
 
-  -- the positions by name tell which names are live
+  -- the positions by name say which names are live
   pub named_kept : (name : Text) → is_some (load_of (layout journal) name) ≡ is_live journal name
   named_kept name = load_is_named name (unmarked_of (layout journal)) ∙ ap (λ (ts : List Table). list_any (has_name name) ts) kept.searched
 

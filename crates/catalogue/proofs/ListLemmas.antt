@@ -1,4 +1,4 @@
--- Lists whose numbers rise, lists in which nothing stands twice, and what a search finds.
+-- Lists whose numbers rise, lists of distinct elements, and what a search finds.
 use Rattle.std.proofs.Common.{◌≡◌, refl, ap, sym, ◌∙◌, subst, ℕ, zero, suc, ◌+◌, ◌<◌, ◌≤◌, List, [], ◌∷◌, ◌++◌, Bool, true, false, cond, Option, Some, None, is_some, arith}
 use Rattle.std.specs.Prelude.{find, option_map, nat_lt, slice_index}
 use Rattle.std.specs.List.{AllByRecursion}
@@ -51,7 +51,7 @@ find_before : {X : Type 0} (p : X → Bool) (xs : List X) (x : X) → p x ≡ fa
 find_before p [] x h = ap (λ (b : Bool). cond b (Some x) None) h
 find_before p (y ∷ ys) x h = ap (cond (p y) (Some y)) (find_before p ys x h)
 
--- one more element, where no earlier one passes if it does
+-- one more element, if no earlier one passes when it does
 pub find_push : {X : Type 0} (p : X → Bool) (xs : List X) (x : X) → (p x ≡ true → find p xs ≡ None) → find p (xs ++ x ∷ []) ≡ cond (p x) (Some x) (find p xs)
 find_push p xs x h = by (p x) refl
   where

@@ -35,7 +35,7 @@ module _ (limits : Counts) (journal : List Entry) (version : VersionOf) (counted
   loads_none : (q : Text) → bytes_eq table.name q ≡ true → load_of (layout journal) q ≡ None
   loads_none q h = none_from (load_of (layout journal) q) (named_kept limits journal version counted position kept q ∙ ap (is_live journal) (sym (name_same table.name q h)) ∙ opened.0)
 
-  -- a name that is added and taken out again
+  -- a name that is added and removed again
   pub unadded : (added removed : Option ℕ) (at : ℕ) (q : Text) → added ≡ cond (bytes_eq table.name q) (Some at) (position q) → removed ≡ cond (bytes_eq table.name q) None added → removed ≡ position q
   unadded added removed at q e f = f ∙ ap (λ (o : Option ℕ). cond (bytes_eq table.name q) None o) e ∙ by (bytes_eq table.name q) refl
     where
@@ -61,7 +61,7 @@ module _ (limits : Counts) (journal : List Entry) (version : VersionOf) (counted
   abbrev pub grown : List Part
   grown = layout journal ++ loaded_part (length journal + 1) table ∷ []
 
-  -- the positions behind the load
+  -- the positions after the load
   pushed : positions_of grown ≡ put_positions journal
   pushed = positions_push (layout journal) (length journal + 1) table
 

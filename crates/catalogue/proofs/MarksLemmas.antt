@@ -103,7 +103,7 @@ others_among k ks ns h = all_weaker (λ (n : ℕ). n ≡ k → ⊥) (λ n. is_am
 abbrev GivesMarks : List Place → List ℕ → Type 0
 GivesMarks ps kept = filter (is_among kept) (positions_in ps) ≡ kept → marks_along kept (positions_in ps) (marks_in ps) ≡ marks_in (kept_in kept ps)
 
--- Where the kept positions are those that pass, in this order, the walk gives the marks of their places.
+-- If the kept positions are those that pass, in this order, the walk gives the marks of their places.
 pub along_is : (kept : List ℕ) (places : List Place) → AreDistinct (positions_in places) → filter (is_among kept) (positions_in places) ≡ kept → marks_along kept (positions_in places) (marks_in places) ≡ marks_in (kept_in kept places)
 along_is [] [] h e = refl
 along_is (k ∷ ks) [] h e = cc
@@ -121,7 +121,7 @@ along_is (k ∷ ks) (p ∷ ps) h e = by (nat_eq p.position k) (is_among ks p.pos
     by false true g fewer all e = let same : p.position ≡ k = cc in let no : true ≡ false = sym (eq-eqb p.position k same) ∙ g in cc
     by false false g fewer all e = all e
 
--- behind the last part
+-- after the last part
 pub run_ended : (kept : List ℕ) (run : List Part) (i : ℕ) (marks : List Bool) → length run ≤ i → AreDistinct (positions_of run) → filter (is_among kept) (positions_of run) ≡ kept
     → marks ++ run_marks (drop (length marks) kept) (drop i run) ≡ run_marks kept run → marks ≡ kept_marks kept run
 run_ended kept run i marks h distinct taken done =

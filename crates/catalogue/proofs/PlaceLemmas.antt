@@ -1,4 +1,4 @@
--- The places of a layout: how a mark changes them, and what the positions and the names tell of them.
+-- The places of a layout: how a mark changes them, and what follows for them from the positions and the names.
 use Rattle.std.proofs.Common.{◌≡◌, refl, ap, sym, ◌∙◌, subst, inl, inr, ◌⊎◌, ℕ, zero, suc, ◌<◌, List, [], ◌∷◌, ◌++◌, Bool, true, false, not, ◌||◌, cond, map, length, get_or, slice_set, Some, is_some, arith}
 use Rattle.std.specs.Prelude.{find, option_map, bytes_eq}
 use Rattle.std.specs.List.{AllByRecursion, list_any, flat_map, filter}
@@ -112,14 +112,14 @@ marks false b h = h
 place_stays : (name : Text) (place : Place) → (place.marked ≡ false → place.table.name ≡ name → ⊥) → mark_place name place ≡ place
 place_stays name place h = ap (λ (b : Bool). place_with place.position place.table b) (stays place.marked (has_name name place.table) (λ m. name_differs place.table.name name (h m)))
 
--- no place changes where no unmarked table has the name
+-- no place changes if no unmarked table has the name
 pub none_marked : (name : Text) (places : List Place) → Lacks (names_in places) name → map (mark_place name) places ≡ places
 none_marked name [] h = refl
 none_marked name (place ∷ places) h =
     let s = unmarked_by (λ (n : Text). n ≡ name → ⊥) place.marked place (unmarked places) h in
     λ i. place_stays name place s.0 i ∷ none_marked name places s.1 i
 
--- where the names of the unmarked tables differ, one place of them is marked
+-- if the names of the unmarked tables are distinct, one of their places is marked
 pub one_marked : (name : Text) (places : List Place) (j : ℕ) (d : Place) → j < length places → (get_or places j d).marked ≡ false → (get_or places j d).table.name ≡ name → AreDistinct (names_in places) → map (mark_place name) places ≡ mark_nth j places
 one_marked name [] j d lt m n h = absurd (omega arith)
 one_marked name (place ∷ places) zero d lt m n h =
@@ -174,7 +174,7 @@ drop_marks name parts i j position positions names loaded stands =
     not_true true h = cc
     not_true false h = refl
 
--- where no place has a position, no load of a live table has it
+-- if no place has a position, no load of a live table has it
 pub load_lacks : (parts : List Part) (name : Text) (n : ℕ) → Lacks (positions_of parts) n → load_of parts name ≡ Some n → ⊥
 load_lacks parts name n lacks e =
     let f = map_some (λ (p : Place). p.position) (find (is_of name) (unmarked (places_of parts))) n e in

@@ -1,4 +1,4 @@
--- What is merged of a plan of adjacent parts can be swapped in.
+-- What is merged by a plan of adjacent parts can be swapped in.
 use Rattle.std.proofs.Common.{◌≡◌, refl, ap, sym, ◌∙◌, subst, ℕ, ◌+◌, ◌-◌, ◌<◌, ◌≤◌, List, [], ◌∷◌, ◌++◌, true, map, not, length, take, drop, arith}
 use Rattle.std.specs.Prelude.{◌⊎◌, slice_range}
 use Rattle.std.proofs.lemmas.List.{take-append-drop, length-take, length-drop}

@@ -1,4 +1,4 @@
--- What a load and a replace have alike: one more part, of one table, and the counts with that table.
+-- What a load and a replace have in common: one more part, of one table, and the counts with that table.
 use Rattle.std.proofs.Common.{◌≡◌, refl, ap, sym, ◌∙◌, ℕ, ◌+◌, ◌<◌, ◌≤◌, ◌^◌, List, [], ◌∷◌, ◌++◌, Bool, true, false, not, cond, map, length, Option, Some, None, arith}
 use Rattle.std.specs.Prelude.{sum_by, find, option_map}
 use Rattle.std.specs.List.{AllByRecursion}
@@ -54,7 +54,7 @@ load_push parts at table q h =
 pub part_is : (part : Part) (at n : ℕ) (tables : List Table) (table : Table) → part ≡ part_with at (places_with (at ∷ []) tables (false ∷ [])) → tables ≡ table ∷ [] → at ≡ n → part ≡ loaded_part n table
 part_is part at n tables table e f g = e ∙ ap (λ (ts : List Table). part_with at (places_with (at ∷ []) ts (false ∷ []))) f ∙ ap (λ (m : ℕ). loaded_part m table) g
 
--- a table fits in the limits that a replace could pass
+-- a table fits within the limits that a replace could pass
 pub record Fits (limits counted : Counts) (table : Table) : Type 0 where
   pub updates : counted.updates + 1 ≤ limits.updates
   pub members : counted.members + members table ≤ limits.members
@@ -88,7 +88,7 @@ module _ (limits : Counts) (journal : List Entry) (version : VersionOf) (counted
     pub few_by : Fits limits counted table → length version.parts + 1 < 2 ^ 32
     few_by f = omega (arith, ap (λ (ps : List Part). length ps) (parts_kept limits journal version counted position kept), kept.few, f.updates, kept.narrow, ap (λ (c : Counts). c.updates) kept.count)
 
-    -- the counts of a journal that has this table too
+    -- the counts of a journal that also has this table
     module _ (longer : List Entry) (put : loads_of longer ≡ loads_of journal ++ table ∷ []) where
       pub put_members : counted.members + members table ≡ sum_by members (loads_of longer)
       put_members = ap (λ (c : Counts). c.members + members table) kept.count ∙ sym (sum_by_push members (loads_of journal) table) ∙ ap (sum_by members) (sym put)

@@ -49,7 +49,7 @@ module _ (limits : Counts) (journal : List Entry) (version : VersionOf) (counted
   pub fitting : Fits limits counted table
   fitting = fits_by limits journal version counted position kept table (find_none is_passed (replace_bounds limits table (counts journal)) (map_none _ _ opened.1))
 
-  -- the parts with the old table marked, and those with the new one behind them
+  -- the parts with the old table marked, and the same followed by the new one
   abbrev marked : List Part
   marked = map (mark table.name) (layout journal)
 

@@ -81,7 +81,7 @@ still_merges journal m is accepted =
       are = is.tables ∙ same ∙ ap (λ (js : List Entry). kept_tables m.kept (run_of planned (layout js))) whole;
     }
 
--- ---- the part that comes in the place of others
+-- ---- the part that takes the place of others
 
 places_back : (places : List Place) → places_with (positions_in places) (map (λ place. place.table) places) (marks_in places) ≡ places
 places_back [] = refl
@@ -138,7 +138,7 @@ fits parts from kept first may h =
     let many = length-map from (λ (p : ℕ × List ℕ). p.0) in
     (omega (arith, w.0, many), omega (arith, w.1, many, h))
 
--- what a version puts in the place of the run is what the definition does
+-- what a version puts in the place of the run is what the definition puts there
 pub replaced_is : (at : ℕ) (parts : List Part) (from : List (ℕ × List ℕ)) (kept : List ℕ) (first : ℕ) (part : Option Part) → laws.AreDistinct (numbers_of parts) → may_swap parts (numbers_in from) kept ≡ true → first ≡ first_of (numbers_in from) parts
     → option_to_list part ≡ merged at kept (run_of (numbers_in from) parts) → replaced first (length from) part parts ≡ swapped at (numbers_in from) kept parts
 replaced_is at parts from kept first part distinct may h is =
@@ -210,7 +210,7 @@ module _ (limits : Counts) (journal : List Entry) (version : VersionOf) (counted
           merging = merging-push [] journal (entry_with who (Swapped planned left)) kept.merging merging;
         }
 
-    -- the version behind the swap
+    -- the version after the swap
     pub version_is : (at : ℕ) (parts : List Part) → at ≡ length journal + 1 → parts ≡ swapped at planned left (layout journal) → version_with at parts ≡ version_with (length longer) (layout longer)
     version_is at parts e h =
         let long : length longer ≡ length journal + 1 = length-append journal (entry_with who (Swapped planned left) ∷ []) in

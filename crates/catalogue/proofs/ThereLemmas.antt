@@ -31,14 +31,14 @@ or_false false b h = h
 positions_cons : (part : Part) (parts : List Part) → positions_of (part ∷ parts) ≡ loads_of part ++ positions_of parts
 positions_cons part parts = map-append (λ (place : Place). place.position) part.places (places_of parts)
 
--- no part has no positions
+-- no part is without positions
 pub none_empty : (parts : List Part) (number : ℕ) → AllByRecursion HasPlaces parts → is_there parts (number, []) ≡ false
 none_empty [] number h = refl
 none_empty (part ∷ parts) number h =
     let empty : loads_of part ≡ [] → ⊥ = λ e. omega (arith, h.0, length-map part.places (λ (place : Place). place.position), ap (λ (ns : List ℕ). length ns) e) in
     ap (λ b. b || is_there parts (number, [])) (and_false (nat_eq part.number number) (bytes_eq (loads_of part) []) (name_differs (loads_of part) [] empty)) ∙ none_empty parts number h.1
 
--- no part has positions of which the first is nowhere
+-- no part has these positions if the first of them is nowhere
 lacks_it : (part : Part) (number first : ℕ) (rest : List ℕ) → Lacks (loads_of part) first → is_it number (first ∷ rest) part ≡ false
 lacks_it part number first rest h =
     and_false (nat_eq part.number number) (bytes_eq (loads_of part) (first ∷ rest)) (name_differs (loads_of part) (first ∷ rest) (λ e. (subst (λ (ns : List ℕ). Lacks ns first) e h).0 refl))
@@ -79,7 +79,7 @@ only_there (part ∷ parts) number first rest (suc k) i h stands =
     let lacks : Lacks (loads_of part) first = all_weaker (Lacks (positions_of parts)) (λ n. n ≡ first → ⊥) (loads_of part) (λ n l e. stands_lacks parts first k i behind (subst (Lacks (positions_of parts)) e l)) (distinct_apart (loads_of part) (positions_of parts) split) in
     ap (λ b. b || is_there parts (number, first ∷ rest)) (lacks_it part number first rest lacks) ∙ only_there parts number first rest k i (distinct_right (loads_of part) (positions_of parts) split) behind
 
--- the same by the list of the positions
+-- the same for the list of the positions
 pub empty_at : (parts : List Part) (number : ℕ) (ps list : List ℕ) → list ≡ ps → length list < 1 → AllByRecursion HasPlaces parts → is_there parts (number, ps) ≡ false
 empty_at parts number ps list e h full = subst (λ (qs : List ℕ). is_there parts (number, qs) ≡ false) e (by list h)
   where
@@ -111,7 +111,7 @@ find_next p xs i d h e =
 pub find_here : {X : Type 0} (p : X → Bool) (xs : List X) (i : ℕ) (d : X) → i < length xs → p (get_or xs i d) ≡ true → find p (drop i xs) ≡ Some (get_or xs i d)
 find_here p xs i d h e = ap (find p) (drop-cons xs i d h) ∙ ap (λ (b : Bool). cond b (Some (get_or xs i d)) (find p (drop (suc i) xs))) e
 
--- where no planned part is missing, their numbers are there
+-- if no planned part is missing, their numbers are there
 there_number : (parts : List Part) (planned : ℕ × List ℕ) → is_there parts planned ≡ true → is_among (numbers_of parts) planned.0 ≡ true
 there_number [] planned h = h
 there_number (part ∷ parts) planned h = by (or_cases (is_it planned.0 planned.1 part) (is_there parts planned) h) (there_number parts planned)

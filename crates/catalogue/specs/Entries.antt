@@ -1,4 +1,4 @@
--- What an entry says, as the definitions have it.
+-- What an entry says, in the terms of the definitions.
 use Rattle.lake_model.specs.Journal as journal
 use Rattle.catalogue.specs.declared.entry.What.{What}
 use Rattle.catalogue.specs.declared.entry.What.TheVariants.{Loaded, Dropped, Replaced, Swapped}

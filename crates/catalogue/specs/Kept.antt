@@ -1,4 +1,4 @@
--- What a catalogue is, and what it keeps beside its journal.
+-- What a catalogue is, and what it keeps besides its journal.
 use Rattle.std.specs.Prelude.{◌≡◌, ◌≤◌, ◌<◌, ◌^◌, ℕ, List, true, length, map, Option}
 use Rattle.std.specs.List.{AllByRecursion}
 use Rattle.lake_model.specs.declared.Counts.{Counts}
@@ -26,9 +26,9 @@ pub record IsWithin (limits counted : Counts) : Type 0 where
   pub members : counted.members ≤ limits.members
   pub key_bytes : counted.key_bytes ≤ limits.key_bytes
 
--- The version, the counts and the positions by name are those of the journal, which is legal and within the limits. The positions
--- of the layout rise; its tables that are not marked are the live ones, no two of one name; no part is empty; and there are at most as
--- many tables, and parts, as loads, drops and replaces. Each swap merges.
+-- The version, the counts and the positions by name are those of the journal, which is legal and within the limits. The
+-- positions of the layout rise; its unmarked tables are the live ones, with distinct names; no part is empty; and there
+-- are at most as many tables, and as many parts, as loads, drops and replaces. Each swap merges.
 pub record IsKept (limits : Counts) (journal : List Entry) (version : VersionOf) (counted : Counts) (position : Text → Option ℕ) : Type 0 where
   pub current : version ≡ version_with (length journal) (layout journal)
   pub count : counted ≡ counts journal

@@ -1,6 +1,6 @@
--- What refuses a load: a live table of its name, or else the first limit that it would pass. What refuses a drop: that no table of
--- its name is live, or else the limit that it would pass. What refuses a replace: that no table of its name is live, or else the first
--- limit that it would pass.
+-- What refuses a load: a live table of its name, or else the first limit that it would pass. What refuses a drop: that
+-- no table of its name is live, or else the limit that it would pass. What refuses a replace: that no table of its name
+-- is live, or else the first limit that it would pass.
 use Rattle.std.specs.Prelude.{List, length, Option, Some, option_map, find, if◌then◌else◌}
 use Rattle.lake_model.specs.declared.Counts.{Counts}
 use Rattle.lake_model.specs.Texts.{Text}
@@ -32,6 +32,6 @@ replace_refusal limits table journal =
     then option_map (λ b. replace.Full b.which b.count b.more (length journal)) (find is_passed (replace_bounds limits table (counts journal)))
     else Some (replace.Unknown (length journal))
 
--- a limit that would be passed, as the code says it
+-- a limit that would be passed, as the code states it
 abbrev pub passed_of : Bounded → Passed
 passed_of b = record { which = b.which; count = b.count; more = b.more }

@@ -21,11 +21,11 @@ use std::collections::BTreeMap;
 use std::marker::Model;
 use std::sync::Arc;
 
-/// The journal of a lake and the limits that it keeps. A contract sees both. Beside them it keeps the newest version, which is the
-/// layout of the journal, the positions of the loads and replaces of the live tables by name, and the counts.
+/// The journal of a lake and the limits that it keeps; these two are its model. It also keeps the newest version, which
+/// is the layout of the journal, the positions of the loads and replaces of the live tables by name, and the counts.
 ///
-/// A load, a drop or a replace changes the newest version in place, and costs its own table and a logarithm, but where a pin holds
-/// that version: then the list of its parts is copied once. No table and no segment ever is.
+/// A load, a drop or a replace changes the newest version in place, and costs its own table and a logarithm. If a pin
+/// holds that version, the list of its parts is also copied, once. No table and no segment is ever copied.
 #[derive(Drop)]
 pub struct Catalogue {
     pub(crate) alloc: Global,
@@ -48,7 +48,7 @@ impl Model for Catalogue {
 }
 
 impl Catalogue {
-    /// A catalogue with an empty journal.
+    /// Returns a catalogue with an empty journal.
     pub fn new(alloc: Global, limits: Counts) -> Result<Catalogue, NoMemory>
         requires { limits.updates < 2 ^ 32 }
         ensures { IfOk result (λ catalogue. catalogue ≡ catalogue_with limits []) }
@@ -68,7 +68,8 @@ impl Catalogue {
         })
     }
 
-    /// The entries, in order. There are never more than twice as many swaps as updates, which are the loads, drops and replaces.
+    /// Returns the entries, in order. There are never more than twice as many swaps as updates, which are the loads,
+    /// drops and replaces.
     pub fn journal(&self) -> &[Entry]
         ensures same { result.now ≡ self.now.journal }
         ensures legal { is_legal self.now.journal ≡ true }
@@ -77,14 +78,14 @@ impl Catalogue {
         &self.journal
     }
 
-    /// How many entries the journal has.
+    /// Returns how many entries the journal has.
     pub fn at(&self) -> u64
         ensures { result ≡ length self.now.journal }
     {
         self.journal.len() as u64
     }
 
-    /// Holds the newest version, which what comes later leaves as it is.
+    /// Returns a pin of the newest version, which later entries do not change.
     pub fn pin(&self) -> Result<Pin, NoMemory>
         ensures version { IfOk result (λ pin. pin ≡ version_with (length self.now.journal) (layout self.now.journal)) }
         ensures live { IfOk result (λ pin. live_of pin.parts ≡ live self.now.journal) }
@@ -92,14 +93,14 @@ impl Catalogue {
         Ok(Pin::new(Arc::try_clone(&self.version)?))
     }
 
-    /// Whether a table of the name is live, in the time of a logarithm of how many are.
+    /// Returns whether a table of the name is live. It takes time logarithmic in the number of live tables.
     pub fn live(&self, name: &Name) -> bool
         ensures { result ≡ is_live self.now.journal name.now }
     {
         self.positions.contains_key(name.text())
     }
 
-    /// What counts against the limits.
+    /// Returns what counts against the limits.
     pub fn counts(&self) -> Counts
         ensures value { result ≡ counts self.now.journal }
         ensures within { IsWithin self.now.limits result }
@@ -107,11 +108,11 @@ impl Catalogue {
         self.counts
     }
 
-    /// Loads a table: puts an entry of this caller and command behind the journal, and answers its position, counted from 1. The
-    /// segment is that of the table alone. No table is copied.
+    /// Loads a table: appends an entry of this caller and command to the journal, and returns its position, counted
+    /// from 1. The segment is that of this one table. No table is copied.
     ///
-    /// It is refused where a table of its name is live, else at the first limit of the lake that would be passed, and where memory
-    /// is wanting. Then nothing has changed.
+    /// Returns `Err(Repeated)` if a table of its name is live, else `Err(Full)` for the first limit of the lake that
+    /// would be passed, or `Err(NoMemory)` if memory runs out. Then nothing has changed.
     pub fn load(
         &mut self,
         who: Who,
@@ -129,7 +130,7 @@ impl Catalogue {
         Ok(self.accept_load(who, table, segment)?)
     }
 
-    // What refuses a load of this table.
+    // Returns why a load of this table is refused, if it is.
     fn load_refused(&self, table: &TableSets) -> Option<LoadRefused>
         ensures { result ≡ load_refusal self.now.limits table.now self.now.journal }
     {
@@ -155,7 +156,7 @@ impl Catalogue {
         })
     }
 
-    // The first limit, but that of the live tables, that one more update with this table would pass.
+    // Returns the first limit, other than that of the live tables, that one more update with this table would pass.
     pub(crate) fn passed_by(&self, table: &TableSets) -> Option<Passed>
         ensures { result ≡ option_map passed_of (find is_passed (replace_bounds self.now.limits table.now (counts self.now.journal))) }
     {
@@ -178,7 +179,7 @@ impl Catalogue {
         None
     }
 
-    // Puts a load that nothing refuses behind the journal. What can want memory comes first.
+    // Appends to the journal a load that nothing refuses. Everything that may run out of memory comes first.
     fn accept_load(
         &mut self,
         who: Who,
@@ -203,11 +204,11 @@ impl Catalogue {
         Ok(at)
     }
 
-    /// Drops the live table of a name: puts an entry of this caller and command behind the journal, and answers its position,
-    /// counted from 1. Pins that were made before keep the table.
+    /// Drops the live table of a name: appends an entry of this caller and command to the journal, and returns its
+    /// position, counted from 1. Pins that were made earlier keep the table.
     ///
-    /// It is refused where no table of the name is live, else where one more load or drop would pass their limit, and where memory
-    /// is wanting. Then nothing has changed.
+    /// Returns `Err(Unknown)` if no table of the name is live, else `Err(Full)` if one more load, drop or replace would
+    /// pass their limit, or `Err(NoMemory)` if memory runs out. Then nothing has changed.
     pub fn drop_table(&mut self, who: Who, name: &Name) -> Result<u64, DropRefused>
         ensures accepted { IfOk result (λ at. (drop_refusal self.old.limits name.now self.old.journal ≡ None) × (self.new ≡ catalogue_with self.old.limits (self.old.journal ++ entry_with who (Dropped name.now) ∷ [])) × (at ≡ length self.new.journal)) }
         ensures err { OnErr result (self.new ≡ self.old) }
@@ -219,7 +220,7 @@ impl Catalogue {
         Ok(self.accept_drop(who, name)?)
     }
 
-    // What refuses a drop of the table of this name.
+    // Returns why a drop of the table of this name is refused, if it is.
     fn drop_refused(&self, name: &Name) -> Option<DropRefused>
         ensures { result ≡ drop_refusal self.now.limits name.now self.now.journal }
     {
@@ -239,7 +240,8 @@ impl Catalogue {
         None
     }
 
-    // Where the newest version has the live table of a name: the index of its part, and its index in the part, both from 0.
+    // Returns where the newest version has the live table of a name: the index of its part, and its index in the part,
+    // both from 0.
     pub(crate) fn place_of(&self, name: &Name) -> (u32, u32)
         requires { is_live self.now.journal name.now ≡ true }
         ensures part { result.0 < length (layout self.now.journal) }
@@ -255,7 +257,7 @@ impl Catalogue {
         place
     }
 
-    // Puts a drop that nothing refuses behind the journal. What can want memory comes first.
+    // Appends to the journal a drop that nothing refuses. Everything that may run out of memory comes first.
     fn accept_drop(&mut self, who: Who, name: &Name) -> Result<u64, NoMemory>
         requires { drop_refusal self.old.limits name.now self.old.journal ≡ None }
         ensures ok { IfOk result (λ at. (self.new ≡ catalogue_with self.old.limits (self.old.journal ++ entry_with who (Dropped name.now) ∷ [])) × (at ≡ length self.new.journal)) }
@@ -272,7 +274,7 @@ impl Catalogue {
     }
 }
 
-// The part of one load or replace: its number is the position of the entry.
+// Returns the part of one load or replace, whose number is the position of the entry.
 pub(crate) fn loaded_part(alloc: Global, at: u64, segment: Arc<Segment>) -> Result<Part, NoMemory>
     requires { length segment.value ≡ 1 }
     ensures { IfOk result (λ part. part ≡ part_with at (places_with (at ∷ []) segment.value (false ∷ []))) }
@@ -282,7 +284,7 @@ pub(crate) fn loaded_part(alloc: Global, at: u64, segment: Arc<Segment>) -> Resu
     Part::new(alloc, at, segment, positions, marked)
 }
 
-// Pushes where there is room.
+// Pushes an item; there must be room for it.
 pub(crate) fn push_reserved<T: Drop>(items: &mut Vec<T>, item: T)
     requires { vec_len items.old < vec_capacity items.old }
     ensures items { items.new.items ≡ items.old.items ++ item ∷ [] }
@@ -293,7 +295,7 @@ pub(crate) fn push_reserved<T: Drop>(items: &mut Vec<T>, item: T)
     }
 }
 
-// The counts behind a load of this table.
+// Returns the counts after a load of this table.
 fn counts_with(counts: Counts, table: &TableSets) -> Counts
     requires live { counts.live + 1 < 2 ^ 32 }
     requires updates { counts.updates + 1 < 2 ^ 64 }
@@ -310,7 +312,7 @@ fn counts_with(counts: Counts, table: &TableSets) -> Counts
     }
 }
 
-// The counts behind a replace by this table.
+// Returns the counts after a replace by this table.
 pub(crate) fn counts_replaced(counts: Counts, table: &TableSets) -> Counts
     requires updates { counts.updates + 1 < 2 ^ 64 }
     requires members { counts.members + members table.now < 2 ^ 64 }
@@ -328,7 +330,7 @@ pub(crate) fn counts_replaced(counts: Counts, table: &TableSets) -> Counts
     }
 }
 
-// The counts behind a drop.
+// Returns the counts after a drop.
 fn counts_without(counts: Counts) -> Counts
     requires live { 1 ≤ counts.live }
     requires updates { counts.updates + 1 < 2 ^ 64 }
@@ -344,7 +346,7 @@ fn counts_without(counts: Counts) -> Counts
     }
 }
 
-// Whether a count that is within its limit would pass it with so many more.
+// Returns whether a count that is within its limit would pass it with `more` added.
 fn is_passed(count: u64, more: u64, limit: u64) -> bool
     requires { count ≤ limit }
     ensures { result ≡ nat_lt limit (count + more) }

@@ -1,4 +1,4 @@
-//! An entry of the journal.
+//! The entries of the journal.
 ghost use Rattle.std.specs.Prelude.{◌≡◌, IfOk};
 ghost use Rattle.lake_model.specs.Journal.{entry_with, Dropped, Loaded, Replaced, Swapped};
 
@@ -8,9 +8,9 @@ use no_memory::NoMemory;
 use segment_core::Numbers;
 use std::marker::Model;
 
-/// What an entry of the journal says: the table that was loaded, or the table that came in the place of the live one of its name, of
-/// either of which it keeps a share; or the name of the table that was dropped; or the numbers of the parts that gave way to one, and
-/// the positions of the loads and replaces that this one keeps.
+/// What an entry of the journal says: the table that was loaded, or the table that replaced the live one of its name
+/// (of either it keeps a share); or the name of the table that was dropped; or the numbers of the parts that were
+/// merged into one, and the positions of the loads and replaces that the merged part keeps.
 #[derive(Drop)]
 pub enum What {
     Loaded(SharedTable),
@@ -19,7 +19,7 @@ pub enum What {
     Swapped { from: Numbers, kept: Numbers },
 }
 
-/// An entry of the journal: who made it, and what it says. A contract sees it as an entry of the definitions.
+/// An entry of the journal: who made it, and what it says. Its model is an entry of the definitions.
 #[derive(Drop)]
 pub struct Entry {
     pub who: Who,
@@ -36,7 +36,7 @@ impl Model for Entry {
 }
 
 impl Entry {
-    /// The entry of a load.
+    /// Returns the entry of a load.
     pub fn loaded(who: Who, table: SharedTable) -> Entry
         ensures { result ≡ entry_with who (Loaded table) }
     {
@@ -46,7 +46,7 @@ impl Entry {
         }
     }
 
-    /// The entry of a drop.
+    /// Returns the entry of a drop.
     pub fn dropped(who: Who, name: Name) -> Entry
         ensures { result ≡ entry_with who (Dropped name) }
     {
@@ -56,7 +56,7 @@ impl Entry {
         }
     }
 
-    /// The entry of a replace.
+    /// Returns the entry of a replace.
     pub fn replaced(who: Who, table: SharedTable) -> Entry
         ensures { result ≡ entry_with who (Replaced table) }
     {
@@ -66,7 +66,7 @@ impl Entry {
         }
     }
 
-    /// The entry of a swap.
+    /// Returns the entry of a swap.
     pub fn swapped(who: Who, from: Numbers, kept: Numbers) -> Entry
         ensures { result ≡ entry_with who (Swapped from kept) }
     {
@@ -76,7 +76,7 @@ impl Entry {
         }
     }
 
-    /// The same entry, with a share of its table. It copies no table.
+    /// Returns the same entry, with a share of its table. It copies no table.
     pub fn share(&self) -> Result<Entry, NoMemory>
         ensures { IfOk result (λ other. other ≡ self.now) }
     {

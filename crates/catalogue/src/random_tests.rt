@@ -1,5 +1,5 @@
-//! Random loads, drops, replaces and merges of two parts against a plain list of loads: the answer to each, and, every twenty calls, the
-//! layout, the live tables and the counts.
+//! Random loads, drops, replaces and merges of two parts, compared with a plain list of loads: the answer to each call,
+//! and, every twenty calls, the layout, the live tables and the counts.
 ghost use Rattle.std.specs.Prelude.{◌<◌, ◌^◌};
 
 use crate::tests::{
@@ -20,8 +20,8 @@ const LARGE: Counts = Counts {
     key_bytes: 1_000,
 };
 
-// A load or a replace: its position in the journal, the number of its part, which of the names its table has, and whether that was
-// dropped or replaced since.
+// A load or a replace: its position in the journal, the number of its part, the name of its table, and whether the
+// table was dropped or replaced since.
 #[derive(Clone, Copy)]
 struct Load {
     at: u64,
@@ -30,8 +30,8 @@ struct Load {
     marked: bool,
 }
 
-// The loads and replaces that the layout has, one in each part, in their order; how many there were, how many updates, and how many
-// entries; and the limits. Each table has one member, of three bytes.
+// The loads and replaces of the layout, one in each part, in order; how many there were in all, how many updates, and
+// how many entries; and the limits. Each table has one member, of three bytes.
 #[derive(Drop)]
 struct Plain {
     limits: Counts,
@@ -42,12 +42,12 @@ struct Plain {
 }
 
 impl Plain {
-    // How many tables are live.
+    // Returns how many tables are live.
     fn live(&self) -> usize {
         self.loads.iter().filter(|load| !load.marked).count()
     }
 
-    // Whether a table of the name is live.
+    // Returns whether a table of the name is live.
     fn has(&self, name: usize) -> bool {
         for load in &self.loads {
             if load.name == name && !load.marked {
@@ -57,7 +57,7 @@ impl Plain {
         false
     }
 
-    // The first limit that one more table would pass, which is one more live table or none.
+    // Returns the first limit that one more table would pass, which adds `more_live` live tables: one or none.
     fn passed(&self, more_live: u64) -> Option<(Which, u64, u64)> {
         let (live, made, limits) = (self.live() as u64, self.made, self.limits);
         for (which, count, more, limit) in [
@@ -73,7 +73,7 @@ impl Plain {
         None
     }
 
-    // What a load of the name is answered.
+    // Returns the answer to a load of the name.
     fn load_answer(&self, name: usize) -> Result<u64, LoadRefused> {
         let at = self.at;
         if self.has(name) {
@@ -90,7 +90,7 @@ impl Plain {
         }
     }
 
-    // What a replace of the name is answered.
+    // Returns the answer to a replace of the name.
     fn replace_answer(&self, name: usize) -> Result<u64, ReplaceRefused> {
         let at = self.at;
         if !self.has(name) {
@@ -107,7 +107,7 @@ impl Plain {
         }
     }
 
-    // What a drop of the name is answered.
+    // Returns the answer to a drop of the name.
     fn drop_answer(&self, name: usize) -> Result<u64, DropRefused> {
         let at = self.at;
         if !self.has(name) {
@@ -133,14 +133,14 @@ impl Plain {
         }
     }
 
-    // The table of the name goes, by an entry at a position.
+    // Takes away the table of the name, by an entry at a position.
     fn lose(&mut self, name: usize, at: u64) {
         self.mark(name);
         self.updates = self.updates.saturating_add(1);
         self.at = at;
     }
 
-    // A table of the name comes, in the place of the one that is live, if one is, by an entry at a position.
+    // Puts a table of the name in the place of the live one, if there is one, by an entry at a position.
     fn put(&mut self, name: usize, at: u64) -> Result<(), Fail> {
         self.lose(name, at);
         self.made = self.made.saturating_add(1);
@@ -155,7 +155,7 @@ impl Plain {
         Ok(())
     }
 
-    // Two adjacent loads, from an index on, of which at most one is live.
+    // Returns two adjacent loads, from an index on, of which at most one is live.
     fn pair(&self, first: usize) -> Option<(Load, Load)> {
         let [one, other, ..] = self.loads.get(first..)? else {
             return None;
@@ -166,7 +166,7 @@ impl Plain {
         Some((*one, *other))
     }
 
-    // Puts one part in the place of two, from an index on, with what is live of them.
+    // Puts one part in the place of two, from an index on, with what is live in them.
     fn merge(&mut self, alloc: Global, first: usize, part: u64) -> Result<(), Fail> {
         let mut loads = Vec::new(alloc);
         for (index, load) in self.loads.iter().enumerate() {
@@ -181,7 +181,7 @@ impl Plain {
     }
 }
 
-// One load, drop or replace by chance, against the plain list, which it changes likewise.
+// Makes a random load, drop or replace, and compares it with the plain list, which it changes likewise.
 fn call(lake: &mut Catalogue, plain: &mut Plain, alloc: Global, chance: u64) -> Result<(), Fail> {
     let name = (chance / 8 % 8) as usize;
     if chance % 8 < 2 {
@@ -208,8 +208,8 @@ fn call(lake: &mut Catalogue, plain: &mut Plain, alloc: Global, chance: u64) -> 
     Ok(())
 }
 
-// A merge of two adjacent parts by chance, of which at most one table is live, against the plain list, which it changes likewise. That
-// table is dropped or replaced by chance after the merge was planned.
+// Merges two random adjacent parts, of which at most one table is live, and compares the result with the plain list,
+// which it changes likewise. By chance that table is dropped or replaced after the merge was planned.
 fn merge(lake: &mut Catalogue, plain: &mut Plain, alloc: Global, chance: u64) -> Result<(), Fail> {
     let first = (chance / 8 % 16) as usize;
     let Some((one, other)) = plain.pair(first) else {
@@ -235,7 +235,7 @@ fn merge(lake: &mut Catalogue, plain: &mut Plain, alloc: Global, chance: u64) ->
     swaps(lake, planned, next)
 }
 
-// Each load is in a part of its own, in order, and is marked where the table was dropped or replaced.
+// Expects each load in a part of its own, in order, and marked if the table was dropped or replaced.
 fn same_layout(pin: &Pin, plain: &Plain, alloc: Global) -> Result<(), Fail> {
     let layout = pin.layout(alloc)?;
     if layout.at() != plain.at || layout.parts().len() != plain.loads.len() {
@@ -249,7 +249,7 @@ fn same_layout(pin: &Pin, plain: &Plain, alloc: Global) -> Result<(), Fail> {
     Ok(())
 }
 
-// The live tables are those that are not marked, in the order of their loads.
+// Expects the live tables to be those that are not marked, in the order of their loads.
 fn same_tables(pin: &Pin, plain: &Plain, alloc: Global) -> Result<(), Fail> {
     let lines = pin.tables(alloc)?;
     let mut rest = lines.list();
@@ -280,8 +280,8 @@ fn same(lake: &Catalogue, plain: &Plain, alloc: Global) -> Result<(), Fail> {
     same_tables(&pin, plain, alloc)
 }
 
-// A hundred calls on an empty lake of these limits. The numbers are those of a linear congruential generator (D. E. Knuth, The Art of
-// Computer Programming, volume 2, section 3.3.4: the multiplier of the 64 bit generator MMIX).
+// Makes a hundred calls on an empty lake of these limits. The numbers come from a linear congruential generator (D. E.
+// Knuth, The Art of Computer Programming, volume 2, section 3.3.4: the multiplier of the 64 bit generator MMIX).
 fn a_hundred_calls(alloc: Global, limits: Counts, seed: u64) -> Result<(), Fail>
     requires { limits.updates < 2 ^ 32 }
 {

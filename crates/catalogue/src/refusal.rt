@@ -1,65 +1,66 @@
-//! Why a load, a drop, a replace or a swap is refused.
+//! The reasons for which a load, a drop, a replace or a swap is refused.
 use lake_model::Which;
 use no_memory::NoMemory;
 
-/// Why a load is refused. In each of the first two, `at` is how many entries the journal has.
+/// Says why a load is refused. In the first two cases `at` is the number of entries of the journal.
 #[derive(Clone, Copy, Debug, PartialEq, Eq)]
 pub enum LoadRefused {
     /// A table of the name is live.
     Repeated {
         at: u64,
     },
-    /// What counts against a limit of the lake is `count`, and with `more`, which the load would add, it would pass the limit. Of
-    /// the limits that would be passed it is the first, in the order of `Which`.
+    /// The count against a limit of the lake is `count`; adding `more`, which the load would add, would pass the limit.
+    /// Of the limits that would be passed it is the first, in the order of `Which`.
     Full {
         which: Which,
         count: u64,
         more: u64,
         at: u64,
     },
-    /// Memory was wanting.
+    /// Memory ran out.
     NoMemory,
 }
 
-/// Why a drop is refused. In each of the first two, `at` is how many entries the journal has.
+/// Says why a drop is refused. In the first two cases `at` is the number of entries of the journal.
 #[derive(Clone, Copy, Debug, PartialEq, Eq)]
 pub enum DropRefused {
     /// No table of the name is live.
     Unknown {
         at: u64,
     },
-    /// What counts against a limit of the lake is `count`, and with `more`, which the drop would add, it would pass the limit. A
-    /// drop can pass that of the loads, drops and replaces alone.
+    /// The count against a limit of the lake is `count`; adding `more`, which the drop would add, would pass the limit.
+    /// The only limit that a drop can pass is that of the loads, drops and replaces.
     Full {
         which: Which,
         count: u64,
         more: u64,
         at: u64,
     },
-    /// Memory was wanting.
+    /// Memory ran out.
     NoMemory,
 }
 
-/// Why a replace is refused. In each of the first two, `at` is how many entries the journal has.
+/// Says why a replace is refused. In the first two cases `at` is the number of entries of the journal.
 #[derive(Clone, Copy, Debug, PartialEq, Eq)]
 pub enum ReplaceRefused {
     /// No table of the name is live.
     Unknown {
         at: u64,
     },
-    /// What counts against a limit of the lake is `count`, and with `more`, which the replace would add, it would pass the limit. Of
-    /// the limits that would be passed it is the first, in the order of `Which`. A replace cannot pass that of the live tables.
+    /// The count against a limit of the lake is `count`; adding `more`, which the replace would add, would pass the
+    /// limit. Of the limits that would be passed it is the first, in the order of `Which`. A replace cannot pass that
+    /// of the live tables.
     Full {
         which: Which,
         count: u64,
         more: u64,
         at: u64,
     },
-    /// Memory was wanting.
+    /// Memory ran out.
     NoMemory,
 }
 
-/// A limit of the lake that would be passed: what counts against it, and what would be added.
+/// A limit of the lake that would be passed: the count against it, and what would be added.
 #[derive(Clone, Copy)]
 pub struct Passed {
     pub which: Which,
@@ -67,12 +68,13 @@ pub struct Passed {
     pub more: u64,
 }
 
-/// Why a swap is refused.
+/// Says why a swap is refused.
 #[derive(Clone, Copy, Debug, PartialEq, Eq)]
 pub enum SwapRefused {
-    /// The layout of the journal, which has `at` entries, lacks a planned part; the first such part has the number `gone`.
+    /// The layout of the journal, which has `at` entries, lacks a planned part; `gone` is the number of the first such
+    /// part.
     Stale { gone: u64, at: u64 },
-    /// Memory was wanting.
+    /// Memory ran out.
     NoMemory,
 }
 

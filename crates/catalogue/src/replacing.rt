@@ -1,4 +1,4 @@
-//! Replaces: a table comes in the place of the live one of its name.
+//! Replaces: a table takes the place of the live one of its name.
 ghost use Rattle.std.specs.Prelude.{◌≡◌, ◌++◌, ◌∷◌, ◌⊎◌, [], length, IfErr, IfOk, None, OnErr, Some};
 ghost use Rattle.lake_model.specs.Journal.{entry_with, Replaced};
 ghost use Rattle.catalogue.specs.Kept.{catalogue_with};
@@ -15,12 +15,13 @@ use segment_core::{Segment, Version};
 use std::sync::Arc;
 
 impl Catalogue {
-    /// Puts a table in the place of the live one of its name: puts an entry of this caller and command behind the journal, and answers
-    /// its position, counted from 1. The segment is that of the table alone. No table is copied, and pins that were made before keep
-    /// the old one.
+    /// Puts a table in the place of the live one of its name: appends an entry of this caller and command to the
+    /// journal, and returns its position, counted from 1. The segment is that of this one table. No table is copied,
+    /// and pins that were made earlier keep the old one.
     ///
-    /// It is refused where no table of its name is live, else at the first limit of the lake that would be passed, which cannot be that
-    /// of the live tables, and where memory is wanting. Then nothing has changed.
+    /// Returns `Err(Unknown)` if no table of its name is live, else `Err(Full)` for the first limit of the lake that
+    /// would be passed, which cannot be that of the live tables, or `Err(NoMemory)` if memory runs out. Then nothing
+    /// has changed.
     pub fn replace(
         &mut self,
         who: Who,
@@ -38,7 +39,7 @@ impl Catalogue {
         Ok(self.accept_replace(who, table, segment)?)
     }
 
-    // What refuses a replace by this table.
+    // Returns why a replace by this table is refused, if it is.
     fn replace_refused(&self, table: &TableSets) -> Option<ReplaceRefused>
         ensures { result ≡ replace_refusal self.now.limits table.now self.now.journal }
     {
@@ -55,7 +56,7 @@ impl Catalogue {
         })
     }
 
-    // Puts a replace that nothing refuses behind the journal. What can want memory comes first.
+    // Appends to the journal a replace that nothing refuses. Everything that may run out of memory comes first.
     fn accept_replace(
         &mut self,
         who: Who,

@@ -1,4 +1,4 @@
-//! Swaps: what was merged comes in the place of the parts that it was merged from.
+//! Swaps: a merged part takes the place of the parts that it was merged from.
 ghost use Rattle.std.specs.Prelude.{◌≡◌, ◌≤◌, ◌<◌, ◌+◌, ◌&&◌, ◌++◌, ◌∷◌, ◌⊎◌, [], bytes_eq, drop, filter, flat_map, is_some, length, map, nat_eq, option_map, take, true, unwrap_or, IfErr, IfOk, IfSome, None, OnErr, OnOk, Some};
 ghost use Rattle.std.specs.Option.{option_to_list};
 ghost use Rattle.lake_model.specs.Journal.{entry_with, Swapped};
@@ -21,12 +21,14 @@ use std::alloc::Global;
 use std::sync::Arc;
 
 impl Catalogue {
-    /// Puts what was merged in the place of the planned parts: puts an entry of this caller and command behind the journal, and answers
-    /// its position, counted from 1. Marks that came after the plan are carried over. Pins that were made before keep the parts.
+    /// Puts the merged part in the place of the planned parts: appends an entry of this caller and command to the
+    /// journal, and returns its position, counted from 1. Marks that were set after the plan are carried over. Pins
+    /// that were made earlier keep the parts.
     ///
-    /// It is refused where a planned part is no longer there, and where memory is wanting. Then nothing has changed. A swap does not
-    /// count as an update. It takes two binary searches for each planned part, and a walk over the positions of these parts; where a
-    /// pin holds the newest version, the list of its parts is copied too.
+    /// Returns `Err(Stale)` if a planned part is no longer in the layout, or `Err(NoMemory)` if memory runs out. Then
+    /// nothing has changed. A swap does not count as an update. It costs two binary searches for each planned part, and
+    /// a walk over the positions of these parts; if a pin holds the newest version, the list of its parts is copied
+    /// too.
     pub fn swap(&mut self, who: Who, merged: Merged) -> Result<u64, SwapRefused>
         requires planned { merged.at ≤ length self.old.journal }
         requires merges { IsMergeOf (layout (take merged.at self.old.journal)) merged }
@@ -40,7 +42,7 @@ impl Catalogue {
         Ok(self.accept_swap(who, merged)?)
     }
 
-    // What refuses a swap of these parts.
+    // Returns why a swap of these parts is refused, if it is.
     fn swap_refused(&self, from: &[(u64, Numbers)]) -> Option<SwapRefused>
         ensures { result ≡ swap_refusal from.now self.now.journal }
     {
@@ -55,7 +57,8 @@ impl Catalogue {
         None
     }
 
-    // The index, from 0, of the part of the newest version that has this number and these positions.
+    // Returns the index, from 0, of the part of the newest version that has this number and these positions, if there
+    // is one.
     fn index_of(&self, number: u64, positions: &Numbers) -> Option<u32>
         ensures within { IfSome result (λ index. index < length (layout self.now.journal)) }
         ensures found { IfSome result (λ index. (part_at (layout self.now.journal) index).number ≡ number) }
@@ -74,7 +77,7 @@ impl Catalogue {
         None
     }
 
-    // Puts a swap that nothing refuses behind the journal. What can want memory comes first.
+    // Appends to the journal a swap that nothing refuses. Everything that may run out of memory comes first.
     fn accept_swap(&mut self, who: Who, merged: Merged) -> Result<u64, NoMemory>
         requires planned { merged.at ≤ length self.old.journal }
         requires merges { IsMergeOf (layout (take merged.at self.old.journal)) merged }
@@ -97,8 +100,8 @@ impl Catalogue {
         Ok(at)
     }
 
-    // The index of the first planned part in the newest version, from 0, and what comes in the place of these parts: the part of the
-    // kept positions, over this segment, and none where nothing is kept.
+    // Returns the index, from 0, of the first planned part in the newest version, and what takes the place of these
+    // parts: the part of the kept positions, over this segment, or none if nothing is kept.
     fn exchange(
         &self,
         at: u64,
@@ -123,7 +126,7 @@ impl Catalogue {
         Ok((first, merged_part(self.alloc, at, run, kept, segment)?))
     }
 
-    // This many parts of the newest version, from an index on, which counts from 0.
+    // Returns `count` parts of the newest version from index `first` on, counted from 0.
     fn run_at(&self, first: u32, count: usize) -> &[Part]
         requires { first + count ≤ length (layout self.now.journal) }
         ensures { result.now ≡ take count (drop first (layout self.now.journal)) }
@@ -133,14 +136,14 @@ impl Catalogue {
     }
 }
 
-// Whether a part has this number and these positions.
+// Returns whether a part has this number and these positions.
 fn is_part(part: &Part, number: u64, positions: &Numbers) -> bool
     ensures { result ≡ (nat_eq part.now.number number && bytes_eq (loads_of part.now) positions.now) }
 {
     part.number() == number && part.loads() == positions.list()
 }
 
-// The numbers of planned parts.
+// Returns the numbers of planned parts.
 fn planned_numbers(alloc: Global, from: &[(u64, Numbers)]) -> Result<Numbers, NoMemory>
     ensures { IfOk result (λ numbers. numbers ≡ numbers_in from.now) }
 {
@@ -151,8 +154,8 @@ fn planned_numbers(alloc: Global, from: &[(u64, Numbers)]) -> Result<Numbers, No
     Ok(Numbers::new(numbers))
 }
 
-// The part that these parts are merged into, with the marks that they have now, and none where there is no segment, which is that of
-// the kept positions.
+// Returns the part that these parts are merged into, with the marks that they have now, over `segment`, which is that
+// of the kept positions; none if there is no segment.
 fn merged_part(
     alloc: Global,
     at: u64,
@@ -176,7 +179,8 @@ fn merged_part(
     Ok(Some(part))
 }
 
-// The marks of the kept positions, which stand in these parts in this order: one walk over the positions of the parts.
+// Returns the marks of the kept positions, which these parts have in this order. It takes one walk over the positions
+// of the parts.
 fn carried_marks(alloc: Global, run: &[Part], kept: &[u64]) -> Result<Vec<bool>, NoMemory>
     requires distinct { AreDistinct (positions_of run.now) }
     requires taken { filter (is_among kept.now) (positions_of run.now) ≡ kept.now }
@@ -189,7 +193,7 @@ fn carried_marks(alloc: Global, run: &[Part], kept: &[u64]) -> Result<Vec<bool>,
     Ok(marks)
 }
 
-// Puts the marks of kept positions behind those of the kept positions before them.
+// Appends the marks of the kept positions that are next.
 fn add_marks(
     positions: &[u64],
     marks: &[bool],
@@ -207,7 +211,7 @@ fn add_marks(
     Ok(())
 }
 
-// Whether the position is the kept one behind so many others.
+// Returns whether the position is the kept one at index `others`.
 fn is_next(kept: &[u64], others: usize, position: u64) -> bool
     ensures { result ≡ is_first position (drop others kept.now) }
 {

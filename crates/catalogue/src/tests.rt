@@ -1,4 +1,4 @@
-//! What the clauses mean on small lakes whose answers were worked out by hand, and that the calls succeed.
+//! Tests what the clauses mean on small lakes whose answers were worked out by hand, and that the calls succeed.
 ghost use Rattle.std.specs.Prelude.{◌≡◌, ◌<◌, ◌∷◌, [], ℕ, codes, length, map, option_map, unwrap_or, IfOk, IfSome, OnOk};
 ghost use Rattle.lake_model.specs.Layout.{layout};
 ghost use Rattle.lake_model.specs.Tables.{keys_at, Table};
@@ -35,7 +35,7 @@ fn name(text: &str) -> Result<Name, Fail> {
     Ok(name)
 }
 
-// That the first column has the one key `key`.
+// Checks that the first column has the one key `key`.
 fn expect_key(table: &TableSets) -> Result<(), Fail>
     requires { length table.now.columns ≡ 1 }
     ensures { OnOk result (keys_at table.now 1 ≡ codes "key" ∷ []) }
@@ -46,7 +46,7 @@ fn expect_key(table: &TableSets) -> Result<(), Fail>
     Ok(())
 }
 
-// The table of a name with one column of one value, `key`.
+// Returns the table of a name with one column of one value, `key`.
 fn table(alloc: Global, text: &str) -> Result<SharedTable, Fail>
     ensures columns { IfOk result (λ table. length table.columns ≡ 1) }
     ensures keys { IfOk result (λ table. keys_at table 1 ≡ codes "key" ∷ []) }
@@ -60,7 +60,7 @@ fn table(alloc: Global, text: &str) -> Result<SharedTable, Fail>
     Ok(SharedTable::new(alloc, sets)?)
 }
 
-// The segment of such a table.
+// Returns the segment of such a table.
 fn segment(alloc: Global, table: SharedTable) -> Result<Arc<Segment>, Fail>
     requires columns { length table.columns ≡ 1 }
     requires keys { keys_at table 1 ≡ codes "key" ∷ [] }
@@ -115,7 +115,7 @@ pub fn loads(
     Ok(())
 }
 
-// Replaces a table by such a one, and expects this answer.
+// Replaces a table by such a table, and expects this answer.
 pub fn replaces(
     lake: &mut Catalogue,
     alloc: Global,
@@ -142,7 +142,7 @@ pub fn drops(
     Ok(())
 }
 
-// The positions of kept loads.
+// Returns the positions of kept loads.
 fn kept_positions(alloc: Global, kept: &[(u64, SharedTable)]) -> Result<Vec<u64>, NoMemory>
     ensures { IfOk result (λ all. all.items ≡ map (λ (load : ℕ × Table). load.0) kept.now) }
 {
@@ -153,7 +153,7 @@ fn kept_positions(alloc: Global, kept: &[(u64, SharedTable)]) -> Result<Vec<u64>
     Ok(all)
 }
 
-// The segment of the one table that is kept, and none where none is.
+// Returns the segment of the one table that is kept, or none if none is kept.
 fn kept_segment(alloc: Global, kept: &[(u64, SharedTable)]) -> Result<Option<Arc<Segment>>, Fail>
     ensures tables { IfOk result (λ segment. unwrap_or (option_map (λ s. s.value) segment) [] ≡ map (λ (load : ℕ × Table). load.1) kept.now) }
     ensures some { IfOk result (λ segment. IfSome segment (λ s. 0 < length s.value)) }
@@ -165,7 +165,7 @@ fn kept_segment(alloc: Global, kept: &[(u64, SharedTable)]) -> Result<Option<Arc
     }
 }
 
-// The segment of a table that was made by `table`.
+// Returns the segment of a table that was made by `table`.
 fn same_segment(alloc: Global, table: &SharedTable) -> Result<Arc<Segment>, Fail>
     ensures { IfOk result (λ segment. segment.value ≡ table.now ∷ []) }
 {
@@ -177,7 +177,7 @@ fn same_segment(alloc: Global, table: &SharedTable) -> Result<Arc<Segment>, Fail
     segment(alloc, table)
 }
 
-// What two adjacent parts are merged into, from an index on, of which at most one table is kept.
+// Merges two adjacent parts, from an index on, of which at most one table is kept.
 pub fn merged(lake: &Catalogue, alloc: Global, first: u32) -> Result<Merged, Fail>
     ensures at { IfOk result (λ merged. merged.at ≡ length lake.now.journal) }
     ensures merges { IfOk result (λ merged. IsMergeOf (layout lake.now.journal) merged) }
@@ -198,7 +198,7 @@ pub fn merged(lake: &Catalogue, alloc: Global, first: u32) -> Result<Merged, Fai
     })
 }
 
-// Swaps in what was merged of the newest version, and expects this position.
+// Swaps in what was merged from the newest version, and expects this position.
 pub fn swaps(lake: &mut Catalogue, merged: Merged, at: u64) -> Result<(), Fail>
     requires at { merged.at ≡ length lake.old.journal }
     requires merges { IsMergeOf (layout lake.old.journal) merged }
@@ -209,7 +209,7 @@ pub fn swaps(lake: &mut Catalogue, merged: Merged, at: u64) -> Result<(), Fail>
     Ok(())
 }
 
-// Drops a table, and then swaps in what was merged before, and expects this position.
+// Drops a table, then swaps in what was merged before that, and expects this position.
 pub fn drops_then_swaps(
     lake: &mut Catalogue,
     text: &str,
@@ -229,7 +229,7 @@ pub fn drops_then_swaps(
     Ok(())
 }
 
-// Replaces a table, and then swaps in what was merged before, and expects this position.
+// Replaces a table, then swaps in what was merged before that, and expects this position.
 pub fn replaces_then_swaps(
     lake: &mut Catalogue,
     alloc: Global,
@@ -251,7 +251,7 @@ pub fn replaces_then_swaps(
     Ok(())
 }
 
-// Swaps in the first of two merges of the newest version, and expects this refusal of the other.
+// Swaps in the first of two merges of the newest version, and expects this refusal of the second.
 fn second_is_refused(
     lake: &mut Catalogue,
     first: Merged,
@@ -272,7 +272,7 @@ fn second_is_refused(
     Ok(())
 }
 
-// Expects that a pin stands at a position, with so many live tables.
+// Expects a pin to be at this position, with `tables` live tables.
 fn holds(alloc: Global, pin: &Pin, at: u64, tables: usize) -> Result<(), Fail> {
     if pin.at() != at || pin.tables(alloc)?.list().len() != tables {
         return Err(Fail::from("another version"));
@@ -280,7 +280,7 @@ fn holds(alloc: Global, pin: &Pin, at: u64, tables: usize) -> Result<(), Fail> {
     Ok(())
 }
 
-// Expects of a layout its position, and of each part its number and its one load or replace, marked or not.
+// Expects a layout at this position and, of each part, its number and its one load or replace, marked or not.
 fn shows(layout: &Layout, at: u64, parts: &[(u64, u64, bool)]) -> Result<(), Fail> {
     if layout.at() != at || layout.parts().len() != parts.len() {
         return Err(Fail::from("another layout"));
@@ -293,7 +293,7 @@ fn shows(layout: &Layout, at: u64, parts: &[(u64, u64, bool)]) -> Result<(), Fai
     Ok(())
 }
 
-// Expects the same of the newest layout, and so many live tables.
+// Expects the same of the newest layout, and `tables` live tables.
 fn shows_now(
     lake: &Catalogue,
     alloc: Global,
@@ -305,7 +305,8 @@ fn shows_now(
     shows(&pin.layout(alloc)?, lake.at(), parts)
 }
 
-// Expects so many live tables, so many loads, drops and replaces, and so many loads and replaces by a table of one key.
+// Expects `live` live tables, `updates` loads, drops and replaces, and `loads` loads and replaces by a table of one
+// key.
 pub fn counts(lake: &Catalogue, live: usize, updates: usize, loads: u64) -> Result<(), Fail> {
     let counts = lake.counts();
     if counts.live as usize != live || counts.updates as usize != updates {
@@ -317,7 +318,7 @@ pub fn counts(lake: &Catalogue, live: usize, updates: usize, loads: u64) -> Resu
     Ok(())
 }
 
-// Expects that a table of the name is live, or that none is.
+// Expects whether a table of the name is live.
 fn is_live(lake: &Catalogue, text: &str, live: bool) -> Result<(), Fail> {
     if lake.live(&name(text)?) != live {
         return Err(Fail::from("other live tables"));
@@ -325,7 +326,7 @@ fn is_live(lake: &Catalogue, text: &str, live: bool) -> Result<(), Fail> {
     Ok(())
 }
 
-// Expects so many entries.
+// Expects the journal to have `at` entries.
 pub fn entries(lake: &Catalogue, at: u64) -> Result<(), Fail> {
     if lake.at() != at || lake.journal().len() as u64 != at {
         return Err(Fail::from("another journal"));
@@ -333,7 +334,7 @@ pub fn entries(lake: &Catalogue, at: u64) -> Result<(), Fail> {
     Ok(())
 }
 
-// A lake of at most four updates, which it had, of each kind one: `a` is live, and `b` is not.
+// Returns a lake that allows four updates and had them, at least one of each kind: `a` is live, and `b` is not.
 fn full_lake(alloc: Global) -> Result<Catalogue, Fail> {
     let limits = Counts {
         updates: 4,

@@ -64,7 +64,7 @@ column_keys table i d h =
     let place : i + 1 - 1 ≡ i = omega arith in
     ap (λ (n : ℕ). get_or (sets_of table) n []) place ∙ get_or-map (λ c. c.keys) table.columns i d [] h
 
--- one column more
+-- one more column
 pub overlaps_more : (queries : List (List Text)) (table : Table) (i : ℕ) (counts : List (List ℕ)) (numbers : List ℕ) → i < length table.columns
     → counts ≡ map (λ (column : Column). map (λ (keys : List Text). overlap keys column.keys) queries) (take i table.columns) → numbers ≡ map (λ (keys : List Text). overlap keys (keys_at table (i + 1))) queries
     → counts ++ numbers ∷ [] ≡ map (λ (column : Column). map (λ (keys : List Text). overlap keys column.keys) queries) (take (i + 1) table.columns)
@@ -94,14 +94,14 @@ pub is_column : (table : Option Table) (queries : List (List Text)) (counts : Li
 is_column None queries counts w e h = tt
 is_column (Some table) queries counts w e h = ap (map (λ (numbers : List ℕ). get_or numbers w 0)) e ∙ column_of queries table.columns w h
 
--- what is counted for the query at a column
+-- the number that is counted for the query at a column
 pub number_at : (counts : List (List ℕ)) (table : Table) (w : ℕ) (keys : List Text) (i : ℕ) (d : List ℕ) → i < length table.columns → i < length counts → map (λ (numbers : List ℕ). get_or numbers w 0) counts ≡ map (λ (column : Column). overlap keys column.keys) table.columns
     → get_or (get_or counts i d) w 0 ≡ overlap keys (keys_at table (i + 1))
 number_at counts table w keys i d h k e =
     let c : Column = record { name = []; keys = [] } in
     sym (get_or-map (λ (numbers : List ℕ). get_or numbers w 0) counts i d 0 k) ∙ ap (λ (us : List ℕ). get_or us i 0) e ∙ get_or-map (λ (column : Column). overlap keys column.keys) table.columns i c 0 h ∙ ap (overlap keys) (sym (column_keys table i c h))
 
--- one key more, of which a mask says which queries hold it
+-- one more key, with a mask of the queries that hold it
 pub counted_more : (queries : List (List Text)) (keys : List Text) (i : ℕ) (key : Text) (mask : ℕ) (olds news : List ℕ) → i < length keys → key ≡ get_or keys i [] → ((w : ℕ) → has_query mask w ≡ has_key (get_or queries w []) key)
     → ((w : ℕ) → w < length queries → get_or olds w 0 ≡ count_by (has_key (get_or queries w [])) (take i keys)) → ((w : ℕ) → w < length queries → get_or news w 0 ≡ get_or olds w 0 + bit_at mask w)
     → (w : ℕ) → w < length queries → get_or news w 0 ≡ count_by (has_key (get_or queries w [])) (take (i + 1) keys)
@@ -113,13 +113,13 @@ counted_more queries keys i key mask olds news h e held before raised w within =
 pub hit_key : (keys : List Text) (hits : List Hit) (i : ℕ) (d : Hit) (key : Text) → i < length hits → key ≡ get_or keys (get_or hits i d).index [] → key ≡ get_or (hit_keys keys hits) i []
 hit_key keys hits i d key h e = e ∙ sym (get_or-map (λ (hit : Hit). get_or keys hit.index []) hits i d [] h)
 
--- what is counted over the hits of a column, where it is over all its keys
+-- the counts over the hits of a column, if they equal those over all its keys
 pub counted_hits : {E : Type 0} (queries : List (List Text)) (keys hits : List Text) (result : Result (Vec ℕ) E) → ((w : ℕ) → w < length queries → count_by (has_key (get_or queries w [])) hits ≡ overlap (get_or queries w []) keys)
     → IfOk result (λ counts. length counts.items ≡ length queries) → IfOk result (λ counts. (w : ℕ) → w < length queries → get_or counts.items w 0 ≡ count_by (has_key (get_or queries w [])) hits) → IfOk result (λ counts. counts.items ≡ map (λ (query : List Text). overlap query keys) queries)
 counted_hits queries keys hits (Ok counts) all same counted = counted_all queries keys counts.items same (λ w h. counted w h ∙ all w h)
 counted_hits queries keys hits (Err e) all same counted = tt
 
--- a hit behind others, and a key that no query holds
+-- one more hit after the others, and a key that no query holds
 pub hits_more : (p : Text → Bool) (keys : List Text) (hits : List Hit) (hit : Hit) → hit.index < length keys → count_by p (hit_keys keys hits) ≡ count_by p (take hit.index keys) → count_by p (hit_keys keys (hits ++ hit ∷ [])) ≡ count_by p (take (hit.index + 1) keys)
 hits_more p keys hits hit h e =
     let key : Hit → Text = λ h. get_or keys h.index [] in
@@ -130,7 +130,7 @@ hits_more p keys hits hit h e =
 pub hits_same : (p : Text → Bool) (keys : List Text) (n i : ℕ) → i < length keys → p (get_or keys i []) ≡ false → n ≡ count_by p (take i keys) → n ≡ count_by p (take (i + 1) keys)
 hits_same p keys n i h none e = omega (arith, e, count_more p keys i [] h, ap once none)
 
--- what is written over the whole of a list
+-- a list that is overwritten in full
 pub written : {X : Type 0} (n : ℕ) (news rest : List X) → n ≡ length news → take n (news ++ rest) ≡ news
 written n news rest e = ap (λ (m : ℕ). take m (news ++ rest)) e ∙ take-append_seam news rest
 

@@ -34,7 +34,7 @@ query_of_both a b w = ap (λ (n : ℕ). nat_eq n 1) (bit_at_or a b w) ∙ either
 abbrev pub once : Bool → ℕ
 once b = cond b 1 0
 
--- a bit adds one where the query holds the key
+-- a bit is one if the query holds the key, and else zero
 pub bit_once : (mask w : ℕ) → bit_at mask w ≡ once (has_query mask w)
 bit_once mask w = by (bit_at mask w) (bit_at-lt mask w)
   where

@@ -1,4 +1,4 @@
--- The keys of the queries: the order in which they are put, how equal ones are merged, and what a search finds.
+-- The keys of the queries: their order, how equal ones are merged, and what a search finds.
 use Rattle.std.proofs.Common.{◌≡◌, refl, ap, sym, ◌∙◌, subst, inl, inr, ℕ, zero, suc, ◌+◌, ◌-◌, ◌<◌, ◌≤◌, ◌^◌, List, [], ◌∷◌, ◌++◌, Bool, true, false, ◌||◌, ◌&&◌, length, get_or, arith, take, drop, append_assoc, append-nil}
 use Rattle.std.specs.Prelude.{bytes_eq}
 use Rattle.std.specs.Cmp.{IsTotalOrder, nat_cmp_is}
@@ -40,7 +40,7 @@ first_less a b r e = elim (cases_lt b a) [
   | inr m ↦ m
 ]
 
--- what is in order by hash and key is in order by hash
+-- keys in order by hash and text are in order by hash
 pub hashes_rise : (queries : List (List Text)) (keys : List KeyAt) → IsStrictlySortedBy (key_cmp queries) keys → IsNonDecreasingBy (λ at. at.hash) keys
 hashes_rise queries keys up i j d l h = elim (cases_lt i j) [
   | inl less ↦
@@ -71,17 +71,17 @@ module _ {X : Type 0} (c : X → X → Ordering) where
   strict_right [] ys up = up
   strict_right (x ∷ xs) ys up = strict_right xs ys up.1
 
-  -- what is below the last, where the last is below or is another
+  -- what holds of all below the last element and of the last holds of all
   below_last : (P : X → Type 0) (xs : List X) (x : X) → ((y : X) → c y x ≡ Less → P y) → P x → IsStrictlySortedBy c (xs ++ x ∷ []) → AllByRecursion P (xs ++ x ∷ [])
   unfolding IsStrictlySortedBy
   below_last P [] x less last up = (last, tt)
   below_last P (y ∷ xs) x less last up = (less y (all_right (λ z. c y z ≡ Less) xs (x ∷ []) up.0).0, below_last P xs x less last up.1)
 
-  -- one that is less than the last behind it
+  -- an element that the last one is less than, appended
   pub strict_next : IsTotalOrder c → (xs : List X) (x y : X) → IsStrictlySortedBy c (xs ++ x ∷ []) → c x y ≡ Less → IsStrictlySortedBy c ((xs ++ x ∷ []) ++ y ∷ [])
   strict_next total xs x y up less = strict_push (xs ++ x ∷ []) y up (below_last (λ z. c z y ≡ Less) xs x (λ z h. total.trans z x y h less) less up)
 
-  -- another in the place of the last
+  -- another element in the place of the last
   pub strict_other : (xs : List X) (x y : X) → ((z : X) → c z x ≡ Less → c z y ≡ Less) → IsStrictlySortedBy c (xs ++ x ∷ []) → IsStrictlySortedBy c (xs ++ y ∷ [])
   unfolding IsStrictlySortedBy
   strict_other [] x y same up = (tt, tt)
@@ -105,10 +105,10 @@ always : (a : Bool) → (a && true) ≡ a
 always true = refl
 always false = refl
 
--- ---- the keys, one query behind another
+-- ---- the keys, one query after another
 
 module _ (queries : List (List Text)) where
-  -- that the keys of a query from the index i on, and those of the queries from the index v on, are these
+  -- these are the keys of a query from index i on, and those of the queries from index v on
   abbrev AreRead : ℕ → ℕ → List Text → Type 0
   AreRead v i keys = (j : ℕ) → get_or (get_or queries v []) (i + j) [] ≡ get_or keys j []
 
@@ -185,7 +185,7 @@ module _ (queries : List (List Text)) where
     held = λ key w. sym (list_any-IsPermutation (says queries key w) keys moved same) ∙ whole.held key w;
   }
 
--- ---- the keys, put one behind another
+-- ---- the keys, appended one by one
 
 keys_suc : (w n : ℕ) (keys : List Text) (i : ℕ) → i < length keys → keys_from w n (take (suc i) keys) ≡ keys_from w n (take i keys) ++ key_with (hash_of (get_or keys i [])) w (n + i) (2 ^ w) ∷ []
 keys_suc w n [] i h = absurd (omega arith)
@@ -194,7 +194,7 @@ keys_suc w n (key ∷ keys) (suc i) h =
     let e : n + 1 + i ≡ n + suc i = omega arith in
     ap (λ us. key_with (hash_of key) w n (2 ^ w) ∷ us) (keys_suc w (n + 1) keys i (omega arith) ∙ ap (λ (m : ℕ). keys_from w (n + 1) (take i keys) ++ key_with (hash_of (get_or keys i [])) w m (2 ^ w) ∷ []) e)
 
--- one key more
+-- one more key
 pub keys_more : (w : ℕ) (keys : List Text) (i hash mask : ℕ) (start before after : List KeyAt) → i < length keys → hash ≡ hash_of (get_or keys i []) → mask ≡ 2 ^ w → before ≡ start ++ keys_from w 0 (take i keys) → after ≡ before ++ key_with hash w i mask ∷ []
     → after ≡ start ++ keys_from w 0 (take (i + 1) keys)
 keys_more w keys i hash mask start before after h e m so_far push =
@@ -215,7 +215,7 @@ all_suc n (state ∷ states) (suc i) d h =
     ap (λ us. keys_from n 0 state.keys ++ us) (all_suc (n + 1) states i d (omega arith) ∙ ap (λ (m : ℕ). all_from (n + 1) (keys_of (take i states)) ++ keys_from m 0 (get_or states i d).keys) e)
     ∙ sym (append_assoc (keys_from n 0 state.keys) (all_from (n + 1) (keys_of (take i states))) (keys_from (n + suc i) 0 (get_or states i d).keys))
 
--- one query more
+-- one more query
 pub all_more : (states : List StateOf) (i : ℕ) (state : StateOf) (keys : List Text) (olds news : List KeyAt) → i < length states → state ≡ get_or states i state → keys ≡ state.keys → olds ≡ all_from 0 (keys_of (take i states)) → news ≡ olds ++ keys_from i 0 keys
     → news ≡ all_from 0 (keys_of (take (i + 1) states))
 all_more states i state keys olds news h is same before e =
@@ -225,11 +225,12 @@ all_more states i state keys olds news h is same before e =
 
 -- ---- equal keys, merged
 
--- a key with the queries of another mask beside its own
+-- a key, with the queries of another mask added to its own
 abbrev pub joined : KeyAt → ℕ → KeyAt
 joined at mask = key_with at.hash at.query at.index (bit_or at.holders mask)
 
--- Of keys that are in order, the first i and one more were taken: those that are done, each once, and the last, to which the next may be equal.
+-- Of keys that are in order, the first i and one more were taken: those that are done, distinct, and the last, which
+-- may equal the next.
 pub record Merges (queries : List (List Text)) (keys : List KeyAt) (i : ℕ) (done : List KeyAt) (last : KeyAt) : Type 0 where
   pub rising : IsStrictlySortedBy (key_cmp queries) (done ++ last ∷ [])
   pub hashed : AllByRecursion (IsHashed queries) (done ++ last ∷ [])
@@ -242,7 +243,7 @@ exact a b Less e f = absurd (let g : false ≡ true = f in cc)
 exact a b Equal e f = exact_bytes a b (sym e)
 exact a b Greater e f = absurd (let g : false ≡ true = f in cc)
 
--- what is not less, and not equal, is greater
+-- if neither less nor equal, the reverse is less
 turned : (o p : Ordering) → o ≡ ordering_reverse p → is_lt p ≡ false → is_eq o ≡ false → o ≡ Less
 turned Less p e f g = refl
 turned Equal p e f g = absurd (let h : true ≡ false = g in cc)
@@ -327,7 +328,7 @@ module _ (queries : List (List Text)) (keys : List KeyAt) (whole : AreKeysOf que
     };
   })
 
--- the first key and those behind it
+-- the first key and those after it
 pub cut_first : (keys : List KeyAt) (d : KeyAt) → 1 ≤ length keys → keys ≡ get_or keys 0 d ∷ take (length keys - 1) (drop 1 keys)
 cut_first [] d h = absurd (omega arith)
 cut_first (key ∷ keys) d h = let e : suc (length keys) - 1 ≡ length keys = omega arith in ap (λ us. key ∷ us) (sym (ap (λ (n : ℕ). take n keys) e ∙ take-length keys))
@@ -340,7 +341,7 @@ unfolding IsStrictlySortedBy
 index_of_none queries [] index h whole e = subst (IsIndexOf queries) (sym e) (record { rising = tt; keys = whole })
 index_of_none queries (key ∷ keys) index h whole e = absurd (omega arith)
 
--- ---- a key that is looked for
+-- ---- a key that is searched for
 
 pub same_lists_tie : (a b : List ℕ) → a ≡ b → slice_cmp nat_cmp a b ≡ Equal
 same_lists_tie a b e = ap (slice_cmp nat_cmp a) (sym e) ∙ tied_itself nat_list_cmp_total a
@@ -356,14 +357,14 @@ searchable queries key hash keys up = searchable_from_sorted nat_list_cmp_total 
     let b = sorted_by queries (get_or keys (k + 1) d) in
     ap is_lt (total.antisymm b a ∙ ap ordering_reverse (Less-from_sorted (key_cmp queries) keys k (k + 1) d up (omega arith) h)))
 
--- where a search ends that finds nothing, nothing is equal
+-- if a search ends without finding anything, no element compares as equal
 pub parted_nowhere : {X : Type 0} (ord : X → Ordering) (xs : List X) (i : ℕ) → IsPartitionPoint (λ x. ord x ≡ Less) (λ x. ord x ≡ Greater) xs i → (k : ℕ) (d : X) → k < length xs → ord (get_or xs k d) ≡ Equal → ⊥
 parted_nowhere ord xs i parted k d h e = elim (cases_lt k i) [
   | inl l ↦ let f : Less ≡ Equal = sym (parted.0 k d (omega arith) l) ∙ e in let g : true ≡ false = ap is_lt f in cc
   | inr m ↦ let f : Greater ≡ Equal = sym (parted.1 k d m h) ∙ e in let g : false ≡ true = ap is_eq f in cc
 ]
 
--- a test that one element alone can pass
+-- a test that only one element can pass
 only_one : {X : Type 0} (p : X → Bool) (xs : List X) (i : ℕ) (d : X) → i < length xs → ((k : ℕ) → k < length xs → (k ≡ i → ⊥) → p (get_or xs k d) ≡ false) → list_any p xs ≡ p (get_or xs i d)
 only_one p [] i d h others = absurd (omega arith)
 only_one p (x ∷ xs) zero d h others =
@@ -372,7 +373,7 @@ only_one p (x ∷ xs) (suc i) d h others =
     ap (λ b. b || list_any p xs) (others 0 (omega arith) (λ f. omega (arith, f))) ∙ only_one p xs i d (omega (arith, h)) (λ k l apart. others (suc k) (omega (arith, l)) (λ f. apart (omega (arith, f))))
 
 module _ (queries : List (List Text)) (key : Text) (hash : ℕ) (own : hash ≡ hash_of key) where
-  -- what does not compare as the key says nothing of it
+  -- an entry that does not compare equal to the key says nothing of it
   says_nothing : (w : ℕ) (at : KeyAt) → IsHashed queries at → (sorted_by queries at ≡ hash ∷ key → ⊥) → says queries key w at ≡ false
   says_nothing w at hashed apart = by (bytes_eq key (text_of queries at)) refl
     where
@@ -389,11 +390,11 @@ module _ (queries : List (List Text)) (key : Text) (hash : ℕ) (own : hash ≡ 
       head [] = 0
       head (n ∷ ns) = n
 
-  -- where no key has the hash, no query holds the key
+  -- if no key has the hash, no query holds the key
   pub none_holds : (keys : List KeyAt) → IsIndexOf queries keys → AllByRecursion (λ at. at.hash ≡ hash → ⊥) keys → (w : ℕ) → has_key (get_or queries w []) key ≡ false
   none_holds keys index apart w = sym (index.keys.held key w) ∙ any_none (says queries key w) keys (other_hash w keys index.keys.hashed apart)
 
-  -- what a stretch says of it, all keys say
+  -- what a stretch says of a key is what all keys say
   pub stretch_says : (keys stretch : List KeyAt) → AllByRecursion (IsHashed queries) keys → IsStretch hash keys stretch → (w : ℕ) → list_any (says queries key w) stretch ≡ list_any (says queries key w) keys
   stretch_says keys stretch hashed cut w =
       let p = says queries key w in
@@ -403,7 +404,7 @@ module _ (queries : List (List Text)) (key : Text) (hash : ℕ) (own : hash ≡ 
       let back = any_none p cut.back (other_hash w cut.back (all_right (IsHashed queries) stretch cut.back rest) cut.behind) in
       sym (ap (list_any p) cut.whole ∙ list_any-append p cut.front (stretch ++ cut.back) ∙ (λ j. front j || (list_any-append p stretch cut.back ∙ ap (λ b. list_any p stretch || b) back ∙ or-false (list_any p stretch)) j))
 
-  -- where the first is another key, those behind it say all
+  -- if the first is another key, those after it say the same as all
   pub says_behind : (keys : List KeyAt) (first : KeyAt) (rest : List KeyAt) → keys ≡ first ∷ rest → AllByRecursion (IsHashed queries) keys → (sorted_by queries first ≡ hash ∷ key → ⊥) → (w : ℕ) → list_any (says queries key w) rest ≡ list_any (says queries key w) keys
   says_behind keys first rest e hashed apart w =
       let all : AllByRecursion (IsHashed queries) (first ∷ rest) = subst (AllByRecursion (IsHashed queries)) e hashed in

@@ -1,4 +1,4 @@
--- Rows in the order of an answer, of which some are taken out and others are put.
+-- Rows in the order of an answer, from which some are removed and to which others are added.
 use Rattle.std.proofs.Common.{◌≡◌, refl, ap, sym, ◌∙◌, subst, ℕ, zero, suc, ◌+◌, ◌<◌, ◌≤◌, List, [], ◌∷◌, ◌++◌, Bool, true, false, length, get_or, arith, cond, take, append_assoc, insert, not, Option, Some, None}
 use Rattle.std.specs.Prelude.{bytes_eq}
 use Rattle.std.specs.List.{AllByRecursion, AllWithin, filter}
@@ -23,7 +23,7 @@ before y x = is_lt (row_cmp y x)
 abbrev AreOrdered : List Row → Type 0
 AreOrdered rows = Ordered before (less_order row_cmp_total) rows
 
--- ---- the order does not depend on what was put in order before
+-- ---- sorting does not depend on what was sorted before
 
 pub in_order_again : (xs ys : List Row) → in_order row_cmp (in_order row_cmp xs ++ ys) ≡ in_order row_cmp (xs ++ ys)
 in_order_again xs ys = in_order-IsPermutation row_cmp_total row_cmp_exact (xs ++ ys) (in_order row_cmp xs ++ ys) (IsPermutation-append_left ys xs (in_order row_cmp xs) (in_order_moves row_cmp xs))
@@ -34,7 +34,7 @@ in_order_twice xs = in_order-IsPermutation row_cmp_total row_cmp_exact xs (in_or
 pub stays_in_order : (xs ys : List Row) → ys ≡ in_order row_cmp xs → ys ≡ in_order row_cmp ys
 stays_in_order xs ys e = e ∙ sym (in_order_twice xs) ∙ ap (in_order row_cmp) (sym e)
 
--- a row that was to come is put
+-- one of the coming rows is inserted
 pub moved : (row : Row) (rows coming left after : List Row) → coming ≡ left ++ row ∷ [] → after ≡ in_order row_cmp (row ∷ rows) → in_order row_cmp (after ++ left) ≡ in_order row_cmp (rows ++ coming)
 moved row rows coming left after e f =
     ap (λ us. in_order row_cmp (us ++ left)) f ∙ in_order_again (row ∷ rows) left
@@ -101,7 +101,7 @@ put_refused p x (y ∷ ys) f = elim (before y x) as (λ b. filter p (cond b (y �
   | false ↦ ap (λ b. cond b (x ∷ filter p (y ∷ ys)) (filter p (y ∷ ys))) f
 ]
 
--- the order of some of the rows is that which they have among all
+-- some of the rows, filtered, keep the order that they have among all
 pub filter_in_order : (p : Row → Bool) (xs : List Row) → filter p (in_order row_cmp xs) ≡ in_order row_cmp (filter p xs)
 unfolding in_order
 filter_in_order p [] = refl
@@ -112,7 +112,7 @@ filter_in_order p (x ∷ xs) = by_test (p x)
 pub left_in_order : (p : Row → Bool) (xs : List Row) → xs ≡ in_order row_cmp xs → filter p xs ≡ in_order row_cmp (filter p xs)
 left_in_order p xs e = ap (filter p) e ∙ filter_in_order p xs
 
--- rows are put in order after some of them, or none, were taken out
+-- rows are put in order after some of them, or none, were removed
 pub left_again : (gone : Option Text) (xs ys : List Row) → in_order row_cmp (rows_left gone (in_order row_cmp xs) ++ ys) ≡ in_order row_cmp (rows_left gone xs ++ ys)
 left_again None xs ys = in_order_again xs ys
 left_again (Some name) xs ys =
@@ -138,7 +138,7 @@ equal_order Less e = let never : false ≡ true = e in cc
 equal_order Equal e = refl
 equal_order Greater e = let never : false ≡ true = e in cc
 
--- rows that are the same up to an index, where those at the index are the same
+-- rows that agree up to an index, and at that index
 pub alike : (x y : Row) (xs ys : List Row) (i : ℕ) → i < length xs → i < length ys → x ≡ get_or xs i x → y ≡ get_or ys i y → is_eq (row_cmp x y) ≡ true → take i xs ≡ take i ys → take (i + 1) xs ≡ take (i + 1) ys
 alike x y xs ys i h k e f same before_it = same_more xs ys i x y h k before_it ((λ j. row_cmp (sym e j) (sym f j)) ∙ equal_order (row_cmp x y) same)
 

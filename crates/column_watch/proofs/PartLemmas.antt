@@ -10,7 +10,7 @@ use Rattle.std.proofs.lemmas.Nat.{le-div, pow_pos}
 use Rattle.column_watch.specs.Index.{AreStarts, IsStretch, part_of}
 use Rattle.column_watch.specs.declared.holders.KeyAt.{KeyAt}
 
--- a part does not lie before that of a lower hash
+-- the part of a hash is not before that of a lower hash
 parts_rise : (shift a b : ℕ) → a ≤ b → part_of shift a ≤ part_of shift b
 parts_rise shift a b h = let low : a / 2 ^ shift * 2 ^ shift ≤ a = div-mul-le_self a (2 ^ shift) in le-div (a / 2 ^ shift) b (2 ^ shift) (pow_pos shift) (omega (arith, low, h))
 
@@ -27,7 +27,7 @@ point shift part keys at p =
 pub no_starts : (shift : ℕ) (keys : List KeyAt) (starts : List ℕ) → starts ≡ [] → AreStarts shift keys starts
 no_starts shift keys starts e = subst (AreStarts shift keys) (sym e) (record { within = λ part. omega arith; points = λ part h. absurd (omega (arith, h)) })
 
--- one part more
+-- one more part
 pub starts_more : (shift : ℕ) (keys : List KeyAt) (starts after : List ℕ) (start : ℕ) → AreStarts shift keys starts → start ≤ length keys
     → IsPartitionPoint (λ at. part_of shift at.hash < length starts) (λ at. length starts ≤ part_of shift at.hash) keys start → after ≡ starts ++ start ∷ [] → AreStarts shift keys after
 starts_more shift keys starts after start so_far within here e = subst (AreStarts shift keys) (sym e) (record {

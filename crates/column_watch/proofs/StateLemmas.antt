@@ -1,4 +1,4 @@
--- What holds of a watched query after an entry, from what held before it.
+-- What holds of a watched query after an entry, given what held before it.
 use Rattle.std.proofs.Common.{◌≡◌, refl, ap, sym, ◌∙◌, subst, ℕ, ◌+◌, ◌-◌, ◌<◌, ◌≤◌, List, [], ◌∷◌, ◌++◌, true, false, not, length, get_or, arith, cond, take, map, flat_map, append-nil, set, below_more, Option, Some, None}
 use Rattle.std.specs.Prelude.{bytes_eq, nat_lt, OnErr, Result, Ok, Err}
 use Rattle.std.specs.List.{All, AllByRecursion, IsDistinct, enumerate_from, filter}
@@ -114,7 +114,7 @@ same_maps f olds news n same =
     let inside : k < length olds = omega (arith, within, n) in
     get_or-map f news k no_state d within ∙ same k no_state inside ∙ sym (get_or-map f olds k no_state d inside))
 
--- the queries after all of them were prepared for an entry, and settled
+-- the queries after all of them were prepared for an entry and settled
 module _ (journal : List Entry) (entry : Entry) (table : Option Table) (gone : Option Text) (puts : table ≡ put_by entry.what) (takes : gone ≡ gone_by entry.what) (start prepared settled : List StateOf) (held : List KeyAt)
     (few : length start ≤ 16) (current : All (IsCurrent journal) start) (indexed : IsIndexOf (map (λ state. state.keys) start) held)
     (n : length prepared ≡ length start) (is_ready : (i : ℕ) (d : StateOf) → i < length start → get_or prepared i d ≡ ready (get_or start i d) (rows_put (get_or start i d).keys table))
@@ -219,7 +219,7 @@ module _ (journal : List Entry) (states seen start prepared : List StateOf) (old
   start_current : All (IsCurrent journal) start
   start_current = subst (All (IsCurrent journal)) (sym starts) h.current
 
-  -- where memory is wanting
+  -- if memory runs out
   module _ (entries : List Entry) (after : List StateOf) (stays : entries ≡ journal) (is : after ≡ prepared) (same : (i : ℕ) (d : StateOf) → i < length start → still (get_or prepared i d) ≡ still (get_or start i d)) where
     pub refused_kept : IsKept entries after held
     refused_kept =
@@ -229,7 +229,7 @@ module _ (journal : List Entry) (states seen start prepared : List StateOf) (old
     pub refused_queries : map watch_of after ≡ map watch_of states
     refused_queries = ap (map watch_of) is ∙ still_queries start prepared n same ∙ ap (map watch_of) starts
 
-  -- where the entry is taken
+  -- if the entry is taken
   module _ (entry : Entry) (table : Option Table) (gone : Option Text) (puts : table ≡ put_by entry.what) (takes : gone ≡ gone_by entry.what)
       (is_ready : (i : ℕ) (d : StateOf) → i < length start → get_or prepared i d ≡ ready (get_or start i d) (rows_put (get_or start i d).keys table))
       (ready_list settled after : List StateOf) (entries : List Entry) (readies : ready_list ≡ prepared) (m : length settled ≡ length ready_list)

@@ -1,4 +1,4 @@
--- What is held of the watched queries beside the journal.
+-- What is held of the watched queries besides the journal.
 use Rattle.std.specs.Prelude.{◌≡◌, ◌<◌, ◌≤◌, ⊤, ℕ, Bool, not, List, [], ◌++◌, bytes_eq, filter, get_or, length, map, take, Option, Some, None}
 use Rattle.std.specs.List.{All, IsDistinct}
 use Rattle.lake_model.specs.Texts.{Text}
@@ -10,8 +10,8 @@ use Rattle.column_watch.specs.Index.{IsIndexOf}
 use Rattle.column_watch.specs.Watching.{Tells, WatchOf, answer_of, before_last, rows_of, watch_with}
 use Rattle.column_watch.specs.declared.holders.KeyAt.{KeyAt}
 
--- A watched query: its rows; the rows that an entry is about to put, and the first ones before it; and whether the last entry changed
--- the first ones.
+-- A watched query: its rows; the rows that an entry is about to put, and the first k rows before the entry; and whether
+-- the last entry changed the first k rows.
 pub record StateOf : Type 0 where
   pub keys : List Text
   pub k : ℕ
@@ -53,18 +53,18 @@ rows_left (Some name) rows = filter (λ row. not (bytes_eq row.table name)) rows
 abbrev pub ready : StateOf → List Row → StateOf
 ready state coming = record state { coming = coming; first = take state.k state.rows }
 
--- what a query keeps while memory is taken for an entry
+-- the parts of a query that do not change while memory is taken for an entry
 abbrev pub still : StateOf → StateOf
 still state = record state { coming = []; first = [] }
 
--- A query before and after the table of a name is taken away, or none, and the rows that were coming are put.
+-- A query before and after the table of a name, or none, is taken away and the rows that were coming are put.
 pub record Settles (gone : Option Text) (before after : StateOf) : Type 0 where
   pub keys : after.keys ≡ before.keys
   pub k : after.k ≡ before.k
   pub rows : after.rows ≡ in_order row_cmp (rows_left gone before.rows ++ before.coming)
   pub told : Tells after.changed before.first (take after.k after.rows)
 
--- of a journal, a query has all its rows in order, and knows whether the last entry changed the first ones
+-- a query has all its rows over a journal in order, and knows whether the last entry changed the first k
 pub record IsCurrent (journal : List Entry) (state : StateOf) : Type 0 where
   pub different : IsDistinct bytes_eq state.keys
   pub rows : state.rows ≡ in_order row_cmp (rows_of journal (watch_of state))
@@ -80,17 +80,17 @@ pub record IsKept (journal : List Entry) (states : List StateOf) (index : List K
 abbrev pub overlaps_of : List (List Text) → Table → List (List ℕ)
 overlaps_of queries table = map (λ column. map (λ keys. overlap keys column.keys) queries) table.columns
 
--- what is counted for the table that an entry puts
+-- the overlaps that are counted for the table that an entry puts
 abbrev pub IsCounted : Option Table → List (List Text) → List (List ℕ) → Type 0
 IsCounted None queries counts = ⊤
 IsCounted (Some table) queries counts = counts ≡ overlaps_of queries table
 
--- there are numbers for each column, and one of them for the query of the index w
+-- there is a list of numbers for each column, with one for the query of index w
 abbrev pub HasColumns : Option Table → List (List ℕ) → ℕ → Type 0
 HasColumns None counts w = ⊤
 HasColumns (Some table) counts w = (length counts ≡ length table.columns) × All (λ numbers. w < length numbers) counts
 
--- the numbers of the query of the index w are those of its keys
+-- the numbers of the query of index w are the overlaps of its keys
 abbrev pub IsColumn : Option Table → List (List ℕ) → ℕ → List Text → Type 0
 IsColumn None counts w keys = ⊤
 IsColumn (Some table) counts w keys = map (λ numbers. get_or numbers w 0) counts ≡ map (λ column. overlap keys column.keys) table.columns

@@ -4,7 +4,7 @@ use Rattle.lake_model.specs.Texts.{Text}
 use Rattle.segment_core.specs.Hashes.{hash_of}
 use Rattle.column_watch.specs.declared.overlaps.Hit.{Hit}
 
--- the index is that of one of the keys, and the hash is its
+-- the index is that of one of the keys, and the hash is that key's hash
 abbrev pub IsHit : List Text → Hit → Type 0
 IsHit keys hit = (hit.index < length keys) × (hit.hash ≡ hash_of (get_or keys hit.index []))
 

@@ -14,11 +14,11 @@ use Rattle.column_watch.specs.declared.holders.KeyAt.{KeyAt}
 abbrev pub key_with : ℕ → ℕ → ℕ → ℕ → KeyAt
 key_with hash query index holders = record { hash = hash; query = query; index = index; holders = holders }
 
--- whether the query of the index w is one of those of a mask
+-- whether the query of index w is in the mask
 abbrev pub has_query : ℕ → ℕ → Bool
 has_query mask w = nat_eq (bit_at mask w) 1
 
--- the key that stands there, and an empty text where none does
+-- the key at these indexes, or the empty text if there is none
 abbrev pub text_of : List (List Text) → KeyAt → Text
 text_of queries at = get_or (get_or queries at.query []) at.index []
 
@@ -32,40 +32,40 @@ key_cmp queries a b = slice_cmp nat_cmp (sorted_by queries a) (sorted_by queries
 abbrev pub IsHashed : List (List Text) → KeyAt → Type 0
 IsHashed queries at = at.hash ≡ hash_of (text_of queries at)
 
--- whether it says of this key that the query of the index w holds it
+-- whether `at` says that the query of index w holds this key
 abbrev pub says : List (List Text) → Text → ℕ → KeyAt → Bool
 says queries key w at = bytes_eq key (text_of queries at) && has_query at.holders w
 
--- keys with their hashes, which say of each key which of the queries hold it
+-- keys with their hashes that say, for each key, which of the queries hold it
 pub record AreKeysOf (queries : List (List Text)) (keys : List KeyAt) : Type 0 where
   pub hashed : AllByRecursion (IsHashed queries) keys
   pub held : (key : Text) (w : ℕ) → list_any (says queries key w) keys ≡ has_key (get_or queries w []) key
 
--- such keys, each once, in that order
+-- such keys, distinct and in that order
 pub record IsIndexOf (queries : List (List Text)) (index : List KeyAt) : Type 0 where
   pub rising : IsStrictlySortedBy (key_cmp queries) index
   pub keys : AreKeysOf queries index
 
--- the keys of the query of the index w, of which the first has the index i
+-- the keys of the query of index w, the first of them at index i
 abbrev pub keys_from : ℕ → ℕ → List Text → List KeyAt
 keys_from w i [] = []
 keys_from w i (key ∷ keys) = key_with (hash_of key) w i (2 ^ w) ∷ keys_from w (i + 1) keys
 
--- the keys of the queries, of which the first has the index w
+-- the keys of the queries, the first of which has index w
 abbrev pub all_from : ℕ → List (List Text) → List KeyAt
 all_from w [] = []
 all_from w (keys ∷ queries) = keys_from w 0 keys ++ all_from (w + 1) queries
 
--- the part of the range of hashes that a hash lies in
+-- the part of the range of hashes to which a hash belongs
 abbrev pub part_of : ℕ → ℕ → ℕ
 part_of shift hash = hash / 2 ^ shift
 
--- for each part the first of the keys that are not of a part before it
+-- for each part, the index of the first key that is not of an earlier part
 pub record AreStarts (shift : ℕ) (keys : List KeyAt) (starts : List ℕ) : Type 0 where
   pub within : (part : ℕ) → get_or starts part 0 ≤ length keys
   pub points : (part : ℕ) → part < length starts → IsPartitionPoint (λ at. part_of shift at.hash < part) (λ at. part ≤ part_of shift at.hash) keys (get_or starts part 0)
 
--- a stretch of keys outside which none has a hash
+-- a stretch of the keys outside which no key has the hash
 pub record IsStretch (hash : ℕ) (keys stretch : List KeyAt) : Type 0 where
   pub front : List KeyAt
   pub back : List KeyAt

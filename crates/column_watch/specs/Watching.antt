@@ -28,7 +28,7 @@ watch_at queries w = get_or queries (w - 1) (watch_with [] 0)
 abbrev pub rows_of : List Entry → WatchOf → List Row
 rows_of journal watch = all_rows (live journal) watch.keys None
 
--- the answer to a watched query after a journal
+-- the answer to a watched query over a journal
 abbrev pub answer_of : List Entry → WatchOf → List Row
 answer_of journal watch = answer (live journal) watch.keys watch.k None
 
@@ -36,7 +36,7 @@ answer_of journal watch = answer (live journal) watch.keys watch.k None
 abbrev pub before_last : List Entry → List Entry
 before_last journal = take (length journal - 1) journal
 
--- that a truth value says whether rows differ from those before
+-- the truth value says whether the rows differ from those before
 abbrev pub Tells : Bool → List Row → List Row → Type 0
 Tells true before after = before ≡ after → ⊥
 Tells false before after = before ≡ after

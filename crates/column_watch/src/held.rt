@@ -1,4 +1,4 @@
-//! A row that is held from entry to entry.
+//! Rows that are held from entry to entry.
 ghost use Rattle.std.specs.Prelude.{◌≡◌, ◌≤◌, ◌<◌, ◌+◌, ◌∷◌, ◌++◌, bytes_eq, filter, length, not, option_map, take, vec_capacity, vec_len, IfOk};
 ghost use Rattle.std.specs.List.{insert};
 ghost use Rattle.std.specs.Ordering.{is_eq, is_lt};
@@ -33,7 +33,7 @@ impl Model for Held {
 }
 
 impl Held {
-    /// The same row, with a share of its titles.
+    /// Returns the same row, with a share of its titles.
     pub(crate) fn of(row: &Row<'_>) -> Result<Held, NoMemory>
         ensures { IfOk result (λ held. held ≡ row.now) }
     {
@@ -44,7 +44,7 @@ impl Held {
         })
     }
 
-    /// The same row, which borrows the titles.
+    /// Returns the same row, which borrows the titles.
     pub(crate) fn row(&self) -> Row<'_>
         ensures { result ≡ self.now }
     {
@@ -55,21 +55,21 @@ impl Held {
         }
     }
 
-    // Whether it is a row of another table than that of this name.
+    // Returns whether the row is of a table with another name.
     fn is_of_other(&self, name: &Name) -> bool
         ensures { result ≡ not (bytes_eq self.now.table name.now) }
     {
         self.titles.table().bytes() != name.bytes()
     }
 
-    // Whether it is the same row.
+    // Returns whether the two rows are equal.
     fn is_same(&self, other: &Held) -> bool
         ensures { result ≡ is_eq (row_cmp self.now other.now) }
     {
         self.row().order(&other.row()).is_eq()
     }
 
-    // Whether it comes before another row in an answer.
+    // Returns whether this row comes before the other in an answer.
     fn is_before(&self, other: &Held) -> bool
         ensures { result ≡ is_lt (row_cmp self.now other.now) }
     {
@@ -77,7 +77,7 @@ impl Held {
     }
 }
 
-/// The same rows, each with one more share of its titles.
+/// Returns the same rows, each with one more share of its titles.
 pub(crate) fn share_all(alloc: Global, rows: &[Held]) -> Result<Vec<Held>, NoMemory>
     ensures { IfOk result (λ shares. shares.items ≡ rows.now) }
 {
@@ -88,7 +88,7 @@ pub(crate) fn share_all(alloc: Global, rows: &[Held]) -> Result<Vec<Held>, NoMem
     Ok(shares)
 }
 
-/// The same rows, which borrow their titles.
+/// Returns the same rows, which borrow their titles.
 pub(crate) fn lend_all(alloc: Global, rows: &[Held]) -> Result<Vec<Row<'_>>, NoMemory>
     ensures { IfOk result (λ lent. lent.items ≡ rows.now) }
 {
@@ -99,21 +99,21 @@ pub(crate) fn lend_all(alloc: Global, rows: &[Held]) -> Result<Vec<Row<'_>>, NoM
     Ok(lent)
 }
 
-/// The first k rows, or all where there are fewer.
+/// Returns the first k rows, or all if there are fewer.
 pub(crate) fn first_of(rows: &[Held], k: u32) -> &[Held]
     ensures { result.now ≡ take k rows.now }
 {
     &rows[..rows.len().min(k as usize)]
 }
 
-/// Whether the rows differ from those before.
+/// Returns whether the rows differ from those before.
 pub(crate) fn differ(before: &[Held], after: &[Held]) -> bool
     ensures { Tells result before.now after.now }
 {
     before.len() != after.len() || !all_equal(before, after)
 }
 
-// Whether each row is the one at its index of the others, of which there are as many.
+// Returns whether each row equals the one at its index in the other list, which is as long.
 fn all_equal(before: &[Held], after: &[Held]) -> bool
     requires { length before.now ≡ length after.now }
     ensures { Tells (not result) before.now after.now }
@@ -126,7 +126,7 @@ fn all_equal(before: &[Held], after: &[Held]) -> bool
     true
 }
 
-/// Takes the rows of the table of this name, or of none, out of rows that are in order.
+/// Removes the rows of the table of this name, if one is given, from rows that are in order.
 pub(crate) fn take_gone(rows: &mut Vec<Held>, gone: Option<&Name>)
     requires order { rows.old.items ≡ in_order row_cmp rows.old.items }
     ensures rows { rows.new.items ≡ rows_left (option_map (λ name. name.now) gone.entry) rows.old.items }
@@ -139,7 +139,7 @@ pub(crate) fn take_gone(rows: &mut Vec<Held>, gone: Option<&Name>)
     }
 }
 
-// Takes out the rows of the table of this name.
+// Removes the rows of the table of this name.
 fn take_out(rows: &mut Vec<Held>, name: &Name)
     ensures rows { rows.new.items ≡ filter (λ row. not (bytes_eq row.table name.now)) rows.old.items }
     ensures len { vec_len rows.new ≤ vec_len rows.old }
@@ -148,7 +148,7 @@ fn take_out(rows: &mut Vec<Held>, name: &Name)
     rows.retain(|held| held.is_of_other(name));
 }
 
-// Where a row goes among rows that are in order.
+// Returns the index at which a row belongs among rows that are in order.
 fn index_for(rows: &[Held], row: &Held) -> usize
     requires { rows.now ≡ in_order row_cmp rows.now }
     ensures within { result ≤ length rows.now }
@@ -157,7 +157,7 @@ fn index_for(rows: &[Held], row: &Held) -> usize
     rows.partition_point(|held| held.is_before(row))
 }
 
-// Puts a row among rows that are in order. It takes no memory.
+// Inserts a row among rows that are in order. It takes no memory.
 fn put(rows: &mut Vec<Held>, row: Held)
     requires order { rows.old.items ≡ in_order row_cmp rows.old.items }
     requires room { vec_len rows.old < vec_capacity rows.old }
@@ -172,7 +172,7 @@ fn put(rows: &mut Vec<Held>, row: Held)
     }
 }
 
-/// Moves rows to where they go among rows that are in order. It takes no memory.
+/// Moves rows to where they belong among rows that are in order. It takes no memory.
 pub(crate) fn put_all(rows: &mut Vec<Held>, coming: &mut Vec<Held>)
     requires order { rows.old.items ≡ in_order row_cmp rows.old.items }
     requires room { vec_len rows.old + vec_len coming.old ≤ vec_capacity rows.old }

@@ -1,4 +1,4 @@
-//! The keys of all queries, each once, in an order in which it is found with the queries that hold it.
+//! The keys of all queries, each once, ordered so that a key is found together with the queries that hold it.
 ghost use Rattle.std.specs.Prelude.{◌≡◌, ◌≤◌, ◌<◌, ◌+◌, ◌*◌, ◌^◌, ◌∷◌, ◌++◌, [], ℕ, List, bytes_eq, false, get_or, length, map, IfOk, OnOk};
 ghost use Rattle.std.specs.Cmp.Lexicographic.{slice_cmp};
 ghost use Rattle.std.specs.List.{AllByRecursion, list_any};
@@ -16,12 +16,12 @@ use std::alloc::Global;
 use std::cmp::Ordering;
 use std::marker::Model;
 
-/// How many keys of a part are compared with a hash one by one. A part has more only where keys were chosen for it: a binary search then
-/// decides.
+/// The most keys of a part that are compared with a hash one by one. A part has more only if keys were chosen to cause
+/// it; then a binary search decides.
 const FEW_KEYS: usize = 64;
 
-/// A key that queries hold: its hash, one of these queries, the index of the key among those of that query, and a mask in which bit w
-/// says whether the query of the index w holds it.
+/// A key that queries hold: its hash, the index of one of these queries, the index of the key in that query, and a mask
+/// whose bit w says whether the query of index w holds it.
 #[derive(Clone, Copy)]
 pub(crate) struct KeyAt {
     hash: u32,
@@ -30,12 +30,13 @@ pub(crate) struct KeyAt {
     holders: u32,
 }
 
-/// Each key that a query holds, once, by the hashes of the keys and then by their bytes. The range of all hashes is cut into equal parts,
-/// more than there are keys and at most twice as many: `starts` says where the keys of each part begin, so that a search for a key that
-/// no query holds mostly ends there, at a part that has none, and else at a hash. A contract sees the list of the keys.
+/// Each key that a query holds, once, ordered by the hashes of the keys and then by their bytes. The range of all
+/// hashes is cut into equal parts, more than there are keys and at most twice as many. `starts` says where the keys of
+/// each part begin, so that a search for a key that no query holds mostly ends there, at a part without keys, and
+/// otherwise mostly at a hash. Its model is the list of its keys.
 ///
-/// It takes 16 bytes for each key that is not another's equal, and 4 to 8 for the parts. A search is a binary one among the keys of one
-/// part, few as a rule; so no choice of keys makes it more than logarithmic.
+/// It takes 16 bytes for each distinct key, and 4 to 8 for the parts. A search is a binary search among the keys of one
+/// part, which are usually few; so no choice of keys makes it worse than logarithmic.
 #[derive(Drop)]
 pub(crate) struct Holders {
     keys: Vec<KeyAt>,
@@ -56,7 +57,7 @@ impl Model for Holders {
 }
 
 impl Holders {
-    /// No key.
+    /// Returns an index without keys.
     pub(crate) fn new(alloc: Global) -> Holders
         ensures { result ≡ [] }
     {
@@ -67,7 +68,7 @@ impl Holders {
         }
     }
 
-    /// Whether one of the keys may have the hash. It reads no text.
+    /// Returns whether one of the keys may have the hash. It reads no text.
     pub(crate) fn has_hash(&self, hash: u32) -> bool
         ensures { result ≡ false → AllByRecursion (λ at. at.hash ≡ hash → ⊥) self.now }
     {
@@ -75,7 +76,7 @@ impl Holders {
         near.len() > FEW_KEYS || near.iter().any(|at| at.hash == hash)
     }
 
-    // Keys outside which none has the hash.
+    // Returns a stretch of the keys outside which no key has the hash.
     fn near(&self, hash: u32) -> &[KeyAt]
         ensures { IsStretch hash self.now result.now }
     {
@@ -83,8 +84,9 @@ impl Holders {
     }
 }
 
-/// Each key of the queries, once, in order. It takes the time to read each key of each query once and to sort them; keys are compared
-/// only where their hashes are equal. For a while it takes a few times 16 bytes for each key of each query.
+/// Returns each key of the queries, once, in order. It reads each key of each query once and sorts them; the texts of
+/// keys are compared only if their hashes are equal. For a while it takes a few times 16 bytes for each key of each
+/// query.
 pub(crate) fn index_queries(alloc: Global, queries: &[Watched]) -> Result<Holders, NoMemory>
     requires { length queries.now ≤ 16 }
     ensures { IfOk result (λ holders. IsIndexOf (map (λ state. state.keys) queries.now) holders) }
@@ -99,7 +101,7 @@ pub(crate) fn index_queries(alloc: Global, queries: &[Watched]) -> Result<Holder
     })
 }
 
-/// The queries that hold a key of this hash: bit w says whether the query of the index w does.
+/// Returns the queries that hold a key of this hash: bit w says whether the query of index w does.
 pub(crate) fn holders_of(holders: &Holders, queries: &[Watched], hash: u32, key: &str) -> u32
     requires own { hash ≡ hash_of key.now }
     requires indexed { IsIndexOf (map (λ state. state.keys) queries.now) holders.now }
@@ -108,21 +110,22 @@ pub(crate) fn holders_of(holders: &Holders, queries: &[Watched], hash: u32, key:
     holders_among(queries, holders.near(hash), hash, key)
 }
 
-// The keys of the queries, each once, in order.
+// Returns the keys of the queries, each once, in order.
 fn index_keys(alloc: Global, queries: &[Watched]) -> Result<Vec<KeyAt>, NoMemory>
     requires { length queries.now ≤ 16 }
     ensures index { IfOk result (λ keys. IsIndexOf (map (λ state. state.keys) queries.now) keys.items) }
     ensures few { IfOk result (λ keys. length keys.items < 2 ^ 32) }
 {
     let mut keys = all_keys(alloc, queries)?;
-    // The sort is stable, so that a key is read where the first query has it: fewer queries' texts are in use.
+    // The sort is stable, so that a key is read where the first query has it, which keeps the texts of fewer queries in
+    // use.
     keys.sort_by(|a, b| key_order(queries, *a, *b))?;
     let mut index = merge_equal(alloc, queries, &keys)?;
     index.shrink_to_fit();
     Ok(index)
 }
 
-// The keys of the queries, one query behind another.
+// Returns the keys of the queries, one query after another.
 fn all_keys(alloc: Global, queries: &[Watched]) -> Result<Vec<KeyAt>, NoMemory>
     requires { length queries.now ≤ 16 }
     ensures keys { IfOk result (λ keys. AreKeysOf (map (λ state. state.keys) queries.now) keys.items) }
@@ -135,7 +138,7 @@ fn all_keys(alloc: Global, queries: &[Watched]) -> Result<Vec<KeyAt>, NoMemory>
     Ok(keys)
 }
 
-// Adds the keys of a query behind others.
+// Appends the keys of a query.
 fn add_keys(keys: &mut Vec<KeyAt>, query: &QuerySet, w: u32) -> Result<(), NoMemory>
     requires { w < 16 }
     ensures keys { OnOk result (keys.new.items ≡ keys.old.items ++ keys_from w 0 query.now) }
@@ -154,7 +157,7 @@ fn add_keys(keys: &mut Vec<KeyAt>, query: &QuerySet, w: u32) -> Result<(), NoMem
     Ok(())
 }
 
-// By the hash, and then by the key, which is read only where the hashes are equal.
+// Compares by the hash, and then by the key, which is read only if the hashes are equal.
 fn key_order(queries: &[Watched], a: KeyAt, b: KeyAt) -> Ordering
     ensures { result ≡ key_cmp (map (λ state. state.keys) queries.now) a b }
 {
@@ -164,7 +167,7 @@ fn key_order(queries: &[Watched], a: KeyAt, b: KeyAt) -> Ordering
     }
 }
 
-// Keys that are in order, each once, with all queries that hold it.
+// Merges equal keys of a sorted list into one, with all queries that hold it.
 fn merge_equal(alloc: Global, queries: &[Watched], keys: &[KeyAt]) -> Result<Vec<KeyAt>, NoMemory>
     requires sorted { IsSorted (key_cmp (map (λ state. state.keys) queries.now)) keys.now }
     requires whole { AreKeysOf (map (λ state. state.keys) queries.now) keys.now }
@@ -177,7 +180,7 @@ fn merge_equal(alloc: Global, queries: &[Watched], keys: &[KeyAt]) -> Result<Vec
     }
 }
 
-// A key and those behind it, of which each is there once.
+// Merges the equal keys of `first` and those that follow it.
 fn merge_rest(
     alloc: Global,
     queries: &[Watched],
@@ -203,8 +206,8 @@ fn merge_rest(
     Ok(index)
 }
 
-// Where the keys of each part of the range of hashes begin, where a part has the hashes that differ in their last bits alone, as many as
-// the shift. It takes a binary search for each part.
+// Returns where the keys of each part of the range of hashes begin. The hashes of a part differ only in their last
+// `shift` bits. It costs a binary search for each part.
 fn starts_of(alloc: Global, keys: &[KeyAt], shift: u32) -> Result<Vec<u32>, NoMemory>
     requires narrow { shift < 32 }
     requires few { length keys.now < 2 ^ 32 }
@@ -219,7 +222,7 @@ fn starts_of(alloc: Global, keys: &[KeyAt], shift: u32) -> Result<Vec<u32>, NoMe
     Ok(starts)
 }
 
-// The keys of the part of the range that the hash lies in.
+// Returns the keys of the part of the range to which the hash belongs.
 fn stretch_of<'a>(keys: &'a [KeyAt], starts: &[u32], shift: u32, hash: u32) -> &'a [KeyAt]
     requires narrow { shift < 32 }
     requires starts { AreStarts shift keys.now starts.now }
@@ -231,7 +234,7 @@ fn stretch_of<'a>(keys: &'a [KeyAt], starts: &[u32], shift: u32, hash: u32) -> &
     &keys[from..to]
 }
 
-// Where a part begins, and another place where there is no such part.
+// Returns where a part begins, or `other` if there is no such part.
 fn start_at(starts: &[u32], part: usize, other: usize) -> usize
     ensures { result ≡ get_or starts.now part other }
 {
@@ -241,8 +244,8 @@ fn start_at(starts: &[u32], part: usize, other: usize) -> usize
     }
 }
 
-// The queries that hold a key, by keys that rise, among which it is if any query holds it. It is mostly the first of them; a text is read
-// only where its hash is that of the key.
+// Returns the queries that hold a key. The keys are in order, and the key is among them if any query holds it; it is
+// mostly the first of them. A text is read only if its hash equals that of the key.
 fn holders_among(queries: &[Watched], keys: &[KeyAt], hash: u32, key: &str) -> u32
     requires own { hash ≡ hash_of key.now }
     requires rising { IsStrictlySortedBy (key_cmp (map (λ state. state.keys) queries.now)) keys.now }
@@ -258,14 +261,14 @@ fn holders_among(queries: &[Watched], keys: &[KeyAt], hash: u32, key: &str) -> u
     search_holders(queries, rest, hash, key)
 }
 
-// Whether one of the keys is a key of this hash.
+// Returns whether one of the keys equals a key of this hash.
 fn is_key(queries: &[Watched], at: KeyAt, hash: u32, key: &str) -> bool
     ensures { result ≡ bytes_eq (sorted_by (map (λ state. state.keys) queries.now) at) (hash ∷ key.now) }
 {
     at.hash == hash && text_at(queries, at) == key
 }
 
-// The same by a binary search.
+// Does the same by a binary search.
 fn search_holders(queries: &[Watched], keys: &[KeyAt], hash: u32, key: &str) -> u32
     requires own { hash ≡ hash_of key.now }
     requires rising { IsStrictlySortedBy (key_cmp (map (λ state. state.keys) queries.now)) keys.now }
@@ -278,7 +281,7 @@ fn search_holders(queries: &[Watched], keys: &[KeyAt], hash: u32, key: &str) -> 
     }
 }
 
-// How one of the keys stands to a key of this hash.
+// Compares one of the keys with a key of this hash.
 fn order_to(queries: &[Watched], at: KeyAt, hash: u32, key: &str) -> Ordering
     ensures { result ≡ slice_cmp nat_cmp (sorted_by (map (λ state. state.keys) queries.now) at) (hash ∷ key.now) }
 {
@@ -288,7 +291,7 @@ fn order_to(queries: &[Watched], at: KeyAt, hash: u32, key: &str) -> Ordering
     }
 }
 
-// The key that stands there, and the empty text where none does.
+// Returns the key at an index, or the empty text if there is none.
 fn text_at<'a>(queries: &'a [Watched], at: KeyAt) -> &'a str
     ensures { result.now ≡ text_of (map (λ state. state.keys) queries.now) at }
 {

@@ -1,4 +1,5 @@
-//! How many keys each query shares with each column of a table, and the rows that follow. Each key of the table is looked up once.
+//! Counts how many keys each query shares with each column of a table, and makes the rows that follow. Each key of the
+//! table is looked up once.
 ghost use Rattle.std.specs.Prelude.{◌≡◌, ◌<◌, ◌≤◌, ◌+◌, ◌^◌, ℕ, [], List, bytes_eq, count_by, get_or, length, map, IfOk};
 ghost use Rattle.std.specs.Int.{bit_at};
 ghost use Rattle.std.specs.List.{All, IsDistinct};
@@ -17,14 +18,15 @@ use no_memory::NoMemory;
 use segment_core::hash_key;
 use std::alloc::Global;
 
-// A key of a column, by its index, from 0, and its hash.
+// A key of a column: its index, from 0, and its hash.
 #[derive(Clone, Copy)]
 struct Hit {
     hash: u32,
     index: u32,
 }
 
-/// How many keys each of the queries shares with each column of the table: a list for each column, with a number for each query.
+/// Returns how many keys each of the queries shares with each column of the table: a list for each column, with a
+/// number for each query.
 pub(crate) fn overlaps(
     alloc: Global,
     holders: &Holders,
@@ -43,7 +45,7 @@ pub(crate) fn overlaps(
     Ok(overlaps)
 }
 
-// How many keys each of the queries shares with the column at a place.
+// Returns how many keys each of the queries shares with the column at a place.
 fn count_column(
     alloc: Global,
     holders: &Holders,
@@ -62,8 +64,8 @@ fn count_column(
     count_hits(alloc, holders, queries, table, place, &hits)
 }
 
-// The keys of the column at a place that have the hash of a key of some query. No key of a query is read yet: the reads are misses of the
-// cache, which do not wait for one another where nothing else lies between them.
+// Returns the keys of the column at a place that have the hash of a key of some query. It reads no key of a query: its
+// look-ups are cache misses, which do not wait for one another as long as nothing else comes between them.
 fn column_hits(
     alloc: Global,
     holders: &Holders,
@@ -86,7 +88,7 @@ fn column_hits(
     Ok(hits)
 }
 
-// How many of these keys of the column at a place each of the queries holds.
+// Returns how many of these keys of the column at a place each of the queries holds.
 fn count_hits(
     alloc: Global,
     holders: &Holders,
@@ -112,7 +114,7 @@ fn count_hits(
     Ok(counts)
 }
 
-// Raises the counts of the queries of a mask by one.
+// Adds one to the counts of the queries of a mask.
 fn raise(counts: &mut [u32], holders: u32)
     requires few { length counts.old ≤ 16 }
     requires small { (w : ℕ) → w < length counts.old → get_or counts.old w 0 + 1 < 2 ^ 32 }
@@ -124,7 +126,7 @@ fn raise(counts: &mut [u32], holders: u32)
     }
 }
 
-/// The rows of a table for one of the queries, by their places.
+/// Returns the rows of a table for one of the queries, by their places.
 pub(crate) fn table_rows(
     alloc: Global,
     table: &TableSets,

@@ -1,4 +1,5 @@
-//! The rows of watched queries, and whether an entry changed them: worked runs, and random entries beside a plain model.
+//! Tests the rows of watched queries, and whether an entry changed them: worked runs, and random entries compared with
+//! a plain model.
 mod entries;
 mod random;
 mod worked;

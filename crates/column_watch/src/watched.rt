@@ -10,8 +10,8 @@ use no_memory::NoMemory;
 use std::alloc::Global;
 use std::marker::Model;
 
-/// A query, with all its rows in order. While an entry is taken, it has the rows that this puts, for which there is room, and shares of
-/// the first k rows before it.
+/// A query, with all its rows in order. While an entry is taken, it also holds the rows that the entry adds, for which
+/// there is room, and shares of the first k rows before the entry.
 #[derive(Drop)]
 pub(crate) struct Watched {
     keys: QuerySet,
@@ -36,7 +36,7 @@ impl Model for Watched {
 }
 
 impl Watched {
-    /// A query before the first entry.
+    /// Returns a query before the first entry.
     pub(crate) fn new(alloc: Global, keys: QuerySet, k: u32) -> Watched
         ensures { result ≡ state_with keys k [] [] [] false }
     {
@@ -50,35 +50,35 @@ impl Watched {
         }
     }
 
-    /// The keys of the query.
+    /// Returns the keys of the query.
     pub(crate) fn keys(&self) -> &QuerySet
         ensures { result.now ≡ self.now.keys }
     {
         &self.keys
     }
 
-    /// The first k rows.
+    /// Returns the first k rows.
     pub(crate) fn first(&self) -> &[Held]
         ensures { result.now ≡ take self.now.k self.now.rows }
     {
         first_of(&self.rows, self.k)
     }
 
-    /// How many rows there are.
+    /// Returns how many rows there are.
     pub(crate) fn kept(&self) -> u64
         ensures { result ≡ length self.now.rows }
     {
         self.rows.len() as u64
     }
 
-    /// Whether the last entry changed the first k rows.
+    /// Returns whether the last entry changed the first k rows.
     pub(crate) fn changed(&self) -> bool
         ensures { result ≡ self.now.changed }
     {
         self.changed
     }
 
-    // Takes the memory that an entry needs which puts these rows.
+    // Takes the memory that an entry needs that adds these rows.
     fn prepare(&mut self, alloc: Global, coming: Vec<Held>) -> Result<(), NoMemory>
         ensures ok { OnOk result (self.new ≡ ready self.old coming.items) }
         ensures err { OnErr result (still self.new ≡ still self.old) }
@@ -90,7 +90,8 @@ impl Watched {
         Ok(())
     }
 
-    // Takes out the rows of the table that is gone, puts those that are coming, and finds out whether the first k changed. It takes no memory.
+    // Removes the rows of the table that is gone, inserts those that are coming, and finds out whether the first k rows
+    // changed. It takes no memory.
     fn settle(&mut self, gone: Option<&Name>)
         ensures { Settles (option_map (λ name. name.now) gone.entry) self.old self.new }
     {
@@ -100,7 +101,7 @@ impl Watched {
     }
 }
 
-// The rows of the table that an entry puts, for one of the queries; none where it puts no table.
+// Returns the rows, for one of the queries, of the table that an entry puts; none if it puts no table.
 fn coming_rows(
     alloc: Global,
     table: Option<&TableSets>,
@@ -116,7 +117,7 @@ fn coming_rows(
     }
 }
 
-/// Takes the memory that the queries need for an entry which puts this table, or none.
+/// Takes the memory that the queries need for an entry that puts this table, or none.
 pub(crate) fn prepare_all(
     alloc: Global,
     queries: &mut [Watched],
@@ -135,7 +136,8 @@ pub(crate) fn prepare_all(
     Ok(())
 }
 
-/// Brings the rows of the queries up to the entry for which they are prepared, which takes away the table of this name, or none.
+/// Updates the rows of the queries for the entry that they are prepared for, which takes away the table of this name,
+/// or none.
 pub(crate) fn settle_all(queries: &mut [Watched], gone: Option<&Name>)
     ensures len { length queries.new ≡ length queries.old }
     ensures each { (i : ℕ) (d : StateOf) → i < length queries.old → Settles (option_map (λ name. name.now) gone.entry) (get_or queries.old i d) (get_or queries.new i d) }

@@ -16,16 +16,16 @@ use no_memory::NoMemory;
 use std::alloc::Global;
 use std::marker::Model;
 
-/// Up to 16 queries, whose answers are kept while the entries of a journal are taken one after another. A contract sees the entries that
-/// were taken, and the keys of each query with its number of rows k.
+/// Up to 16 queries, whose answers are kept while the entries of a journal are taken one after another. Its model is
+/// the entries that were taken, and the keys of each query with its number of rows k.
 ///
-/// Of each query all rows are kept, not only the first k: a row behind these comes back when another goes.
+/// All rows of each query are kept, not only the first k: a row after these comes back when another goes.
 #[derive(Drop)]
 pub struct Watches {
     alloc: Global,
     journal: Vec<Entry>,
     queries: Vec<Watched>,
-    // It is made at the first entry, when all queries are there.
+    // Made at the first entry, when all queries are known.
     holders: Holders,
 }
 
@@ -42,7 +42,7 @@ impl Model for Watches {
 }
 
 impl Watches {
-    /// No query, and no entry taken.
+    /// Returns watches without a query and without an entry.
     pub fn new(alloc: Global) -> Watches
         ensures { result ≡ watches_with [] [] }
     {
@@ -54,9 +54,9 @@ impl Watches {
         }
     }
 
-    /// Watches a query, of whose answer at most k rows, 1 to 10,000, are told. The result is the query's number: queries are numbered from 1.
+    /// Adds a query, whose answer has at most k rows, 1 to 10,000. Returns the query's number, counted from 1.
     ///
-    /// It is refused only where memory is wanting. Then nothing has changed.
+    /// Returns `Err(NoMemory)` only if memory runs out, and then nothing has changed.
     pub fn add(&mut self, query: QuerySet, k: u32) -> Result<u32, NoMemory>
         requires low { 1 ≤ k }
         requires high { k ≤ 10000 }
@@ -71,11 +71,12 @@ impl Watches {
         Ok(self.queries.len() as u32)
     }
 
-    /// Takes the next entry of the journal. A load or a replace costs its own table, each key of which is looked up once for all queries,
-    /// and, for each row that it gives a query, a binary search and a move of the rows behind it; a drop or a replace costs a walk over
-    /// the rows of the queries; a swap changes no answer. To know what changed costs the first k rows of each query.
+    /// Takes the next entry of the journal. A load or a replace costs its own table, each key of which is looked up
+    /// once for all queries, and, for each row that it gives a query, a binary search and a move of the rows after it.
+    /// A drop or a replace costs a walk over the rows of the queries. A swap changes no answer. Finding out what
+    /// changed costs the first k rows of each query.
     ///
-    /// It is refused only where memory is wanting. Then nothing has changed.
+    /// Returns `Err(NoMemory)` only if memory runs out, and then nothing has changed.
     pub fn take(&mut self, entry: &Entry) -> Result<(), NoMemory>
         ensures ok { OnOk result (self.new ≡ watches_with (self.old.journal ++ entry.now ∷ []) self.old.queries) }
         ensures err { OnErr result (self.new ≡ self.old) }
@@ -98,21 +99,21 @@ impl Watches {
         }
     }
 
-    /// How many queries are watched.
+    /// Returns how many queries are watched.
     pub fn queries(&self) -> u32
         ensures { result ≡ length self.now.queries }
     {
         self.queries.len() as u32
     }
 
-    /// How many entries were taken.
+    /// Returns how many entries were taken.
     pub fn at(&self) -> u64
         ensures { result ≡ length self.now.journal }
     {
         self.journal.len() as u64
     }
 
-    /// Whether the last entry changed the answer to a query. It is false before the first entry.
+    /// Returns whether the last entry changed the answer to a query; false before the first entry.
     pub fn changed(&self, w: u32) -> bool
         requires low { 1 ≤ w }
         requires high { w ≤ length self.now.queries }
@@ -121,7 +122,7 @@ impl Watches {
         self.queries[w as usize - 1].changed()
     }
 
-    /// How many columns of live tables share a key with a query.
+    /// Returns how many columns of live tables share a key with a query.
     pub fn kept(&self, w: u32) -> u64
         requires low { 1 ≤ w }
         requires high { w ≤ length self.now.queries }
@@ -130,7 +131,8 @@ impl Watches {
         self.queries[w as usize - 1].kept()
     }
 
-    /// The answer to a query over the live tables of the entries that were taken: the first k rows. They borrow the titles.
+    /// Returns the answer to a query over the live tables of the entries that were taken: the first k rows, which
+    /// borrow the titles.
     pub fn rows(&self, w: u32) -> Result<Rows<'_>, NoMemory>
         requires low { 1 ≤ w }
         requires high { w ≤ length self.now.queries }
@@ -141,7 +143,7 @@ impl Watches {
     }
 }
 
-// Puts the keys of the queries in order before the first entry.
+// Indexes the keys of the queries before the first entry.
 fn index_first(
     alloc: Global,
     holders: &mut Holders,
@@ -159,7 +161,7 @@ fn index_first(
     Ok(())
 }
 
-// The table that an entry puts.
+// Returns the table that an entry puts, if any.
 fn put_table(what: &What) -> Option<&TableSets>
     ensures { option_map (λ table. table.now) result ≡ put_by (what_of what.now) }
 {
@@ -169,7 +171,7 @@ fn put_table(what: &What) -> Option<&TableSets>
     }
 }
 
-// The name of the table that an entry takes away.
+// Returns the name of the table that an entry takes away, if any.
 fn gone_name(what: &What) -> Option<&Name>
     ensures { option_map (λ name. name.now) result ≡ gone_by (what_of what.now) }
 {
@@ -180,7 +182,7 @@ fn gone_name(what: &What) -> Option<&Name>
     }
 }
 
-// How many keys the queries share with the columns of the table that an entry puts; nothing where it puts none.
+// Returns how many keys the queries share with the columns of the table that an entry puts; nothing if it puts none.
 fn counted(
     alloc: Global,
     holders: &Holders,

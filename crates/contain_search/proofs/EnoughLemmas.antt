@@ -1,4 +1,4 @@
--- A count that is broken off where it cannot become great enough.
+-- A count that is broken off once it cannot become high enough.
 use Rattle.std.proofs.Common.{◌≡◌, refl, ap, subst, ℕ, ◌+◌, ◌-◌, ◌<◌, ◌≤◌, List, Bool, cond, drop, length, take, arith}
 use Rattle.std.specs.List.{count_by}
 use Rattle.std.proofs.lemmas.List.{length-drop}
@@ -15,7 +15,7 @@ use Rattle.search_model.specs.Looks.{hits}
 pub all_counted : (least count told : ℕ) → told ≡ count → IsExactFrom least count told
 all_counted least count told e = record { exact = λ h. e; below = λ h. omega (arith, e, h) }
 
--- the first i were counted, and those that are left are too few
+-- the first i were counted, and too few are left
 pub too_few_left : {X : Type 0} (p : X → Bool) (xs : List X) (i least told : ℕ) → told ≡ count_by p (take i xs) → told + (length xs - i) < least → IsExactFrom least (count_by p xs) told
 too_few_left p xs i least told e few =
     let parts = sum_by-take-drop (λ x. cond (p x) 1 0) xs i in
@@ -25,14 +25,14 @@ too_few_left p xs i least told e few =
       below = λ h. omega (arith, few);
     }
 
--- so many were counted before
+-- `before` were counted earlier
 counted_on : (least before count told : ℕ) → IsExactFrom (least - before) count told → IsExactFrom least (before + count) (before + told)
 counted_on least before count told is = record {
   exact = λ h. ap (λ (n : ℕ). before + n) (is.exact (omega (arith, h)));
   below = λ h. (let low = is.below (omega (arith, h)) in omega (arith, low, h));
 }
 
--- what is told of the tokens behind the last hit says as much of them all
+-- the number for the tokens after the last hit, plus the count of the tally, is exact from `least` on for all tokens
 pub probed_from : (set qs : List ℕ) (i least wanted told : ℕ) (left tail : List ℕ) (tally : Tally) → Rising set → Rising qs → 0 < tally.count → tally ≡ tally_of set (hits set (take i qs))
     → left ≡ drop i qs → tail ≡ drop (tally.position + 1) set → wanted ≡ least - tally.count → IsExactFrom wanted (count_by (is_among left) tail) told → IsExactFrom least (length (hits set qs)) (tally.count + told)
 probed_from set qs i least wanted told left tail tally over up some e l t w is =

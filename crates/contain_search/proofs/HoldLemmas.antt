@@ -26,7 +26,7 @@ use Rattle.search_model.specs.Looks.{hits, Searched}
 use Rattle.search_model.specs.Segment.{Titled}
 use Rattle.search_laws.proofs.TableLemmas.{same_tests}
 
--- ---- numbers that are sorted, none twice
+-- ---- sorted lists of distinct numbers
 
 abbrev once : Bool → ℕ
 once b = cond b 1 0
@@ -153,7 +153,7 @@ module _ (p : ℕ × Titled → Bool) where
       by true later = ap (λ b. nat_eq x n || b) later ∙ or_true (nat_eq x n)
       by false later = later
 
--- ---- a part behind its reads
+-- ---- a part after its reads
 
 three_parts : (a b c : Bool) → (a && b && c) ≡ true → (a ≡ true) × (b ≡ true) × (c ≡ true)
 three_parts true true c e = (refl, refl, e)

@@ -1,4 +1,4 @@
--- What the steps of a part's search make together.
+-- What the steps of a part's search add up to.
 use Rattle.std.proofs.Common.{◌≡◌, ap, sym, ◌∙◌, subst, ℕ, ◌+◌, ◌-◌, ◌<◌, ◌≤◌, List, [], ◌++◌, length, map, take, drop, get_or, arith, append_assoc}
 use Rattle.std.specs.List.{AllByRecursion, flat_map}
 use Rattle.std.proofs.lemmas.List.{get_or-take, length-take, take-append-drop}
@@ -24,14 +24,14 @@ use Rattle.search_model.specs.Looks.{Searched}
 use Rattle.segment_core.proofs.SegmentLemmas.{length-sets}
 use Rattle.segment_core.specs.Versions.{segment_of, tables_of}
 
--- the first tokens of a part are tokens
+-- the first of a part's tokens are tokens of the part
 pub first_within : (part : Part) (keys : List Text) (tokens : List ℕ) (read : ℕ) → tokens ≡ asked_in keys part → (k d : ℕ) → k < length (take read tokens) → get_or (take read tokens) k d < length (segment_of part).tokens
 first_within part keys tokens read is k d h =
     let below : k < read = omega (arith, h, length-take read tokens) in
     let all : k < length (asked_in keys part) = omega (arith, h, length-take read tokens, ap length is) in
     omega (arith, get_or-take read tokens k d below, ap (λ (ts : List ℕ). get_or ts k d) is, token_within (segment_of part).tokens keys k d all)
 
--- no more columns may hold enough than the lists that are read have postings, nor than the part has columns
+-- at most as many columns may hold enough as the lists that are read have postings, and as the part has columns
 pub few_found : (part : Part) (keys : List Text) (tokens : List ℕ) (least : ℕ) → tokens ≡ asked_in keys part → length (may_columns least (met part tokens)) ≤ probes_bound part (first_lists least tokens)
 few_found part keys tokens least is =
     let all = subst (λ (ts : List ℕ). AllByRecursion (λ t. t < length (segment_of part).tokens) ts) (sym is) (all_asked (segment_of part).tokens keys) in

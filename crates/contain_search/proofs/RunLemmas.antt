@@ -1,4 +1,4 @@
--- The parts in turn: room for those that are left, and what all of them give.
+-- The parts in turn: room for those that are left, and the result of all of them.
 use Rattle.std.proofs.Common.{◌≡◌, ap, ◌∙◌, ℕ, ◌+◌, ◌<◌, ◌≤◌, List, [], ◌++◌, length, take, drop, arith}
 use Rattle.std.specs.Prelude.{bytes_eq}
 use Rattle.std.specs.BinaryHeap.{lt_by_cmp}

@@ -1,4 +1,5 @@
--- What the columns that may hold enough are found to hold: the probes and the rows of a part; and how many they are.
+-- What the columns that may hold enough turn out to hold: the probes and the rows of a part; and how many such columns
+-- there are.
 use Rattle.std.proofs.Common.{◌≡◌, refl, ap, sym, ◌∙◌, ℕ, suc, ◌+◌, ◌-◌, ◌<◌, ◌≤◌, List, [], ◌∷◌, ◌++◌, Bool, true, false, not, ◌&&◌, length, map, take, get_or, arith, cond, ltb as nat_lt, leb as nat_le}
 use Rattle.std.specs.List.{AllByRecursion, count_by, enumerate_from, filter, flat_map}
 use Rattle.std.proofs.lemmas.List.{get_or_past}

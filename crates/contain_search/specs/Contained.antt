@@ -1,4 +1,5 @@
--- A search for the columns that hold a fraction of a query: a version, the keys, and how many of how many parts of them a column has to hold.
+-- A search for the columns that hold a fraction of a query: a version, the keys, and the fraction, a of b parts, that a
+-- column has to hold.
 use Rattle.std.specs.Prelude.{ℕ, List, length}
 use Rattle.lake_model.specs.Texts.{Text}
 use Rattle.search_model.specs.Contain.{need}
@@ -22,6 +23,6 @@ pub record FractionOf : Type 0 where
 abbrev pub fraction_with : List Text → ℕ → ℕ → FractionOf
 fraction_with keys a b = record { keys = keys; a = a; b = b }
 
--- how many keys that is
+-- how many keys these are
 abbrev pub least_of : FractionOf → ℕ
 least_of fraction = need fraction.a fraction.b (length fraction.keys)

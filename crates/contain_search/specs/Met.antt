@@ -1,4 +1,4 @@
--- A part with the tokens that are asked of it, and what follows for its columns from the tallies behind the lists read.
+-- A part with the tokens that are asked of it, and what follows for its columns from the tallies after the lists read.
 use Rattle.std.specs.Prelude.{ℕ, ◌+◌, ◌-◌, Bool, false, not, ◌&&◌, List, [], ◌∷◌, length, map, filter, take, get_or, nat_le, nat_lt, if◌then◌else◌}
 use Rattle.std.specs.List.{enumerate_from}
 use Rattle.lake_model.specs.Answer.{Row}
@@ -26,24 +26,24 @@ first_lists least tokens = take (length tokens + 1 - least) tokens
 abbrev pub may_columns : ℕ → Searched → List ℕ
 may_columns least part = map (λ c. c.0) (filter (λ c. may_hold least part c.0 c.1) (enumerate_from 0 part.segment.columns))
 
--- whether a column may hold enough, of those seen, from its tally
+-- whether a column that was seen may hold enough, given its tally
 abbrev pub may_still : ℕ → Searched → List Tally → ℕ → ℕ → Bool
 may_still least part tallies left x = nat_le least (most_of left (tally_at tallies x)) && not (get_or part.marks (titled_at part.segment.columns x).from false)
 
--- the probe of a column of this tally, where it may hold more of the tokens than that counts
+-- the probe of a column of this tally, if it may hold more of the tokens than the tally counts
 abbrev pub probes_with : ℕ → Tally → ℕ → ℕ → List Look
 probes_with number tally left x = if nat_lt tally.count (most_of left tally) then Probe number x tally.position ∷ [] else []
 
 abbrev pub probes_of : ℕ → List Tally → ℕ → ℕ → List Look
 probes_of number tallies left x = probes_with number (tally_at tallies x) left x
 
--- its row, where it holds enough
+-- the column's row, if it holds enough
 abbrev pub rows_of : ℕ → Searched → ℕ → List Row
 rows_of least part x = if nat_le least (tokens_shared part x) then found_row part x (titled_at part.segment.columns x) ∷ [] else []
 
 -- ---- room
 
--- how many looks a part can take, and how many rows it can give, where so many of these keys are needed
+-- how many looks a part can take, and how many rows it can give, if `least` of these keys are needed
 abbrev pub looks_for : List Text → ℕ → Part → ℕ
 looks_for keys least part = looks_bound part (first_lists least (asked_in keys part))
 

@@ -1,5 +1,5 @@
--- What a search holds before it runs: the query's tokens of each part, room in the log for as many looks as it can take and for as many rows as it can
--- find, and a tally and room for each column of the part that has most.
+-- What a search holds before it runs: the query's tokens of each part, room in the log for as many looks as it can
+-- take, room for as many rows as it can find, and a tally and room for each column of the part with the most columns.
 use Rattle.std.specs.Prelude.{◌≡◌, ℕ, ◌≤◌, [], List, length, map, sum_by, bytes_eq}
 use Rattle.std.specs.List.{IsDistinct}
 use Rattle.lake_model.specs.Answer.{Row}

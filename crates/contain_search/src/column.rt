@@ -1,4 +1,4 @@
-//! The columns of a part that may hold enough, and what they hold.
+//! Finds the columns of a part that may hold enough tokens, and what they hold.
 ghost use Rattle.std.specs.Prelude.{◌≡◌, ◌<◌, ◌≤◌, ◌+◌, ◌-◌, ◌++◌, ◌∷◌, ◌^◌, if◌then◌else◌, ℕ, List, [], filter, flat_map, get_or, length, take, vec_capacity, vec_len};
 ghost use Rattle.std.specs.List.{All};
 ghost use Rattle.contain_search.specs.Enough.{IsExactFrom};
@@ -15,7 +15,8 @@ use column_set::Row;
 use part_columns::{Columns, Tally, most_of, push_within, row_of_column};
 use segment_core::Looks;
 
-// Whether a column that was seen may hold so many of the tokens, with so many lists left, and its table is unmarked.
+// Returns whether a column that was seen may hold at least `least` of the tokens, with `left` lists left, and its table
+// is unmarked.
 fn may_hold(
     looks: &Looks<'_>,
     part: u32,
@@ -33,7 +34,7 @@ fn may_hold(
     least <= most_of(columns.tally(column), left) && looks.live(part, column)
 }
 
-// Adds a column that was seen, where it may hold so many.
+// Adds a column that was seen, if it may hold at least `least` of the tokens.
 fn consider(
     looks: &Looks<'_>,
     part: u32,
@@ -57,7 +58,7 @@ fn consider(
     }
 }
 
-// Those of the columns seen that may hold so many.
+// Adds those of the columns seen that may hold at least `least` of the tokens.
 fn gather(
     looks: &Looks<'_>,
     part: u32,
@@ -81,7 +82,8 @@ fn gather(
     }
 }
 
-/// Those of the columns seen that may hold so many of the tokens, by rising number. The first lists of the tokens were read.
+/// Finds those of the columns seen that may hold at least `least` of the tokens, by rising number. The first `read`
+/// lists of the tokens were read.
 pub(crate) fn find_columns(
     looks: &Looks<'_>,
     part: u32,
@@ -107,8 +109,8 @@ pub(crate) fn find_columns(
     found.sort_unstable();
 }
 
-// How many of the tokens a column has, of which the first were read, where these are at least `least`, and a lesser number where they are
-// fewer. It is probed where its tally does not tell.
+// Returns how many of the tokens a column has, if these are at least `least`, and otherwise some number below `least`.
+// The first `read` lists of the tokens were read. The column is probed only if its tally leaves the number open.
 fn overlap_from(
     looks: &mut Looks<'_>,
     part: u32,
@@ -139,7 +141,7 @@ fn overlap_from(
     }
 }
 
-// Finds out what a column holds, and keeps its row where that is enough.
+// Finds out what a column holds, and keeps its row if that is enough.
 fn settle<'a>(
     looks: &mut Looks<'a>,
     part: u32,

@@ -15,8 +15,8 @@ use segment_core::{HashedQuery, Looks};
 use std::alloc::Global;
 use std::marker::Model;
 
-/// A search that is ready to run, with all the memory that it needs. A contract sees the version, the keys, and the fraction of these that
-/// a column has to hold.
+/// A search that is ready to run and holds all the memory that it needs. Its model is the version, the keys, and the
+/// fraction of the keys that a column has to hold.
 #[derive(Drop)]
 pub struct PreparedContain<'a, 'q> {
     looks: Looks<'a>,
@@ -39,11 +39,11 @@ impl<'a, 'q> Model for PreparedContain<'a, 'q> {
     ghost invariant = { λ p. (p.looks.log ≡ []) × IsReady p.looks.version.parts p.fraction p.looks.spare (map (λ tokens. tokens.items) p.tokens.items) p.columns (vec_capacity p.found) p.rows.items (vec_capacity p.rows) };
 }
 
-/// All that the search needs, taken before it runs: the query's tokens of each part; a tally and room for each column of the part that has
-/// most; and room for the rows, and in the log for the looks, that the search can have. It is for the columns that hold at least a of b
-/// parts of the query's keys, and one key at least.
+/// Prepares a search for the columns that hold at least a of b parts of the query's keys, and at least one key, and
+/// takes all that it needs: the query's tokens of each part; a tally and room for each column of the part with the most
+/// columns; room for the rows that it can find; and room in the log for its looks.
 ///
-/// It is refused only for want of memory; what it gives takes none.
+/// Returns `Err(NoMemory)` only if memory runs out; running the search takes no memory.
 pub fn prepare_contain<'a, 'q>(
     alloc: Global,
     mut looks: Looks<'a>,
@@ -63,7 +63,7 @@ pub fn prepare_contain<'a, 'q>(
     let columns = Columns::new(alloc, most)?;
     let found = Vec::with_capacity(alloc, most as usize)?;
     let rows = Vec::with_capacity(alloc, most_rows)?;
-    // A search takes at most as many lists as the query has keys.
+    // A search reads at most as many lists as the query has keys.
     prove!(query.len() <= 4_194_304);
     Ok(PreparedContain {
         looks,
@@ -75,8 +75,8 @@ pub fn prepare_contain<'a, 'q>(
     })
 }
 
-// The query's tokens of each part, and how many rows there can be, where so many keys are needed. The log gets room for as many looks as
-// a search for them can take.
+// Returns the query's tokens of each part, and how many rows there can be if `least` keys are needed. Gives the log
+// room for as many looks as a search for them can take.
 fn ask_parts(
     alloc: Global,
     looks: &mut Looks<'_>,
@@ -98,7 +98,7 @@ fn ask_parts(
         let read = (tokens.len() + 1).saturating_sub(least as usize);
         let probes = most_probes(looks, part, &tokens[..read]) as usize;
         looks.reserve_log(read + probes)?;
-        // There are no more rows than looks.
+        // There are at most as many rows as looks.
         prove!(probes <= looks.log_spare());
         rows += probes;
         asked.push(tokens)?;
@@ -107,11 +107,12 @@ fn ask_parts(
 }
 
 impl<'a, 'q> PreparedContain<'a, 'q> {
-    /// The columns of the live tables that hold at least a of b parts of the query's keys, and one key at least, all of them. They come by
-    /// greater overlap, and then by the bytes of the table's name, those of the column's name, and the place.
+    /// Returns all columns of the live tables that hold at least a of b parts of the query's keys, and at least one
+    /// key. They are ordered by greater overlap, then by the bytes of the table's name, then by those of the column's
+    /// name, and then by place.
     ///
-    /// It reads no list and probes no column twice, and none of a part that has fewer of the query's keys than are needed. It takes no
-    /// memory, and refuses nothing.
+    /// No list is read and no column is probed twice, and a part with fewer of the query's keys than are needed is not
+    /// looked at. It takes no memory, and cannot fail.
     pub fn run(self) -> Answer<'a>
         ensures rows { result.rows ≡ contain (live_of self.entry.version.parts) self.entry.keys self.entry.a self.entry.b }
         ensures log { result.looks.log ≡ contain_log self.entry.keys self.entry.a self.entry.b self.entry.version.parts }

@@ -1,11 +1,12 @@
-//! What is asked of a column.
+//! What a column has to hold.
 ghost use Rattle.std.specs.Prelude.{◌≡◌};
 ghost use Rattle.contain_search.specs.Contained.{least_of};
 
 use column_set::QuerySet;
 use std::marker::Model;
 
-/// The keys of a query, and that a column holds at least a of b parts of them, and one at least. A contract sees the keys and both numbers.
+/// The keys of a query, and the fraction of them, a of b parts and at least one key, that a column has to hold. Its
+/// model is the keys and both numbers.
 #[derive(Drop)]
 pub(crate) struct Fraction<'q> {
     pub keys: &'q QuerySet,
@@ -25,7 +26,7 @@ impl<'q> Model for Fraction<'q> {
 }
 
 impl<'q> Fraction<'q> {
-    /// How many keys a column has to hold.
+    /// Returns how many keys a column has to hold.
     pub(crate) fn least(&self) -> u32
         ensures { result ≡ least_of self.now }
     {

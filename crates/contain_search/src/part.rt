@@ -16,7 +16,7 @@ use column_set::Row;
 use part_columns::Columns;
 use segment_core::Looks;
 
-// Reads these lists, and counts their postings. No column was seen before.
+// Reads these lists, and counts their postings. No column may have been seen before the call.
 fn read_lists(looks: &mut Looks<'_>, part: u32, lists: &[u32], columns: &mut Columns)
     requires part { part < length looks.old.version.parts }
     requires few { length lists.now ≤ 4194304 }
@@ -37,8 +37,8 @@ fn read_lists(looks: &mut Looks<'_>, part: u32, lists: &[u32], columns: &mut Col
     }
 }
 
-/// Searches a part for the columns that hold so many of the tokens of the query, and adds their rows by rising number. No column was
-/// seen before it. It takes no memory.
+/// Searches a part for the columns that hold at least `least` of the tokens of the query, and adds their rows by rising
+/// number. No column may have been seen before the call. It takes no memory.
 pub(crate) fn contain_part<'a>(
     looks: &mut Looks<'a>,
     part: u32,

@@ -1,4 +1,4 @@
-//! The probe of a column of which only a count that is great enough matters.
+//! The probe of a column whose count matters only if it is high enough.
 ghost use Rattle.std.specs.Prelude.{◌≡◌, ◌<◌, ◌≤◌, ◌+◌, ◌++◌, ◌∷◌, List, [], count_by, get_or, length, take};
 ghost use Rattle.std.specs.List.Sorted.{IsStrictlyIncreasing};
 ghost use Rattle.lake_model.specs.Layout.{is_among};
@@ -13,8 +13,9 @@ ghost use Rattle.contain_search.specs.Enough.{IsExactFrom};
 use part_columns::Tally;
 use segment_core::Looks;
 
-/// How many of the query's tokens a column has, which has this tally behind the first lists, where these are at least `least`, and a lesser
-/// number where they are fewer. Its tokens behind the last one in these lists are asked for, which goes to the log.
+/// Returns how many of the query's tokens a column has whose tally after the first `read` lists is `tally`, if these
+/// are at least `least`, and otherwise some number below `least`. Asks for the column's tokens after the last one in
+/// these lists, and logs the probe.
 pub(crate) fn probe_from(
     looks: &mut Looks<'_>,
     part: u32,
@@ -42,8 +43,8 @@ pub(crate) fn probe_from(
     tally.count + shared_from(&tokens[read as usize..], tail, wanted) as u32
 }
 
-// How many tokens two lists share, which rise, where these are at least `least`, and a lesser number where they are fewer. It walks the
-// shorter list, since fewer of its tokens may be missing in the other.
+// Returns how many tokens two rising lists share, if these are at least `least`, and otherwise some number below
+// `least`. It walks the shorter list, since fewer of its tokens may be missing in the other.
 fn shared_from(others: &[u32], tokens: &[u32], least: usize) -> usize
     requires others { IsStrictlyIncreasing others.now }
     requires tokens { IsStrictlyIncreasing tokens.now }
@@ -57,8 +58,8 @@ fn shared_from(others: &[u32], tokens: &[u32], least: usize) -> usize
     }
 }
 
-// How many of these tokens are among others, which rise, where these are at least `least`, and a lesser number where they are fewer. It
-// stops where the tokens that are left are too few.
+// Returns how many of these tokens are among the others, which rise, if these are at least `least`, and otherwise some
+// number below `least`. It stops once too few tokens are left.
 fn among_from(others: &[u32], tokens: &[u32], least: usize) -> usize
     requires { IsStrictlyIncreasing others.now }
     ensures count { IsExactFrom least (count_by (is_among others.now) tokens.now) result }
@@ -76,7 +77,7 @@ fn among_from(others: &[u32], tokens: &[u32], least: usize) -> usize
     shared
 }
 
-// Whether the token is one of these, which rise.
+// Returns whether the token is among these, which rise.
 fn has(tokens: &[u32], token: u32) -> bool
     requires { IsStrictlyIncreasing tokens.now }
     ensures { result ≡ is_among tokens.now token }

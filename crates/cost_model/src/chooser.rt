@@ -1,4 +1,4 @@
-//! Choosers, and the three that hold nothing.
+//! What a chooser is, and the three choosers without state.
 ghost use Rattle.std.specs.Prelude.{◌≡◌, ◌<◌, Bool, IfSome, false};
 ghost use Rattle.search_model.specs.Choosers.{never, profile};
 ghost use Rattle.search_model.specs.declared.Summary.{Summary as SummaryOf};
@@ -6,22 +6,24 @@ ghost use Rattle.cost_model.specs.Answers.{always};
 
 use search_model::Summary;
 
-/// What decides whether the best open column is probed, or the next list read.
+/// Decides whether the best open column is probed or the next list is read.
 pub trait Chooser {
-    /// What it says of a summary: whether to probe.
+    /// The answer to a summary: whether to probe.
     ghost says: { Self → SummaryOf → Bool };
 
-    /// Whether to probe. It takes no memory.
+    /// Returns whether to probe. It takes no memory.
     fn probe(&self, summary: &Summary) -> bool
         ensures { result ≡ says self.now summary.now };
 
-    /// Beyond how many tokens left of the best column it surely reads, where the next list is this long and a probe gains nothing
-    /// (`gain` is 0); `None` where it promises nothing. It takes no memory.
+    /// Returns a number such that the chooser surely reads if the best column has more tokens left than this, the next
+    /// list has length `next_len`, and a probe gains nothing (`gain` is 0); `None` if it promises nothing. It takes no
+    /// memory.
     fn reads_beyond(&self, next_len: u32) -> Option<u64>
         ensures { IfSome result (λ rest. (summary : SummaryOf) → summary.next_len ≡ next_len → summary.gain ≡ 0 → rest < summary.rest → says self.now summary ≡ false) };
 }
 
-/// Probes exactly where that costs no more than the next list, or than the lists that the estimated overlap would spare.
+/// Probes exactly if a probe costs no more than the next list, or no more than the lists that the estimated overlap
+/// would spare.
 #[derive(Clone, Copy, Debug)]
 pub struct Profile;
 
@@ -39,7 +41,7 @@ impl Chooser for Profile {
     }
 }
 
-/// Never probes: a search by it reads lists alone.
+/// Never probes: a search with it only reads lists.
 #[derive(Clone, Copy, Debug)]
 pub struct AlwaysRead;
 
@@ -55,7 +57,7 @@ impl Chooser for AlwaysRead {
     }
 }
 
-/// Probes wherever a column is open.
+/// Probes whenever a column is open.
 #[derive(Clone, Copy, Debug)]
 pub struct AlwaysProbe;
 

@@ -1,4 +1,4 @@
-//! A chooser that goes by a list.
+//! A chooser that follows a list.
 ghost use Rattle.std.specs.Prelude.{◌≡◌, ◌<◌, length, IfOk};
 ghost use Rattle.cost_model.specs.Answers.{listed};
 
@@ -8,8 +8,8 @@ use search_model::Summary;
 use std::alloc::Global;
 use std::marker::Model;
 
-/// Says what a list of answers says, of which a summary picks one. It serves tests: by a list a search can be led any way. A contract
-/// sees the answers.
+/// Answers from a list, of which the summary picks an entry. It is meant for tests: a list can lead a search any way.
+/// Its model is the list of its answers.
 #[derive(Drop)]
 pub struct Listed {
     answers: Vec<bool>,
@@ -26,7 +26,7 @@ impl Model for Listed {
 }
 
 impl Listed {
-    /// A chooser of these answers, of which there is one at least.
+    /// Returns a chooser with these answers, at least one.
     pub fn new(alloc: Global, answers: &[bool]) -> Result<Listed, NoMemory>
         requires { 0 < length answers.now }
         ensures { IfOk result (λ chooser. chooser ≡ answers.now) }

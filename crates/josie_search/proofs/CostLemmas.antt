@@ -1,4 +1,4 @@
--- What the lists cost that would be spared, one at a time.
+-- The cost of the lists that would be spared, one at a time.
 use Rattle.std.proofs.Common.{◌≡◌, ap, sym, ◌∙◌, ℕ, suc, ◌+◌, ◌-◌, ◌<◌, ◌≤◌, List, ◌∷◌, Bool, ◌&&◌, map, length, get_or, drop, arith, ltb as nat_lt, leb as nat_le}
 use Rattle.std.specs.List.{enumerate_from, filter, sum_by}
 use Rattle.std.proofs.Math.Seq.{drop-cons}
@@ -8,7 +8,7 @@ use Rattle.search_model.specs.Segment.{Segment, Token}
 use Rattle.search_state.proofs.GainLemmas.{over-cons}
 use Rattle.josie_search.specs.Costs.{lengths_of, spared_cost}
 
--- what the lists from a place on cost, where they would be spared
+-- the cost of the lists from a place on that would be spared
 abbrev pub spared_from : List ℕ → ℕ → ℕ → ℕ → ℕ
 spared_from lengths place t est = let m = length lengths in sum_by (λ l. read_cost l.1) (filter (λ l. nat_le t (m - l.0) && nat_lt (m - l.0) est) (enumerate_from place (drop place lengths)))
 
@@ -24,7 +24,7 @@ spared_step lengths place t est h =
 pub spared_end : (lengths : List ℕ) (place t est : ℕ) → length lengths ≤ place → spared_from lengths place t est ≡ 0
 spared_end lengths place t est h = let m = length lengths in ap (λ (xs : List ℕ). sum_by (λ (l : ℕ × ℕ). read_cost l.1) (filter (λ l. nat_le t (m - l.0) && nat_lt (m - l.0) est) (enumerate_from place xs))) (drop_all place lengths h)
 
--- one list more
+-- one more list
 pub spared_more : (segment : Segment) (tokens : List ℕ) (place t est len cost total more : ℕ) → place < length tokens → len ≡ get_or (map (λ t. t.frequency) segment.tokens) (get_or tokens place 0) 0
     → cost ≡ spared_cost len (length tokens - place) t est → total + spared_from (lengths_of segment tokens) place t est ≡ more → total + cost + spared_from (lengths_of segment tokens) (place + 1) t est ≡ more
 spared_more segment tokens place t est len cost total more h is paid so_far =

@@ -1,4 +1,4 @@
--- The first of the columns that lead, one more at a time.
+-- The first of the columns that lead, found one column at a time.
 use Rattle.std.proofs.Common.{◌≡◌, refl, ap, sym, ◌∙◌, subst, ◌⊎◌, inl, inr, ℕ, ◌<◌, ◌≤◌, List, [], ◌∷◌, Bool, true, false, arith, cond, Option, Some, None, eqb as nat_eq, ltb as nat_lt}
 use Rattle.std.specs.Option.{option_to_list}
 use Rattle.std.specs.Ordering.{is_lt, nat_cmp, ordering_reverse, ordering_then}
@@ -29,7 +29,7 @@ not_first Less s h = cc
 not_first Equal s h = refl
 not_first Greater s h = refl
 
--- what comes no sooner has no greater overlap
+-- a row that does not come before another has no greater overlap
 pub no_sooner : (a b : Row) → is_before a b ≡ false → a.overlap ≤ b.overlap
 no_sooner a b h = ge_from_not_lt b.overlap a.overlap (not_first (nat_cmp b.overlap a.overlap) _ h)
 
@@ -140,7 +140,7 @@ module _ (query : Query) (part : Searched) (tallies : List Tally) (known : List 
         by Equal e Equal f = subst (λ (b : Bool). Found more (Some (cond b (n, row) (x, best)))) (sym (λ i. is_lt (ordering_then (e i) (f i)))) (kept (ap is_lt e) (λ l. absurd (let le = high (ap is_lt f) in omega arith)))
         by Equal e Greater f = subst (λ (b : Bool). Found more (Some (cond b (n, row) (x, best)))) (sym (λ i. is_lt (ordering_then (e i) (f i)))) (kept (ap is_lt e) (λ l. absurd (let le = high (ap is_lt f) in omega arith)))
 
-    -- one column more
+    -- one more column
     pub found_more : (found : Option (ℕ × Row)) (row : Option Row) → Found done found → option_to_list row ≡ lead_row query part tallies known left n → Found more (first_of found n row)
     found_more found None h e = passed found h (led_not (does_lead n) (sym e))
     found_more found (Some row) h e = let is = led_by (does_lead n) row (sym e) in led found row h is.0 is.1

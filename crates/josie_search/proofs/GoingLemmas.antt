@@ -1,4 +1,4 @@
--- A part while it is searched: the looks so far lead from the start to where the code stands.
+-- A part while it is searched: the looks so far lead from the start to where the code is.
 use Rattle.std.proofs.Common.{◌≡◌, refl, ap, sym, ◌∙◌, subst, ℕ, ◌+◌, ◌<◌, ◌≤◌, List, [], ◌∷◌, ◌++◌, Bool, true, false, not, ◌&&◌, ◌||◌, length, map, take, set, get_or, arith, cond, append_assoc, append-nil, Option, Some, None, eqb as nat_eq, ltb as nat_lt, leb as nat_le}
 use Rattle.std.proofs.lemmas.Bool.Decides.{nat_tests}
 use Rattle.std.proofs.lemmas.List.{get_or-set_other, get_or-set_same}
@@ -109,7 +109,7 @@ module _ (says : Summary → Bool) (query : Query) (part : Searched) (before : L
       let more : nat_le (length part.query) progress.read ≡ true = grind (arith, nat_tests) in
       blocked (is_eligible query part (column_at part x)) (nat_le (length part.query) progress.read) (is_among progress.probed x) (nat_lt 0 (seen_at part progress x).count) (beats last (seen_at part progress x).bound) more
 
-  -- where all lists were read, nothing comes next
+  -- once all lists were read, nothing comes next
   pub nothing_next : (progress : Progress) → length part.query ≤ progress.read → next_look says query before part progress ≡ None
   nothing_next progress all =
       let last = worst query (before ++ known_rows query part progress) in
@@ -117,7 +117,7 @@ module _ (says : Summary → Bool) (query : Query) (part : Searched) (before : L
       ap (choice says part progress last) (none_open query part progress last (λ x h. closed_all progress last x all))
       ∙ ap (λ (n : ℕ). cond (unseen_open n (threshold last)) (Some (read_next part progress)) None) zero_left
 
-  -- nothing comes next: these are the looks of the part
+  -- if nothing comes next, these are the looks of the part
   pub ended : (now : List Look) (read : ℕ) (tallies : List Tally) (known : List Bool) (rows : List Row) (going : Going says query part before old now read tallies known rows) → next_look says query before part going.progress ≡ None
       → run says query before part start ≡ (going.made, going.progress)
   ended now read tallies known rows going none = run_is says query before part going.made start going.progress record { leads = going.leads_here; done = none }

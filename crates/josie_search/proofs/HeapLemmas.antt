@@ -15,7 +15,7 @@ use Rattle.josie_search.specs.Candidates.{all_of, better, candidate, CandidatesO
 abbrev both : List (ℕ × Reverse ℕ) → List (ℕ × Reverse ℕ) → List Candidate
 both sized asked = map (of_entry false) sized ++ map (of_entry true) asked
 
--- ---- one more, and one less
+-- ---- one more, and one fewer
 
 pub pushed_asked : (sized asked news : List (ℕ × Reverse ℕ)) (c : Candidate) → c.by_count ≡ true → IsPermutation (entry_of c ∷ asked) news → IsPermutation (c ∷ both sized asked) (both sized news)
 pushed_asked sized asked news c e p =

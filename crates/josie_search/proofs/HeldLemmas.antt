@@ -1,4 +1,4 @@
--- The columns that are held: one more, one less, and the first of all.
+-- The columns that are held: one more, one fewer, and the first of all.
 use Rattle.std.proofs.Common.{◌≡◌, refl, ap, sym, ◌∙◌, subst, inl, inr, ℕ, zero, suc, ◌+◌, ◌<◌, ◌≤◌, List, [], ◌∷◌, map, Bool, true, false, not, ◌&&◌, ◌||◌, length, drop, get_or, set, arith, cond, Option, Some, None, eqb as nat_eq, ltb as nat_lt, leb as nat_le}
 use Rattle.std.specs.List.{AllByRecursion, filter, fold}
 use Rattle.std.specs.List.Sorted.{IsPermutation}
@@ -108,19 +108,19 @@ module _ (query : Query) (part : Searched) (ranks : List ℕ) (tallies : List Ta
   abbrev Held : List ℕ → ℕ → List Candidate → Type 0
   Held rest low all = AreHeldBut rest query part ranks tallies known left low all
 
-  -- none has so great a bound
+  -- no column has a bound of `low` or more
   pub held_none : (low : ℕ) (rest : List ℕ) (all : List Candidate) → ((x : ℕ) → most_of left (tally_at tallies x) < low) → Held rest low all
   held_none low rest all few x out lead high = absurd (let f = few x in omega (arith, f, high))
 
-  -- none was seen but the rest
+  -- no column outside `rest` was seen
   pub held_unseen : (low : ℕ) (rest : List ℕ) (all : List Candidate) → ((x : ℕ) → is_among rest x ≡ false → (tally_at tallies x).count ≡ 0) → Held rest low all
   held_unseen low rest all none x out lead high = absurd (let s = (lead_parts query part tallies known x lead).2 in let z = none x out in omega (arith, s, z))
 
-  -- for greater bounds only
+  -- held for greater bounds only
   pub held_from : (low more : ℕ) (rest : List ℕ) (all : List Candidate) → low ≤ more → Held rest low all → Held rest more all
   held_from low more rest all up h x out lead high = h x out lead (omega (arith, up, high))
 
-  -- one column more
+  -- one more column
   pub held_entered : (low now x : ℕ) (before rest : List ℕ) (all news : List Candidate) → before ≡ x ∷ rest → now ≡ low → Held before low all
       → (goes_in (get_or known x false) now left (tally_at tallies x) ≡ true → IsPermutation (candidate_of left (tally_at tallies x) (get_or ranks x 0) ∷ all) news)
       → (goes_in (get_or known x false) now left (tally_at tallies x) ≡ false → news ≡ all) → Held rest low news
@@ -137,7 +137,7 @@ module _ (query : Query) (part : Searched) (ranks : List ℕ) (tallies : List Ta
       by true e k = covers_pushed left (get_or ranks y 0) (tally_at tallies y) _ all news (goes e) k
       by false e k = ap (covers left (tally_at tallies y) (get_or ranks y 0)) (stays e) ∙ k
 
-  -- the top taken out, and put back with its bound where that is lower than its number
+  -- the top is taken out, and put back with its bound if that is lower than its number
   pub held_mended : (low n : ℕ) (t : Candidate) (column : Option ℕ) (all rest : List Candidate) → AreApart n ranks → ((x : ℕ) → leads query part tallies known x ≡ true → x < n) → IsOfRank n ranks t.rank column → NoneExact query part tallies known left t column
       → AllByRecursion (IsAhead left t) all → IsPermutation all (t ∷ rest) → Held [] low all → (news : List Candidate)
       → ((x : ℕ) → column ≡ Some x → goes_in (get_or known x false) low left (tally_at tallies x) ≡ true → most_of left (tally_at tallies x) < most_now left t → IsPermutation (candidate_of left (tally_at tallies x) t.rank ∷ rest) news)
@@ -165,7 +165,7 @@ module _ (query : Query) (part : Searched) (ranks : List ℕ) (tallies : List Ta
       does : get_or known x false ≡ false → low ≤ most_of left (tally_at tallies x) → goes_in (get_or known x false) low left (tally_at tallies x) ≡ true
       does k l = let t : nat_le low (most_of left (tally_at tallies x)) ≡ true = grind (arith, nat_tests) in (λ i. t i && not (k i))
 
--- behind a list that was read: the columns that do not stand in it
+-- after a list was read, the columns that are not in it are still held
 pub held_read : (query : Query) (part : Searched) (ranks : List ℕ) (tallies news : List Tally) (known : List Bool) (left less low : ℕ) (listed : List ℕ) (all : List Candidate) → less ≤ left → ((x : ℕ) → is_among listed x ≡ false → tally_at news x ≡ tally_at tallies x)
     → AreHeld query part ranks tallies known left low all → AreHeldBut listed query part ranks news known less low all
 held_read query part ranks tallies news known left less low listed all fewer same h x out lead high =
@@ -198,7 +198,7 @@ lead_before true false q false h e = absurd (let f : false ≡ true = e in cc)
 lead_before true true q c h e = absurd (let f : false ≡ true = e in cc)
 lead_before false p q c h e = absurd (let f : false ≡ true = e in cc)
 
--- one column more is known
+-- one more column is known
 pub held_known : (query : Query) (part : Searched) (ranks : List ℕ) (tallies : List Tally) (known : List Bool) (left low y : ℕ) (all : List Candidate) → AreHeld query part ranks tallies known left low all → AreHeld query part ranks tallies (set known y true) left low all
 held_known query part ranks tallies known left low y all h x out lead high =
     h x out (lead_before (is_eligible query part (column_at part x)) (get_or (set known y true) x false) (get_or known x false) (nat_lt 0 (tally_at tallies x).count) (known_before known x y) lead) high
@@ -220,7 +220,7 @@ first_left items i d h = let one : i + 1 ≡ suc i = omega arith in drop-cons it
 pub first_slot : {X : Type 0} (slot : X → ℕ) (items : List X) (i : ℕ) (d : X) → i < length items → map slot (drop i items) ≡ slot (get_or items i d) ∷ map slot (drop (i + 1) items)
 first_slot slot items i d h = let one : i + 1 ≡ suc i = omega arith in ap (map slot) (drop-cons items i d h ∙ (λ j. get_or items i d ∷ drop (sym one j) items))
 
--- a column that has fallen passes the test
+-- if the test fails for a column held for this bound, its bound has not fallen
 pub not_fallen : (known : List Bool) (tallies : List Tally) (left low now x y : ℕ) (t : Candidate) → x ≡ y → now ≡ low → (goes_in (get_or known y false) now left (tally_at tallies y) && nat_lt (most_of left (tally_at tallies y)) (most_now left t)) ≡ false
     → goes_in (get_or known x false) low left (tally_at tallies x) ≡ true → most_of left (tally_at tallies x) < most_now left t → ⊥
 not_fallen known tallies left low now x y t e f test goes less =
@@ -237,6 +237,6 @@ none_listed x (p ∷ ps) e = by (nat_eq x p.column) refl e (none_listed x ps)
     by true f e later = absurd (let g : true ≡ false = e in cc)
     by false f e later = let other : of_column x p ≡ false = grind (arith, nat_tests) in ap (λ b. cond b (p ∷ filter (of_column x) ps) (filter (of_column x) ps)) other ∙ later e
 
--- a column that does not stand in a list is not counted
+-- a column that is not in a list is not counted
 pub uncounted : (x : ℕ) (list : List Posting) (tally : Tally) → is_among (map (λ p. p.column) list) x ≡ false → counted x list tally ≡ tally
 uncounted x list tally e = ap (fold raised tally) (none_listed x list e)

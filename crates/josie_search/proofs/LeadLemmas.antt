@@ -1,4 +1,4 @@
--- The first candidate, where its number is the bound of a column that leads, is the first column that leads.
+-- If the number of the first candidate is the bound of a column that leads, this column is the first that leads.
 use Rattle.std.proofs.Common.{◌≡◌, refl, ap, sym, ◌∙◌, subst, inl, inr, ℕ, ◌<◌, ◌≤◌, List, [], Bool, true, false, length, get_or, arith, Option, Some, None}
 use Rattle.std.specs.List.{AllByRecursion}
 use Rattle.std.proofs.lemmas.Bool.{cases_eq, cases_lt}
@@ -44,7 +44,7 @@ module _ (query : Query) (part : Searched) (ranks : List ℕ) (tallies : List Ta
           by None e h = absurd (let f : None ≡ Some x = e in cc)
           by (Some z) e h = let same : z ≡ x = cc in subst (λ (y : ℕ). (y < n) × (rank_at y ≡ t.rank)) same h
 
-      -- none that leads has a greater bound, or as great a one and a lower rank
+      -- no column that leads has a greater bound, or an equal bound and a lower rank
       below : (y : ℕ) → leads query part tallies known y ≡ true → (bound_at y ≤ bound_at x) × (bound_at y ≡ bound_at x → rank_at x ≤ rank_at y)
       below y lead = elim (cases_lt (bound_at y) low) [
         | inl l ↦ (let e = is.exact in omega (arith, l, high, e), λ f. absurd (let e = is.exact in omega (arith, l, high, e, f)))
@@ -56,7 +56,7 @@ module _ (query : Query) (part : Searched) (ranks : List ℕ) (tallies : List Ta
       inside : (y : ℕ) → leads query part tallies known y ≡ true → y < length part.segment.columns
       inside y lead = let w = within y lead in omega (arith, w, same_n)
 
-      -- an equal bound: the lower rank
+      -- of equal bounds, the lower rank
       lower_rank : (y : ℕ) → leads query part tallies known y ≡ true → (y ≡ x → ⊥) → bound_at y ≡ bound_at x → rank_at x < rank_at y
       lower_rank y lead differ e =
           let le = (below y lead).1 e in

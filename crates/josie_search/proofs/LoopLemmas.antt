@@ -1,4 +1,4 @@
--- One look more of a part.
+-- One more look in a part.
 use Rattle.std.proofs.Common.{◌≡◌, refl, ap, sym, ◌∙◌, subst, ℕ, ◌+◌, ◌<◌, List, [], ◌++◌, Bool, true, false, not, ◌&&◌, length, set, take, get_or, arith, Option, ltb as nat_lt}
 use Rattle.std.proofs.lemmas.Bool.Decides.{nat_tests}
 use Rattle.lake_model.specs.Answer.{Query, Row, row_cmp}
@@ -17,7 +17,7 @@ use Rattle.josie_search.proofs.GoingLemmas.{Going, rows_known, stands}
 use Rattle.part_columns.proofs.TallyLemmas.{tally_count}
 use Rattle.part_columns.proofs.RoomLemmas.{unprobed_less}
 
--- what the next look says, at a version
+-- what the next look says at a version
 abbrev pub NextAt : (Summary → Bool) → Query → ℕ → List Tally → List Bool → ℕ → List Row → Option Look → VersionOf → Type 0
 NextAt says query part tallies known read rows result version =
     (before : List Row) (progress : Progress) → IsAt (searched query (part_at version.parts part)) progress tallies known → progress.read ≡ read → rows ≡ best row_cmp query.k (before ++ known_rows query (searched query (part_at version.parts part)) progress)
@@ -31,7 +31,7 @@ next_now says query part now version before old log read tallies known rows resu
     subst (NextAt says query part tallies known read rows result) same next before going.progress
     (stands says query p before old log read tallies known rows going unread) going.at (rows_known says query p before old log read tallies known rows going unread)
 
--- a column more is known
+-- one more column is known
 pub probed_less : (sets : List (List ℕ)) (tokens asked : List ℕ) (tallies : List Tally) (known : List Bool) (x read : ℕ) → tokens ≡ asked → AreTallies sets (take read asked) tallies → x < length sets → x < length known → get_or known x false ≡ false
     → 0 < (tally_at tallies x).count → unprobed sets tokens (set known x true) + 1 ≡ unprobed sets tokens known
 probed_less sets tokens asked tallies known x read same are h k fresh seen =
@@ -39,7 +39,7 @@ probed_less sets tokens asked tallies known x read same are h k fresh seen =
     let count = ap (λ (t : Tally). t.count) (are x) ∙ tally_count (get_or sets x []) found in
     unprobed_less sets tokens known x read h k fresh (subst (λ (ts : List ℕ). 0 < length (hits (get_or sets x []) (take read ts))) (sym same) (omega (arith, count, seen)))
 
--- what leads is eligible, is not known, and was seen
+-- a column that leads is eligible, is not known, and was seen
 pub lead_parts : (query : Query) (part : Searched) (tallies : List Tally) (known : List Bool) (x : ℕ) → leads query part tallies known x ≡ true → (is_eligible query part (column_at part x) ≡ true) × (get_or known x false ≡ false) × (0 < (tally_at tallies x).count)
 lead_parts query part tallies known x e =
     let p = by (is_eligible query part (column_at part x)) (get_or known x false) (nat_lt 0 (tally_at tallies x).count) e in

@@ -1,4 +1,4 @@
--- What comes next in a part, from the first column that is open.
+-- What comes next in a part, given the first column that is open.
 use Rattle.std.proofs.Common.{◌≡◌, refl, ap, sym, ◌∙◌, subst, ℕ, ◌-◌, ◌<◌, List, [], ◌∷◌, ◌++◌, Bool, true, false, length, map, take, get_or, arith, cond, Option, Some, None}
 use Rattle.std.specs.Prelude.{slice_get}
 use Rattle.std.proofs.lemmas.List.{length-map}
@@ -18,7 +18,7 @@ use Rattle.josie_search.specs.State.{IsAt}
 use Rattle.part_columns.specs.Tallies.{tally_at, tally_of}
 use Rattle.josie_search.proofs.OpenLemmas.{first_beaten, first_open, none_high, none_opens}
 
--- what the code tells is what the definition tells
+-- the code and the definition give the chooser the same summary
 sum_same : (last : Option Row) (progress : Progress) (lengths : List ℕ) (c : Titled) (set : List ℕ) (x : ℕ) (found : List ℕ) → 0 < length found
     → summary_with last progress lengths (seen_by c set (length lengths - progress.read) x found) ≡ summary_of lengths progress.read (tally_of set found) (overlap_of last)
 sum_same last progress lengths c set x [] h = absurd (omega arith)
@@ -74,7 +74,7 @@ module _ (says : Summary → Bool) (query : Query) (before : List Row) (part : S
       ap (choice says part progress last) head
       ∙ ap (λ c. cond c (Some (read_next part progress)) None) (ap (unseen_open (left_of part progress)) (threshold_same last) ∙ e)
 
-  -- what the chooser makes of the head of the open columns is the next look
+  -- the look that follows from the first open column and the chooser is the next look
   pub next_chosen : (column : Option ℕ) → IsHead query part progress last column → ((x : ℕ) → column ≡ Some x → 0 < (seen_at part progress x).count) → chosen says part.number lengths part.query progress.read tallies (overlap_of last) column ≡ next_look says query before part progress
   next_chosen None head some = by (unseen_open (length part.query - progress.read) (threshold_of (overlap_of last))) refl
     where
@@ -87,7 +87,7 @@ module _ (says : Summary → Bool) (query : Query) (before : List Row) (part : S
       by true e = sym (next_probes x head (some x refl) e)
       by false e = sym (next_reads x head (some x refl) e)
 
--- what a look that was chosen tells
+-- what follows from a look that was chosen
 module _ (says : Summary → Bool) (number : ℕ) (lengths tokens : List ℕ) (read : ℕ) (tallies : List Tally) (worst : Option ℕ) where
   pub chosen_probe : (column : Option ℕ) (n x after : ℕ) → chosen says number lengths tokens read tallies worst column ≡ Some (Probe n x after) → (n ≡ number) × (column ≡ Some x) × (after ≡ (tally_at tallies x).position)
   chosen_probe None n x after e = by (unseen_open (length tokens - read) (threshold_of worst)) e
@@ -117,11 +117,11 @@ module _ (says : Summary → Bool) (number : ℕ) (lengths tokens : List ℕ) (r
       by true f = absurd (let g : Some (Probe number y (tally_at tallies y).position) ≡ Some (Read n t) = f in cc)
       by false f = (let g : n ≡ number = cc in g, let g : t ≡ get_or tokens read 0 = cc in g)
 
--- the k-th row that is known is that of the first k that are kept
+-- the k-th known row is the k-th of the first k that are kept
 pub last_is : (query : Query) (known rows : List Row) (k : ℕ) → 0 < query.k → k ≡ query.k → rows ≡ best row_cmp query.k known → slice_get rows (k - 1) ≡ worst query known
 last_is query known rows k some same e = (λ i. slice_get (e i) (same i - 1)) ∙ sym (worst_is query known some)
 
--- the first that leads, and whether it beats, give the head of the open ones
+-- the first that leads, and whether it beats the last row, give the first of the open columns
 pub head_found : (query : Query) (part : Searched) (progress : Progress) (tallies : List Tally) (known : List Bool) (last : Option Row) (found : Option (ℕ × Row)) → IsAt part progress tallies known
     → FoundTo query part tallies known (left_of part progress) (length part.segment.columns) found → (result : Option ℕ) → result ≡ taken last found
     → IsHead query part progress last result
@@ -132,13 +132,14 @@ head_found query part progress tallies known last (Some (x, row)) is h result e 
     by true f = first_open query part progress tallies known is last x row h f
     by false f = first_beaten query part progress tallies known is last x row h f
 
--- the first that leads with a bound from the k-th row's overlap on, and whether it beats, give the head of the open ones
+-- the first that leads with a bound of at least the k-th row's overlap, and whether it beats that row, give the first
+-- of the open columns
 pub head_from : (query : Query) (part : Searched) (progress : Progress) (tallies : List Tally) (known : List Bool) (last : Option Row) (found : Option (ℕ × Row)) (low : ℕ) → IsAt part progress tallies known → low ≡ threshold_of (overlap_of last)
     → FoundFrom query part tallies known (left_of part progress) (length part.segment.columns) low found → (result : Option ℕ) → result ≡ taken last found → IsHead query part progress last result
 head_from query part progress tallies known last None low is high h result e = subst (IsHead query part progress last) (sym e) (none_high query part progress tallies known is last low high h)
 head_from query part progress tallies known last (Some found) low is high h result e = head_found query part progress tallies known last (Some found) is h result e
 
--- the same, of what is known by other names
+-- the same, with other names for what is known
 pub head_now : (query : Query) (part : Searched) (progress : Progress) (tallies : List Tally) (known : List Bool) (last kept : Option Row) (found : Option (ℕ × Row)) (left n low : ℕ) (result : Option ℕ) → IsAt part progress tallies known
     → kept ≡ last → left ≡ left_of part progress → n ≡ length part.segment.columns → low ≡ threshold_of (overlap_of kept) → FoundFrom query part tallies known left n low found → result ≡ taken kept found → IsHead query part progress last result
 head_now query part progress tallies known last kept found left n low result is same l m high h e =

@@ -11,7 +11,7 @@ use Rattle.part_columns.specs.Tallies.{most_of, tally_at}
 most_at_end : (tally : Tally) → most_of 0 tally ≡ tally.count
 most_at_end tally = omega arith
 
--- where all lists were read, the row of a column is left out if no row of its count is kept
+-- once all lists were read, the row of a column is left out if no row of its count is kept
 pub none_kept : (query : Query) (part : Searched) (tallies : List Tally) (known : List Bool) (x k : ℕ) (rows : List Row)
     → ((row : Row) → row.overlap ≡ (tally_at tallies x).count → take k (put_in_order row_cmp row rows) ≡ rows)
     → rows ≡ offered k rows (lead_row query part tallies known 0 x)

@@ -1,4 +1,4 @@
--- The first column that leads is the first of the open ones, where it beats; and else none is open.
+-- The first column that leads is the first of the open ones if it beats the last row; otherwise none is open.
 use Rattle.std.proofs.Common.{◌≡◌, refl, ap, sym, ◌∙◌, ℕ, ◌<◌, List, [], ◌∷◌, Bool, true, false, not, ◌&&◌, ◌||◌, length, arith, take, get_or, Option, Some, None, ltb as nat_lt, leb as nat_le}
 use Rattle.std.proofs.lemmas.Bool.Decides.{nat_tests}
 use Rattle.lake_model.proofs.AnswerLemmas.{row_cmp_total}
@@ -69,7 +69,7 @@ module _ (query : Query) (part : Searched) (progress : Progress) (tallies : List
       and_moved (is_eligible query part (column_at part x)) (not (is_known part progress x)) (nat_lt 0 (seen_at part progress x).count) (beats last (seen_at part progress x).bound)
       ∙ ap (λ b. b && beats last (seen_at part progress x).bound) (sym (leads_are x))
 
-  -- It beats: it is the first of the open ones.
+  -- If it beats the last row, it is the first of the open columns.
   pub first_open : (last : Option Row) (x : ℕ) (row : Row) → IsFirst query part tallies known left (length part.segment.columns) x row → beats last row ≡ true
       → (rest : List Seen) × (open_columns query part progress last ≡ seen_at part progress x ∷ rest)
   first_open last x row h b =
@@ -90,7 +90,7 @@ module _ (query : Query) (part : Searched) (progress : Progress) (tallies : List
       by true e = h e
       by false e = refl
 
-  -- None leads, or the first that does is beaten: none is open.
+  -- If none leads, or the first that does is beaten, none is open.
   pub none_opens : (last : Option Row) → NoneLeads query part tallies known (length part.segment.columns) → open_columns query part progress last ≡ []
   none_opens last h = none_open query part progress last (λ y l. closed_by last y (λ e. absurd (let f : true ≡ false = sym e ∙ h y l in cc)))
 
@@ -99,7 +99,7 @@ module _ (query : Query) (part : Searched) (progress : Progress) (tallies : List
       none_open query part progress last (λ y l. closed_by last y (λ e.
       no_later_beats last row (seen_at part progress y).bound (ap (λ (r : Row). is_before r row) (sym (bounds_are y e)) ∙ no_sooner_there query part tallies known left (length part.segment.columns) x y row h l e) b))
 
-  -- None leads with a bound from the last one's overlap on: none is open.
+  -- If none leads with a bound of at least the last row's overlap, none is open.
   pub none_high : (last : Option Row) (low : ℕ) → low ≡ threshold_of (overlap_of last) → NoneFrom query part tallies known left (length part.segment.columns) low → open_columns query part progress last ≡ []
   none_high last low high h = none_open query part progress last (λ y l. closed_by last y (λ e. beaten last high y (h y l e) e))
     where

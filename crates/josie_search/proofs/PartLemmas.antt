@@ -35,7 +35,7 @@ known_probed query part progress unread =
     let more : nat_le (length part.query) progress.read ≡ false = grind (arith, nat_tests) in
     known_rows_are query part progress ∙ rows_same query part (is_known part progress) (is_among progress.probed) (λ x. ap (λ b. b || is_among progress.probed x) more)
 
--- one column more that is offered
+-- one more column is offered
 pub rows_more : (query : Query) (part : Searched) (before : List Row) (p q : ℕ → Bool) (y : ℕ) (d : Titled) → y < length part.segment.columns → d ≡ get_or part.segment.columns y d
     → ((x : ℕ) → (x ≡ y → ⊥) → q x ≡ p x) → p y ≡ false → q y ≡ true → shares query part (y, d) ≡ true
     → best row_cmp query.k (before ++ rows_by query part q) ≡ take query.k (put_in_order row_cmp (row_for query (y, d)) (best row_cmp query.k (before ++ rows_by query part p)))
@@ -49,7 +49,7 @@ rows_more query part before p q y d within at other not_yet now share =
     ∙ sym (best_IsPermutation row_cmp_total row_cmp_exact query.k (before ++ row ∷ rows_by query part p) (row ∷ (before ++ rows_by query part p)) (IsPermutation-middle before row (rows_by query part p)))
     ∙ best_more row_cmp_total row_cmp_exact query.k row (before ++ rows_by query part p)
 
--- a column that shares nothing, or is there
+-- a column that shares nothing, or one that is there
 module _ (keep : Numbered → Bool) (p q : ℕ → Bool) (y : ℕ) (other : (x : ℕ) → (x ≡ y → ⊥) → q x ≡ p x) where
   abbrev of : (ℕ → Bool) → List Numbered → List Numbered
   of t cs = filter (λ c. t c.0) (filter keep cs)
@@ -96,7 +96,7 @@ known_all query part progress all =
     let more : nat_le (length part.query) progress.read ≡ true = grind (arith, nat_tests) in
     known_rows_are query part progress ∙ rows_same query part (is_known part progress) (λ x. true) (λ x. ap (λ b. b || is_among progress.probed x) more)
 
--- a test that all columns pass which share something
+-- a test that all columns pass that share something
 where_from : (keep : Numbered → Bool) (p : ℕ → Bool) (n : ℕ) (cs : List Titled) → ((x : ℕ) (c : Titled) → n ≤ x → x < n + length cs → c ≡ get_or cs (x - n) c → keep (x, c) ≡ true → p x ≡ true)
     → filter (λ c. p c.0) (filter keep (enumerate_from n cs)) ≡ filter (λ c. true) (filter keep (enumerate_from n cs))
 where_from keep p n [] h = refl

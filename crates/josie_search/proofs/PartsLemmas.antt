@@ -1,4 +1,4 @@
--- The parts in turn: what a part's search makes rests on the first k of what is known before it alone.
+-- The parts in turn: the result of a part's search depends only on the first k of the rows known before it.
 use Rattle.std.proofs.Common.{◌≡◌, refl, ap, sym, ◌∙◌, ℕ, zero, suc, ◌+◌, ◌-◌, ◌<◌, ◌≤◌, List, [], ◌∷◌, ◌++◌, Bool, false, length, map, take, drop, get_or, arith, append_assoc, append-nil, Option, Some, None}
 use Rattle.std.specs.Prelude.{slice_get}
 use Rattle.std.proofs.Math.Seq.{drop-cons}
@@ -78,7 +78,7 @@ module _ (says : Summary → Bool) (query : Query) (some : 0 < query.k) (a b : L
       ∙ step_same fuel (run_within says query a part) (run_within says query b part) (within_same fuel) progress (next_look says query b part progress)
       ∙ sym (unfold_run b fuel progress)
 
-  -- The looks of a part rest on the first k before it alone.
+  -- The looks of a part depend only on the first k rows before it.
   pub run_same : (progress : Progress) → run says query a part progress ≡ run says query b part progress
   unfolding run
   run_same progress = within_same (work_left part progress) progress
@@ -108,7 +108,7 @@ module _ (says : Summary → Bool) (query : Query) (some : 0 < query.k) (all : L
     known_is = refl;
   }
 
-  -- what a part's search asks of the rows
+  -- what a part's search requires of the rows
   pub rows_kept : (i : ℕ) (log : List Look) (rows : List Row) → Through says query all i log rows → rows ≡ best row_cmp query.k rows
   rows_kept i log rows t = t.rows_are ∙ sym (best_best query.k t.before) ∙ ap (best row_cmp query.k) (sym t.rows_are)
 
@@ -120,7 +120,7 @@ module _ (says : Summary → Bool) (query : Query) (some : 0 < query.k) (all : L
   unfolding known_after
   known_front before part rest = refl
 
-  -- one part more
+  -- one more part
   pub through_more : (i : ℕ) (d : Searched) (log news : List Look) (rows rows' : List Row) → i < length all → Through says query all i log rows → news ≡ log ++ (run says query rows (get_or all i d) start).0
       → rows' ≡ best row_cmp query.k (rows ++ known_rows query (get_or all i d) (run says query rows (get_or all i d) start).1) → Through says query all (i + 1) news rows'
   through_more i d log news rows rows' h t new more =
@@ -151,7 +151,7 @@ module _ (says : Summary → Bool) (query : Query) (some : 0 < query.k) (all : L
   unfolding known_after
   known_none before = refl
 
-  -- behind all parts
+  -- after all parts
   pub through_log : (i : ℕ) (log : List Look) (rows : List Row) → length all ≤ i → Through says query all i log rows → log ≡ looks_of says query [] all
   through_log i log rows h t = sym (append-nil log) ∙ ap (λ us. log ++ us) (sym (ap (looks_of says query t.before) (drop_all i all h) ∙ looks_none t.before)) ∙ t.looks_are
 

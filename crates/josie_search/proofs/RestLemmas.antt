@@ -1,4 +1,5 @@
--- Where all lists were read, the columns that lead are offered, and with the probed ones all rows of the part are known.
+-- Once all lists were read, the columns that lead are offered, and together with the probed ones all rows of the part
+-- are known.
 use Rattle.std.proofs.Common.{◌≡◌, refl, ap, sym, ◌∙◌, subst, ℕ, zero, suc, ◌+◌, ◌<◌, ◌≤◌, List, [], ◌∷◌, ◌++◌, Bool, true, false, not, ◌&&◌, ◌||◌, length, arith, cond, take, drop, get_or, length-append, append-nil, append_assoc, eqb as nat_eq, ltb as nat_lt}
 use Rattle.std.specs.Prelude.{bytes_eq}
 use Rattle.std.specs.List.{AllByRecursion, count_by, IsDistinct}
@@ -95,7 +96,7 @@ module _ (query : Query) (whole : Part) (distinct : IsDistinct bytes_eq query.ke
     now = let e : nat_eq x x ≡ true = grind (arith, nat_tests) in ap (λ b. b || is_among probed x) (pushed x ∙ ap (λ b. is_among done x || b) e ∙ or_true (is_among done x))
 
   module _ (before : List Row) where
-    -- one more column that is not among those done
+    -- one more column, not among those done
     one_offered : (done : List ℕ) (x : ℕ) (rows : List Row) → is_among done x ≡ false → x < length part.segment.columns → rows ≡ best row_cmp query.k (before ++ rows_by query part (to done))
         → offered query.k rows (lead_row query part tallies known 0 x) ≡ best row_cmp query.k (before ++ rows_by query part (to (more done x)))
     one_offered done x rows apart h so_far = ap (λ rows. offered query.k rows (lead_row query part tallies known 0 x)) so_far ∙ by (leads query part tallies known x) refl
@@ -120,7 +121,7 @@ module _ (query : Query) (whole : Part) (distinct : IsDistinct bytes_eq query.ke
             let there : is_among probed x ≡ true = known_then (is_eligible query part (column_at part x)) (is_among probed x) (nat_lt 0 (overlap query.keys (column_at part x).column.keys)) (sym (lead_is x within) ∙ e) (ap (λ (d : Titled). shares query part (x, d)) (sym same) ∙ k) in
             now done x ∙ sym (here ∙ there))))
 
-    -- the columns of a list, none of which is among those done, and none twice
+    -- the columns of a list, distinct and none of them among those done
     offered_all : (done rest : List ℕ) (rows : List Row) → ((x : ℕ) → count_by (nat_eq x) (done ++ rest) ≤ 1) → AllByRecursion (λ x. x < length part.segment.columns) rest
         → rows ≡ best row_cmp query.k (before ++ rows_by query part (to done)) → offers query.k (lead_row query part tallies known 0) rows rest ≡ best row_cmp query.k (before ++ rows_by query part (to (done ++ rest)))
     offered_all done [] rows few within so_far = so_far ∙ ap (λ (xs : List ℕ). best row_cmp query.k (before ++ rows_by query part (to xs))) (sym (append-nil done))
@@ -129,7 +130,7 @@ module _ (query : Query) (whole : Part) (distinct : IsDistinct bytes_eq query.ke
         offered_all (done ++ x ∷ []) rest _ (λ y. subst (λ (xs : List ℕ). count_by (nat_eq y) xs ≤ 1) (sym moved) (few y)) within.1 (one_offered done x rows (apart_before done x rest (few x)) within.0 so_far)
         ∙ ap (λ (xs : List ℕ). best row_cmp query.k (before ++ rows_by query part (to xs))) moved
 
-    -- All touched columns were offered: the rows of the part are known.
+    -- Once all touched columns were offered, the rows of the part are known.
     pub all_offered : (touched : List ℕ) (rows : List Row) → IsListed tallies touched → rows ≡ best row_cmp query.k (before ++ rows_by query part (is_among probed))
         → offers query.k (lead_row query part tallies known 0) rows touched ≡ best row_cmp query.k (before ++ rows_by query part (λ x. true))
     all_offered touched rows listed so_far =
@@ -141,7 +142,7 @@ module _ (query : Query) (whole : Part) (distinct : IsDistinct bytes_eq query.ke
         let some : 0 < (tally_at tallies x).count = (let n = counted x l in let t : 0 < overlap query.keys (column_at part x).column.keys = grind (arith, nat_tests) in omega (arith, n, t)) in
         ap (λ b. b || is_among probed x) (touched_listed tallies touched x listed some)))
 
--- a column more is probed while lists are left
+-- one more column is probed while lists are left
 pub probed_known : (query : Query) (whole : Part) (distinct : IsDistinct bytes_eq query.keys) (tallies : List Tally) (known : List Bool) (probed : List ℕ) (before rows news : List Row) (x read : ℕ) → x < length (searched query whole).segment.sets
     → is_eligible query (searched query whole) (column_at (searched query whole) x) ≡ true → get_or known x false ≡ false → 0 < (tally_at tallies x).count → AreTallies (searched query whole).segment.sets (take read (searched query whole).query) tallies
     → ((y : ℕ) → get_or known y false ≡ is_among probed y) → rows ≡ best row_cmp query.k (before ++ rows_by query (searched query whole) (is_among probed)) → news ≡ take query.k (put_in_order row_cmp (shared_row query (searched query whole) x) rows)

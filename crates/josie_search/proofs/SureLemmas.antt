@@ -19,7 +19,7 @@ use Rattle.josie_search.proofs.LoopLemmas.{lead_parts}
 use Rattle.josie_search.proofs.NextLemmas.{head_found, next_reads}
 use Rattle.josie_search.proofs.OpenLemmas.{seen_count}
 
--- fewer rows than k have no k-th
+-- fewer than k rows have no k-th
 pub none_last : (rows : List Row) (k : ℕ) → 0 < k → nat_le k (length rows) ≡ false → slice_get rows (k - 1) ≡ None
 none_last rows k some e = slice_get_past rows (k - 1) (let few : length rows < k = grind (arith, nat_tests) in omega arith)
 
@@ -37,7 +37,7 @@ module _ (says : Summary → Bool) (query : Query) (before : List Row) (part : S
   lead_list true row = refl
   lead_list false row = refl
 
-  -- the first columns, so many of them
+  -- the first n columns
   abbrev below : ℕ → List ℕ
   below zero = []
   below (suc n) = n ∷ below n
@@ -64,7 +64,8 @@ module _ (says : Summary → Bool) (query : Query) (before : List Row) (part : S
       let row = lead_option (leads query part tallies known n) (bound_row part tallies left n) in
       (first_of before_it.0 n row, found_more query part tallies known left n (below n) (below (suc n)) (one_below n) before_it.0 row before_it.1 (lead_list (leads query part tallies known n) (bound_row part tallies left n)))
 
-  -- With fewer than k rows known, a witness that leads shows that the best column has many tokens left, so that the chooser reads.
+  -- If fewer than k rows are known, a witness that leads shows that the best column has many tokens left, so that the
+  -- chooser reads.
   pub surely_read : (w most rest : ℕ) → ((x : ℕ) → 0 < (tally_at tallies x).count → x < length part.segment.columns) → last ≡ None → w < length part.segment.columns → leads query part tallies known w ≡ true → ((x : ℕ) → (tally_at tallies x).count ≤ most)
       → most + rest < (bound_row part tallies left w).overlap
       → ((s : Summary) → s.next_len ≡ slice_index (lengths_of part.segment part.query) progress.read → s.gain ≡ 0 → rest < s.rest → says s ≡ false)

@@ -1,4 +1,5 @@
--- The columns of a part that may be open, in two heaps: by bounds, and by counts, which stand for bounds that fall with each list that is read.
+-- The columns of a part that may be open, in two heaps: one by bounds, and one by counts, for bounds that fall with
+-- each list that is read.
 use Rattle.std.specs.Prelude.{◌≡◌, ◌≢◌, ℕ, ◌+◌, ◌<◌, ◌≤◌, Bool, true, false, ◌&&◌, ◌||◌, not, List, [], ◌++◌, get_or, map, nat_eq, nat_le, nat_lt, if◌then◌else◌, slice_get, sum_by, Option, Some, None}
 use Rattle.std.specs.List.{AllByRecursion, list_any}
 use Rattle.std.specs.Option.{MatchOption}
@@ -21,7 +22,7 @@ IsOfRank n ranks rank column = MatchOption column ((x : ℕ) → x < n → get_o
 
 -- ---- two heaps
 
--- a number and a rank: the greater number comes first, and then the lower rank
+-- a number and a rank: the greater number comes first; of equal numbers, the lower rank
 abbrev pub entry_cmp : ℕ × Reverse ℕ → ℕ × Reverse ℕ → Ordering
 entry_cmp a b = ordering_then (nat_cmp a.0 b.0) (nat_cmp b.1.0 a.1.0)
 
@@ -37,7 +38,8 @@ entry_of c = (c.number, reverse_of c.rank)
 abbrev pub of_entry : Bool → ℕ × Reverse ℕ → Candidate
 of_entry by_count e = candidate by_count e.0 e.1.0
 
--- what the two heaps hold, the lowest bound that they have to hold, how many candidates they have, and for how many there is room
+-- the contents of the two heaps, the lowest bound for which they hold columns, how many candidates they have, and the
+-- room for them
 pub record CandidatesOf : Type 0 where
   pub sized : List (ℕ × Reverse ℕ)
   pub asked : List (ℕ × Reverse ℕ)
@@ -53,7 +55,7 @@ all_of c = map (of_entry false) c.sized ++ map (of_entry true) c.asked
 
 -- ---- what a candidate says
 
--- the most that the overlap of its column can be, with so many lists left
+-- the most that the overlap of its column can be with this many lists left
 abbrev pub most_now : ℕ → Candidate → ℕ
 most_now left c = if c.by_count then c.number + left else c.number
 
@@ -68,26 +70,27 @@ better left None b = b
 better left (Some a) None = Some a
 better left (Some a) (Some b) = if is_ahead left a b then Some a else Some b
 
--- it is the first of a heap
+-- the candidate is the first of a heap
 pub record IsFirstIn (by_count : Bool) (items : List (ℕ × Reverse ℕ)) (t : Candidate) : Type 0 where
   pub kind : t.by_count ≡ by_count
   pub at : slice_get items 0 ≡ Some (entry_of t)
   pub ahead : AllByRecursion (λ e. (e.0 ≤ t.number) × (e.0 ≡ t.number → t.rank ≤ e.1.0)) items
 
--- it stands first in its heap
+-- the candidate is first in its heap
 abbrev pub StandsFirst : CandidatesOf → Candidate → Type 0
 StandsFirst c t = slice_get (if t.by_count then c.asked else c.sized) 0 ≡ Some (entry_of t)
 
--- it stands first in its heap, and none is ahead of it
+-- the candidate is first in its heap, and none is ahead of it
 pub record IsTop (left : ℕ) (c : CandidatesOf) (t : Candidate) : Type 0 where
   pub stands : StandsFirst c t
   pub ahead : AllByRecursion (IsAhead left t) (all_of c)
 
--- a column of this tally and rank: by its count as long as no more lists are left than its tokens
+-- the candidate of a column of this tally and rank: by its count if at most as many lists are left as it has tokens
+-- left
 abbrev pub candidate_of : ℕ → Tally → ℕ → Candidate
 candidate_of left tally rank = if nat_le left (rest_of tally) then candidate true tally.count rank else candidate false (most_of left tally) rank
 
--- it is of this rank, and no less than the bound of a column of this tally
+-- the candidate has this rank, and its number is at least the bound of a column of this tally
 abbrev pub is_over : ℕ → Tally → ℕ → Candidate → Bool
 is_over left tally rank c = nat_eq c.rank rank && nat_le (if c.by_count then tally.count else most_of left tally) c.number
 
@@ -98,14 +101,14 @@ covers left tally rank all = list_any (is_over left tally rank) all
 abbrev pub goes_in : Bool → ℕ → ℕ → Tally → Bool
 goes_in known low left tally = nat_le low (most_of left tally) && not known
 
--- each column that leads and has no lower bound than this is covered, but for some
+-- each column outside `rest` that leads and whose bound is at least `low` is covered
 abbrev pub AreHeldBut : List ℕ → Query → Searched → List ℕ → List Tally → List Bool → ℕ → ℕ → List Candidate → Type 0
 AreHeldBut rest query part ranks tallies known left low all = (x : ℕ) → is_among rest x ≡ false → leads query part tallies known x ≡ true → low ≤ most_of left (tally_at tallies x) → covers left (tally_at tallies x) (get_or ranks x 0) all ≡ true
 
 abbrev pub AreHeld : Query → Searched → List ℕ → List Tally → List Bool → ℕ → ℕ → List Candidate → Type 0
 AreHeld query part ranks tallies known left low all = AreHeldBut [] query part ranks tallies known left low all
 
--- the candidate's number is the bound of a column that leads, with this row
+-- the candidate's number is the bound of column x, which leads and has this row
 pub record IsExact (query : Query) (part : Searched) (tallies : List Tally) (known : List Bool) (left : ℕ) (top : Candidate) (column : Option ℕ) (x : ℕ) (row : Row) : Type 0 where
   pub of_rank : column ≡ Some x
   pub does : leads query part tallies known x ≡ true
@@ -118,10 +121,10 @@ NoneExact query part tallies known left top column = (x : ℕ) → column ≡ So
 abbrev pub FoundExact : Query → Searched → List Tally → List Bool → ℕ → Candidate → Option ℕ → Option (ℕ × Row) → Type 0
 FoundExact query part tallies known left top column found = MatchOption found (NoneExact query part tallies known left top column) (λ f. IsExact query part tallies known left top column f.0 f.1)
 
--- no two of the first n columns have one rank
+-- no two of the first n columns have the same rank
 abbrev pub AreApart : ℕ → List ℕ → Type 0
 AreApart n ranks = (x y : ℕ) → x < n → y < n → get_or ranks x 0 ≡ get_or ranks y 0 → x ≡ y
 
--- what a mending makes smaller
+-- the weight of all candidates, which each mending makes smaller
 abbrev pub weight : ℕ → List Candidate → ℕ
 weight left all = sum_by (λ c. most_now left c + 1) all

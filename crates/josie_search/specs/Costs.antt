@@ -1,4 +1,4 @@
--- What a chooser is told, from what the code keeps.
+-- What a chooser sees, computed from what the code keeps.
 use Rattle.std.specs.Prelude.{ℕ, ◌-◌, ◌&&◌, List, get_or, length, map, nat_le, nat_lt, if◌then◌else◌, Option, None, Some, slice_index}
 use Rattle.search_model.specs.declared.Summary.{Summary}
 use Rattle.search_model.specs.Choosers.{read_cost}
@@ -7,11 +7,11 @@ use Rattle.search_model.specs.Segment.{Segment}
 use Rattle.part_columns.specs.declared.tally.Tally.{Tally}
 use Rattle.part_columns.specs.Tallies.{most_of, rest_of}
 
--- how long the lists of these tokens are
+-- the lengths of the lists of these tokens
 abbrev pub lengths_of : Segment → List ℕ → List ℕ
 lengths_of segment tokens = map (λ token. get_or (map (λ t. t.frequency) segment.tokens) token 0) tokens
 
--- what a list costs where it would be spared
+-- what a list costs if it would be spared, and else 0
 abbrev pub spared_cost : ℕ → ℕ → ℕ → ℕ → ℕ
 spared_cost length left threshold est = if nat_le threshold left && nat_lt left est then read_cost length else 0
 

@@ -6,11 +6,11 @@ use Rattle.lake_model.specs.Tables.{overlap}
 use Rattle.search_model.specs.Looks.{row_with, Searched}
 use Rattle.search_state.specs.State.{column_at}
 
--- the first k of some rows and of these
+-- the first k rows, after each row of `more` was offered to `rows`
 abbrev pub offered : ℕ → List Row → List Row → List Row
 offered k rows more = fold (λ rows row. take k (put_in_order row_cmp row rows)) rows more
 
--- the rows of these columns offered in turn
+-- the rows of these columns, offered in turn
 abbrev pub offers : ℕ → (ℕ → List Row) → List Row → List ℕ → List Row
 offers k row_of rows columns = fold (λ rows x. offered k rows (row_of x)) rows columns
 

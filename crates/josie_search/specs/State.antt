@@ -1,4 +1,4 @@
--- How what the code keeps of a part stands for the progress of its search.
+-- How what the code keeps of a part represents the progress of its search.
 use Rattle.std.specs.Prelude.{◌≡◌, ℕ, ◌<◌, Bool, false, List, get_or, length, take}
 use Rattle.lake_model.specs.Layout.{is_among}
 use Rattle.search_model.specs.Looks.{Progress, Searched}

@@ -1,4 +1,4 @@
-//! The columns of a part that may be open, so that the first of them is found without a walk over all.
+//! The columns of a part that may be open, kept so that the first of them is found without a walk over all.
 ghost use Rattle.std.specs.Prelude.{◌≡◌, ◌<◌, ◌≤◌, ◌+◌, ◌*◌, ◌^◌, ◌∷◌, [], ℕ, true, length, slice_get, IfOk, Some};
 ghost use Rattle.std.specs.BinaryHeap.{heap_capacity, heap_items, heap_len, IsHeap};
 ghost use Rattle.std.specs.List.Sorted.{IsPermutation};
@@ -12,8 +12,8 @@ use std::cmp::Reverse;
 use std::collections::BinaryHeap;
 use std::marker::Model;
 
-/// A column, by its rank, that may be open, and a number that its bound does not pass: the number itself, or where it goes by counts, the
-/// number and the lists that are left.
+/// A column that may be open, by its rank, and an upper limit on its bound: `number` itself, or, if `by_count` is set,
+/// `number` plus the number of lists that are left.
 #[derive(Clone, Copy)]
 pub(crate) struct Candidate {
     pub by_count: bool,
@@ -21,10 +21,11 @@ pub(crate) struct Candidate {
     pub rank: u32,
 }
 
-/// The candidates of a part, and the lowest bound that they are kept for. A column may stand among them more than once, or with a number
-/// above its bound. A column that has no fewer tokens left than there are lists left goes by its count, so that its number stands while
-/// lists are read; the others go by their bounds. They keep account of what the last filling cost. A contract sees the two heaps, the
-/// lowest bound, how many candidates there are, and the room.
+/// The candidates of a part, and the lowest bound for which they are kept. A column may be among them more than once,
+/// or with a number above its bound. A column with at least as many tokens left as there are lists left is held by its
+/// count, so that its number stays valid while lists are read; the others are held by their bounds. The struct also
+/// keeps account of what the last filling cost. Its model is the two heaps, the lowest bound, the number of candidates,
+/// and the room.
 #[derive(Drop)]
 pub(crate) struct Candidates {
     sized: BinaryHeap<(u32, Reverse<u32>)>,
@@ -47,7 +48,7 @@ impl Model for Candidates {
 }
 
 impl Candidates {
-    /// None, and kept for none, with room for two of each column.
+    /// Returns an empty set of candidates, kept for no bound, with room for two of each column.
     pub(crate) fn new(alloc: Global, columns: u32) -> Result<Candidates, NoMemory>
         ensures room { IfOk result (λ made. made.room ≡ 2 * columns) }
     {
@@ -61,21 +62,21 @@ impl Candidates {
         })
     }
 
-    /// The lowest bound that they are kept for.
+    /// Returns the lowest bound for which candidates are kept.
     pub(crate) fn low(&self) -> u32
         ensures { result ≡ self.now.low }
     {
         self.low
     }
 
-    /// Whether there is room for so many more.
+    /// Returns whether there is room for `more` more candidates.
     pub(crate) fn has_room(&self, more: usize) -> bool
         ensures { result ≡ true → self.now.many + more ≤ self.now.room }
     {
         more <= self.room - (self.sized.len() + self.asked.len())
     }
 
-    /// Keeps them for this bound and greater ones.
+    /// Keeps the candidates for bounds of `low` or more.
     pub(crate) fn keep_from(&mut self, low: u32)
         ensures all { all_of self.new ≡ all_of self.old }
         ensures low { self.new.low ≡ low }
@@ -85,7 +86,7 @@ impl Candidates {
         self.low = low;
     }
 
-    /// Forgets all, and keeps them for this bound and greater ones.
+    /// Forgets all candidates, and keeps new ones for bounds of `low` or more.
     pub(crate) fn clear(&mut self, low: u32)
         ensures all { all_of self.new ≡ [] }
         ensures low { self.new.low ≡ low }
@@ -98,26 +99,26 @@ impl Candidates {
         self.debt = 0;
     }
 
-    /// Takes the candidates that there are as the cost of a filling, to be paid by as many postings.
+    /// Records the number of candidates as the cost of a filling, to be paid off by as many postings.
     pub(crate) fn owe(&mut self)
         ensures { self.new ≡ self.old }
     {
         self.debt = self.sized.len() + self.asked.len();
     }
 
-    /// Pays by so many postings.
+    /// Pays off the given number of postings.
     pub(crate) fn pay(&mut self, postings: usize)
         ensures { self.new ≡ self.old }
     {
         self.debt = self.debt.saturating_sub(postings);
     }
 
-    /// Whether the last filling is paid.
+    /// Returns whether the last filling is paid off.
     pub(crate) fn is_paid(&self) -> bool {
         self.debt == 0
     }
 
-    /// One more.
+    /// Adds a candidate.
     pub(crate) fn push(&mut self, candidate: Candidate)
         requires room { self.old.many < self.old.room }
         ensures all { IsPermutation (candidate ∷ all_of self.old) (all_of self.new) }
@@ -132,7 +133,7 @@ impl Candidates {
         }
     }
 
-    /// The one of the greatest number, and of these the one of the lowest rank, with so many lists left.
+    /// Returns the candidate of the greatest number with `left` lists left; of equal ones, that of the lowest rank.
     pub(crate) fn top(&self, left: u32) -> Option<Candidate>
         ensures { MatchOption result (all_of self.now ≡ []) (IsTop left self.now) }
     {
@@ -141,7 +142,7 @@ impl Candidates {
         better(left, sized, asked)
     }
 
-    /// Forgets the one that stands first in its heap.
+    /// Forgets the candidate that is first in its heap.
     pub(crate) fn pop(&mut self, top: Candidate)
         requires first { StandsFirst self.old top }
         ensures all { IsPermutation (all_of self.old) (top ∷ all_of self.new) }
@@ -158,7 +159,7 @@ impl Candidates {
     }
 }
 
-/// The most that the overlap of its column can be, with so many lists left.
+/// Returns the most that the overlap of the candidate's column can be with `left` lists left.
 pub(crate) fn most_now(candidate: Candidate, left: u32) -> u64
     ensures { result ≡ most_now left candidate }
 {
@@ -169,7 +170,7 @@ pub(crate) fn most_now(candidate: Candidate, left: u32) -> u64
     }
 }
 
-/// The candidate of a column that has this tally and this rank.
+/// Returns the candidate of a column with this tally and this rank.
 pub(crate) fn candidate_of(tally: Tally, left: u32, rank: u32) -> Candidate
     requires { tally.count + left < 2 ^ 32 }
     ensures { result ≡ candidate_of left tally rank }
@@ -189,7 +190,7 @@ pub(crate) fn candidate_of(tally: Tally, left: u32, rank: u32) -> Candidate
     }
 }
 
-// Adds one where there is room.
+// Adds one; there must be room.
 fn put(heap: &mut BinaryHeap<(u32, Reverse<u32>)>, candidate: Candidate)
     requires room { heap_len heap.old < heap_capacity heap.old }
     requires order { IsHeap entry_cmp (heap_items heap.old) }
@@ -204,7 +205,7 @@ fn put(heap: &mut BinaryHeap<(u32, Reverse<u32>)>, candidate: Candidate)
     }
 }
 
-// Takes out the one that stands first.
+// Takes out the first one.
 fn take(heap: &mut BinaryHeap<(u32, Reverse<u32>)>, top: Candidate)
     requires first { slice_get (heap_items heap.old) 0 ≡ Some (entry_of top) }
     requires order { IsHeap entry_cmp (heap_items heap.old) }
@@ -220,7 +221,7 @@ fn take(heap: &mut BinaryHeap<(u32, Reverse<u32>)>, top: Candidate)
     }
 }
 
-// The one that stands first.
+// Returns the first one.
 fn first(heap: &BinaryHeap<(u32, Reverse<u32>)>, by_count: bool) -> Option<Candidate>
     requires order { IsHeap entry_cmp (heap_items heap.now) }
     ensures { MatchOption result (heap_items heap.now ≡ []) (IsFirstIn by_count (heap_items heap.now)) }
@@ -236,7 +237,7 @@ fn first(heap: &BinaryHeap<(u32, Reverse<u32>)>, by_count: bool) -> Option<Candi
     }
 }
 
-// The one of two that comes first.
+// Returns the one of the two that comes first.
 fn better(left: u32, a: Option<Candidate>, b: Option<Candidate>) -> Option<Candidate>
     ensures { result ≡ better left a b }
 {

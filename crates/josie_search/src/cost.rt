@@ -1,4 +1,4 @@
-//! What a chooser is told.
+//! What a chooser sees.
 ghost use Rattle.std.specs.Prelude.{◌≡◌, ◌<◌, ◌≤◌, ◌+◌, ◌^◌, get_or, length, map};
 ghost use Rattle.std.specs.List.{All};
 ghost use Rattle.search_model.specs.Looks.{estimate, spared};
@@ -10,7 +10,7 @@ use part_columns::Tally;
 use search_bounds::bound;
 use segment_core::Looks;
 
-/// How many columns hold a token.
+/// Returns how many columns hold a token: the length of its posting list.
 pub(crate) fn length_of(looks: &Looks<'_>, part: u32, token: u32) -> u32
     requires part { part < length looks.now.version.parts }
     requires token { token < length (segment_at looks.now.version.parts part).tokens }
@@ -19,7 +19,7 @@ pub(crate) fn length_of(looks: &Looks<'_>, part: u32, token: u32) -> u32
     looks.list_len(part, token)
 }
 
-// What a list of this length costs, where it would be spared.
+// Returns what a list of this length costs if it would be spared, and else 0.
 fn spared_cost(length: u32, left: u32, threshold: u32, estimate: u32) -> u64
     ensures value { result ≡ spared_cost length left threshold estimate }
     ensures small { result ≤ 2 ^ 35 }
@@ -31,7 +31,7 @@ fn spared_cost(length: u32, left: u32, threshold: u32, estimate: u32) -> u64
     }
 }
 
-// What the lists cost, of those not read, that an overlap of `estimate` would spare.
+// Returns what the unread lists cost that an overlap of `estimate` would spare.
 fn spared(
     looks: &Looks<'_>,
     part: u32,
@@ -55,7 +55,7 @@ fn spared(
     sum
 }
 
-// The overlap that a column is taken to have, from how many of the lists read hold it.
+// Returns the overlap that a column is assumed to have, given how many of the lists read so far hold it.
 fn estimate(count: u32, most: u32, lists: u32, read: u32) -> u32
     requires { 0 < read }
     ensures { result ≡ estimate count most lists read }
@@ -64,7 +64,8 @@ fn estimate(count: u32, most: u32, lists: u32, read: u32) -> u32
     count.max(guess.min(u64::from(most)) as u32)
 }
 
-// What the lists cost that the estimate would spare, where k rows are known whose last has this overlap.
+// Returns the cost of the lists that the estimate would spare, if k rows are known and the last of them has overlap
+// `worst`; else 0.
 fn gain(
     looks: &Looks<'_>,
     part: u32,
@@ -85,8 +86,8 @@ fn gain(
     }
 }
 
-/// What a chooser is told of the best open column, which has this tally behind the lists read, where `worst` is the overlap of the k-th
-/// row that is known.
+/// Returns what a chooser sees of the best open column, whose tally after the lists read so far is `tally`; `worst` is
+/// the overlap of the k-th known row.
 pub(crate) fn summarize(
     looks: &Looks<'_>,
     part: u32,

@@ -1,4 +1,4 @@
-//! The first of the columns that may be open.
+//! Finds the first of the columns that may be open.
 ghost use Rattle.std.specs.Prelude.{◌≡◌, ◌<◌, ◌≤◌, ◌+◌, ◌^◌, ℕ, List, Some, ◌&&◌, false, true, get_or, length, nat_lt};
 ghost use Rattle.lake_model.specs.Answer.{Query};
 ghost use Rattle.search_model.specs.Looks.{Searched, searched};
@@ -16,9 +16,9 @@ use column_set::Row;
 use part_columns::{Columns, most_of};
 use segment_core::{ColumnOrder, Looks};
 
-/// The first of the columns that were seen, are not known and may be in the answer, by the rows of their bounds, with this row; `None`
-/// where none has a bound of `low` or more. It takes out the candidates that come before it, and puts those back whose bounds have
-/// fallen.
+/// Returns the first column, by the rows of their bounds, of those that were seen, are not known and may be in the
+/// answer, with the row of its bound; `None` if no such column has a bound of `low` or more. It takes out the
+/// candidates that come before it, and puts back those whose bounds have fallen.
 pub(crate) fn first_lead<'a>(
     looks: &Looks<'a>,
     part: u32,
@@ -55,7 +55,7 @@ pub(crate) fn first_lead<'a>(
     None
 }
 
-// The column of this rank, if there is one.
+// Returns the column of this rank, if there is one.
 fn ranked(order: ColumnOrder<'_>, rank: u32) -> Option<u32>
     requires inverse { AreInverse order.ranks.now order.by_rank.now }
     requires below { (x : ℕ) → x < length order.ranks.now → get_or order.ranks.now x 0 < length order.ranks.now }
@@ -73,7 +73,7 @@ fn ranked(order: ColumnOrder<'_>, rank: u32) -> Option<u32>
     }
 }
 
-// The column with the row of its bound, where it leads, and the candidate's number is its bound.
+// Returns the column with the row of its bound, if it leads and the candidate's number is its bound.
 fn exact_lead<'a>(
     looks: &Looks<'a>,
     part: u32,
@@ -99,7 +99,7 @@ fn exact_lead<'a>(
     }
 }
 
-// Takes out the first candidate, and puts its column back with its bound, where that is lower than the candidate's number.
+// Takes out the first candidate, and puts its column back with its bound if that is lower than the candidate's number.
 fn mend(
     candidates: &mut Candidates,
     columns: &Columns,
@@ -124,7 +124,8 @@ fn mend(
     }
 }
 
-// Whether a column has to be held for bounds from `low` on, and its bound is lower than the candidate's number.
+// Returns whether a column has to be held for bounds of `low` or more, and its bound is lower than the candidate's
+// number.
 fn has_fallen(columns: &Columns, left: u32, low: u32, top: Candidate, column: u32) -> bool
     requires column { column < length columns.now.tallies }
     requires small { (tally_at columns.now.tallies column).count + left < 2 ^ 32 }

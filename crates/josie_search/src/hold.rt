@@ -1,4 +1,4 @@
-//! Which columns are held as candidates.
+//! Decides which columns are held as candidates.
 ghost use Rattle.std.specs.Prelude.{◌≡◌, ◌<◌, ◌≤◌, ◌+◌, ◌^◌, ◌∷◌, ℕ, Bool, List, false, true, get_or, length, map};
 ghost use Rattle.std.specs.List.{All};
 ghost use Rattle.std.specs.List.Sorted.{IsPermutation};
@@ -12,7 +12,7 @@ use crate::candidates::{Candidates, candidate_of};
 use part_columns::{Columns, most_of};
 use segment_core::Posting;
 
-/// Whether a column has to be held for bounds from `low` on.
+/// Returns whether a column has to be held for bounds of `low` or more.
 pub(crate) fn goes_in(columns: &Columns, left: u32, low: u32, column: u32) -> bool
     requires column { column < length columns.now.tallies }
     requires small { (tally_at columns.now.tallies column).count + left < 2 ^ 32 }
@@ -21,7 +21,7 @@ pub(crate) fn goes_in(columns: &Columns, left: u32, low: u32, column: u32) -> bo
     low <= most_of(columns.tally(column), left) && !columns.is_known(column)
 }
 
-// Holds a column, where it has to be held.
+// Holds a column if it has to be held.
 fn enter(candidates: &mut Candidates, columns: &Columns, ranks: &[u32], left: u32, column: u32)
     requires column { column < length columns.now.tallies }
     requires ranked { column < length ranks.now }
@@ -39,7 +39,7 @@ fn enter(candidates: &mut Candidates, columns: &Columns, ranks: &[u32], left: u3
     }
 }
 
-// Holds the columns that were seen, for bounds from `low` on.
+// Holds the columns that were seen, for bounds of `low` or more.
 fn fill(candidates: &mut Candidates, columns: &Columns, ranks: &[u32], left: u32, low: u32)
     requires ranked { (column : ℕ) → 0 < (tally_at columns.now.tallies column).count → column < length ranks.now }
     requires small { (column : ℕ) → (tally_at columns.now.tallies column).count + left < 2 ^ 32 }
@@ -55,7 +55,8 @@ fn fill(candidates: &mut Candidates, columns: &Columns, ranks: &[u32], left: u32
     candidates.owe();
 }
 
-/// Holds the columns for bounds from `low` on. Where they were held for greater ones only, it walks the columns that were seen.
+/// Holds the columns for bounds of `low` or more. If they were held only for greater bounds, it walks the columns that
+/// were seen.
 pub(crate) fn reach(
     candidates: &mut Candidates,
     columns: &Columns,
@@ -77,8 +78,8 @@ pub(crate) fn reach(
     }
 }
 
-/// Holds the columns of a list that was read. Where there is no room for them, or none were held, it forgets all: they are held again when
-/// they are asked for.
+/// Holds the columns of a list that was just read. If there is no room for them, or no columns were held, it forgets
+/// all candidates; they are held again when they are asked for.
 pub(crate) fn follow(
     candidates: &mut Candidates,
     columns: &Columns,
@@ -100,8 +101,8 @@ pub(crate) fn follow(
     }
 }
 
-/// Forgets the candidates where nobody asks for the best one, so that the next lists need not be followed; but not before as many postings
-/// were followed as the last filling took.
+/// Forgets the candidates while the best one is not asked for, so that the next lists need not be followed; but not
+/// before as many postings were followed as the last filling took.
 pub(crate) fn rest(candidates: &mut Candidates)
     ensures held { (query : Query) (part : Searched) (ranks : List ℕ) (tallies : List Tally) (known : List Bool) (left : ℕ) → ((column : ℕ) → (tally_at tallies column).count + left + 1 < 2 ^ 32) → AreHeld query part ranks tallies known left candidates.old.low (all_of candidates.old) → AreHeld query part ranks tallies known left candidates.new.low (all_of candidates.new) }
     ensures room { candidates.new.room ≡ candidates.old.room }
@@ -111,7 +112,7 @@ pub(crate) fn rest(candidates: &mut Candidates)
     }
 }
 
-// Holds the columns of a list, where they have to be held.
+// Holds those columns of a list that have to be held.
 fn enter_list(
     candidates: &mut Candidates,
     columns: &Columns,

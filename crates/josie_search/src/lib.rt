@@ -1,5 +1,5 @@
-//! The search: the columns of a lake's live tables that share most keys with a query. It reads posting lists and probes sets as a chooser
-//! says, and stops in a part where no column can come before the k-th row that it knows.
+//! The search for the columns of a lake's live tables that share most keys with a query. It reads posting lists and
+//! probes sets as a chooser says, and leaves a part once none of its columns can come before the k-th known row.
 #![tactic(auto)]
 
 mod candidates;

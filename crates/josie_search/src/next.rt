@@ -1,4 +1,4 @@
-//! What a search does next in a part.
+//! Decides what a search does next in a part.
 ghost use Rattle.search_model.specs.declared.Look.TheVariants.{Probe, Read};
 ghost use Rattle.std.specs.Prelude.{true, Some, ◌≡◌, ◌<◌, ◌≤◌, ◌+◌, ◌++◌, ◌^◌, ℕ, get_or, length, List, option_map, slice_get, ◌-◌};
 ghost use Rattle.std.specs.List.{All};
@@ -27,8 +27,8 @@ use search_bounds::unseen_open;
 use segment_core::{ColumnOrder, Look, Looks};
 use topk_heap::TopK;
 
-/// The next look of a search in a part, of which the first lists were read; `None` where the part is done. No column has a greater
-/// count than `most`. It leaves the best column that it found as the witness of later reads.
+/// Returns the next look of a search in a part whose first `read` lists were read; `None` if the part is done. No
+/// column has a count above `most`. The best column that it found is left in `witness` for later reads.
 pub(crate) fn next_look<C: Chooser>(
     looks: &Looks<'_>,
     part: u32,
@@ -81,7 +81,8 @@ pub(crate) fn next_look<C: Chooser>(
     choose(looks, part, tokens, read, columns, chooser, worst, column)
 }
 
-// What a chooser makes of the best open column, if there is one, where `worst` is the overlap of the k-th row that is known.
+// Returns the look that follows from the best open column, if there is one, and from what the chooser says of it;
+// `worst` is the overlap of the k-th known row.
 fn choose<C: Chooser>(
     looks: &Looks<'_>,
     part: u32,
@@ -129,7 +130,7 @@ fn choose<C: Chooser>(
     }
 }
 
-// The column that was found, if any.
+// Returns the column that was found, if any.
 fn column_of(found: &Option<(u32, Row<'_>)>) -> Option<u32> {
     match found {
         None => None,
@@ -137,7 +138,7 @@ fn column_of(found: &Option<(u32, Row<'_>)>) -> Option<u32> {
     }
 }
 
-// How many keys a column has to share at least, where the k-th row that is known has this overlap.
+// Returns how many keys a column has to share at least, if the k-th known row has overlap `worst`.
 fn threshold(worst: Option<u32>) -> u32
     ensures { result ≡ threshold_of worst }
 {
@@ -147,7 +148,7 @@ fn threshold(worst: Option<u32>) -> u32
     }
 }
 
-// The overlap of a row, if there is one.
+// Returns the overlap of a row, if there is one.
 fn worst_overlap(worst: Option<&Row<'_>>) -> Option<u32>
     ensures { result ≡ overlap_of (option_map (λ row. row.now) worst.entry) }
 {
@@ -157,7 +158,7 @@ fn worst_overlap(worst: Option<&Row<'_>>) -> Option<u32>
     }
 }
 
-// The column that was found, where its row beats the last.
+// Returns the column that was found, if its row beats the last.
 fn take_better<'a>(worst: Option<&Row<'_>>, found: Option<(u32, Row<'a>)>) -> Option<u32>
     ensures { result ≡ taken (option_map (λ row. row.now) worst.entry) found.entry }
 {

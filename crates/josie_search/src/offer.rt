@@ -1,4 +1,4 @@
-//! The rows that a search offers to the first k.
+//! Offers the rows of a search to the first k.
 ghost use Rattle.std.specs.Prelude.{◌≡◌, ◌<◌, ◌≤◌, ◌+◌, ◌^◌, ℕ, get_or, length};
 ghost use Rattle.std.specs.Option.{option_to_list};
 ghost use Rattle.search_model.specs.Looks.{searched};
@@ -25,7 +25,7 @@ pub(crate) fn offer<'a>(top: &mut TopK<'a>, row: Option<Row<'a>>)
     }
 }
 
-/// Offers the rows of the touched columns that lead, where all lists were read.
+/// Offers the rows of the touched columns that lead, once all lists were read.
 pub(crate) fn offer_rest<'a>(
     looks: &Looks<'a>,
     part: u32,
@@ -46,7 +46,7 @@ pub(crate) fn offer_rest<'a>(
     }
 }
 
-// Offers the row of a column that leads, where all lists were read. It looks up no row that would not be kept.
+// Offers the row of a column if it leads, once all lists were read. It looks up no row that would not be kept.
 fn offer_column<'a>(
     looks: &Looks<'a>,
     part: u32,

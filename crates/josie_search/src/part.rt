@@ -62,8 +62,8 @@ pub(crate) fn probe_column<'a>(
     offer(top, row);
 }
 
-/// Searches a part: it reads lists and probes columns as the chooser says, until no column of the part can come before the k-th row.
-/// No column was seen before it. It takes no memory.
+/// Searches a part: reads lists and probes columns as the chooser says, until no column of the part can come before the
+/// k-th row. No column may have been seen before the call. It takes no memory.
 pub(crate) fn search_part<'a, C: Chooser>(
     looks: &mut Looks<'a>,
     part: u32,

@@ -1,9 +1,9 @@
-//! What a search is asked.
+//! What a search is asked for.
 
 use column_set::{Name, QuerySet};
 use std::marker::Model;
 
-/// The keys of a query, how many rows are asked for, and the table that is left out. A contract sees the query.
+/// The keys of a query, how many rows are asked for, and the table that is left out. Its model is the query.
 #[derive(Drop)]
 pub(crate) struct Asked<'q> {
     pub keys: &'q QuerySet,

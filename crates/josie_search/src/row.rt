@@ -13,7 +13,7 @@ use column_set::{Name, Row};
 use part_columns::{Columns, most_of, row_of_column};
 use segment_core::Looks;
 
-/// The row of a column, where its table is unmarked and not excepted.
+/// Returns the row of a column, if its table is unmarked and not excepted.
 pub(crate) fn row_of<'a>(
     looks: &Looks<'a>,
     part: u32,
@@ -35,7 +35,7 @@ pub(crate) fn row_of<'a>(
     Some(row)
 }
 
-// Whether a table of this name is the excepted one.
+// Returns whether a table of this name is the excepted one.
 fn is_excepted(except: Option<&Name>, name: &Name) -> bool
     ensures { result ≡ is_excepted (option_copied except.entry) name.now }
 {
@@ -45,7 +45,7 @@ fn is_excepted(except: Option<&Name>, name: &Name) -> bool
     }
 }
 
-/// The row of a column's bound, where the column was seen, is not known, and may be in the answer.
+/// Returns the row of a column's bound, if the column was seen, is not known, and may be in the answer.
 pub(crate) fn lead_of<'a>(
     looks: &Looks<'a>,
     part: u32,

@@ -17,7 +17,7 @@ use std::alloc::Global;
 use std::marker::Model;
 use topk_heap::TopK;
 
-/// A search that is ready to run, with all the memory that it needs. A contract sees the version and the query.
+/// A search that is ready to run and holds all the memory that it needs. Its model is the version and the query.
 #[derive(Drop)]
 pub struct Prepared<'a, 'q> {
     looks: Looks<'a>,
@@ -40,12 +40,13 @@ impl<'a, 'q> Model for Prepared<'a, 'q> {
     ghost invariant = { λ p. (p.looks.log ≡ []) × IsReady p.looks.version.parts p.query p.looks.spare (map (λ tokens. tokens.items) p.tokens.items) p.columns p.candidates p.top };
 }
 
-/// All that a search needs, taken before it runs: the query's tokens of each part; a tally, a mark and room for four candidates for each
-/// column of the part that has most; the first k rows; and room in the log for as many looks as the search can take. These are, of each
-/// part, as many as it has lists of the query's tokens, and as many again as these have postings or the part has columns, whichever is
-/// less. The search leaves out the columns of the table named `except`, if any.
+/// Prepares a search, and takes all that it needs: the query's tokens of each part; a tally, a mark and room for four
+/// candidates for each column of the part with the most columns; the first k rows; and room in the log for as many
+/// looks as the search can take. In each part these are one for each list of the query's tokens, plus one for each of
+/// their postings or one for each column of the part, whichever are fewer. The search leaves out the columns of the
+/// table named `except`, if any.
 ///
-/// It is refused only for want of memory; what it gives takes none.
+/// Returns `Err(NoMemory)` only if memory runs out; running the search takes no memory.
 pub fn prepare<'a, 'q>(
     alloc: Global,
     mut looks: Looks<'a>,
@@ -63,7 +64,7 @@ pub fn prepare<'a, 'q>(
     let columns = Columns::new(alloc, most)?;
     let candidates = Candidates::new(alloc, most)?;
     let top = TopK::new(alloc, k)?;
-    // A search takes at most as many lists as the query has keys.
+    // A search reads at most as many lists as the query has keys.
     prove!(query.len() <= 4_194_304);
     Ok(Prepared {
         looks,
@@ -79,7 +80,7 @@ pub fn prepare<'a, 'q>(
     })
 }
 
-// The query's tokens of each part. The log gets room for as many looks as a search for them can take.
+// Returns the query's tokens of each part. Gives the log room for as many looks as a search for them can take.
 fn ask_parts(
     alloc: Global,
     looks: &mut Looks<'_>,
@@ -102,14 +103,16 @@ fn ask_parts(
 }
 
 impl<'a, 'q> Prepared<'a, 'q> {
-    /// The answer to the query: of the columns of the live tables that share a key with it, the k that share most (Zhu, Deng,
-    /// Nargesian and Miller, JOSIE, SIGMOD 2019, problem statement), or all where there are fewer. They come by greater overlap,
-    /// and then by the bytes of the table's name, those of the column's name, and the place, which is also how ties for the last
-    /// row are settled. The columns of the excepted table, if any, are left out.
+    /// Returns the answer to the query: of the columns of the live tables that share a key with it, the k that share
+    /// the most (Zhu, Deng, Nargesian and Miller, JOSIE, SIGMOD 2019, problem statement), or all if there are fewer.
+    /// They are ordered by greater overlap, then by the bytes of the table's name, then by those of the column's name,
+    /// and then by place, which also settles ties for the last row. The columns of the excepted table, if any, are left
+    /// out.
     ///
-    /// The answer is the same for every chooser; which lists it reads and which columns it probes for it goes by what the chooser says.
-    /// It reads no list and probes no column twice, and reads no list and probes no column of a part where its bounds tell that none
-    /// of them can come before the k-th row that is known. It takes no memory, and refuses nothing.
+    /// The answer is the same for every chooser; the chooser decides which lists are read and which columns are probed
+    /// for it. No list is read and no column is probed twice, and no list is read and no column probed in a part once
+    /// its bounds show that none of its columns can come before the k-th known row. It takes no memory, and cannot
+    /// fail.
     pub fn run<C: Chooser>(self, chooser: &C) -> Answer<'a>
         ensures rows { result.rows ≡ answer_of (live_of self.entry.version.parts) self.entry.query }
         ensures log { result.looks.log ≡ log (C.says chooser.now) self.entry.query self.entry.version.parts }

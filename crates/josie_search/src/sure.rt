@@ -1,4 +1,4 @@
-//! When the next list is surely read, whichever column is the best.
+//! Decides whether the next list is surely read, whichever column is the best.
 ghost use Rattle.std.specs.Prelude.{true, Some, ◌≡◌, ◌<◌, ◌≤◌, ◌+◌, ◌++◌, ◌^◌, ℕ, length, List};
 ghost use Rattle.lake_model.specs.Answer.{Row as RowOf, row_cmp};
 ghost use Rattle.search_laws.specs.Select.{best};
@@ -15,9 +15,10 @@ use part_columns::Columns;
 use segment_core::Looks;
 use topk_heap::TopK;
 
-/// Whether this column, the witness, shows that the next list is read: fewer than k rows are known, so that a probe gains nothing, and
-/// the witness may share so much more with the query than any count so far that the best column, which may share as much, has too
-/// many tokens left for a probe. It saves the look for the best column, and costs the same however many columns were seen.
+/// Returns whether this column, the witness, shows that the next list is read: fewer than k rows are known, so that a
+/// probe gains nothing, and the overlap that the witness may reach exceeds every count so far by so much that the best
+/// column, which may reach as much, has too many tokens left for a probe. This saves the look for the best column, and
+/// its cost does not depend on how many columns were seen.
 pub(crate) fn surely_reads<C: Chooser>(
     looks: &Looks<'_>,
     part: u32,

@@ -1,4 +1,5 @@
-//! What a search answers, reads and probes: the worked runs of small lakes, and random lakes beside a plain model.
+//! Tests what a search answers, reads and probes: worked runs of small lakes, and random lakes compared with a plain
+//! model.
 mod lakes;
 mod model;
 mod random;

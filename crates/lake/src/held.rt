@@ -1,4 +1,4 @@
-//! What lies behind the lock of a lake.
+//! What the lock of a lake protects.
 ghost use Rattle.std.specs.Prelude.{◌≡◌, ◌≤◌, ◌<◌, ◌^◌, ◌++◌, ◌∷◌, ◌⊎◌, [], drop, length, take, IfErr, IfOk, None, OnErr, Some};
 ghost use Rattle.lake_model.specs.Journal.{entry_with, live, Dropped, Loaded, Replaced, Swapped};
 ghost use Rattle.lake_model.specs.Layout.{layout};
@@ -18,8 +18,8 @@ use std::marker::{Model, PhantomData};
 use std::sync::Arc;
 use turn_lock::Kept;
 
-/// What holds for a whole lake, which contracts alone see: its limits, and by which match the values of its tables are the same. The lake
-/// itself asks for the limits alone; who fills it goes by the match.
+/// What holds for a whole lake and is seen only by contracts: its limits, and the kind of keys by which the values of
+/// its tables are compared. The lake itself uses only the limits; whoever fills it goes by the kind of keys.
 pub trait Bounds {
     ghost use Rattle.lake_model.specs.declared.Counts.{Counts};
     ghost use Rattle.lake_model.specs.declared.Keys.{Keys};
@@ -29,7 +29,7 @@ pub trait Bounds {
     ghost keys: { Keys };
 }
 
-/// One catalogue, of these limits. Contracts see its journal.
+/// A catalogue with these limits. Its model is its journal.
 #[derive(Drop)]
 pub struct Held<B: Bounds> {
     catalogue: Catalogue,
@@ -62,7 +62,7 @@ impl<B: Bounds> Kept for Held<B> {
 }
 
 impl<B: Bounds> Held<B> {
-    /// A catalogue with an empty journal.
+    /// Returns a catalogue with an empty journal.
     pub fn new(alloc: Global, limits: Limits) -> Result<Held<B>, NoMemory>
         requires limits { limits ≡ B.limits }
         requires narrow { limits.updates < 2 ^ 32 }
@@ -74,7 +74,7 @@ impl<B: Bounds> Held<B> {
         })
     }
 
-    // What is known of the journal.
+    // Shows what is known of the journal.
     fn look(&self)
         ensures lawful { IsLawful B.limits self.now }
         ensures room { length self.now < 2 ^ 62 }
@@ -149,7 +149,7 @@ impl<B: Bounds> Held<B> {
         done
     }
 
-    /// Holds the newest version, as the catalogue does.
+    /// Returns a pin of the newest version, as the catalogue does.
     pub fn pin(&self) -> Result<Pin, NoMemory>
         ensures version { IfOk result (λ pin. pin ≡ version_with (length self.now) (layout self.now)) }
         ensures live { IfOk result (λ pin. live_of pin.parts ≡ live self.now) }
@@ -160,7 +160,7 @@ impl<B: Bounds> Held<B> {
         self.catalogue.pin()
     }
 
-    /// The entries behind a position.
+    /// Returns the entries after a position.
     pub fn entries_behind(&self, alloc: Global, after: u64) -> Result<Vec<Entry>, NoMemory>
         requires { after ≤ length self.now }
         ensures entries { IfOk result (λ entries. entries.items ≡ drop after self.now) }
@@ -172,7 +172,7 @@ impl<B: Bounds> Held<B> {
     }
 }
 
-// Shares of the entries.
+// Returns shares of the entries.
 fn shares(alloc: Global, entries: &[Entry]) -> Result<Vec<Entry>, NoMemory>
     ensures { IfOk result (λ all. all.items ≡ entries.now) }
 {

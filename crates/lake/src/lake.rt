@@ -21,7 +21,8 @@ use std::marker::Model;
 use std::sync::{Arc, Wait};
 use turn_lock::HistoryLock;
 
-/// A lake that many callers change, each by a pass of its own. Contracts see it as the name of its lock, which its passes carry too.
+/// A lake that many callers change, each by a pass of its own. Its model is the name of its lock, which its passes
+/// carry too.
 #[derive(Drop)]
 pub struct Lake<B: Bounds> {
     lock: HistoryLock<Held<B>>,
@@ -36,7 +37,7 @@ impl<B: Bounds> Model for Lake<B> {
 }
 
 impl<B: Bounds> Lake<B> {
-    /// An empty lake of these limits for so many callers, at least 1, and the pass of caller 0.
+    /// Returns an empty lake with these limits for `callers` callers, at least 1, and the pass of caller 0.
     pub fn new(alloc: Global, limits: Limits, callers: u32) -> Result<(Lake<B>, Pass<B>), NoMemory>
         requires callers { 1 ≤ callers }
         requires limits { limits ≡ B.limits }
@@ -48,8 +49,8 @@ impl<B: Bounds> Lake<B> {
         Ok((Lake { lock }, Pass { pass }))
     }
 
-    /// Loads a table, with an entry of this command and of the pass's caller, at the position that is answered. It is refused as the
-    /// catalogue refuses it at the journal that the pass has then seen, and adds no entry then.
+    /// Loads a table, by an entry of this command and of the pass's caller, and returns the position of the entry. It
+    /// is refused as the catalogue refuses it at the journal that the pass has then seen, and then no entry is added.
     pub fn load<R: Wait>(
         &self,
         rt: &R,
@@ -73,7 +74,7 @@ impl<B: Bounds> Lake<B> {
         done
     }
 
-    /// Drops the live table of a name, as a load is done or refused.
+    /// Drops the live table of a name. It is done or refused as a load is.
     pub fn drop_table<R: Wait>(
         &self,
         rt: &R,
@@ -95,7 +96,7 @@ impl<B: Bounds> Lake<B> {
         done
     }
 
-    /// Puts a table in the place of the live one of its name, as a load is done or refused.
+    /// Puts a table in the place of the live one of its name. It is done or refused as a load is.
     pub fn replace<R: Wait>(
         &self,
         rt: &R,
@@ -119,7 +120,7 @@ impl<B: Bounds> Lake<B> {
         done
     }
 
-    /// Swaps in what was merged of a layout that the pass has seen, as a load is done or refused.
+    /// Swaps in what was merged from a layout that the pass has seen. It is done or refused as a load is.
     pub fn swap<R: Wait>(
         &self,
         rt: &R,
@@ -143,7 +144,7 @@ impl<B: Bounds> Lake<B> {
         done
     }
 
-    /// The entries behind a position that the pass has seen.
+    /// Returns the entries after a position that the pass has seen.
     pub fn journal<R: Wait>(
         &self,
         rt: &R,
@@ -164,7 +165,7 @@ impl<B: Bounds> Lake<B> {
         entries
     }
 
-    /// Holds the newest version: that of the journal that the pass has then seen.
+    /// Returns a pin of the newest version: that of the journal that the pass has then seen.
     pub fn pin<R: Wait>(&self, rt: &R, pass: &mut Pass<B>) -> Result<Pin, NoMemory>
         requires lock { pass.old.lock ≡ self.now }
         ensures pass { pass.new ≡ after_seeing pass.old pass.new.seen false }
@@ -179,7 +180,7 @@ impl<B: Bounds> Lake<B> {
         pin
     }
 
-    /// A note of what the pass has seen.
+    /// Returns a note of what the pass has seen.
     pub fn note(&self, pass: &mut Pass<B>) -> Note<B>
         requires { pass.old.lock ≡ self.now }
         ensures pass { pass.new ≡ pass.old }
@@ -190,7 +191,7 @@ impl<B: Bounds> Lake<B> {
         }
     }
 
-    /// The pass sees what the note has, if that is more.
+    /// Makes the pass see what the note has seen, if that is more.
     pub fn meet(&self, pass: &mut Pass<B>, note: Note<B>)
         requires { (pass.old.lock ≡ self.now) × (note.lock ≡ self.now) }
         ensures longer { pass.new ≡ after_seeing pass.old (longer pass.old.seen note.seen) false }
@@ -202,7 +203,8 @@ impl<B: Bounds> Lake<B> {
         self.lock.meet(&mut pass.pass, note.note);
     }
 
-    /// How many caller numbers are left to give. What the pass of the lake has seen is of numbers that were given.
+    /// Returns how many caller numbers are left to give. What the pass of the lake has seen is by callers whose numbers
+    /// were given.
     pub fn left(&self, pass: &Pass<B>) -> u32
         requires { pass.now.lock ≡ self.now }
         ensures left { result ≡ pass.now.left }
@@ -212,7 +214,7 @@ impl<B: Bounds> Lake<B> {
         self.lock.left(&pass.pass)
     }
 
-    /// A new pass with the next caller number, which has seen as much.
+    /// Returns a new pass with the next caller number, which has seen as much.
     pub fn new_pass(&self, pass: &mut Pass<B>) -> Pass<B>
         requires lock { pass.old.lock ≡ self.now }
         requires left { IsSome pass.old.given × (0 < pass.old.left) }
@@ -223,7 +225,7 @@ impl<B: Bounds> Lake<B> {
         }
     }
 
-    /// Another pass ends into this one, which has its callers from then on.
+    /// Ends another pass into this one, which takes over its callers.
     pub fn end(&self, pass: &mut Pass<B>, other: Pass<B>)
         requires lock { (pass.old.lock ≡ self.now) × (other.lock ≡ self.now) }
         requires other { other.given ≡ None }

@@ -6,8 +6,8 @@ use crate::held::{Bounds, Held};
 use catalogue::Who;
 use std::marker::Model;
 
-/// A caller's right to a lake, and the beginning of its journal that it has seen, which is legal and within the lake's limits. It holds
-/// no turn. Contracts see it as the lock's pass.
+/// A caller's right to a lake, and the beginning of its journal that the caller has seen, which is legal and within the
+/// lake's limits. It holds no turn of the lock. Its model is the lock's pass.
 #[derive(Drop)]
 pub struct Pass<B: Bounds> {
     pub(crate) pass: turn_lock::Pass<Held<B>>,
@@ -27,14 +27,14 @@ impl<B: Bounds> Model for Pass<B> {
 }
 
 impl<B: Bounds> Pass<B> {
-    /// The pass's own caller number.
+    /// Returns the pass's own caller number.
     pub fn caller(&self) -> u32
         ensures { result ≡ self.now.caller }
     {
         self.pass.caller()
     }
 
-    // Who makes the entry of a command.
+    // Returns who makes the entry of a command.
     pub(crate) fn who(&self, command: u64) -> Who
         ensures { result ≡ who_with self.now.caller command }
     {

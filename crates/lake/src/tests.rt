@@ -1,4 +1,5 @@
-//! The journal behind the calls of one caller. No clause says that memory is there, nor that anyone ever gets a turn.
+//! Tests the journal after the calls of one caller. No clause says that there is enough memory, nor that a caller ever
+//! gets its turn.
 ghost use Rattle.std.specs.Prelude.{◌≡◌, ◌∷◌, [], IfOk};
 
 use crate::{Bounds, Lake};
@@ -22,7 +23,7 @@ impl Bounds for Standard {
     ghost keys = { Canonical };
 }
 
-// The table of this name and these CSV bytes, and its segment.
+// Returns the table of this name and these CSV bytes, and its segment.
 fn made(alloc: Global, title: &str, text: &str) -> Result<(SharedTable, Arc<Segment>), Fail>
     ensures { IfOk result (λ made. made.1.value ≡ made.0 ∷ []) }
 {
@@ -39,7 +40,7 @@ fn made(alloc: Global, title: &str, text: &str) -> Result<(SharedTable, Arc<Segm
     Ok((table, Arc::new(alloc, segment)?))
 }
 
-// What an entry says: its word, the name of its table, and the first key of that.
+// Returns what an entry says: its word, the name of its table, and the first key of that table.
 fn told(what: &What) -> (&str, &str, &str) {
     match what {
         What::Loaded(table) => ("load", table.table().name().text(), first_key(table)),
@@ -58,7 +59,7 @@ fn first_key(table: &SharedTable) -> &str {
     }
 }
 
-// A load and a replace have the entries, in their order, with who made each; a replace that is refused has none.
+// A load and a replace add their entries, in order, with who made each; a replace that is refused adds none.
 #[test]
 fn a_replace_is_in_the_journal(rt: HostRuntime) -> Result<(), Fail> {
     let alloc = rt.alloc();

@@ -15,7 +15,7 @@ use Rattle.layout_laws.proofs.LaidLemmas.{swaps_run, positions_split, positions_
 abbrev pub first_of : List ℕ → List Part → ℕ
 first_of planned parts = position_or_len (λ part. is_among planned part.number) parts
 
--- what stands in the place of the run
+-- what takes the place of the run
 pub swapped_at : (position : ℕ) (parts : List Part) (planned kept : List ℕ) → AreDistinct (numbers_of parts) → may_swap parts planned kept ≡ true
     → swapped position planned kept parts ≡ take (first_of planned parts) parts ++ (one_part position (kept_places kept (run_of planned parts)) ++ drop (first_of planned parts + length planned) parts)
 swapped_at position parts planned kept distinct h =

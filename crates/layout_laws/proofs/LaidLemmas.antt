@@ -59,7 +59,7 @@ swaps_run position parts planned kept distinct h =
       may = o;
     }
 
--- the unmarked places are the same, and the positions are thinned out
+-- the unmarked places stay the same, and the positions are some of those before
 pub unmarked_swapped : (position : ℕ) (kept : List ℕ) (front run back : List Part) → AllByRecursion (λ place. (is_among kept place.position || place.marked) ≡ true) (places_of run)
     → unmarked_of (front ++ (one_part position (kept_places kept run) ++ back)) ≡ unmarked_of (front ++ (run ++ back))
 unmarked_swapped position kept front run back h =
@@ -95,7 +95,7 @@ WithinLonger journal who what n = n ≤ length (more journal who what)
 longer_past : (journal : List Entry) (who : Who) (what : What) (ns : List ℕ) → AllByRecursion (λ n. n ≤ length journal) ns → AllByRecursion (WithinLonger journal who what) ns
 longer_past journal who what ns h = all_weaker (λ (n : ℕ). n ≤ length journal) (WithinLonger journal who what) ns (λ n le. omega (arith, long journal who what)) h
 
--- What holds of a layout, of the loads of its live tables and of these tables, where no position passes `last`.
+-- What holds of a layout, of the loads of its live tables and of these tables, if no position is above `last`.
 record Holds (last : ℕ) (parts : List Part) (loads : List Place) (tables : List Table) : Type 0 where
   pub unmarked : unmarked_of parts ≡ loads
   pub loaded : map (λ place. place.table) loads ≡ tables
@@ -139,7 +139,7 @@ holds_marked last parts loads tables name h =
       filled = filled_marked name parts h.filled;
     }
 
--- it holds behind an entry
+-- it holds after an entry
 laid_as : (journal : List Entry) (who : Who) (what : What) (last : ℕ) (parts : List Part) (loads : List Place) (tables : List Table) → layout (more journal who what) ≡ parts → live_loads (more journal who what) ≡ loads
     → live (more journal who what) ≡ tables → last ≤ 1 + length journal → Holds last parts loads tables → IsLaidOut (more journal who what)
 laid_as journal who what last parts loads tables laid loaded lived le h = record {

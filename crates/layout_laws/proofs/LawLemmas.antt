@@ -1,4 +1,4 @@
--- The laws, from the lemmas.
+-- The laws, derived from the lemmas.
 use Rattle.std.proofs.Common.{◌≡◌, refl, ap, sym, ◌∙◌, subst, ℕ, ◌+◌, ◌<◌, List, [], ◌∷◌, ◌++◌, true, false, not, ◌||◌, ◌&&◌, cond, length, Some, None, inl, inr, arith}
 use Rattle.std.specs.Prelude.{nat_eq, nat_lt, bytes_eq, find, sum_by, count_by, ◌⊎◌}
 use Rattle.std.specs.List.{list_all}
@@ -74,7 +74,7 @@ plans_may_swap policy journal planned kept legal h = by (planned_parts policy (l
         let same : (numbers_of (part ∷ rest), positions_in (unmarked_of (part ∷ rest))) ≡ (planned, kept) = cc in
         subst (λ (p : List ℕ × List ℕ). (may_swap (layout journal) p.0 p.1 ≡ true) × (does_merge (layout journal) p.0 p.1 ≡ true)) same (plan_may_swap policy journal part rest legal e)
 
--- a part that is there has its number there
+-- a layout that has a part has its number
 pub part_number : (parts : List Part) (planned : Part) → has_part parts planned ≡ true → has_number parts planned.number ≡ true
 part_number [] planned h = h
 part_number (part ∷ parts) planned h = by (or_cases (nat_eq part.number planned.number && bytes_eq (positions_in part.places) (positions_in planned.places)) (has_part parts planned) h) (part_number parts planned)
@@ -84,7 +84,7 @@ part_number (part ∷ parts) planned h = by (or_cases (nat_eq part.number planne
         or_left (nat_eq planned.number part.number) (has_number parts planned.number) (eq-eqb planned.number part.number (sym (eqb-true part.number planned.number (and_parts (nat_eq part.number planned.number) (bytes_eq (positions_in part.places) (positions_in planned.places)) g).0)))
     by (inr g) rest = or_right (nat_eq planned.number part.number) (has_number parts planned.number) (rest g)
 
--- where no planned part is missing, all their numbers are there
+-- if no planned part is missing, all their numbers are there
 pub none_missing : (parts planned : List Part) → find (λ q. not (has_part parts q)) planned ≡ None → list_all (has_number parts) (numbers_of planned) ≡ true
 none_missing parts planned h =
     test_all (has_number parts) (numbers_of planned) (all_map (λ (n : ℕ). has_number parts n ≡ true) (λ (p : Part). p.number) planned

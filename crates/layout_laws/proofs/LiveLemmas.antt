@@ -48,7 +48,7 @@ pub places_one : (number : ℕ) (places : List Place) → places_of (one_part nu
 places_one number [] = refl
 places_one number (place ∷ places) = append-nil (place ∷ places)
 
--- the places behind a swap of a run
+-- the places after a swap of a run
 pub places_swapped : (position : ℕ) (kept : List ℕ) (front run back : List Part) → places_of (front ++ (one_part position (kept_places kept run) ++ back)) ≡ places_of front ++ (kept_places kept run ++ places_of back)
 places_swapped position kept front run back =
     places-append front (one_part position (kept_places kept run) ++ back)
@@ -88,7 +88,7 @@ unmarked_kept kept places h = filter_filter (λ (p : Place). not p.marked) (λ p
 pub lacks_names : (tables : List Table) (name : Text) → list_any (has_name name) tables ≡ false → Lacks (map (λ table. table.name) tables) name
 lacks_names tables name h = all_map (λ (t : Text). t ≡ name → ⊥) (λ (t : Table). t.name) tables (all_weaker (λ (t : Table). has_name name t ≡ false) (λ t. t.name ≡ name → ⊥) tables (λ t f e. not_both ⊥ (has_name name t) (texts_same t.name name e) f) (none_any (has_name name) tables h))
 
--- no table of a name is left where they were taken out
+-- no table of a name is left once they were taken out
 pub lacks_name : (tables : List Table) (name : Text) → Lacks (map (λ table. table.name) (without name tables)) name
 lacks_name tables name =
     let free : Table → Bool = λ t. not (has_name name t) in

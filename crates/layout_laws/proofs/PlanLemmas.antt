@@ -1,4 +1,4 @@
--- What is planned is a run of adjacent parts, which may be swapped as long as they are there.
+-- What is planned is a run of adjacent parts, which may be swapped as long as they are in the layout.
 use Rattle.std.proofs.Common.{◌≡◌, refl, ap, sym, ◌∙◌, subst, ℕ, ◌+◌, ◌*◌, ◌<◌, List, [], ◌∷◌, ◌++◌, append-nil, Bool, true, false, not, ◌||◌, ◌&&◌, cond, length, take, drop, Option, Some, None, inl, inr, arith}
 use Rattle.std.specs.Prelude.{◌⊎◌, nat_eq, nat_lt, find, count_by}
 use Rattle.std.specs.List.{AllByRecursion, filter, list_all}

@@ -1,4 +1,4 @@
--- A run of adjacent parts in a layout, and what a swap puts in its place.
+-- A run of adjacent parts in a layout, and what takes its place by a swap.
 use Rattle.std.proofs.Common.{◌≡◌, refl, ap, sym, ◌∙◌, subst, ℕ, suc, ◌+◌, ◌<◌, List, [], ◌∷◌, ◌++◌, append-nil, Bool, true, false, not, ◌||◌, ◌&&◌, cond, length, take, drop, arith}
 use Rattle.std.specs.Prelude.{nat_eq, bytes_eq}
 use Rattle.std.specs.List.{AllByRecursion, filter, list_all, position_or_len, prefix_len}
@@ -13,7 +13,7 @@ use Rattle.std.proofs.lemmas.List.Elements.{filter-append}
 use Rattle.layout_laws.proofs.SwapLemmas.{places_of, is_planned, kept_places, one_part, swapped, swapped_here}
 use Rattle.layout_laws.proofs.StayLemmas.{swapped_run, numbers_same, stay_from, layout-append, layout_numbers, layout_before, has_number}
 
--- ---- what a swap asks of the parts that it takes
+-- ---- what a swap requires of the parts that it takes
 
 pub record MaySwap (run : List Part) (planned kept : List ℕ) : Type 0 where
   pub some : nat_eq (length planned) 0 ≡ false
@@ -42,7 +42,7 @@ closed parts planned kept h =
     (joined (not (nat_eq (length planned) 0)) (bytes_eq (numbers_of run) planned) (ap not h.some) (texts_same (numbers_of run) planned h.numbers)) (texts_same (filter (is_among kept) (positions_of run)) kept h.taken))
     (test_all (λ (place : Place). is_among kept place.position || place.marked) (places_of run) h.others)
 
--- ---- where a run stands
+-- ---- where a run is
 
 pub record Run (parts : List Part) (run : List Part) : Type 0 where
   pub front : List Part
@@ -169,7 +169,7 @@ pub record Later (pinned behind : List Entry) (planned kept : List ℕ) : Type 0
   pub may : may_swap (layout (pinned ++ behind)) planned kept ≡ true
   pub same : AreParts (run_of planned (layout pinned)) (run_of planned (layout (pinned ++ behind)))
 
--- A swap that may stand behind a journal may stand behind a longer one that still has the numbers of its parts.
+-- A swap that may follow a journal may follow a longer one that still has the numbers of its parts.
 pub swap_later : (pinned behind : List Entry) (planned kept : List ℕ) → may_swap (layout pinned) planned kept ≡ true → list_all (has_number (layout (pinned ++ behind))) planned ≡ true → Later pinned behind planned kept
 swap_later pinned behind planned kept h k =
     let parts = layout pinned in

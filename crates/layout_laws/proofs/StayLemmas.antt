@@ -14,7 +14,7 @@ use Rattle.list_laws.proofs.ListLemmas.{split_bool, not_both, all_append, all_we
 use Rattle.std.proofs.lemmas.List.Elements.{filter-append}
 use Rattle.layout_laws.proofs.SwapLemmas.{is_planned, kept_places, one_part, all_one, swapped, swapped_here, swapped_next, all_swapped, all_marked, all_after}
 
--- ---- a journal that goes on
+-- ---- a journal that continues
 
 pub parts_from-append : (position : ℕ) (parts : List Part) (entries more : List Entry) → parts_from position parts (entries ++ more) ≡ parts_from (position + length entries) (parts_from position parts entries) more
 parts_from-append position parts [] more = let e : position ≡ position + length {A = Entry} [] = omega arith in ap (λ (n : ℕ). parts_from n parts more) e
@@ -25,7 +25,7 @@ parts_from-append position parts (first ∷ entries) more =
 pub layout-append : (journal more : List Entry) → layout (journal ++ more) ≡ parts_from (1 + length journal) (layout journal) more
 layout-append journal more = parts_from-append 1 [] journal more
 
--- ---- a part as it was and as it is
+-- ---- a part before and now
 
 place_itself : (p : Place) → IsSamePlace p p
 place_itself p = record { position = refl; table = refl; mark = λ h. h }
@@ -136,7 +136,7 @@ layout_numbers journal = numbers_from 1 [] journal tt tt
 pub layout_before : (journal : List Entry) → AllByRecursion (λ part. part.number < 1 + length journal) (layout journal)
 layout_before journal = before_from 1 [] journal tt
 
--- ---- a number that is there again is of the same part
+-- ---- a number that occurs again is of the same part
 
 abbrev pub IsFixed : Part → Part → Type 0
 IsFixed part now = now.number ≡ part.number → IsSamePart part now
@@ -160,7 +160,7 @@ layout_fixed pinned behind =
     all_both (λ (part : Part). part.number < 1 + length pinned) (λ part. AllByRecursion (IsFixed part) (layout pinned)) (λ part. AllByRecursion (IsFixed part) (layout (pinned ++ behind))) (layout pinned)
     (λ part lt h. subst (AllByRecursion (IsFixed part)) (sym (layout-append pinned behind)) (fixed_from part (1 + length pinned) (layout pinned) behind lt h)) (layout_before pinned) (fixed_here (layout pinned) (layout_numbers pinned))
 
--- ---- a number that has gone does not come back
+-- ---- a number that is gone does not come back
 
 abbrev IsNot : ℕ → Part → Type 0
 IsNot n part = nat_eq n part.number ≡ false
@@ -178,7 +178,7 @@ gone_from n position parts entries lt h =
     any_none (nat_eq n) (numbers_of (parts_from position parts entries)) (all_map (λ (m : ℕ). nat_eq n m ≡ false) (λ (p : Part). p.number) (parts_from position parts entries)
     (lacks_from n position parts entries lt (all_unmap (λ (m : ℕ). nat_eq n m ≡ false) (λ (p : Part). p.number) parts (none_any (nat_eq n) (numbers_of parts) h))))
 
--- a swap takes every planned part away
+-- a swap removes every planned part
 planned_gone : (n position : ℕ) (planned kept : List ℕ) (parts : List Part) → n < position → is_among planned n ≡ true → AllByRecursion (IsNot n) (swapped position planned kept parts)
 planned_gone n position planned kept [] lt h = tt
 planned_gone n position planned kept (part ∷ parts) lt h =
@@ -196,7 +196,7 @@ planned_gone n position planned kept (part ∷ parts) lt h =
 
 -- ---- adjacent parts that stay are adjacent
 
--- these parts stand next to each other in the others, perhaps with more marks
+-- these parts are adjacent among the others, perhaps with more marks
 pub record StayIn (run parts : List Part) : Type 0 where
   pub front : List Part
   pub now : List Part

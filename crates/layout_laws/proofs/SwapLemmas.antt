@@ -1,4 +1,4 @@
--- What an entry makes of the parts of a layout, part by part.
+-- What an entry does to the parts of a layout, part by part.
 use Rattle.std.proofs.Common.{◌≡◌, refl, ap, sym, ◌∙◌, subst, ℕ, suc, ◌+◌, List, [], ◌∷◌, ◌++◌, Bool, true, false, not, cond, map, take, drop, arith}
 use Rattle.std.specs.List.{AllByRecursion, filter, flat_map, prefix_len}
 use Rattle.lake_model.specs.Texts.{Text}
@@ -22,7 +22,7 @@ is_planned planned part = is_among planned part.number
 abbrev pub kept_places : List ℕ → List Part → List Place
 kept_places kept parts = filter (λ place. is_among kept place.position) (places_of parts)
 
--- one part of these places, or none where there are none
+-- one part of these places, or none if there are none
 abbrev pub one_part : ℕ → List Place → List Part
 one_part number [] = []
 one_part number (place ∷ places) = part_of number (place ∷ places) ∷ []
@@ -55,7 +55,7 @@ swapped_next position planned kept part parts h =
     ap (λ (b : Bool). take (cond (not b) (1 + n) 0) (part ∷ parts) ++ merged position kept (cond b (part ∷ filter (is_planned planned) parts) (filter (is_planned planned) parts)) ++ filter (λ p. not (is_planned planned p)) (drop (cond (not b) (1 + n) 0) (part ∷ parts))) h
     ∙ ap (λ (m : ℕ). take m (part ∷ parts) ++ merged position kept (filter (is_planned planned) parts) ++ filter (λ p. not (is_planned planned p)) (drop m (part ∷ parts))) (more_is n)
 
--- What holds of each part and of the new one holds behind a swap.
+-- What holds of each part and of the new one holds after a swap.
 pub all_swapped : (P : Part → Type 0) (position : ℕ) (planned kept : List ℕ) (parts : List Part) → ((places : List Place) → P (part_of position places)) → AllByRecursion P parts → AllByRecursion P (swapped position planned kept parts)
 all_swapped P position planned kept [] new h = tt
 all_swapped P position planned kept (part ∷ parts) new h =
@@ -69,7 +69,7 @@ pub all_marked : (P : Part → Type 0) (name : Text) (parts : List Part) → ((p
 all_marked P name [] f h = tt
 all_marked P name (part ∷ parts) f h = (f part h.0, all_marked P name parts f h.1)
 
--- What holds of each part, of a new one, and of a part with more marks, holds behind an entry.
+-- What holds of each part, of a new one, and of a part with more marks, holds after an entry.
 pub all_after : (P : Part → Type 0) (position : ℕ) (what : What) (parts : List Part) → ((places : List Place) → P (part_of position places)) → ((name : Text) (part : Part) → P part → P (mark name part))
     → AllByRecursion P parts → AllByRecursion P (parts_after position parts what)
 all_after P position (Loaded table) parts new more h = all_append P parts (part_of position (loaded_place position table ∷ []) ∷ []) h (new (loaded_place position table ∷ []), tt)

@@ -43,7 +43,7 @@ marked_append ps qs = sum_by-append (λ (p : Place). cond p.marked 1 0) ps qs
 abbrev names_in : List Place → List Text
 names_in places = map (λ table. table.name) (map (λ place. place.table) (unmarked places))
 
--- no mark is added where no unmarked table has the name, and one where one has
+-- no mark is added if no unmarked table has the name, and one if one has
 none_marked : (name : Text) (places : List Place) → Lacks (names_in places) name → marked_in (map (mark_place name) places) ≡ marked_in places
 none_marked name [] h = refl
 none_marked name (p ∷ ps) h = by p.marked (has_name name p.table) refl refl (none_marked name ps)
@@ -98,7 +98,7 @@ kept_marked kept (p ∷ ps) h = by (is_among kept p.position) p.marked refl refl
         subst (λ (b : Bool). marked_in (cond b (p ∷ (kept_of kept ps)) (kept_of kept ps)) + length (p ∷ ps) ≡ marked_in (p ∷ ps) + length (cond b (p ∷ (kept_of kept ps)) (kept_of kept ps))) (sym e) (omega (arith, marked_cons p ps, one, k))
     by false false e f g k = let no : false ≡ true = sym (λ i. e i || f i) ∙ g in cc
 
--- ---- the weight behind an entry
+-- ---- the weight after an entry
 
 pub weight_load : (position : ℕ) (parts : List Part) (table : Table) → weight (parts_after position parts (Loaded table)) ≡ weight parts + 1
 weight_load position parts table =
@@ -123,12 +123,12 @@ length_three a b c = omega (arith, length-append a (b ++ c), length-append b c)
 marked_three : (a b c : List Place) → marked_in (a ++ (b ++ c)) ≡ marked_in a + marked_in b + marked_in c
 marked_three a b c = omega (arith, marked_append a (b ++ c), marked_append b c)
 
--- one part for two or more, or one for one and a mark less
+-- one part for two or more, or one part for one with a mark fewer
 lowers : (o r ml mr kl ps pl l qs : ℕ) → ml + ps ≡ mr + kl → kl ≤ ps → r ≡ pl → l ≡ kl → qs ≡ ps → (pl ≡ 0 → ⊥) → o ≤ 1 → (nat_lt 1 pl ≡ true) ⊎ (nat_lt l qs ≡ true) → o + ml < r + mr
 lowers o r ml mr kl ps pl l qs marked fewer runs keeps places some one (inl many) = omega (arith, ltb-true 1 pl many)
 lowers o r ml mr kl ps pl l qs marked fewer runs keeps places some one (inr less) = omega (arith, ltb-true l qs less, some)
 
--- where a run gives way to one part or none
+-- if one part or none takes the place of a run
 pub weight_swap : (position : ℕ) (parts : List Part) (planned kept : List ℕ) → AreDistinct (numbers_of parts) → may_swap parts planned kept ≡ true → does_merge parts planned kept ≡ true
     → weight (parts_after position parts (Swapped planned kept)) < weight parts
 weight_swap position parts planned kept distinct h k =

@@ -32,7 +32,7 @@ dropped = four ++ Dropped (codes "a2") ∷ load (codes "b") ∷ []
 abbrev swapped : List What
 swapped = dropped ++ Swapped (1 ∷ 2 ∷ 3 ∷ 4 ∷ []) (1 ∷ 2 ∷ 3 ∷ 4 ∷ []) ∷ []
 
--- the swap keeps the mark, and the part that came later stays behind
+-- the swap keeps the mark, and the later part follows
 swapped_late : shown (layout (made swapped)) ≡ (7, (1, false) ∷ (2, true) ∷ (3, false) ∷ (4, false) ∷ []) ∷ (6, (6, false) ∷ []) ∷ []
 swapped_late = refl
 
@@ -56,7 +56,7 @@ weighs_less = refl
 merging : do_merge (made swapped) ≡ true
 merging = refl
 
--- a table of the plan is replaced before the swap: its old place is marked, and the new one stands behind
+-- a table of the plan is replaced before the swap: its old place is marked, and the new one follows
 abbrev replaced : List What
 replaced = four ++ Replaced (table_with (codes "a2") (column (codes "y" ∷ []))) ∷ Swapped (1 ∷ 2 ∷ 3 ∷ 4 ∷ []) (1 ∷ 2 ∷ 3 ∷ 4 ∷ []) ∷ []
 

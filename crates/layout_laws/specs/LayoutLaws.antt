@@ -22,8 +22,9 @@ abbrev pub AnswersStay : Type 0
 AnswersStay = (journal : List Entry) (who : Who) (planned kept : List ℕ) (query : List Text) (k : ℕ) (except : Option Text)
     → answer (live (journal ++ entry_with who (Swapped planned kept) ∷ [])) query k except ≡ answer (live journal) query k except
 
--- What holds of the layout of a legal journal: its unmarked places are those of the live tables, each once, in the order of their entries;
--- its positions rise, and its parts have numbers of their own, all within the journal; and no part is empty.
+-- What holds of the layout of a legal journal: its unmarked places are those of the live tables, each once, in the
+-- order of their entries; its positions rise, and its parts have distinct numbers, all within the journal; and no part
+-- is empty.
 pub record IsLaidOut (journal : List Entry) : Type 0 where
   pub unmarked : unmarked_of (layout journal) ≡ live_loads journal
   pub tables : map (λ place. place.table) (live_loads journal) ≡ live journal
@@ -34,7 +35,7 @@ pub record IsLaidOut (journal : List Entry) : Type 0 where
   pub made : AllByRecursion (λ n. n ≤ length journal) (numbers_of (layout journal))
   pub filled : AllByRecursion (λ part. 0 < length part.places) (layout journal)
 
--- It holds behind each entry of a legal journal.
+-- It holds after each entry of a legal journal.
 abbrev pub LegalIsLaidOut : Type 0
 LegalIsLaidOut = (journal behind : List Entry) → is_legal (journal ++ behind) ≡ true → IsLaidOut journal
 
@@ -42,20 +43,20 @@ LegalIsLaidOut = (journal behind : List Entry) → is_legal (journal ++ behind) 
 abbrev pub NumbersFix : Type 0
 NumbersFix = (journal behind : List Entry) → AllByRecursion (λ part. AllByRecursion (λ now. now.number ≡ part.number → IsSamePart part now) (layout (journal ++ behind))) (layout journal)
 
--- A swap that may stand behind a journal may stand behind a longer one, as long as that one's layout has parts of the planned numbers:
--- they still stand next to each other, only marks were added to them, and the swap merges where it did before.
+-- A swap that may follow a journal may follow a longer one, as long as the layout of that one has parts of the planned
+-- numbers: these are still adjacent, only marks were added to them, and the swap merges exactly if it did before.
 abbrev pub SwapsStay : Type 0
 SwapsStay = (journal behind : List Entry) (planned kept : List ℕ) → may_swap (layout journal) planned kept ≡ true
     → list_all (is_among (numbers_of (layout (journal ++ behind)))) planned ≡ true
     → (may_swap (layout (journal ++ behind)) planned kept ≡ true) × AreParts (run_of planned (layout journal)) (run_of planned (layout (journal ++ behind)))
     × (does_merge (layout (journal ++ behind)) planned kept ≡ does_merge (layout journal) planned kept)
 
--- What is planned may be swapped, and merges.
+-- What is planned may be swapped, and this swap merges.
 abbrev pub PlansMaySwap : Type 0
 PlansMaySwap = (policy : Policy) (journal : List Entry) (planned kept : List ℕ) → is_legal journal ≡ true → plan policy journal ≡ Some (planned, kept)
     → (may_swap (layout journal) planned kept ≡ true) × (does_merge (layout journal) planned kept ≡ true)
 
--- It may be swapped behind a longer legal journal too, where no planned part is missing.
+-- It may also be swapped after a longer legal journal, if no planned part is missing.
 abbrev pub PlansStay : Type 0
 PlansStay = (policy : Policy) (journal behind : List Entry) (part : Part) (parts : List Part) → is_legal (journal ++ behind) ≡ true
     → planned_parts policy (layout journal) ≡ part ∷ parts → find (λ planned. not (has_part (layout (journal ++ behind)) planned)) (part ∷ parts) ≡ None
@@ -66,6 +67,7 @@ abbrev pub SwapsLower : Type 0
 SwapsLower = (journal : List Entry) (who : Who) (planned kept : List ℕ) → may_swap (layout journal) planned kept ≡ true → does_merge (layout journal) planned kept ≡ true
     → weight (layout (journal ++ entry_with who (Swapped planned kept) ∷ [])) < weight (layout journal)
 
--- Where each swap merges, there are at most twice as many swaps as loads, drops and replaces: a replace adds a part and a mark.
+-- If each swap merges, there are at most twice as many swaps as loads, drops and replaces: a replace adds a part and a
+-- mark.
 abbrev pub SwapsAreFew : Type 0
 SwapsAreFew = (journal : List Entry) → is_legal journal ≡ true → do_merge journal ≡ true → swaps journal ≤ 2 * (counts journal).updates

@@ -4,14 +4,14 @@ use Rattle.lake_model.specs.Journal.{What, Loaded, Dropped, Replaced, Swapped, E
 use Rattle.lake_model.specs.Layout.{Part, layout, positions_of, run_of}
 use Rattle.lake_model.specs.Plan.{marks}
 
--- how many parts and marks there are
+-- the number of parts and marks
 abbrev pub weight : List Part → ℕ
 weight parts = length parts + sum_by marks parts
 
 abbrev pub swaps : List Entry → ℕ
 swaps journal = count_by (λ entry. not (is_update entry.what)) journal
 
--- A swap merges where it takes two parts or more, or a part of which it does not keep each position.
+-- A swap merges if it takes two parts or more, or a part of which it does not keep every position.
 abbrev pub does_merge : List Part → List ℕ → List ℕ → Bool
 does_merge parts planned kept = nat_lt 1 (length planned) || nat_lt (length kept) (length (positions_of (run_of planned parts)))
 
@@ -21,7 +21,7 @@ merges before (Dropped name) = true
 merges before (Replaced table) = true
 merges before (Swapped planned kept) = does_merge (layout before) planned kept
 
--- each swap behind these entries merges
+-- each swap after these entries merges
 abbrev pub do_merge_behind : List Entry → List Entry → Bool
 do_merge_behind before [] = true
 do_merge_behind before (entry ∷ entries) = merges before entry.what && do_merge_behind (before ++ entry ∷ []) entries

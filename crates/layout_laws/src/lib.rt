@@ -1,5 +1,5 @@
-//! The laws of layouts: what holds of the parts of a legal journal, and what a merge may do to them. There is no code here: each law
-//! is the contract of a function that does nothing.
+//! The laws of layouts: what holds of the parts of a legal journal, and what a merge may do to them. There is no code
+//! here: each law is the contract of a function that does nothing.
 #![tactic(auto)]
 
 mod laws;

@@ -39,7 +39,7 @@ tokens_within now version keys part tokens same is k d b =
     let at = token_within (segment_at version.parts part).tokens keys k d few in
     omega (arith, at, ap (λ (ts : List ℕ). get_or ts k d) is, ap (λ (v : VersionOf). length (segment_at v.parts part).tokens) same)
 
--- ---- there are no more of them than the query has keys
+-- ---- there are at most as many of them as the query has keys
 
 or_true : (b : Bool) → (b || true) ≡ true
 or_true true = refl

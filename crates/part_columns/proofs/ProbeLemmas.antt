@@ -1,4 +1,4 @@
--- What a probe counts behind the last hit, and what the lists counted up to it, are together the overlap.
+-- What a probe counts after the last hit and what the lists counted up to it add up to the overlap.
 use Rattle.std.proofs.Common.{◌≡◌, refl, ap, sym, ◌∙◌, subst, inl, inr, ℕ, zero, suc, ◌+◌, ◌-◌, ◌<◌, ◌≤◌, List, [], ◌∷◌, ◌++◌, Bool, true, false, ◌||◌, length, arith, take, drop, get_or, length-append, eqb as nat_eq, ltb as nat_lt}
 use Rattle.std.specs.Prelude.{MatchResult, Result, Ok, Err, is_ok}
 use Rattle.std.specs.List.{AllByRecursion, count_by}
@@ -21,7 +21,7 @@ use Rattle.search_state.proofs.FallLemmas.{rank_within}
 use Rattle.search_model.proofs.BoundLemmas.{among_counts, count-cons, one}
 use Rattle.search_model.proofs.FilterLemmas.{Rising, after_all, all_hits, hits-append, IsHit, rising_right}
 
--- ---- lists in which no number stands twice
+-- ---- lists of distinct numbers
 
 abbrev Distinct : List ℕ → Type 0
 Distinct [] = Unit {0}
@@ -59,17 +59,17 @@ no_more (d ∷ ds) set h = by (no_more ds set h.1) (is_among set d) refl
     by less true e = omega (arith, count-cons (is_among set) d ds, ap one e, count_apart d ds set h.0, among_counts d set e)
     by less false e = omega (arith, count-cons (is_among set) d ds, ap one e, count_apart d ds set h.0)
 
--- as many of the one stand in the other as of the other in the one
+-- as many of the one are in the other as of the other in the one
 both_ways : (xs ys : List ℕ) → Rising xs → Rising ys → count_by (is_among xs) ys ≡ count_by (is_among ys) xs
 both_ways xs ys up over = omega (arith, no_more ys xs (distinct_rising ys over), no_more xs ys (distinct_rising xs up))
 
--- ---- the tokens of a set behind one of its own
+-- ---- the tokens of a set after one of its own
 
 rank_front : (l : ℕ) (set : List ℕ) → AllByRecursion (λ y. l < y) set → rank set l ≡ 0
 rank_front l [] h = refl
 rank_front l (s ∷ set) h = let lt = h.0 in let e : nat_lt s l ≡ false = grind (arith, nat_tests) in omega (arith, count-cons (λ o. nat_lt o l) s set, ap one e, rank_front l set h.1)
 
--- above l the tokens of the set are those behind l
+-- the tokens of the set above l are those after l
 among_tail : (set : List ℕ) (l t : ℕ) → Rising set → is_among set l ≡ true → l < t → is_among set t ≡ is_among (drop (rank set l + 1) set) t
 among_tail [] l t up e h = absurd (let f : false ≡ true = e in cc)
 among_tail (s ∷ set) l t up e h = by (λ there. among_tail set l t up.1 there h) (nat_eq l s) refl
@@ -104,7 +104,7 @@ same_counts p q (t ∷ ts) l h w = omega (arith, count-cons p t ts, count-cons q
 pub rising_drop : (n : ℕ) (xs : List ℕ) → Rising xs → Rising (drop n xs)
 rising_drop n xs up = rising_right (take n xs) (drop n xs) (subst Rising (sym (take-append-drop n xs)) up)
 
--- Behind the last hit l a probe finds the rest of what the set and the query share.
+-- After the last hit l, a probe finds the rest of what the set and the query share.
 pub probed_overlap : (set qs : List ℕ) (i : ℕ) → Rising set → Rising qs → 0 < length (hits set (take i qs))
     → length (hits set qs) ≡ length (hits set (take i qs)) + count_by (is_among (drop i qs)) (drop (rank set (get_or (hits set (take i qs)) (length (hits set (take i qs)) - 1) 0) + 1) set)
 probed_overlap set qs i over up some =
@@ -119,7 +119,7 @@ probed_overlap set qs i over up some =
     let same : count_by (is_among set) left ≡ count_by (is_among tail) left = same_counts (is_among set) (is_among tail) left l above (λ t h. among_tail set l t over hit.0 h) in
     omega (arith, whole, length-filter (is_among set) left, same, both_ways tail left (rising_drop (rank set l + 1) set over) (rising_drop i qs up))
 
--- ---- what a search by halves finds
+-- ---- what a binary search finds
 
 pub rises_strictly : (xs : List ℕ) → Rising xs → IsStrictlyIncreasing xs
 rises_strictly [] h k l = absurd (omega arith)
@@ -182,7 +182,7 @@ size_of : (set found : List ℕ) (tally : Tally) → 0 < tally.count → tally �
 size_of set [] tally some e = let n = ap (λ (t : Tally). t.count) e in absurd (omega (arith, n, some))
 size_of set (t ∷ ts) tally some e = ap (λ (t : Tally). t.size) e
 
--- a column of which the tally counts as many tokens as its bound has just these
+-- if the tally of a column counts as many tokens as its bound, the column has exactly these
 pub hits_settled : (set qs : List ℕ) (i : ℕ) (tally : Tally) → Rising set → Rising qs → 0 < tally.count → tally ≡ tally_of set (hits set (take i qs)) → most_of (length qs - i) tally ≤ tally.count → tally.count ≡ length (hits set qs)
 hits_settled set qs i tally over up some e low =
     let found = hits set (take i qs) in

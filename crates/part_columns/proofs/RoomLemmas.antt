@@ -1,5 +1,5 @@
--- How many columns can still be probed: no more than there are postings in the lists of the query's tokens, nor than the part has columns; and one less
--- behind each probe.
+-- How many columns can still be probed: at most as many as there are postings in the lists of the query's tokens, and
+-- as the part has columns; and one fewer after each probe.
 use Rattle.std.proofs.Common.{◌≡◌, refl, ap, sym, ◌∙◌, subst, ℕ, zero, suc, ◌+◌, ◌<◌, ◌≤◌, List, [], ◌∷◌, Bool, true, false, not, ◌&&◌, length, take, drop, set, get_or, arith, cond, length-append, ltb as nat_lt}
 use Rattle.std.specs.List.{AllByRecursion, count_by, enumerate_from, sum_by}
 use Rattle.std.proofs.lemmas.Bool.Decides.{nat_tests}
@@ -25,13 +25,13 @@ count-cons p x xs = sum_by-cons (λ y. once (p y)) x xs
 abbrev has_one : List ℕ → List ℕ → Bool
 has_one tokens set = nat_lt 0 (length (hits set tokens))
 
--- ---- the columns that stand in one of the lists
+-- ---- the columns that are in one of the lists
 
 once_small : (b : Bool) → once b ≤ 1
 once_small true = omega arith
 once_small false = omega arith
 
--- one list more
+-- one more list
 one_here : (held : List ℕ) (t : ℕ) (ts : List ℕ) → once (has_one (t ∷ ts) held) ≤ once (is_among held t) + once (has_one ts held)
 one_here held t ts = by (is_among held t)
   where
@@ -94,7 +94,7 @@ few_unprobed part tokens known h =
 pub few_asked : (part : Part) (keys : List Text) (tokens : List ℕ) (known : List Bool) → tokens ≡ asked_in keys part → unprobed (segment_of part).sets tokens known ≤ probes_bound part tokens
 few_asked part keys tokens known e = subst (λ (ts : List ℕ). unprobed (segment_of part).sets ts known ≤ probes_bound part ts) (sym e) (few_unprobed part (asked_in keys part) known (all_asked (segment_of part).tokens keys))
 
--- ---- one column less
+-- ---- one column fewer
 
 differ : (a b : ℕ) → a < b → (b ≡ a → ⊥)
 differ a b h e = absurd (omega arith)
@@ -132,7 +132,7 @@ hits_some set tokens read h =
     let some : 0 < length (hits set tokens) = omega (arith, all, h) in
     grind (arith, nat_tests)
 
--- a column that stands in one of the lists read is known
+-- a column that is in one of the lists read becomes known
 pub unprobed_less : (sets : List (List ℕ)) (tokens : List ℕ) (known : List Bool) (x read : ℕ) → x < length sets → x < length known → get_or known x false ≡ false → 0 < length (hits (get_or sets x []) (take read tokens))
     → unprobed sets tokens (set known x true) + 1 ≡ unprobed sets tokens known
 unprobed_less sets tokens known x read h k fresh some =

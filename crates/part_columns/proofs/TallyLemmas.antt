@@ -1,4 +1,4 @@
--- A list more raises the tallies of the columns that stand in it.
+-- One more list raises the tallies of the columns that are in it.
 use Rattle.std.proofs.Common.{◌≡◌, refl, ap, sym, ◌∙◌, subst, inl, inr, ℕ, zero, suc, ◌+◌, ◌-◌, ◌<◌, ◌≤◌, List, [], ◌∷◌, ◌++◌, Bool, true, false, length, map, arith, cond, take, drop, set, get_or, min, length-append, append-nil, eqb as nat_eq}
 use Rattle.std.specs.Prelude.{fold}
 use Rattle.std.specs.List.{AllByRecursion, enumerate_from, filter, list_any}
@@ -66,7 +66,7 @@ module _ (token column : ℕ) where
       later true e = ap (λ t. cond t (posting token n set ∷ picked (from (n + 1) sets)) (picked (from (n + 1) sets))) e
       later false e = refl
 
--- the postings of a column in the list of a token: one where it has the token, and else none
+-- the postings of a column in the list of a token: one if it has the token, and else none
 pub picked_is : (sets : List (List ℕ)) (token column : ℕ) → filter (of_column column) (postings_of sets token) ≡ one_of (is_among (get_or sets column []) token) (posting token column (get_or sets column []))
 picked_is sets token column = let z : column - 0 ≡ column = omega arith in picked_from token column 0 sets (omega arith) ∙ ap (λ (i : ℕ). one_of (is_among (get_or sets i []) token) (posting token column (get_or sets i []))) z
 
@@ -77,14 +77,14 @@ get_or_end (y ∷ xs) x =
     let e : length ((y ∷ xs) ++ x ∷ []) - 1 ≡ suc (length (xs ++ x ∷ []) - 1) = omega (arith, z) in
     ap (λ (n : ℕ). get_or (y ∷ (xs ++ x ∷ [])) n 0) e ∙ get_or_end xs x
 
--- one hit more
+-- one more hit
 hit_more : (set found : List ℕ) (token column : ℕ) → tally_of set (found ++ token ∷ []) ≡ raised (tally_of set found) (posting token column set)
 hit_more set [] token column = refl
 hit_more set (t ∷ ts) token column =
     let n : length ((t ∷ ts) ++ token ∷ []) ≡ length (t ∷ ts) + 1 = length-append (t ∷ ts) (token ∷ []) in
     (λ i. tally_with (n i) (rank set (get_or_end (t ∷ ts) token i)) (length set))
 
--- Behind a list more each tally is that of the lists read.
+-- After one more list, each tally is that of the lists read.
 pub tallies_more : (sets : List (List ℕ)) (tokens : List ℕ) (i d : ℕ) (tallies news : List Tally) (list : List Posting) → i < length tokens → AreTallies sets (take i tokens) tallies → list ≡ postings_of sets (get_or tokens i d)
     → ((x : ℕ) → get_or news x no_tally ≡ counted x list (get_or tallies x no_tally)) → AreTallies sets (take (i + 1) tokens) news
 tallies_more sets tokens i d tallies news list h are is new x =
@@ -105,7 +105,7 @@ tallies_more sets tokens i d tallies news list h are is new x =
         fold_over : List Posting → Tally
         fold_over ps = fold raised (tally_of (get_or sets x []) (hits (get_or sets x []) (take i tokens))) ps
 
--- ---- one posting more
+-- ---- one more posting
 
 counted_push : (x : ℕ) (ps : List Posting) (p : Posting) (tally : Tally) (b : Bool) → of_column x p ≡ b → counted x (ps ++ p ∷ []) tally ≡ cond b (raised (counted x ps tally) p) (counted x ps tally)
 counted_push x ps p tally b e = ap (fold raised tally) (filter-append (of_column x) ps (p ∷ []) ∙ ap (λ b. filter (of_column x) ps ++ one_of b p) e) ∙ by b
@@ -121,7 +121,7 @@ fold_count (p ∷ ps) tally = omega (arith, fold_count ps (raised tally p))
 itself : (n : ℕ) → nat_eq n n ≡ true
 itself n = grind (arith, nat_tests)
 
--- the count of a posting's column is below what all of the list make of it
+-- the count of a posting's column is below what all postings of the list make of it
 pub count_fits : (list : List Posting) (j : ℕ) (d p : Posting) (tally : Tally) (bound : ℕ) → j < length list → p ≡ get_or list j d → tally.count + length (filter (of_column p.column) list) < bound → (counted p.column (take j list) tally).count + 1 < bound
 count_fits list j d p tally bound h is few =
     let x = p.column in
@@ -156,17 +156,17 @@ pub tally_count : (set found : List ℕ) → (tally_of set found).count ≡ leng
 tally_count set [] = refl
 tally_count set (t ∷ ts) = refl
 
--- the bound, from its hits
+-- the bound, given its hits
 pub bound_same : (set found : List ℕ) (left : ℕ) → 0 < length found → most_of left (tally_of set found) ≡ length found + min left (length set - 1 - rank set (get_or found (length found - 1) 0))
 bound_same set [] left h = absurd (omega arith)
 bound_same set (t ∷ ts) left h = refl
 
--- the position, from its hits
+-- the position, given its hits
 pub position_same : (set found : List ℕ) → 0 < length found → (tally_of set found).position ≡ rank set (get_or found (length found - 1) 0)
 position_same set [] h = absurd (omega arith)
 position_same set (t ∷ ts) h = refl
 
--- no tally counts more than the lists that were read
+-- no tally counts more than the number of lists read
 pub tallies_small : (sets : List (List ℕ)) (tokens : List ℕ) (read : ℕ) (tallies : List Tally) → AreTallies sets (take read tokens) tallies → (x : ℕ) → (get_or tallies x no_tally).count ≤ read
 tallies_small sets tokens read tallies are x =
     let set = get_or sets x [] in
@@ -189,7 +189,7 @@ counted_in sets tokens tallies are x some = elim (cases_lt x (length sets)) [
   | inr b ↦ absurd (let n = ap (λ (t : Tally). t.count) (are x) ∙ tally_count (get_or sets x []) (hits (get_or sets x []) tokens) ∙ ap (λ (set : List ℕ). length (hits set tokens)) (get_or_past sets x [] b) ∙ no_hits tokens in omega (arith, n, some))
 ]
 
--- a column stands once in a list at most, and is one of the part's
+-- a column is at most once in a list, and is one of the part's
 pub picked_few : (sets : List (List ℕ)) (token column : ℕ) → length (filter (of_column column) (postings_of sets token)) ≤ 1
 picked_few sets token column = subst (λ (ps : List Posting). length ps ≤ 1) (sym (picked_is sets token column)) (by (is_among (get_or sets column []) token))
   where
@@ -210,7 +210,7 @@ pub columns_within : (sets : List (List ℕ)) (token bound : ℕ) (list : List P
 columns_within sets token bound list h e k d l =
     subst (λ (ps : List Posting). (get_or ps k d).column < bound) (sym e) (All-from_recursion (λ (p : Posting). p.column < bound) (postings_of sets token) (within_from token 0 bound sets (omega arith)) k d (let n = ap (λ (ps : List Posting). length ps) e in omega (arith, n, l)))
 
--- one tally more, of no greater count than a number
+-- one more tally, whose count is at most a given number
 pub most_set : (tallies : List Tally) (x : ℕ) (tally : Tally) (most now : ℕ) → ((y : ℕ) → (tally_at tallies y).count ≤ most) → x < length tallies → tally.count ≤ now → most ≤ now
     → (y : ℕ) → (tally_at (set tallies x tally) y).count ≤ now
 most_set tallies x tally most now h within here up y = elim (cases_eq y x) [

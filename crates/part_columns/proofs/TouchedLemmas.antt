@@ -1,4 +1,4 @@
--- The columns that are touched: one more, and none any longer.
+-- The touched columns: one more, and none after a clearing.
 use Rattle.std.proofs.Common.{◌≡◌, refl, ap, sym, ◌∙◌, subst, inl, inr, ℕ, zero, suc, ◌+◌, ◌-◌, ◌^◌, ◌<◌, ◌≤◌, List, [], ◌∷◌, ◌++◌, Bool, true, false, ◌||◌, length, replicate, set, get_or, drop, take, cond, arith, append-nil, length-append, eqb as nat_eq}
 use Rattle.std.specs.List.{AllByRecursion, count_by}
 use Rattle.std.proofs.Math.ListN.{length-set}
@@ -72,7 +72,7 @@ listed_seen tallies touched x listed there = by (is_touched (tally_at tallies x)
 pub listed_once : (tallies : List Tally) (touched : List ℕ) → IsListed tallies touched → (x : ℕ) → count_by (nat_eq x) touched ≤ 1
 listed_once tallies touched listed x = omega (arith, listed x, at_most_one (is_touched (tally_at tallies x)))
 
--- what stands once does not stand in front
+-- what occurs once does not occur before
 pub apart_before : (done : List ℕ) (x : ℕ) (rest : List ℕ) → count_by (nat_eq x) (done ++ x ∷ rest) ≤ 1 → is_among done x ≡ false
 apart_before done x rest few = by (is_among done x) refl
   where
@@ -185,14 +185,14 @@ listed_within tallies touched listed k d h = elim (cases_lt (get_or touched k d)
   | inr b ↦ absurd (let z = ap (λ (t : Tally). t.count) (get_or_past tallies (get_or touched k d) no_tally b) in omega (arith, z, item_seen tallies touched listed k d h))
 ]
 
--- a list lent whole, and given back as long
+-- a list that is lent whole and given back at the same length
 pub lent_whole : {X : Type 0} (n : ℕ) (news olds : List X) → length news ≡ n → length olds ≡ n → take n (news ++ drop (length news) olds) ≡ news
 lent_whole n news olds e f =
     ap (λ xs. take n (news ++ xs)) (drop_all (length news) olds (omega (arith, e, f))) ∙ ap (take n) (append-nil news) ∙ take_all n news (omega (arith, e))
 
--- ---- the tallies of the touched columns alone
+-- ---- the tallies of the touched columns only
 
--- one tally more at the end, and a column that had none of its own has it
+-- one more tally at the end, given to a column that had none of its own
 module _ (held : List Tally) (slots : List ℕ) (within : (x : ℕ) → get_or slots x 0 < length held) (tally : Tally) where
   same_tallies : (xs : List ℕ) → ((x : ℕ) → get_or xs x 0 < length held) → tallies_in (held ++ tally ∷ []) xs ≡ tallies_in held xs
   same_tallies [] h = refl
@@ -234,7 +234,7 @@ module _ (slots : List ℕ) (held : List Tally) (known : List Bool) (touched : L
   pub wide : length (tallies_in held slots) ≡ length slots
   wide = length-map slots (λ (s : ℕ). get_or held s no_tally)
 
-  -- a column with no tally of its own was not touched, and one with such a tally was
+  -- a column without a tally of its own was not touched, and one with such a tally was
   pub unseen_there : (x : ℕ) → x < length slots → get_or slots x 0 ≡ 0 → (tally_at (tallies_in held slots) x).count ≡ 0
   unseen_there x h e = ap (λ (t : Tally). t.count) (tally_there held slots x h ∙ ap (λ (s : ℕ). get_or held s no_tally) e ∙ kept.others)
 
@@ -312,7 +312,7 @@ module _ (slots : List ℕ) (held : List Tally) (known : List Bool) (touched : L
           unknown = still_unknown _ is;
         }
 
--- ---- none any longer
+-- ---- none after a clearing
 
 abbrev pub ForgottenFrom : List ℕ → ℕ → List ℕ → List Bool → Type 0
 ForgottenFrom touched i slots known = (x : ℕ) → is_among (drop i touched) x ≡ false → (get_or slots x 0 ≡ 0) × (get_or known x false ≡ false)
@@ -344,14 +344,14 @@ unlisted_there slots held known touched tallies_room touched_room kept x none =
       kept.unknown x unseen,
     )
 
--- where no column has a tally of its own, it is that of all others
+-- if no column has a tally of its own, all have the shared one
 pub clean_there : (slots : List ℕ) (held : List Tally) → ((x : ℕ) → get_or slots x 0 ≡ 0) → get_or held 0 no_tally ≡ no_tally → (x : ℕ) → tally_at (tallies_in held slots) x ≡ no_tally
 clean_there slots held unset none x = elim (cases_lt x (length slots)) [
   | inl h ↦ tally_there held slots x h ∙ ap (λ (s : ℕ). get_or held s no_tally) (unset x) ∙ none
   | inr past ↦ get_or_past (tallies_in held slots) x no_tally (omega (arith, past, length-map slots (λ (s : ℕ). get_or held s no_tally)))
 ]
 
--- so it is behind a clearing, and at the start
+-- so it is after a clearing, and at the start
 pub kept_clean : (slots : List ℕ) (held : List Tally) (known : List Bool) (tallies_room touched_room : ℕ) → ((x : ℕ) → get_or slots x 0 ≡ 0) → ((x : ℕ) → get_or known x false ≡ false) → get_or held 0 no_tally ≡ no_tally → length held ≡ 1
     → length slots < 2 ^ 32 → length slots < tallies_room → length slots ≤ touched_room → length known ≡ length slots → IsKept slots held known [] tallies_room touched_room
 kept_clean slots held known tallies_room touched_room unset fresh none one few room listed_room marks =
@@ -376,7 +376,7 @@ kept_clean slots held known tallies_room touched_room unset fresh none one few r
     none_touched [] clean = refl
     none_touched (t ∷ ts) clean = omega (arith, sum_by-cons (λ u. once (is_touched u)) t ts, ap (λ (u : Tally). once (is_touched u)) (clean 0), none_touched ts (λ x. clean (suc x)))
 
--- behind a clearing, of which the lists were lent whole
+-- after a clearing, in which the lists were lent whole
 pub kept_cleared : (slots lent : List ℕ) (held : List Tally) (known marks : List Bool) (touched : List ℕ) (tallies_room touched_room : ℕ) → lent ≡ slots → marks ≡ known → touched ≡ [] → ((x : ℕ) → get_or slots x 0 ≡ 0) → ((x : ℕ) → get_or known x false ≡ false)
     → get_or held 0 no_tally ≡ no_tally → length held ≡ 1 → length slots < 2 ^ 32 → length slots < tallies_room → length slots ≤ touched_room → length known ≡ length slots → IsKept lent held marks touched tallies_room touched_room
 kept_cleared slots lent held known marks touched tallies_room touched_room e f g unset fresh none one few room listed_room long =
@@ -390,7 +390,7 @@ view_cleared slots lent held known marks touched e f unset fresh none = record {
   fresh = λ x. ap (λ (ms : List Bool). get_or ms x false) f ∙ fresh x;
 }
 
--- a list of one value over and over has it at each place, and past the end too
+-- a list of one repeated value has it at each index, and past the end too
 pub same_everywhere : {X : Type 0} (d : X) (n x : ℕ) → get_or (replicate n d) x d ≡ d
 same_everywhere d n x = elim (cases_lt x n) [
   | inl h ↦ get_or-replicate n x d d h

@@ -14,7 +14,7 @@ columns_with tallies known touched = record { tallies = tallies; known = known; 
 abbrev pub is_touched : Tally → Bool
 is_touched tally = nat_lt 0 tally.count
 
--- the columns that stand in one of the lists read, each once
+-- the columns that are in one of the lists read, each once
 abbrev pub IsListed : List Tally → List ℕ → Type 0
 IsListed tallies touched = (x : ℕ) → count_by (nat_eq x) touched ≡ (if is_touched (tally_at tallies x) then 1 else 0)
 
@@ -23,11 +23,12 @@ pub record AreTouched (tallies : List Tally) (touched : List ℕ) : Type 0 where
   pub many : length touched ≡ count_by is_touched tallies
   pub unseen : (x : ℕ) → (tally_at tallies x).count ≡ 0 → tally_at tallies x ≡ no_tally
 
--- the tallies of all columns, from that which each has among some
+-- the tallies of all columns, given the slot of each among those held
 abbrev pub tallies_in : List Tally → List ℕ → List Tally
 tallies_in held slots = map (λ slot. get_or held slot no_tally) slots
 
--- The touched columns have their tallies in the order in which they are listed, behind that of all others. There is room to touch all columns.
+-- The tallies of the touched columns are held in the order in which these are listed, after the one that all others
+-- share. There is room to touch all columns.
 pub record IsKept (slots : List ℕ) (held : List Tally) (known : List Bool) (touched : List ℕ) (tallies_room touched_room : ℕ) : Type 0 where
   pub are_touched : AreTouched (tallies_in held slots) touched
   pub others : get_or held 0 no_tally ≡ no_tally

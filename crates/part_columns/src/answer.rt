@@ -1,4 +1,4 @@
-//! What a search hands back.
+//! What a search returns.
 
 use column_set::Rows;
 use segment_core::Looks;

@@ -12,10 +12,11 @@ use segment_core::Posting;
 use std::alloc::Global;
 use std::marker::Model;
 
-/// A tally of each column, and whether its row is known. It lists the columns that are touched, which stand in one of the lists read, so
-/// that they are found again with no walk over the others. Tallies are kept of the touched columns alone, in the order of that list, behind
-/// one that all others share: a column has the index of its own, so that little has to be set before a search. A contract sees the tallies
-/// of all columns, the marks of the known ones and the list.
+/// A tally of each column, and whether its row is known. It lists the touched columns, which are those in one of the
+/// lists read, so that they are found again without a walk over the others. Tallies are kept only for the touched
+/// columns, in the order of that list, after one tally that all other columns share; each column has the index of its
+/// tally, so that little has to be set up before a search. Its model is the tallies of all columns, the marks of the
+/// known ones, and the list.
 #[derive(Drop)]
 pub struct Columns {
     slots: Vec<u32>,
@@ -36,7 +37,7 @@ impl Model for Columns {
 }
 
 impl Columns {
-    /// So many columns, of which none was seen.
+    /// Returns `columns` columns, none of which was seen.
     pub fn new(alloc: Global, columns: u32) -> Result<Columns, NoMemory>
         ensures wide { IfOk result (λ made. length made.tallies ≡ columns) }
         ensures clean { IfOk result (λ made. IsClean made) }
@@ -51,7 +52,7 @@ impl Columns {
         })
     }
 
-    /// The tally of a column.
+    /// Returns the tally of a column.
     pub fn tally(&self, column: u32) -> Tally
         requires { column < length self.now.tallies }
         ensures { result ≡ tally_at self.now.tallies column }
@@ -60,7 +61,7 @@ impl Columns {
         self.tallies[slot as usize]
     }
 
-    /// Whether the row of a column is known.
+    /// Returns whether the row of a column is known.
     pub fn is_known(&self, column: u32) -> bool
         requires { column < length self.now.tallies }
         ensures { result ≡ get_or self.now.known column false }
@@ -68,7 +69,7 @@ impl Columns {
         self.known[column as usize]
     }
 
-    /// The columns that stand in one of the lists read, each once.
+    /// Returns the columns that are in one of the lists read, each once.
     pub fn touched(&self) -> &[u32]
         ensures touched { result.now ≡ self.now.touched }
         ensures listed { IsListed self.now.tallies self.now.touched }
@@ -77,7 +78,7 @@ impl Columns {
         &self.touched
     }
 
-    /// Counts each posting of a list. No column had a greater count than `most`, and none has a greater one now than the answer.
+    /// Counts each posting of a list. No column may have had a count above `most`; none has one above the result now.
     pub fn count(&mut self, list: &[Posting], most: u32) -> u32
         requires most { (column : ℕ) → (tally_at self.old.tallies column).count ≤ most }
         requires within { All (λ posting. posting.column < length self.old.tallies) list.now }
@@ -95,7 +96,7 @@ impl Columns {
         greatest
     }
 
-    // Counts a posting. It gives the count of its column.
+    // Counts a posting, and returns the count of its column.
     fn raise(&mut self, posting: &Posting) -> u32
         requires within { posting.now.column < length self.old.tallies }
         requires small { (tally_at self.old.tallies posting.now.column).count + 1 < 2 ^ 32 }
@@ -145,7 +146,7 @@ impl Columns {
         self.known[column as usize] = true;
     }
 
-    /// Forgets the columns, in the time that it takes to walk the touched ones.
+    /// Forgets the columns. It takes a walk over the touched ones.
     pub fn clear(&mut self)
         ensures wide { length self.new.tallies ≡ length self.old.tallies }
         ensures clean { IsClean self.new }
@@ -156,7 +157,7 @@ impl Columns {
     }
 }
 
-// Sets the slots and the marks of the touched columns back.
+// Resets the slots and the marks of the touched columns.
 fn forget(touched: &[u32], slots: &mut [u32], known: &mut [bool])
     requires within { All (λ column. column < length slots.old) touched.now }
     requires marks { length known.old ≡ length slots.old }

@@ -1,5 +1,5 @@
-//! What a search keeps of the columns of a part: a tally of each column that it has seen, the bound that follows from that, the probe of a
-//! column, and the room that all this takes.
+//! What a search keeps of the columns of a part: a tally of each column that it has seen, the bound that follows from
+//! the tally, the probe of a column, and the room that all this takes.
 #![tactic(auto)]
 
 mod answer;

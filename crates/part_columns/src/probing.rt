@@ -13,8 +13,8 @@ ghost use Rattle.part_columns.specs.Tallies.{tally_of};
 use crate::tally::Tally;
 use segment_core::Looks;
 
-/// How many of the query's tokens a column has, which has this tally behind the first lists. Its tokens behind the last one in these are
-/// read, which goes to the log.
+/// Returns how many of the query's tokens a column has whose tally after the first `read` lists is `tally`. Reads the
+/// column's tokens after the last one in these lists, and logs the probe.
 pub fn probe(
     looks: &mut Looks<'_>,
     part: u32,
@@ -40,7 +40,7 @@ pub fn probe(
     tally.count + count_shared(&tokens[read as usize..], tail) as u32
 }
 
-// How many tokens two lists share, which rise. It walks the shorter one, and looks its tokens up in the other.
+// Returns how many tokens two rising lists share. It walks the shorter one and looks its tokens up in the other.
 fn count_shared(others: &[u32], tokens: &[u32]) -> usize
     requires others { IsStrictlyIncreasing others.now }
     requires tokens { IsStrictlyIncreasing tokens.now }
@@ -53,7 +53,7 @@ fn count_shared(others: &[u32], tokens: &[u32]) -> usize
     }
 }
 
-// How many of these tokens are among others, which rise.
+// Returns how many of these tokens are among the others, which rise.
 fn count_among(others: &[u32], tokens: &[u32]) -> usize
     requires { IsStrictlyIncreasing others.now }
     ensures { result ≡ count_by (is_among others.now) tokens.now }
@@ -61,7 +61,7 @@ fn count_among(others: &[u32], tokens: &[u32]) -> usize
     tokens.iter().filter(|token| has(others, **token)).count()
 }
 
-// Whether the token is one of these, which rise.
+// Returns whether the token is among these, which rise.
 fn has(tokens: &[u32], token: u32) -> bool
     requires { IsStrictlyIncreasing tokens.now }
     ensures { result ≡ is_among tokens.now token }

@@ -6,7 +6,7 @@ ghost use Rattle.segment_core.specs.Versions.{part_at, segment_at};
 
 use segment_core::Looks;
 
-/// The most columns of a part that a search for these tokens can probe.
+/// Returns how many columns of a part a search for these tokens can probe at most.
 pub fn most_probes(looks: &Looks<'_>, part: u32, tokens: &[u32]) -> u32
     requires part { part < length looks.now.version.parts }
     requires tokens { All (λ token. token < length (segment_at looks.now.version.parts part).tokens) tokens.now }
@@ -20,7 +20,7 @@ pub fn most_probes(looks: &Looks<'_>, part: u32, tokens: &[u32]) -> u32
     most
 }
 
-/// How many columns the part has that has most.
+/// Returns how many columns the part with the most columns has.
 pub fn most_columns(looks: &Looks<'_>) -> u32
     ensures { IsMost looks.now.version.parts result }
 {
@@ -31,7 +31,7 @@ pub fn most_columns(looks: &Looks<'_>) -> u32
     most
 }
 
-/// Pushes where there is room.
+/// Pushes an item; there must be room for it.
 pub fn push_within<T: Drop>(items: &mut Vec<T>, item: T)
     requires { vec_len items.old < vec_capacity items.old }
     ensures items { items.new.items ≡ items.old.items ++ item ∷ [] }

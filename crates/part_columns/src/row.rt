@@ -7,7 +7,7 @@ ghost use Rattle.segment_core.specs.Versions.{segment_at};
 use column_set::Row;
 use segment_core::Looks;
 
-/// The row of a column, whether or not its table is marked, with this overlap.
+/// Returns the row of a column with this overlap, whether or not its table is marked.
 pub fn row_of_column<'a>(looks: &Looks<'a>, part: u32, column: u32, overlap: u32) -> Row<'a>
     requires part { part < length looks.now.version.parts }
     requires column { column < length (segment_at looks.now.version.parts part).sets }

@@ -1,4 +1,4 @@
-//! What the lists that were read say of each column.
+//! What the lists read so far say of each column.
 
 /// How many of the lists read hold a column, its position in the last of these, and how many tokens it has.
 #[derive(Clone, Copy)]
@@ -9,7 +9,7 @@ pub struct Tally {
 }
 
 impl Tally {
-    /// Of a column that stands in none.
+    /// The tally of a column that is in no list.
     pub const NONE: Tally = Tally {
         count: 0,
         position: 0,

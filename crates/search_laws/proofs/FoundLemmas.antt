@@ -1,5 +1,5 @@
--- What is found behind the looks of the parts are all columns that hold enough: a column in none of the lists read holds fewer keys than are
--- needed, and none holds more than its bound.
+-- What is found after the looks of the parts is all columns that hold enough: a column in none of the lists read holds
+-- fewer keys than are needed, and none holds more than its bound.
 use Rattle.std.proofs.Common.{◌≡◌, refl, ap, sym, ◌∙◌, subst, inl, inr, ℕ, zero, suc, ◌+◌, ◌<◌, ◌≤◌, List, [], ◌∷◌, ◌++◌, map, Bool, true, false, not, ◌&&◌, length, arith, cond, get_or, ltb as nat_lt, leb as nat_le}
 use Rattle.std.specs.Prelude.{bytes_eq}
 use Rattle.std.specs.List.{AllByRecursion, enumerate_from, filter, flat_map, IsDistinct}
@@ -27,7 +27,7 @@ use Rattle.search_laws.proofs.TableLemmas.{as_texts, is_part}
 abbrev Numbered : Type 0
 Numbered = ℕ × Titled
 
--- two ways to the same rows, of those that pass a test
+-- two ways to get the same rows, of those that pass a test
 same_rows : (p q : Numbered → Bool) (f g : Numbered → Row) (t : Row → Bool) (cs : List Numbered) → AllByRecursion (λ c. (f c ≡ g c) × (t (g c) ≡ true → p c ≡ q c)) cs → filter t (map f (filter p cs)) ≡ filter t (map g (filter q cs))
 same_rows p q f g t [] h = refl
 same_rows p q f g t (c ∷ cs) h = by (p c) (q c) (t (g c)) refl refl refl (ap t h.0.0) (same_rows p q f g t cs h.1)
@@ -81,7 +81,7 @@ module _ (keys : List Text) (distinct : IsDistinct bytes_eq keys) (least : ℕ) 
         by zero e = absurd (let most = unseen query part is texts_differ x c c (at c) within (lists_needed least part) e in omega (arith, most, h, some))
         by (suc n) e = omega arith
 
-    -- a column holds no more than its bound
+    -- a column holds at most as many keys as its bound
     pub bound_high : 0 < seen_here.count → overlap keys c.column.keys ≤ seen_here.bound.overlap
     bound_high s = bounded query part is texts_differ x c c (at c) within (lists_needed least part) (omega (arith, s))
 

@@ -25,7 +25,7 @@ need_least a b n some =
         absurd (omega (arith, high, times.1, split, holds))
     by k one holds (inr most) = omega (arith, one, most)
 
--- no column has to hold more keys than there are, where the fraction is no more than the whole
+-- no column has to hold more keys than there are, if the fraction is at most the whole
 pub need_few : (a b n : ℕ) → 1 ≤ a → a ≤ b → need a b n ≤ max 1 n
 need_few a b n some whole =
     let low : n ≤ max 1 n = omega arith in

@@ -1,4 +1,4 @@
--- What changes nothing of the first k, and how the first k grow.
+-- What leaves the first k as they are, and how the first k change.
 use Rattle.std.proofs.Common.{◌≡◌, refl, ap, sym, ◌∙◌, subst, ℕ, zero, suc, ◌+◌, ◌-◌, ◌<◌, ◌≤◌, List, [], ◌∷◌, ◌++◌, map, Bool, true, false, not, arith, cond, take, append_assoc, Some, None}
 use Rattle.std.specs.List.{filter, AllByRecursion, count_by, slice_get}
 use Rattle.std.specs.BinaryHeap.{lt_by_cmp}
@@ -74,7 +74,7 @@ module _ {X : Type 0} {R : X → X → Ordering} (total : IsTotalOrder R) (exact
   no_sooner x y [] n h = tt
   no_sooner x y (w ∷ ws) n h = (o.chain w y x h.0 n, no_sooner x y ws n h.1)
 
-  -- what has k elements no later than itself changes nothing of the first k
+  -- an element with k elements no later than itself does not change the first k
   take_put_behind : (k : ℕ) (x : X) (ys : List X) → Up ys → k ≤ count_by (no_later R x) ys → take k (put_in_order R x ys) ≡ take k ys
   unfolding put_in_order
   take_put_behind zero x ys up h = refl
@@ -103,12 +103,12 @@ module _ {X : Type 0} {R : X → X → Ordering} (total : IsTotalOrder R) (exact
   pub best_IsPermutation : (k : ℕ) (xs ys : List X) → IsPermutation xs ys → best R k ys ≡ best R k xs
   best_IsPermutation k xs ys p = ap (take k) (in_order-IsPermutation total exact xs ys p)
 
-  -- and all that is behind
+  -- several elements, each with k elements no later than itself, do not change the first k
   all_behind : (k : ℕ) (zs ys : List X) → AllByRecursion (λ z. IsBehind R k ys z) zs → best R k (zs ++ ys) ≡ best R k ys
   all_behind k [] ys h = refl
   all_behind k (z ∷ zs) ys h = best_behind k z (zs ++ ys) (let f = h.0 in omega (arith, count-append (no_later R z) zs ys)) ∙ all_behind k zs ys h.1
 
-  -- one more element, from the first k alone
+  -- one more element, given only the first k
   take_put : (k : ℕ) (x : X) (ys : List X) → take k (put_in_order R x (take k ys)) ≡ take k (put_in_order R x ys)
   unfolding put_in_order
   take_put zero x ys = refl
@@ -118,7 +118,7 @@ module _ {X : Type 0} {R : X → X → Ordering} (total : IsTotalOrder R) (exact
     | false ↦ ap (λ us. x ∷ us) (take_twice k y ys)
   ]
 
-  -- a heap's step
+  -- one step of a heap
   pub best_more : (k : ℕ) (x : X) (xs : List X) → best R k (x ∷ xs) ≡ take k (put_in_order R x (best R k xs))
   unfolding in_order
   best_more k x xs = sym (take_put k x (in_order R xs))
@@ -127,7 +127,7 @@ module _ {X : Type 0} {R : X → X → Ordering} (total : IsTotalOrder R) (exact
   same_front k xs ys [] e = e
   same_front k xs ys (z ∷ zs) e = best_more k z (zs ++ xs) ∙ ap (λ us. take k (put_in_order R z us)) (same_front k xs ys zs e) ∙ sym (best_more k z (zs ++ ys))
 
-  -- the first k of more hang on the first k
+  -- the first k of a longer list depend only on the first k
   pub best_append : (k : ℕ) (xs ys zs : List X) → best R k xs ≡ best R k ys → best R k (xs ++ zs) ≡ best R k (ys ++ zs)
   best_append k xs ys zs e =
       sym (best_IsPermutation k (xs ++ zs) (zs ++ xs) (IsPermutation-append_comm xs zs)) ∙ same_front k xs ys zs e ∙ best_IsPermutation k (ys ++ zs) (zs ++ ys) (IsPermutation-append_comm ys zs)
@@ -144,7 +144,7 @@ module _ {X : Type 0} {R : X → X → Ordering} (total : IsTotalOrder R) (exact
       let first : less x y ≡ false = o.chain x w y l (at_place (λ v. less v y ≡ false) ys j w up.0 e) in
       omega (arith, count-cons (no_later R x) y ys, ap (λ b. once (not b)) first, counted j x w ys up.1 e l)
 
-  -- what does not come before the k-th is behind k
+  -- an element that does not come before the k-th has k elements no later than itself
   pub behind_worst : (k : ℕ) (xs : List X) (x w : X) → 0 < k → slice_get (in_order R xs) (k - 1) ≡ Some w → less x w ≡ false → IsBehind R k xs x
   behind_worst k xs x w some e l = omega (arith, counted (k - 1) x w (in_order R xs) (ordered_in_order total xs) e l, count_in_order (no_later R x) xs)
 
@@ -168,7 +168,7 @@ module _ {X : Type 0} {R : X → X → Ordering} (total : IsTotalOrder R) (exact
         by r true e = r
         by r false e = (h.0 e, r)
 
-    -- leaving out what is behind leaves the first k
+    -- leaving out elements with k others no later than themselves leaves the first k
     pub best_filter : (k : ℕ) (before : List X) (cs : List C) → AllByRecursion (λ c. p c ≡ false → IsBehind R k (before ++ map f (filter p cs)) (f c)) cs
         → best R k (before ++ map f cs) ≡ best R k (before ++ map f (filter p cs))
     best_filter k before cs h =

@@ -1,5 +1,5 @@
--- No list is read twice and no column probed twice for the columns that hold a fraction of a query, and a part with too few tokens is not
--- looked at.
+-- No list is read twice and no column is probed twice for the columns that hold a fraction of a query, and a part with
+-- too few tokens is not looked at.
 use Rattle.std.proofs.Common.{◌≡◌, refl, ap, sym, ◌∙◌, subst, ℕ, ◌+◌, ◌<◌, ◌≤◌, List, [], ◌∷◌, ◌++◌, map, Bool, true, false, ◌&&◌, length, arith, cond, take, drop, get_or, ltb as nat_lt, leb as nat_le}
 use Rattle.std.specs.List.{AllByRecursion, enumerate_from, filter, flat_map}
 use Rattle.std.proofs.lemmas.List.{map-append, take-append-drop}
@@ -77,7 +77,7 @@ module _ (least : ℕ) (part : Searched) where
   abbrev probes_behind : AreBehind part.number (λ c. is_probed least part c.0 c.1) (λ c. (seen_behind least part c.0 c.1).position) 0 (map sight_of (probes_needed least part))
   probes_behind = probes_apart part.number (λ c. is_probed least part c.0 c.1) (λ c. (seen_behind least part c.0 c.1).position) 0 part.segment.columns
 
-  -- each is at the part
+  -- each look is at the part
   all_here : AllByRecursion (λ s. s.1 ≡ part.number) (sights least part)
   all_here =
       subst (λ (ss : List Sight). AllByRecursion (λ s. s.1 ≡ part.number) ss) (sym (sights_split least part))

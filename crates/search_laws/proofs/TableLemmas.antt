@@ -1,4 +1,4 @@
--- The rows of a part are those of its tables that are not marked; its tokens are distinct, and all keys are tokens.
+-- The rows of a part are those of its unmarked tables; its tokens are distinct, and all keys are tokens.
 use Rattle.std.proofs.Common.{◌≡◌, refl, ap, sym, ◌∙◌, subst, ℕ, zero, suc, ◌+◌, ◌<◌, List, [], ◌∷◌, ◌++◌, map, Bool, true, false, not, ◌&&◌, ◌||◌, length, arith, cond, get_or, ltb as nat_lt}
 use Rattle.std.specs.Prelude.{bytes_eq}
 use Rattle.std.specs.List.{filter, AllByRecursion, flat_map, enumerate_from, IsDistinct}
@@ -122,7 +122,7 @@ none_equal : (x : Text) (xs : List Text) → AllByRecursion (λ y. bytes_eq x y 
 none_equal x [] h = refl
 none_equal x (y ∷ ys) h = ap (λ b. b || has_key ys x) h.0 ∙ none_equal x ys h.1
 
--- the same in the words of the lemmas on overlaps
+-- the same in the terms of the lemmas on overlaps
 pub as_texts : (xs : List Text) → IsDistinct bytes_eq xs → texts.Distinct xs
 unfolding IsDistinct
 as_texts [] h = tt

@@ -1,4 +1,4 @@
--- What is found behind the looks for the columns that hold a fraction of a query.
+-- What is found after the looks for the columns that hold a fraction of a query.
 use Rattle.std.specs.Prelude.{ℕ, List, [], length, map, filter, get_or, nat_le}
 use Rattle.std.specs.List.{enumerate_from}
 use Rattle.lake_model.specs.Answer.{Row}
@@ -13,7 +13,7 @@ tokens_shared part column = length (hits (get_or part.segment.sets column []) pa
 abbrev pub found_row : Searched → ℕ → Titled → Row
 found_row part column c = row_with (tokens_shared part column) c
 
--- the rows of the columns that may hold enough, and do
+-- the rows of the columns that may hold enough and do
 abbrev pub found_rows : ℕ → Searched → List Row
 found_rows least part =
     filter (λ row. nat_le least row.overlap)

@@ -27,7 +27,7 @@ count-cons p x xs = sum_by-cons (λ y. once (p y)) x xs
 abbrev less : Row → Row → Bool
 less a b = is_lt (row_cmp a b)
 
--- where k rows come no later than x, the k-th is no later
+-- if j + 1 rows come no later than x, the one at index j comes no later than x
 worst_of : (j : ℕ) (x : Row) (ys : List Row) → Ordered less (less_order row_cmp_total) ys → j + 1 ≤ count_by (no_later row_cmp x) ys → (w : Row) × (slice_get ys j ≡ Some w) × (less x w ≡ false)
 worst_of j x [] up h = absurd (omega arith)
 worst_of zero x (y ∷ ys) up h = by (less x y) refl
@@ -58,7 +58,7 @@ behind_beaten query known x some h =
     let w = worst_of (query.k - 1) x (in_order row_cmp known) (ordered_in_order row_cmp_total known) (omega (arith, h, count_in_order row_cmp_total row_cmp_exact (no_later row_cmp x) known)) in
     ap (λ o. beats o x) w.1 ∙ w.2
 
--- more rows, and a later one
+-- more rows pass a weaker test
 count_more : (p q : Row → Bool) → ((r : Row) → p r ≡ true → q r ≡ true) → (rows : List Row) → count_by p rows ≤ count_by q rows
 count_more p q w [] = omega arith
 count_more p q w (r ∷ rows) = by (p r) refl (count_more p q w rows)
@@ -85,7 +85,7 @@ counted_filter f p q t w (c ∷ cs) = by (p c) (q c) refl refl (counted_filter f
     by false true e g h = omega (arith, count-cons t (f c) (map f (filter q cs)), h)
     by false false e g h = h
 
--- what is known stays so
+-- what is known stays known
 abbrev pub Grows : Searched → Progress → Progress → Type 0
 Grows part a b = (x : ℕ) → is_known part a x ≡ true → is_known part b x ≡ true
 
@@ -116,7 +116,7 @@ grows_probe part a y x h = by (nat_le (length part.query) a.read) (nat_eq x y) h
     by false true h = refl
     by false false h = h
 
--- A column that was seen is closed where k known rows come no later than its bound.
+-- A column that was seen is closed if k known rows come no later than its bound.
 abbrev pub IsClosed : Query → List Row → Searched → Progress → ℕ → Type 0
 IsClosed query before part progress x = (0 < (seen_at part progress x).count) × IsBehind row_cmp query.k (before ++ known_rows query part progress) (seen_at part progress x).bound
 
@@ -133,7 +133,7 @@ closed_not_open query before part progress x some h =
     ap (λ b. is_eligible query part (column_at part x) && not (is_known part progress x) && nat_lt 0 (seen_at part progress x).count && b) e
     ∙ and_false (is_eligible query part (column_at part x)) (not (is_known part progress x)) (nat_lt 0 (seen_at part progress x).count)
 
--- at a probe of any column
+-- a closed column stays closed when any column is probed
 pub closed_at_probe : (query : Query) (before : List Row) (part : Searched) (progress : Progress) (x y : ℕ) → IsClosed query before part progress x → IsClosed query before part (record progress { probed = y ∷ progress.probed }) x
 closed_at_probe query before part progress x y h = (h.0, behind_grows query before part progress (record progress { probed = y ∷ progress.probed }) (seen_at part progress x).bound (grows_probe part progress y) h.1)
 
@@ -146,7 +146,7 @@ falls_later c n u h = elim (nat_eq n u) as (λ t. nat_eq n u ≡ t → less (row
   | false ↦ λ e. let k : n < u = grind (arith, nat_tests) in lower_later c n u k
 ] refl
 
--- and at a list more
+-- and when one more list is read
 pub closed_at_read : (query : Query) (before : List Row) (part : Searched) (progress : Progress) (x : ℕ) → Rising part.query → progress.read < length part.query → IsClosed query before part progress x
     → IsClosed query before part (record progress { read = progress.read + 1 }) x
 closed_at_read query before part progress x up within h =

@@ -1,4 +1,4 @@
--- Coverings as heaps keep them, and what a step leaves of them.
+-- Coverings as heaps keep them, and what a step preserves of them.
 use Rattle.std.proofs.Common.{◌⊎◌, inl, inr, ◌≡◌, refl, ap, sym, ◌∙◌, ℕ, zero, suc, ◌+◌, ◌-◌, ◌<◌, ◌≤◌, List, [], ◌∷◌, ◌++◌, map, Bool, true, false, not, ◌&&◌, ◌||◌, length, arith, cond, get_or, Option, Some, None, eqb as nat_eq, ltb as nat_lt, leb as nat_le}
 use Rattle.std.specs.List.{filter, enumerate_from, list_any}
 use Rattle.std.specs.List.Sorted.{IsPermutation}
@@ -17,18 +17,19 @@ use Rattle.search_state.specs.State.{Candidate, Covers, AreCovered, IsTop, seen_
 use Rattle.search_model.specs.Arrays.{no_titled}
 use Rattle.search_state.proofs.HeadLemmas.{covered_by_top}
 
--- whether one of these is of the column, and its number is not passed: a test, so that it goes with permutations
+-- whether one of these candidates is of column x and its number is at least u: a test, so that it can be moved along
+-- permutations
 abbrev pub covers : List Candidate → ℕ → ℕ → Bool
 covers candidates x u = list_any (λ c. nat_eq c.column x && nat_le u c.most) candidates
 
 abbrev pub candidate : ℕ → ℕ → Candidate
 candidate most column = record { most = most; column = column }
 
--- what the heap by counts says of bounds, where so many lists are left
+-- the bounds that the heap by counts stands for, with `left` lists left
 abbrev pub by_left : ℕ → List Candidate → List Candidate
 by_left left asked = map (λ c. candidate (c.most + left) c.column) asked
 
--- the column is in the heap by bounds with no less than its bound, or in the heap by counts with no less than its count
+-- the column is in the heap by bounds with at least its bound, or in the heap by counts with at least its count
 abbrev pub IsHeld : List Candidate → List Candidate → ℕ → ℕ → ℕ → Type 0
 IsHeld sized asked x count bound = (covers sized x bound || covers asked x count) ≡ true
 
@@ -48,7 +49,7 @@ weaker (c ∷ candidates) x u v h e = by (or_either _ (covers candidates x u) e)
     by (inl k) r = or_left _ (covers candidates x v) (let t : (nat_eq c.column x && nat_le v c.most) ≡ true = (let p = and_parts (nat_eq c.column x) (nat_le u c.most) k in let q : nat_le v c.most ≡ true = (let a = p.1 in grind (arith, nat_tests)) in (λ i. p.0 i && q i)) in t)
     by (inr k) r = or_right (nat_eq c.column x && nat_le v c.most) _ (r k)
 
--- a list more that does not hold the column, or any step that lets its bound fall and its count stand
+-- one more list that does not hold the column, or any step that lowers its bound and leaves its count
 pub held_stays : (sized asked : List Candidate) (x count bound later : ℕ) → later ≤ bound → IsHeld sized asked x count bound → IsHeld sized asked x count later
 held_stays sized asked x count bound later h e = by (or_either (covers sized x bound) (covers asked x count) e)
   where
@@ -56,7 +57,7 @@ held_stays sized asked x count bound later h e = by (or_either (covers sized x b
     by (inl k) = or_left (covers sized x later) (covers asked x count) (weaker sized x bound later h k)
     by (inr k) = or_right (covers sized x later) (covers asked x count) k
 
--- a hit on a column of the heap by bounds, and pushes
+-- a hit on a column of the heap by bounds, and a push
 pub held_sized : (sized asked : List Candidate) (x count bound later more : ℕ) → later ≤ bound → covers sized x bound ≡ true → IsHeld sized asked x more later
 held_sized sized asked x count bound later more h e = or_left (covers sized x later) (covers asked x more) (weaker sized x bound later h e)
 
@@ -75,7 +76,7 @@ held_pushed_sized sized news asked x count bound p = or_left (covers news x boun
 pub held_pushed_asked : (sized asked news : List Candidate) (x count bound : ℕ) → IsPermutation (candidate count x ∷ asked) news → IsHeld sized news x count bound
 held_pushed_asked sized asked news x count bound p = or_right (covers sized x bound) (covers news x count) (sym (list_any-IsPermutation (λ (c : Candidate). nat_eq c.column x && nat_le count c.most) (candidate count x ∷ asked) news p) ∙ covers_own x count asked)
 
--- what two heaps hold is covered by their candidates together
+-- what two heaps hold is covered by the candidates of both
 sized_covers : (candidates rest : List Candidate) (x u : ℕ) → covers candidates x u ≡ true → Covers (candidates ++ rest) x u
 sized_covers [] rest x u e = absurd (let f : false ≡ true = e in cc)
 sized_covers (c ∷ candidates) rest x u e = by (or_either (nat_eq c.column x && nat_le u c.most) (covers candidates x u) e) (sized_covers candidates rest x u)
@@ -103,7 +104,7 @@ held_covers sized asked left x count bound h e = by (or_either (covers sized x b
     by (inl k) = sized_covers sized (by_left left asked) x bound k
     by (inr k) = more_covers sized (by_left left asked) x bound (asked_covers asked left x count bound h k)
 
--- ---- where nothing is open
+-- ---- if nothing is open
 
 module _ (query : Query) (part : Searched) (progress : Progress) (last : Option Row) where
   none_kept : (keep : ℕ × Titled → Bool) (n : ℕ) (cs : List Titled) → ((y : ℕ) (c : Titled) → n ≤ y → y < n + length cs → c ≡ get_or cs (y - n) c → keep (y, c) ≡ false) → filter keep (enumerate_from n cs) ≡ []
@@ -162,7 +163,7 @@ module _ (query : Query) (part : Searched) (progress : Progress) (last : Option 
   beaten_by None a b h e = cc
   beaten_by (Some w) a b h e = (less_order row_cmp_total).chain b a w h e
 
-  -- The top of the candidates does not beat, so no covered column is open.
+  -- The top of the candidates does not beat the last row, so no covered column is open.
   pub top_beaten : (top : Candidate) (candidates : List Candidate) → AreCovered query part progress last 0 candidates → IsTop ranks top candidates → top.column < length part.segment.columns
       → beats last (row_with top.most (column_at part top.column)) ≡ false → open_columns query part progress last ≡ []
   top_beaten top candidates covered is within beaten = none_open query part progress last (λ y h. by y h (open_at query part progress last y) refl)

@@ -10,13 +10,13 @@ use Rattle.search_model.proofs.BoundLemmas.{one, count-cons, three_parts, among_
 use Rattle.search_model.proofs.FilterLemmas.{hits-append, after_all, Rising, all_hits, IsHit}
 use Rattle.std.proofs.lemmas.List.Elements.{All-from_recursion}
 
--- ---- a list more
+-- ---- one more list
 
--- the hits in one list more
+-- the hits with one more list
 pub hits_more : (set qs : List ℕ) (i : ℕ) (d : ℕ) → i < length qs → hits set (take (i + 1) qs) ≡ hits set (take i qs) ++ cond (is_among set (get_or qs i d)) (get_or qs i d ∷ []) []
 hits_more set qs i d h = ap (hits set) (take_more qs i d h) ∙ hits-append set (take i qs) (get_or qs i d ∷ [])
 
--- a token below another of the set has a lower rank there
+-- a token below another one of the set has a lower rank in it
 rank_below : (set : List ℕ) (l t : ℕ) → l < t → is_among set l ≡ true → rank set l + 1 ≤ rank set t
 rank_below set l t h e =
     let more : rank set l + count_by (nat_eq l) set ≤ rank set t = both set in
@@ -56,7 +56,7 @@ last_hit set qs i d up h some =
     let hit : IsHit (is_among set) (take i qs) (get_or found (length found - 1) 0) = All-from_recursion (IsHit (is_among set) (take i qs)) found (all_hits (is_among set) (take i qs)) (length found - 1) 0 (omega arith) in
     hit.0
 
--- the bound's number, from the hits
+-- the number of the bound, given the hits
 abbrev pub bound_of : List ℕ → ℕ → List ℕ → ℕ
 bound_of set left found = length found + min left (length set - 1 - rank set (get_or found (length found - 1) 0))
 
@@ -67,7 +67,7 @@ get_or_end (y ∷ xs) x =
     let e : length ((y ∷ xs) ++ x ∷ []) - 1 ≡ suc (length (xs ++ x ∷ []) - 1) = omega (arith, z) in
     ap (λ (n : ℕ). get_or (y ∷ (xs ++ x ∷ [])) n 0) e ∙ get_or_end xs x
 
--- A list more, and no bound of a column that was seen rises.
+-- With one more list, no bound of a column that was seen rises.
 pub bound_falls : (set qs : List ℕ) (i : ℕ) → Rising qs → i < length qs → 0 < length (hits set (take i qs))
     → bound_of set (length qs - (i + 1)) (hits set (take (i + 1) qs)) ≤ bound_of set (length qs - i) (hits set (take i qs))
 bound_falls set qs i up h some = by (is_among set (get_or qs i 0)) refl
@@ -91,6 +91,6 @@ bound_falls set qs i up h some = by (is_among set (get_or qs i 0)) refl
         let same : bound_of set (length qs - (i + 1)) (hits set (take (i + 1) qs)) ≡ bound_of set (length qs - (i + 1)) found = ap (bound_of set (length qs - (i + 1))) more in
         omega (arith, same)
 
--- and it is the definition's bound
+-- and this number is the bound of the definition
 pub bound_is : (c : Titled) (set : List ℕ) (left column : ℕ) (found : List ℕ) → (seen_by c set left column found).bound.overlap ≡ bound_of set left found
 bound_is c set left column found = refl

@@ -26,7 +26,8 @@ module _ {X : Type 0} {R : X → X → Ordering} (total : IsTotalOrder R) where
   abbrev Begins : X → List X → Type 0
   Begins x ys = (rest : List X) × (ys ≡ x ∷ rest)
 
-  -- what comes before all behind it, and what stands before it comes later
+  -- an element that comes before all those listed before it, and no later than all those listed after it, is the first
+  -- in order
   pub first_in_order : (before after : List X) (x : X) → AllByRecursion (λ y. less x y ≡ true) before → AllByRecursion (λ y. less y x ≡ false) after → Begins x (in_order R (before ++ x ∷ after))
   unfolding in_order put_in_order
   first_in_order [] after x h g = (in_order R after, stays total x (in_order R after) (all_in_order total (λ y. less y x ≡ false) after g))
@@ -110,7 +111,8 @@ module _ (query : Query) (part : Searched) (progress : Progress) (last : Option 
         λ lt. ap (λ (d : Titled). is_lt (row_cmp (seen part progress y d).bound (seen_at part progress x).bound)) at ∙ behind_it y h o lt,
       )
 
-  -- An open column whose bound's row comes before those of the open columns in front of it, and no later than those behind it, is the first.
+  -- An open column is the first if the row of its bound comes before those of the open columns before it, and no later
+  -- than those of the columns after it.
   pub first_by_rows : (rest : List Seen) × (open_columns query part progress last ≡ seen_at part progress x ∷ rest)
   first_by_rows =
       let z : x - 0 ≡ x = omega arith in
@@ -135,7 +137,7 @@ module _ (query : Query) (part : Searched) (progress : Progress) (last : Option 
   abbrev bound_at : ℕ → ℕ
   bound_at x = (seen_at part progress x).bound.overlap
 
-  -- no open column has a greater bound than x, or as great a one and a lower rank
+  -- no open column has a greater bound than x, or an equal bound and a lower rank
   abbrev IsBest : ℕ → Type 0
   IsBest x = (y : ℕ) → y < length columns → open_at query part progress last y ≡ true → (bound_at y ≤ bound_at x) × (bound_at y ≡ bound_at x → get_or ranks x 0 ≤ get_or ranks y 0)
 
@@ -215,7 +217,8 @@ module _ (query : Query) (part : Searched) (progress : Progress) (last : Option 
       by (inl k) r = (let a = h.0.0 in let b = k.1 in omega arith, λ e. subst (λ (y : ℕ). get_or ranks top.column 0 ≤ get_or ranks y 0) k.0 (h.0.1 (let a = h.0.0 in let b = k.1 in omega arith)))
       by (inr k) r = r k
 
-  -- The top of the candidates, where it is open and its number is its bound and no lower than the floor, is the first of the open columns.
+  -- The top of the candidates is the first of the open columns if it is open, and its number is its bound and at least
+  -- the floor.
   pub top_first : (floor : ℕ) (top : Candidate) (candidates : List Candidate) → AreCovered query part progress last floor candidates → IsTop ranks top candidates
       → top.column < length columns → open_at query part progress last top.column ≡ true → top.most ≡ bound_at top.column → floor ≤ top.most
       → (rest : List Seen) × (open_columns query part progress last ≡ seen_at part progress top.column ∷ rest)

@@ -44,7 +44,7 @@ module _ {X : Type 0} {R : X → X → Ordering} (total : IsTotalOrder R) (exact
   best_again : (k : ℕ) (xs : List X) → best R k (best R k xs) ≡ best R k xs
   best_again k xs = ap (take k) (own_order k (in_order R xs) (ordered_in_order total xs)) ∙ take_again k (in_order R xs)
 
-  -- lists with the same first k give the same first k behind and before others with the same
+  -- lists with the same first k, joined to lists with the same first k, give the same first k
   best_both : (k : ℕ) (xs ys us vs : List X) → best R k xs ≡ best R k ys → best R k us ≡ best R k vs → best R k (xs ++ us) ≡ best R k (ys ++ vs)
   best_both k xs ys us vs e f =
       best_append total exact k xs ys us e
@@ -81,14 +81,14 @@ module _ (keys : List Text) (k : ℕ) (except : Option Text) where
     at_shard : (n : ℕ) (table : Table) (tables : List Table) (b : Bool) → (shard_of table.name == n) ≡ b → placed shard_of n (table ∷ tables) ≡ cond b (table ∷ placed shard_of n tables) (placed shard_of n tables)
     at_shard n table tables b e = ap (λ b. cond b (table ∷ placed shard_of n tables) (placed shard_of n tables)) e
 
-    -- a table that is placed further on is in none of the shards
+    -- a table that is placed in a shard of number n or more is in none of the shards below n
     passed : (n : ℕ) (table : Table) (tables : List Table) → n ≤ shard_of table.name → spread n (table ∷ tables) ≡ spread n tables
     passed zero table tables h = refl
     passed (suc n) table tables h =
         let other : (shard_of table.name == n) ≡ false = by_test (shard_of table.name == n) (λ e. absurd (let same = eqb-true (shard_of table.name) n e in omega arith)) (λ e. e) in
         (λ i. rows (at_shard n table tables false other i) ++ passed n table tables (omega arith) i)
 
-    -- and one that is placed below is in one of them
+    -- and one that is placed below n is in one of them
     added : (n : ℕ) (table : Table) (tables : List Table) → shard_of table.name < n → IsPermutation (rows (table ∷ []) ++ spread n tables) (spread n (table ∷ tables))
     added zero table tables h = absurd (omega arith)
     added (suc n) table tables h =

@@ -1,4 +1,4 @@
--- Two shards computed, with what the rules give by hand.
+-- Worked runs of two shards, with the results that the rules give by hand.
 use Rattle.std.proofs.Common.{◌≡◌, refl, List, [], ◌∷◌, None}
 use Rattle.std.specs.Prelude.{codes, length}
 use Rattle.lake_model.specs.Sorting.{in_order, put_in_order}
@@ -19,7 +19,7 @@ less = table_with (codes "less") (column_with (codes "c") (codes "x" ∷ []) ∷
 abbrev row : Table → List Row
 row much = row_of keys much.name 1 (column_with (codes "c") keys) ∷ []
 
--- the greater overlap goes first, although its shard is asked last
+-- the greater overlap comes first, although its shard is asked last
 later_shard_first : sharded_answer ((less ∷ []) ∷ (much ∷ []) ∷ []) keys 1 None ≡ row much
 unfolding in_order put_in_order
 later_shard_first = refl

@@ -6,11 +6,11 @@ use Rattle.lake_model.specs.Tables.{Table}
 use Rattle.lake_model.specs.Answer.{answer}
 use Rattle.shard_laws.specs.Shards.{all_tables, sharded_answer, shards_below}
 
--- What the shards answer, merged in answer order, has for its first k rows the answer over the tables of all shards.
+-- The first k rows of the shards' answers, merged in answer order, are the answer over the tables of all shards.
 abbrev pub MergedIsAnswer : Type 0
 MergedIsAnswer = (shards : List (List Table)) (keys : List Text) (k : ℕ) (except : Option Text) → sharded_answer shards keys k except ≡ answer (all_tables shards) keys k except
 
--- Where each table of a lake is in the shard that a rule gives for its name, this is the answer over the lake.
+-- If each table of a lake is in the shard that a rule gives for its name, this is the answer over the lake.
 abbrev pub PlacedIsAnswer : Type 0
 PlacedIsAnswer = (shard_of : Text → ℕ) (count : ℕ) (tables : List Table) (keys : List Text) (k : ℕ) (except : Option Text) → AllByRecursion (λ table. shard_of table.name < count) tables
     → sharded_answer (shards_below shard_of count tables) keys k except ≡ answer tables keys k except

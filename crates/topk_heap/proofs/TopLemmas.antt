@@ -1,4 +1,4 @@
--- How the first k grow in a heap.
+-- How the first k rows change in a heap.
 use Rattle.std.proofs.Common.{◌≡◌, refl, ap, sym, ◌∙◌, subst, ℕ, zero, suc, ◌<◌, ◌≤◌, List, [], ◌∷◌, Bool, true, false, not, length, arith, take, cond, get_or, ◌-◌, Some}
 use Rattle.std.specs.List.{AllByRecursion, count_by, slice_get}
 use Rattle.std.specs.List.Sorted.{IsPermutation, IsSortedBy}
@@ -41,7 +41,7 @@ take_all (row ∷ rows) (suc n) h = ap (λ us. row ∷ us) (take_all rows n (ome
 abbrev once : Bool → ℕ
 once b = cond b 1 0
 
--- all of them come no later than what does not come before an upper bound
+-- if a row does not come before an upper bound of some rows, all of these come no later than it
 all_no_later : (row w : Row) (items : List Row) → IsUpperBound row_cmp w items → is_lt (row_cmp row w) ≡ false → count_by (no_later row_cmp row) items ≡ length items
 all_no_later row w [] h l = refl
 all_no_later row w (y ∷ ys) h l =
@@ -59,7 +59,7 @@ later a b low =
     let names : Ordering = ordering_then (slice_cmp nat_cmp a.table b.table) (ordering_then (slice_cmp nat_cmp a.column b.column) (nat_cmp a.place b.place)) in
     ap (λ (o : Ordering). is_lt (ordering_then o names)) (sym (nat_cmp_is b.overlap a.overlap Greater low))
 
--- a row of a lower overlap than all has is left out
+-- a row with a lower overlap than all others is left out
 pub not_kept : (k : ℕ) (w : Row) (items : List Row) → k ≡ length items → IsUpperBound row_cmp w items → (row : Row) → row.overlap < w.overlap → take k (put_in_order row_cmp row (in_order row_cmp items)) ≡ in_order row_cmp items
 not_kept k w items n up row low = ap (λ (m : ℕ). take m (put_in_order row_cmp row (in_order row_cmp items))) n ∙ left_out row w items up (later row w low)
 
@@ -113,6 +113,6 @@ same_first (x ∷ items) d e h = refl
 pub length_put : (row : Row) (rows : List Row) → length (put_in_order row_cmp row rows) ≡ suc (length rows)
 length_put row rows = length-put_in_order row_cmp_total row rows
 
--- the first k of one row more
+-- the first k with one more row
 pub first_more : (k : ℕ) (row : Row) (olds news offered : List Row) → news ≡ take k (put_in_order row_cmp row olds) → olds ≡ best row_cmp k offered → news ≡ best row_cmp k (row ∷ offered)
 first_more k row olds news offered rows same = rows ∙ ap (λ us. take k (put_in_order row_cmp row us)) same ∙ sym (best_more row_cmp_total row_cmp_exact k row offered)

@@ -18,29 +18,29 @@ fn name(text: &str) -> Result<Name, Fail> {
     Ok(Name::read(text.as_bytes()).ok_or("no name")?)
 }
 
-// The table of this name and these CSV bytes.
+// Returns the table of this name and these CSV bytes.
 fn table(alloc: Global, title: &str, text: &str) -> Result<SharedTable, Fail> {
     let raw = read_table(alloc, text.as_bytes(), 1_024)?;
     let table = TableSets::build(alloc, Keys::Canonical, name(title)?, &raw)?;
     Ok(SharedTable::new(alloc, table)?)
 }
 
-/// The load of a table of this name and these CSV bytes.
+/// Returns the load of a table of this name and these CSV bytes.
 pub(crate) fn load(alloc: Global, title: &str, text: &str) -> Result<Entry, Fail> {
     Ok(Entry::loaded(WHO, table(alloc, title, text)?))
 }
 
-/// The replace of a table of this name by these CSV bytes.
+/// Returns the replace of a table of this name by these CSV bytes.
 pub(crate) fn replace(alloc: Global, title: &str, text: &str) -> Result<Entry, Fail> {
     Ok(Entry::replaced(WHO, table(alloc, title, text)?))
 }
 
-/// The drop of a table of this name.
+/// Returns the drop of a table of this name.
 pub(crate) fn drop_table(title: &str) -> Result<Entry, Fail> {
     Ok(Entry::dropped(WHO, name(title)?))
 }
 
-/// The merge of the first two parts, of which both tables are kept.
+/// Returns the merge of the first two parts that keeps both tables.
 pub(crate) fn merge(alloc: Global) -> Result<Entry, Fail> {
     let from = Numbers::new(vec![in alloc; 1, 2]?);
     let kept = Numbers::new(vec![in alloc; 1, 2]?);

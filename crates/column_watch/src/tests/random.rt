@@ -1,4 +1,4 @@
-//! Random entries: after each of them the rows are those of a plain model, and so is whether they changed.
+//! Random entries: after each of them the rows, and whether they changed, equal those of a plain model.
 ghost use Rattle.std.specs.Prelude.{◌≡◌, ◌≤◌, length, OnOk};
 
 use super::entries::{drop_table, load, replace, take, watch};
@@ -11,7 +11,7 @@ const NAMES: [&str; 5] = ["ant", "bee", "cat", "dog", "eel"];
 
 const VALUES: [&str; 6] = ["ash", "elm", "fir", "oak", "yew", " "];
 
-// What the three queries ask, by the places of the values.
+// Which values the three queries ask for, by the places of the values.
 const ASKED: [[bool; 5]; 3] = [
     [true, true, true, true, false],
     [false, true, false, true, true],
@@ -23,11 +23,11 @@ const BODIES: [&str; 3] = ["ash\nelm\nfir\noak\n", "elm\noak\nyew\n", "yew\n"];
 // Which of the values each of two columns has.
 type Columns = [[bool; 5]; 2];
 
-// A row: the overlap, taken from 100 so that the greater comes first, the table's name, and the place.
+// A row: 100 minus the overlap, so that the greater overlap comes first, the table's name, and the place.
 type Counted = (u32, usize, u32);
 
-// A number below 2^32, by two steps of a linear congruential generator (D. E. Knuth, The Art of Computer Programming, volume 2, section
-// 3.3.4: the multiplier of the 64 bit generator MMIX) from a seed.
+// Returns a number below 2^32, by two steps of a linear congruential generator from a seed (D. E. Knuth, The Art of
+// Computer Programming, volume 2, section 3.3.4: the multiplier of the 64 bit generator MMIX).
 fn chance(seed: u64) -> u64 {
     let state = seed
         .wrapping_mul(6_364_136_223_846_793_005)
@@ -37,7 +37,7 @@ fn chance(seed: u64) -> u64 {
     state / 4_294_967_296
 }
 
-// The columns of a table by its chances.
+// Returns the columns of a table, chosen randomly from a seed.
 fn columns(seed: u64) -> Columns {
     let mut columns = [[false; 5]; 2];
     for i in 0..5usize {
@@ -48,7 +48,7 @@ fn columns(seed: u64) -> Columns {
     columns
 }
 
-// The CSV bytes of a table.
+// Returns the CSV bytes of a table.
 fn text(alloc: Global, columns: &Columns) -> Result<String, Fail> {
     let mut text = String::from_str(alloc, "c,c\n")?;
     for i in 0..5usize {
@@ -60,7 +60,7 @@ fn text(alloc: Global, columns: &Columns) -> Result<String, Fail> {
     Ok(text)
 }
 
-// How many values a query and a column share.
+// Returns how many values a query and a column share.
 fn count(asked: &[bool; 5], column: &[bool; 5]) -> u32 {
     let mut count = 0u32;
     for i in 0..5usize {
@@ -71,7 +71,7 @@ fn count(asked: &[bool; 5], column: &[bool; 5]) -> u32 {
     count
 }
 
-// All rows of a query.
+// Returns all rows of a query.
 fn counted(
     alloc: Global,
     tables: &[Option<Columns>; 5],
@@ -92,7 +92,7 @@ fn counted(
     Ok(rows)
 }
 
-// Whether a row is the one of the plain model.
+// Returns whether a row equals that of the plain model.
 fn is_counted(row: &Row<'_>, counted: Counted) -> bool {
     let (left, table, place) = counted;
     row.overlap.saturating_add(left) == 100
@@ -100,7 +100,7 @@ fn is_counted(row: &Row<'_>, counted: Counted) -> bool {
         && row.place == place
 }
 
-// Compares a query with the plain model: all rows before the last entry, and behind it.
+// Compares a query with the plain model: all rows before the last entry, and all rows after it.
 fn compare(watches: &Watches, w: u32, before: &[Counted], after: &[Counted]) -> Result<(), Fail>
     requires low { 1 ≤ w }
     requires high { w ≤ length watches.now.queries }
@@ -125,7 +125,7 @@ fn compare(watches: &Watches, w: u32, before: &[Counted], after: &[Counted]) -> 
     Ok(())
 }
 
-// Changes one of five tables by its chances, and compares the queries.
+// Changes one of five tables randomly, and compares the queries.
 fn step(
     alloc: Global,
     watches: &mut Watches,

@@ -1,4 +1,4 @@
-//! Worked runs: the rows that follow from the definition of an answer by hand. All columns are named c.
+//! Worked runs: rows that follow by hand from the definition of an answer. All columns are named c.
 ghost use Rattle.std.specs.Prelude.{◌≤◌, length};
 
 use super::entries::{drop_table, load, merge, replace, take, watch};
@@ -6,7 +6,7 @@ use crate::Watches;
 use std::process::Abort;
 use std::test::Fail;
 
-// Whether the last entry changed the answer to a query, and the overlap, the table and the place of each row.
+// Expects whether the last entry changed the answer to a query, and the overlap, the table and the place of each row.
 fn expect(
     rt: &impl Abort,
     watches: &Watches,
@@ -30,7 +30,7 @@ fn expect(
     Ok(())
 }
 
-// The row of s falls behind the first one, and comes back when t goes. A table that shares no key changes nothing.
+// The row of s moves behind the first one, and comes back when t goes. A table that shares no key changes nothing.
 #[test]
 fn first_row(rt: HostRuntime) -> Result<(), Fail> {
     let alloc = rt.alloc();
@@ -49,7 +49,8 @@ fn first_row(rt: HostRuntime) -> Result<(), Fail> {
     Ok(())
 }
 
-// With two rows, and a query of the key z: the first is changed by the first three entries, the second by the last.
+// With two rows, and a query of the key z: the first three entries change the first query, and the last changes the
+// second.
 #[test]
 fn two_rows(rt: HostRuntime) -> Result<(), Fail> {
     let alloc = rt.alloc();
@@ -71,7 +72,7 @@ fn two_rows(rt: HostRuntime) -> Result<(), Fail> {
     Ok(())
 }
 
-// A replace takes out the rows of the old table, and one by the same keys changes nothing; nor does a merge.
+// A replace removes the rows of the old table; a replace by the same keys changes nothing, and neither does a merge.
 #[test]
 fn replaces_and_a_merge(rt: HostRuntime) -> Result<(), Fail> {
     let alloc = rt.alloc();
@@ -103,7 +104,7 @@ fn replaces_and_a_merge(rt: HostRuntime) -> Result<(), Fail> {
     Ok(())
 }
 
-// All keys but z share one hash, FNV-1a of 32 bits: each of them is told to its own queries alone.
+// All keys but z have the same 32 bit FNV-1a hash: each of them counts only for its own queries.
 #[test]
 fn keys_of_one_hash(rt: HostRuntime) -> Result<(), Fail> {
     let alloc = rt.alloc();

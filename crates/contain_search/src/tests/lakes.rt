@@ -1,4 +1,4 @@
-//! Small lakes, in which each table is a part of its own, with the number of its load.
+//! Small lakes in which each table is a part of its own, numbered by the position of its load.
 
 use catalogue::{Catalogue, Limits, Who};
 use column_set::{Keys, Name, SharedTable, TableSets};
@@ -18,7 +18,7 @@ pub(crate) fn name(text: &str) -> Result<Name, Fail> {
     Ok(Name::read(text.as_bytes()).ok_or("no name")?)
 }
 
-// The table of this name and these CSV bytes.
+// Returns the table of this name and these CSV bytes.
 fn table(alloc: Global, title: &str, text: &str) -> Result<SharedTable, Fail> {
     let raw = read_table(alloc, text.as_bytes(), 1_024)?;
     let table = TableSets::build(alloc, Keys::Canonical, name(title)?, &raw)?;

@@ -1,4 +1,4 @@
-//! Worked runs: the looks and the rows of a small lake that follow from the rules by hand. All columns are named c.
+//! Worked runs: the looks and the rows of a small lake, which follow from the rules by hand. All columns are named c.
 
 use super::lakes::{drop_table, empty, load};
 use crate::prepare_contain;
@@ -9,7 +9,7 @@ use std::alloc::Global;
 use std::process::Abort;
 use std::test::Fail;
 
-// Three tables, of four, two and one of the keys.
+// Returns a lake of three tables, which have four, two and one of the keys.
 fn three(alloc: Global) -> Result<Catalogue, Fail> {
     let mut lake = empty(alloc)?;
     load(alloc, &mut lake, "t1", "c\na\nb\nc\nd\n")?;
@@ -30,7 +30,7 @@ fn probe(part: u64, set: u32, after: u32) -> Look {
     Look::Probe { part, set, after }
 }
 
-// Compares rows with those that are wanted: overlap, and table of each.
+// Compares rows with the expected ones, given by overlap and table.
 fn expect_rows(rt: &impl Abort, rows: &Rows<'_>, want: &[(u32, &str)]) {
     assert_eq!(rt; rows.list().len(), want.len());
     for (row, (overlap, table)) in rows.list().iter().zip(want) {
@@ -41,8 +41,8 @@ fn expect_rows(rt: &impl Abort, rows: &Rows<'_>, want: &[(u32, &str)]) {
     }
 }
 
-// Two keys are needed: three lists of the first part leave its column at a count of 3 and a bound of 4, one list of the second part leaves
-// its column at 1 and 2, and the third part has one token.
+// Two keys are needed. Three lists of the first part leave its column at a count of 3 and a bound of 4; one list of the
+// second part leaves its column at 1 and 2; and the third part has only one token.
 #[test]
 fn half_of_the_query(rt: HostRuntime) -> Result<(), Fail> {
     let alloc = rt.alloc();
@@ -65,7 +65,7 @@ fn half_of_the_query(rt: HostRuntime) -> Result<(), Fail> {
     Ok(())
 }
 
-// Four keys are needed, which only the first part has.
+// Four keys are needed, and only the first part has them.
 #[test]
 fn all_of_the_query(rt: HostRuntime) -> Result<(), Fail> {
     let alloc = rt.alloc();
@@ -78,7 +78,7 @@ fn all_of_the_query(rt: HostRuntime) -> Result<(), Fail> {
     Ok(())
 }
 
-// A third of four keys is rounded up to two, and a part of one in ten thousand to one.
+// A third of four keys is rounded up to two, and one part in ten thousand to one.
 #[test]
 fn a_fraction_is_rounded_up(rt: HostRuntime) -> Result<(), Fail> {
     let alloc = rt.alloc();
@@ -92,7 +92,7 @@ fn a_fraction_is_rounded_up(rt: HostRuntime) -> Result<(), Fail> {
     Ok(())
 }
 
-// The lists of a part with a marked table are read, and its column is neither probed nor found.
+// The lists of a part with a marked table are read, but its column is neither probed nor found.
 #[test]
 fn a_marked_table(rt: HostRuntime) -> Result<(), Fail> {
     let alloc = rt.alloc();
@@ -113,7 +113,7 @@ fn a_marked_table(rt: HostRuntime) -> Result<(), Fail> {
     Ok(())
 }
 
-// A query of no key has no rows, and an empty lake none for any.
+// A query without keys has no rows, and an empty lake has none for any query.
 #[test]
 fn nothing_to_find(rt: HostRuntime) -> Result<(), Fail> {
     let alloc = rt.alloc();

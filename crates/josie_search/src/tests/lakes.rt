@@ -22,7 +22,7 @@ pub(crate) struct Tables {
     pub marked: [bool; 4],
 }
 
-/// The table of this name and these CSV bytes.
+/// Returns the table of this name and these CSV bytes.
 pub(crate) fn table(alloc: Global, name: &str, text: &str) -> Result<SharedTable, Fail> {
     let name = Name::read(name.as_bytes()).ok_or("no name")?;
     let raw = read_table(alloc, text.as_bytes(), 1_024)?;
@@ -30,7 +30,7 @@ pub(crate) fn table(alloc: Global, name: &str, text: &str) -> Result<SharedTable
     Ok(SharedTable::new(alloc, table)?)
 }
 
-// Whether there are so few tables, and each is so small, that a segment can be made of them.
+// Returns whether the tables are few and small enough to make a segment of them.
 fn are_few(tables: &[SharedTable]) -> bool
     ensures columns { OnTrue result (sum_by (λ t. length t.columns) tables.now < 2 ^ 32) }
     ensures members { OnTrue result (sum_by members tables.now < 2 ^ 32) }
@@ -46,14 +46,14 @@ fn are_few(tables: &[SharedTable]) -> bool
     true
 }
 
-// Whether the names of two tables differ.
+// Returns whether the names of two tables differ.
 fn differ(first: &SharedTable, second: &SharedTable) -> bool
     ensures { OnTrue result (first.now.name ≢ second.now.name) }
 {
     first.table().name().text() != second.table().name().text()
 }
 
-// A part of these tables, which were loaded at these positions.
+// Returns a part of these tables, which were loaded at these positions.
 fn part(
     alloc: Global,
     number: u64,
@@ -80,7 +80,7 @@ fn part(
 }
 
 impl Tables {
-    // Whether no two have the same name.
+    // Returns whether all names are different.
     fn differ(&self) -> bool
         ensures first_second { OnTrue result (self.now.first.name ≢ self.now.second.name) }
         ensures first_third { OnTrue result (self.now.first.name ≢ self.now.third.name) }
@@ -97,7 +97,7 @@ impl Tables {
             && differ(&self.third, &self.fourth)
     }
 
-    /// The version of them as one part, of the number 5.
+    /// Returns the version with the tables in one part, numbered 5.
     pub(crate) fn one_part(self, alloc: Global) -> Result<Arc<Version>, Fail> {
         if !self.differ() {
             return Err(Fail::from("two tables of one name"));
@@ -119,7 +119,7 @@ impl Tables {
         Ok(Arc::new(alloc, Version::new(5, vec![in alloc; all]?))?)
     }
 
-    /// The version of them as two parts of two tables each, of the numbers 5 and 6.
+    /// Returns the version with two parts of two tables each, numbered 5 and 6.
     pub(crate) fn two_parts(self, alloc: Global) -> Result<Arc<Version>, Fail> {
         if !self.differ() {
             return Err(Fail::from("two tables of one name"));
@@ -148,7 +148,7 @@ impl Tables {
         Ok(Arc::new(alloc, Version::new(6, vec![in alloc; front, back]?))?)
     }
 
-    /// The version of them as three parts, of which the second has two tables, of the numbers 5, 6 and 7.
+    /// Returns the version with three parts, numbered 5, 6 and 7, of which the second has two tables.
     pub(crate) fn three_parts(self, alloc: Global) -> Result<Arc<Version>, Fail> {
         if !self.differ() {
             return Err(Fail::from("two tables of one name"));

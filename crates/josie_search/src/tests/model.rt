@@ -1,12 +1,13 @@
-//! The looks and the rows of a search, worked out from whole sets: what is known, what is open and how it is bound, step by step.
+//! The looks and the rows of a search, computed from whole sets: what is known, what is open, and its bounds, step by
+//! step.
 
 use cost_model::{Chooser, Summary};
 use segment_core::Look;
 use std::alloc::Global;
 use std::test::Fail;
 
-/// A column: its table's name and its own by their places in the order of names, its place in the table, whether its table is neither
-/// marked nor excepted, and which values it has, by their places in the order of the keys.
+/// A column: the places of its table's name and of its own name in the order of names, its place in the table, whether
+/// its table is neither marked nor excepted, and which values it has, by their places in the order of the keys.
 #[derive(Drop)]
 pub(crate) struct Column {
     pub table: usize,
@@ -16,10 +17,11 @@ pub(crate) struct Column {
     pub values: Vec<usize>,
 }
 
-/// A row: the overlap, taken from 100 so that the greater comes first, the table's name, the column's, and the place.
+/// A row: 100 minus the overlap, so that the greater overlap comes first, the table's name, the column's name, and the
+/// place.
 pub(crate) type Counted = (u32, usize, usize, u32);
 
-// A value that some column has: how many have it, and which value it is. So tokens compare.
+// A value that some column has: how many columns have it, and which value it is. Tokens compare in this order.
 type Token = (u32, usize);
 
 /// A part of a lake: its number, its columns, and its values in the order of tokens.
@@ -30,7 +32,7 @@ pub(crate) struct Part {
     tokens: Vec<Token>,
 }
 
-// What is known of a column behind some lists.
+// What is known of a column after some lists.
 #[derive(Clone, Copy)]
 struct Seen {
     count: u32,
@@ -39,14 +41,14 @@ struct Seen {
     bound: u32,
 }
 
-// Where a search stands in a part.
+// How far a search has come in a part.
 #[derive(Drop)]
 struct Progress {
     read: usize,
     probed: Vec<usize>,
 }
 
-// How far a number lies below 100, so that the greater comes first.
+// Returns how far an overlap is below 100, so that the greater one comes first.
 fn inverse(overlap: u32) -> u32 {
     100u32.saturating_sub(overlap)
 }
@@ -56,7 +58,7 @@ impl Column {
         (inverse(overlap), self.table, self.title, self.place)
     }
 
-    // How many of these tokens it has.
+    // Returns how many of these tokens the column has.
     fn count(&self, tokens: &[Token]) -> u32 {
         let mut count = 0u32;
         for token in tokens {
@@ -67,7 +69,7 @@ impl Column {
         count
     }
 
-    // The last of these tokens that it has.
+    // Returns the last of these tokens that the column has.
     fn last(&self, tokens: &[Token]) -> Option<Token> {
         let mut last = None;
         for token in tokens {
@@ -80,7 +82,7 @@ impl Column {
 }
 
 impl Part {
-    /// The part of these columns, of which a value's place is below `values`.
+    /// Returns the part of these columns, whose values are all below `values`.
     pub(crate) fn new(
         alloc: Global,
         number: u64,
@@ -105,7 +107,7 @@ impl Part {
         })
     }
 
-    // The number of a token.
+    // Returns the number of a token.
     fn token(&self, token: Token) -> u32 {
         let mut number = 0u32;
         for other in &self.tokens {
@@ -116,7 +118,7 @@ impl Part {
         number
     }
 
-    // The tokens of these values, in their order.
+    // Returns the tokens of these values, in order.
     fn asked(&self, alloc: Global, values: &[usize]) -> Result<Vec<Token>, Fail> {
         let mut asked = Vec::new(alloc);
         for token in &self.tokens {
@@ -127,7 +129,7 @@ impl Part {
         Ok(asked)
     }
 
-    // What is known of a column that stands in one of the lists read, where so many are left.
+    // Returns what is known of a column that is in one of the lists read, with `left` lists left.
     fn seen(&self, column: &Column, read: &[Token], left: u32) -> Option<Seen> {
         let last = column.last(read)?;
         let mut position = 0u32;
@@ -148,7 +150,7 @@ impl Part {
         })
     }
 
-    // The first of the open columns.
+    // Returns the first of the open columns.
     fn best(
         &self,
         progress: &Progress,
@@ -173,7 +175,7 @@ impl Part {
         best
     }
 
-    // The looks of the part, and the rows that are known behind them with those before.
+    // Adds the looks of the part to `log`, and the rows that are known after them to `known`.
     fn play<C: Chooser>(
         &self,
         alloc: Global,
@@ -232,14 +234,14 @@ impl Part {
         Err(Fail::from("no end"))
     }
 
-    // The row of a column that was probed.
+    // Adds the row of a column that was probed.
     fn know(&self, number: usize, asked: &[Token], known: &mut Vec<Counted>) -> Result<(), Fail> {
         let column = self.columns.get(number).ok_or("no column")?;
         known.push(column.row(column.count(asked)))?;
         Ok(())
     }
 
-    // The rows of the columns that were not probed, where all lists were read.
+    // Adds the rows of the columns that were not probed, once all lists were read.
     fn know_all(
         &self,
         asked: &[Token],
@@ -256,7 +258,7 @@ impl Part {
     }
 }
 
-// What the lists cost that an overlap of `estimate` would spare.
+// Returns the cost of the lists that an overlap of `estimate` would spare.
 fn gain(asked: &[Token], read: usize, worst: Option<Counted>, estimate: u32) -> u64 {
     let Some(worst) = worst else {
         return 0;
@@ -274,7 +276,7 @@ fn gain(asked: &[Token], read: usize, worst: Option<Counted>, estimate: u32) -> 
     gain
 }
 
-// What a chooser sees.
+// Returns what a chooser sees.
 fn summary(asked: &[Token], read: usize, seen: Seen, worst: Option<Counted>) -> Summary {
     let lists = (asked.len() % 1000) as u32;
     let done = (read % 1000) as u32;
@@ -295,7 +297,7 @@ fn summary(asked: &[Token], read: usize, seen: Seen, worst: Option<Counted>) -> 
     }
 }
 
-/// The rows of a search for these values, and its log.
+/// Returns the rows of a search for these values, and its log.
 pub(crate) fn search<C: Chooser>(
     alloc: Global,
     parts: &[Part],

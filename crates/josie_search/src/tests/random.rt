@@ -1,5 +1,5 @@
-//! Random lakes in each layout: for each chooser the log of a search is that of the plain model, and the rows are those of a search that
-//! only reads, over the lake in one part.
+//! Random lakes in each layout: for each chooser the log of a search equals that of the plain model, and the rows equal
+//! those of a search that only reads, over the lake in one part.
 ghost use Rattle.std.specs.Prelude.{◌≤◌};
 
 use super::lakes::{Tables, table};
@@ -14,7 +14,7 @@ use std::test::Fail;
 
 const NAMES: [&str; 4] = ["t", "u", "v", "w"];
 
-// The last is no key.
+// The last value has no key.
 const VALUES: [&str; 13] = [
     "ash", "beech", "cedar", "elm", "fir", "hazel", "larch", "maple", "oak", "pine", "rowan",
     "yew", " ",
@@ -22,7 +22,7 @@ const VALUES: [&str; 13] = [
 
 const TITLES: [&str; 2] = ["p", "q"];
 
-// A table by the chances of its cells: which of the names it has, and how many columns and records.
+// A table given by a random seed for its cells: which of the names it has, and how many columns and records.
 #[derive(Clone, Copy)]
 struct Plain {
     name: usize,
@@ -31,8 +31,8 @@ struct Plain {
     records: u64,
 }
 
-// A number below 2^32, by two steps of a linear congruential generator (D. E. Knuth, The Art of Computer Programming, volume 2, section
-// 3.3.4: the multiplier of the 64 bit generator MMIX) from a seed.
+// Returns a number below 2^32, by two steps of a linear congruential generator from a seed (D. E. Knuth, The Art of
+// Computer Programming, volume 2, section 3.3.4: the multiplier of the 64 bit generator MMIX).
 fn chance(seed: u64) -> u64 {
     let state = seed
         .wrapping_mul(6_364_136_223_846_793_005)
@@ -43,7 +43,7 @@ fn chance(seed: u64) -> u64 {
 }
 
 impl Plain {
-    // The table of this name by these chances: of one to four columns, and of up to nine records.
+    // Returns the table of this name for the seed `chances`: one to four columns, and up to nine records.
     fn new(name: usize, chances: u64) -> Plain {
         let number = chance(chances);
         Plain {
@@ -54,18 +54,18 @@ impl Plain {
         }
     }
 
-    // What stands in a record of a column.
+    // Returns the value in a record of a column.
     fn value(&self, column: u64, record: u64) -> usize {
         let seed = self.chances.wrapping_add(column.wrapping_mul(1_000));
         (chance(seed.wrapping_add(record).wrapping_add(1)) % 13) as usize
     }
 
-    // Which of the titles a column has.
+    // Returns which of the titles a column has.
     fn title(&self, column: u64) -> usize {
         (chance(self.chances.wrapping_add(column.wrapping_mul(7_000))) % 2) as usize
     }
 
-    // Whether a column has the value.
+    // Returns whether a column has the value.
     fn has(&self, column: u64, value: usize) -> bool {
         for record in 0..self.records {
             if self.value(column, record) == value {
@@ -75,7 +75,7 @@ impl Plain {
         false
     }
 
-    // A line of the table's CSV bytes.
+    // Writes a line of the table's CSV bytes.
     fn write_record(&self, text: &mut String, record: u64) -> Result<(), Fail> {
         for column in 0..self.columns {
             if column > 0 {
@@ -87,7 +87,7 @@ impl Plain {
         Ok(())
     }
 
-    // The line of its header.
+    // Writes the header line.
     fn write_header(&self, text: &mut String) -> Result<(), Fail> {
         for column in 0..self.columns {
             if column > 0 {
@@ -99,7 +99,7 @@ impl Plain {
         Ok(())
     }
 
-    // The table, by way of its CSV bytes.
+    // Returns the table, read from its CSV bytes.
     fn table(&self, alloc: Global) -> Result<SharedTable, Fail> {
         let mut text = String::new(alloc);
         self.write_header(&mut text)?;
@@ -109,7 +109,7 @@ impl Plain {
         table(alloc, NAMES[self.name % 4], text.as_str())
     }
 
-    // The values of a column.
+    // Returns the values of a column.
     fn values(&self, alloc: Global, column: u64) -> Result<Vec<usize>, Fail> {
         let mut values = Vec::new(alloc);
         for value in 0..12usize {
@@ -140,7 +140,7 @@ impl Plain {
     }
 }
 
-// Four tables, which of them are marked, in how many parts they stand, and which name is excepted.
+// Four tables, which of them are marked, in how many parts they are, and which name is excepted.
 #[derive(Clone, Copy)]
 struct Lake {
     plains: [Plain; 4],
@@ -150,7 +150,7 @@ struct Lake {
 }
 
 impl Lake {
-    // The lake of these chances, in so many parts more than one. The names come in another order than the tables.
+    // Returns the lake of this seed in `parts` + 1 parts. The order of the names differs from that of the tables.
     fn new(seed: u64, parts: u64) -> Lake {
         let number = chance(seed);
         let start = (number % 4) as usize;
@@ -187,7 +187,7 @@ impl Lake {
         }
     }
 
-    // The part of the tables from a place up to another.
+    // Returns the part of the tables from place `from` up to, but not including, `to`.
     fn part(&self, alloc: Global, number: u64, from: usize, to: usize) -> Result<Part, Fail> {
         let mut columns = Vec::new(alloc);
         for place in from..to {
@@ -198,7 +198,7 @@ impl Lake {
         Part::new(alloc, number, columns, 12)
     }
 
-    // The parts of the plain model.
+    // Returns the parts of the plain model.
     fn parts(&self, alloc: Global) -> Result<Vec<Part>, Fail> {
         let mut parts = Vec::new(alloc);
         match self.parts {
@@ -217,7 +217,7 @@ impl Lake {
     }
 }
 
-// The values that are asked for by chance.
+// Returns the randomly chosen values that are asked for.
 fn asked_by(alloc: Global, number: u64) -> Result<Vec<usize>, Fail> {
     let mut asked = Vec::new(alloc);
     for value in 0..12usize {
@@ -237,7 +237,7 @@ fn query(alloc: Global, asked: &[usize]) -> Result<QuerySet, Fail> {
     Ok(QuerySet::read(alloc, Keys::Canonical, body.as_str().as_bytes())?)
 }
 
-// Whether a row is the one of the plain model.
+// Returns whether a row equals that of the plain model.
 fn is_counted(row: &Row<'_>, counted: Counted) -> bool {
     let (left, name, title, place) = counted;
     row.overlap.saturating_add(left) == 100
@@ -246,7 +246,8 @@ fn is_counted(row: &Row<'_>, counted: Counted) -> bool {
         && row.place == place
 }
 
-// A search of a lake: its pin and its plain parts, what is asked, how many rows, and the rows that any chooser gives.
+// A search of a lake: its pin and its plain parts, what is asked for, how many rows, and the rows that every chooser
+// gives.
 #[derive(Drop)]
 struct Asked<'l> {
     pin: &'l Pin,
@@ -261,7 +262,7 @@ struct Asked<'l> {
 }
 
 impl Asked<'_> {
-    // Compares the log with that of the plain model for this chooser, and the rows with those of every chooser.
+    // Compares the log with that of the plain model for this chooser, and the rows with `rows`.
     fn compare<C: Chooser>(&self, alloc: Global, chooser: &C) -> Result<(), Fail> {
         let answer = prepare(
             alloc,
@@ -287,12 +288,12 @@ impl Asked<'_> {
         Ok(())
     }
 
-    // The same, by a list of answers.
+    // Does the same with a chooser that follows a list of answers.
     fn compare_listed(&self, alloc: Global, answers: [bool; 5]) -> Result<(), Fail> {
         self.compare(alloc, &Listed::new(alloc, answers.as_slice())?)
     }
 
-    // The same, by all choosers.
+    // Does the same with all choosers.
     fn compare_all(&self, alloc: Global) -> Result<(), Fail> {
         self.compare(alloc, &Profile)?;
         self.compare(alloc, &AlwaysRead)?;
@@ -309,7 +310,7 @@ impl Asked<'_> {
     }
 }
 
-// A search of this lake, which has these rows.
+// Searches this lake, and expects these rows.
 fn one_layout(alloc: Global, lake: Lake, seed: u64, rows: &[Counted]) -> Result<(), Fail> {
     let pin = Pin::new(lake.version(alloc)?);
     let parts = lake.parts(alloc)?;
@@ -332,7 +333,7 @@ fn one_layout(alloc: Global, lake: Lake, seed: u64, rows: &[Counted]) -> Result<
     asked.compare_all(alloc)
 }
 
-// How many rows are asked for by chance.
+// Returns how many rows are asked for, chosen randomly.
 fn rows_asked(seed: u64) -> u32
     ensures low { 1 ≤ result }
     ensures high { result ≤ 10000 }
@@ -340,7 +341,7 @@ fn rows_asked(seed: u64) -> u32
     (chance(seed) / 1024 % 5) as u32 + 1
 }
 
-// What a search that only reads finds, over the lake in one part.
+// Returns what a search that only reads finds, over the lake in one part.
 fn rows_read(alloc: Global, seed: u64) -> Result<Vec<Counted>, Fail> {
     let merged = Lake::new(seed, 0);
     let parts = merged.parts(alloc)?;
@@ -350,7 +351,7 @@ fn rows_read(alloc: Global, seed: u64) -> Result<Vec<Counted>, Fail> {
     Ok(rows)
 }
 
-// A search of a random lake in one part, in two and in three.
+// Searches a random lake in one part, in two and in three.
 fn one_lake(alloc: Global, seed: u64) -> Result<(), Fail> {
     let rows = rows_read(alloc, seed)?;
     for parts in 0..3u64 {

@@ -1,5 +1,5 @@
-//! Worked runs: the looks and the rows of small lakes that follow from the rules by hand. All columns are named c, and where fewer than four
-//! tables are needed the others have no keys.
+//! Worked runs: small lakes whose looks and rows follow from the rules by hand. All columns are named c; if a test
+//! needs fewer than four tables, the others have no keys.
 
 use super::lakes::{Tables, table};
 use crate::prepare;
@@ -14,7 +14,7 @@ fn query(alloc: Global, body: &[u8]) -> Result<QuerySet, Fail> {
     Ok(QuerySet::read(alloc, Keys::Canonical, body)?)
 }
 
-// Compares rows with those that are wanted: overlap, and table of each.
+// Compares rows with the expected ones, given by overlap and table.
 fn expect_rows(rt: &impl Abort, rows: &Rows<'_>, want: &[(u32, &str)]) {
     assert_eq!(rt; rows.list().len(), want.len());
     for (row, (overlap, table)) in rows.list().iter().zip(want) {
@@ -29,7 +29,7 @@ fn read(part: u64, token: u32) -> Look {
     Look::Read { part, token }
 }
 
-// A pin of a lake of these two tables, each in a part of its own.
+// Returns a pin of a lake of these two tables, each in a part of its own.
 fn apart(alloc: Global, first: (&str, &str), second: (&str, &str)) -> Result<Pin, Fail> {
     let tables = Tables {
         first: table(alloc, first.0, first.1)?,
@@ -41,7 +41,7 @@ fn apart(alloc: Global, first: (&str, &str), second: (&str, &str)) -> Result<Pin
     Ok(Pin::new(tables.two_parts(alloc)?))
 }
 
-// A pin of a lake of three tables in one part.
+// Returns a pin of a lake of three tables in one part.
 fn merged(
     alloc: Global,
     first: (&str, &str),
@@ -58,8 +58,8 @@ fn merged(
     Ok(Pin::new(tables.one_part(alloc)?))
 }
 
-// The table with a and b is known after two lists of its part. In the second part one list is left, and a row of overlap 1 does not beat
-// one of overlap 2.
+// The table with a and b is known after two lists of its part. One list is left in the second part, and a row of
+// overlap 1 does not beat one of overlap 2.
 #[test]
 fn part_with_too_few_lists(rt: HostRuntime) -> Result<(), Fail> {
     let alloc = rt.alloc();
@@ -71,7 +71,7 @@ fn part_with_too_few_lists(rt: HostRuntime) -> Result<(), Fail> {
     Ok(())
 }
 
-// As many lists are left in the second part as the threshold, and its table has the earlier name.
+// The second part has as many lists left as the threshold, and its table has the earlier name.
 #[test]
 fn part_with_as_many_lists(rt: HostRuntime) -> Result<(), Fail> {
     let alloc = rt.alloc();
@@ -83,8 +83,8 @@ fn part_with_as_many_lists(rt: HostRuntime) -> Result<(), Fail> {
     Ok(())
 }
 
-// The list of a gives the first column at position 0 of 4, so its bound is 4: a probe, which costs 67 where the next list costs 68, closes
-// all. A search that never probes reads the four lists.
+// The list of a gives the first column at position 0 of 4, so its bound is 4. A probe costs 67 and the next list 68, so
+// it is probed, which closes all columns. A search that never probes reads all four lists.
 #[test]
 fn one_probe_closes_all(rt: HostRuntime) -> Result<(), Fail> {
     let alloc = rt.alloc();
@@ -116,7 +116,7 @@ fn one_probe_closes_all(rt: HostRuntime) -> Result<(), Fail> {
     Ok(())
 }
 
-// A column of an equal bound with an earlier name stays open.
+// A column with an equal bound and an earlier name stays open.
 #[test]
 fn equal_bound_of_an_earlier_name(rt: HostRuntime) -> Result<(), Fail> {
     let alloc = rt.alloc();
