@@ -1,4 +1,4 @@
--- The lanes that the commands of a batch are of.
+-- The lanes of the commands of a batch.
 use Rattle.std.specs.Prelude.{ℕ, ◌<◌, ◌≤◌}
 use Rattle.std.specs.List.{AllByRecursion}
 use Rattle.script_model.specs.Commands.{Batch}
