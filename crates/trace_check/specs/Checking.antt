@@ -1,4 +1,4 @@
--- The checker of a finished run: the batches of its script, and what it is for a trace to be that of a right record of them.
+-- The checker of a finished run: the batches of its script, and when a trace is that of a right record of them.
 use Rattle.std.specs.Prelude.{◌≡◌, true, List}
 use Rattle.std.specs.List.{AllByRecursion}
 use Rattle.lake_model.specs.Texts.{Text}
@@ -19,7 +19,7 @@ pub record CheckerOf : Type 0 where
 abbrev pub checker_with : Rules → Options → List Batch → CheckerOf
 checker_with rules options batches = record { rules = rules; options = options; batches = batches }
 
--- some right record of the batches has the trace for its text
+-- some right record of the batches has the trace as its text
 abbrev pub HasRecord : CheckerOf → Text → Type 0
 HasRecord checker trace = (made : RunRecord) × IsTraceOf checker.rules checker.options checker.batches trace made
 
