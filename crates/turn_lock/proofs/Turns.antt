@@ -1,4 +1,4 @@
--- The rule is kept where the lock is won, where the holder's entry is added to the history, and where the lock is freed.
+-- The rule is kept when the lock is won, when the holder's entry is added to the history, and when the lock is freed.
 use Rattle.std.proofs.Common.{◌≡◌, ◌≢◌, ℕ, ◌+◌, ◌*◌, eqb, Bool, true, false, true≢false, List, [], ◌∷◌, ◌++◌, length, set, get_or, Some, None, refl, sym, ap, ◌∙◌, subst, inl, ⊎_elim, arith, length-append}
 use Rattle.std.specs.declared.option.Option.{Option}
 use mathlib.Core.Option as maybe

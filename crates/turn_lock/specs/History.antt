@@ -1,4 +1,4 @@
--- Lists of entries, each entry of one caller.
+-- Lists of entries, each of which belongs to one caller.
 use Rattle.std.specs.Prelude.{ℕ, ◌≡◌, ◌<◌, ◌⊎◌, List, [], ◌∷◌, ◌++◌, length, nat_lt, if◌then◌else◌}
 
 -- the number is in the list
@@ -7,12 +7,12 @@ Has [] number = ⊥
 Has (first ∷ others) number = (first ≡ number) ⊎ Has others number
 
 module _ {E : Type 0} (caller_of : E → ℕ) where
-  -- no entry is of any of these callers
+  -- no entry belongs to any of these callers
   abbrev pub IsOfOthers : List ℕ → List E → Type 0
   IsOfOthers callers [] = Unit {0}
   IsOfOthers callers (entry ∷ entries) = (¬ (Has callers (caller_of entry))) × IsOfOthers callers entries
 
-  -- each entry is of a caller whose number is below the given one
+  -- each entry belongs to a caller whose number is below the given one
   abbrev pub IsOfGiven : ℕ → List E → Type 0
   IsOfGiven given [] = Unit {0}
   IsOfGiven given (entry ∷ entries) = (caller_of entry < given) × IsOfGiven given entries

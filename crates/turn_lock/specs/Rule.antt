@@ -12,8 +12,7 @@
 --   release  2n + 1 to 2n          the slot goes home, and the seat no longer holds the lock
 --   note     unchanged             a new seat has seen as much, and has no caller
 --   number   unchanged             a new seat has the next number and has seen as much; the opener counts it
---   join     unchanged             a seat has seen the longer of two lists and has the callers of both; the other is
---   spent
+--   join     unchanged             a seat has the longer of two lists and the callers of both; the other seat is spent
 --
 -- Between take and release the value goes from the slot in hand to the holder and back; this is no step on the word.
 use Rattle.std.specs.Prelude.{ℕ, ◌≡◌, ◌≢◌, ◌+◌, ◌*◌, ◌<◌, Bool, true, false, List, [], ◌∷◌, ◌++◌, length, Some, None}

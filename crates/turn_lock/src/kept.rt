@@ -1,7 +1,7 @@
 //! What the lock requires of the value that it holds.
 ghost use Rattle.std.specs.Prelude.{◌≡◌, ℕ, ◌<◌, ◌^◌, List, length};
 
-/// A value whose model is a list of entries, each of one caller. The lock keeps the history of this list.
+/// A value whose model is a list of entries, each belonging to one caller. The lock keeps the history of this list.
 pub trait Kept: Drop {
     /// One entry of the list.
     type Entry;

@@ -112,7 +112,7 @@ impl<V: Kept> HistoryLock<V> {
         }
     }
 
-    /// Adds to what the pass has seen what the note has, if that is more.
+    /// Extends what the pass has seen to what the note has, if that is more.
     ///
     /// One of the two lists begins the other. What the pass sees in addition is of other callers.
     pub fn meet(&self, pass: &mut Pass<V>, note: Note<V>)
