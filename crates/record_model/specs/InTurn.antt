@@ -24,6 +24,6 @@ in_turn rules (command ∷ commands) (denied ∷ denials) before = in_turn rules
 abbrev pub with_sync : RunRecord → RunRecord
 with_sync made = record made { syncs = made.syncs ++ length made.journal ∷ [] }
 
--- all commands are of lane 1
+-- all commands belong to lane 1
 abbrev pub IsOneLane : Batch → Type 0
 IsOneLane batch = AllByRecursion (λ command. command.lane ≡ 1) batch
