@@ -87,7 +87,9 @@ fn settle<'a, B: Bounds, R: Wait>(
     Ok(())
 }
 
-/// Answers a batch: the commands of all lanes at the same time, each lane at the desk with its number, and beside them
+/// Answers a batch at the desks of a run, and adds it to the record.
+///
+/// The commands of all lanes are answered at the same time, each lane at the desk with its number, and beside them
 /// those of the merger at the first desk, if the merger has a first number. The record then gets the answers in the
 /// order of the script, followed by the merger's, the entries that were made, and the end of the batch.
 ///

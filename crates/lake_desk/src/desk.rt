@@ -99,7 +99,7 @@ impl<'a, B: Bounds> LakeDesk<'a, B> {
         self.lake.note(&mut self.pass)
     }
 
-    /// Adds to what the desk has seen what the note has, if that is more.
+    /// Extends what the desk has seen to what the note has, if that is more.
     pub fn meet(&mut self, note: Note<B>)
         requires { note.lock ≡ self.old.lock }
         ensures longer { self.new ≡ after_seeing self.old (longer self.old.seen note.seen) false }
