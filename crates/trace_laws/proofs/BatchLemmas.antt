@@ -106,7 +106,7 @@ step_goes rules low high journal command reply (PlannedAndAdded pinned at) ms re
     (one_added (is_accepted (standing reply)) (change_of rules command.task (take pinned journal)) (one_change rules command.task (take pinned journal)))
     (omega (arith, rises.0, rises.1.0)) (rises_le at ms high rises.1.1) (more at rises.1.1)
 
--- all answers are of the lane
+-- all answers belong to the lane
 abbrev pub AreLane : ℕ → List Done → Type 0
 AreLane lane done = AllByRecursion (λ d. d.command.lane ≡ lane) done
 

@@ -30,7 +30,7 @@ all_below high (Some lows) = list_all (λ low. nat_le low high) lows
 abbrev pub rises_on : List Hinted → List ℕ → ℕ → ℕ → Bool
 rises_on hinted lows to lane = rises (get_or lows lane 0) (flat_map (λ h. moments_of h.hint) (filter (λ h. h.command.lane == lane) hinted)) to
 
--- The pass decides whether the positions rise along each lane, if each answer is of one of the lanes.
+-- The pass decides whether the positions rise along each lane, if each answer belongs to one of the lanes.
 abbrev pub PassDecides : Type 0
 PassDecides = (lanes to : ℕ) (lows : List ℕ) (hinted : List Hinted) → length lows ≡ lanes → AllByRecursion (λ h. h.command.lane < lanes) hinted
     → (all_below to (lows_on (Some lows) hinted) ≡ true → (lane : ℕ) → lane < lanes → rises_on hinted lows to lane ≡ true)

@@ -25,7 +25,7 @@ read_number word = min (digits_value word) (2 ^ 64 - 1)
 abbrev pub at_of : List Text → Option ℕ
 at_of words = if is_word (word_at words (length words - 2)) (codes "at") then Some (read_number (word_at words (length words - 1))) else None
 
--- `  layout at P ..`
+-- the position P in a line `  layout at P ..`
 abbrev pub layout_at : List Text → ℕ
 layout_at words = read_number (word_at words 4)
 
