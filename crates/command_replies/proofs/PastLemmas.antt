@@ -18,11 +18,11 @@ use Rattle.record_model.specs.Rules.{wide_limits}
 use Rattle.command_replies.specs.Pasts.{past_refusal_reply}
 use Rattle.command_replies.proofs.LoadLemmas.{Answers}
 
--- nothing
+-- a timeline that has taken nothing
 pub none_taken : (past journal : List Entry) → past ≡ [] → IsPrefix past journal
 none_taken past journal none = (journal, ap (λ (j : List Entry). j ++ journal) none)
 
--- all
+-- a timeline that has taken everything
 pub all_taken : (past journal : List Entry) → past ≡ journal → IsPrefix past journal
 all_taken past journal all = subst (IsPrefix past) all ([], append-nil past)
 
