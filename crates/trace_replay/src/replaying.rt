@@ -125,14 +125,16 @@ fn replay_in(
     lake.has_journal(trace.text(trace.last()))
 }
 
-/// Decides whether each answer of a trace, when it is made again at the position that its hint gives, has the lines of
-/// its group, and whether the journal has those of the last group. The groups are those of the answers to `works`, in
-/// their order, followed by that of the journal. `owners` gives the answer that made each entry, and the positions of
-/// the hints have passed the tests on numbers.
+/// Decides whether a trace is what its commands give when they are answered again.
 ///
-/// The result is false at the first answer that differs, and the answers after it are not made again. An answer which
-/// says that memory ran out is right if its lines say so. All others are made, each at the cost of its command; if
-/// memory runs out for that, the result is an error and never a verdict.
+/// Each answer is made again at the position that its hint gives and has to have the lines of its group, and the
+/// journal has to have those of the last group. The groups are those of the answers to `works`, in their order,
+/// followed by that of the journal. `owners` gives the answer that made each entry, and the positions of the hints have
+/// passed the tests on numbers.
+///
+/// The result is false at the first answer that differs, and the answers after it are not made again. An answer whose
+/// hint is that memory ran out is right if it has the lines of that reply. All others are made, each at the cost of its
+/// command; if memory runs out for that, the result is an error and never a verdict.
 pub fn replay(
     alloc: Global,
     keys: Keys,
