@@ -24,7 +24,7 @@ mergers : (merger : Option ℕ) (batch : Batch) → AreMergers (merges_of merger
 mergers None batch = tt
 mergers (Some first) batch = mergers_from first (updates batch)
 
--- all work is of the merger's lane or of one of lanes 1 to n
+-- all work belongs to the merger's lane or to one of lanes 1 to n
 pub within_lanes : (n : ℕ) (merger : Option ℕ) (batch works : Batch) → IsOfLanes n batch → works ≡ batch ++ merges_of merger batch → IsWithinLanes n works
 within_lanes n merger batch works are is =
     subst (IsWithinLanes n) (sym is) (all_append (λ (c : Command). c.lane ≤ n) batch (merges_of merger batch)

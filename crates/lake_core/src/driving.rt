@@ -192,13 +192,14 @@ fn play(
     out.add_sync();
 }
 
-/// Answers the commands of a batch, each of which is of a lane from 1 to `lanes`. The steps of the lanes are taken in
-/// the order of the piece, and those left after it lane by lane, the merger last. Values are compared by the kind of
-/// keys in `keys`. A load, a drop, a replace, a list of the tables and a search of an earlier position are one step; a
-/// search, a like, a contain and a merge are two, the pin and the answer. `past` has taken the journal up to some
-/// position, and takes more of it when an earlier position is asked for. `merger` is the merger's first number in this
-/// batch, if there is a merger; it has a merge for each load, drop and replace. The answers come in the order of the
-/// script, and then the merger's.
+/// Answers the commands of a batch, each of which belongs to a lane from 1 to `lanes`.
+///
+/// The steps of the lanes are taken in the order of the piece, and those left after it lane by lane, the merger last.
+/// Values are compared by the kind of keys in `keys`. A load, a drop, a replace, a list of the tables and a search of
+/// an earlier position are one step; a search, a like, a contain and a merge are two, the pin and the answer. `past`
+/// has taken the journal up to some position, and takes more of it when an earlier position is asked for. `merger` is
+/// the merger's first number in this batch, if there is a merger; it has a merge for each load, drop and replace. The
+/// answers come in the order of the script, and then the merger's.
 ///
 /// Returns `Err(NoMemory)` only before any step is taken. If memory runs out later, that is the reply to the command
 /// for which it runs out, and the command adds no entry.
