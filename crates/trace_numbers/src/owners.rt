@@ -15,7 +15,8 @@ use trace_hints::Hint;
 /// The commands that made the entries of a journal.
 #[derive(Debug, Drop)]
 pub struct Owners {
-    /// At `p - 1`, the index, counted from 0 in the order of the hints, of the one command that made the entry at position `p`.
+    /// At `p - 1`, the index, counted from 0 in the order of the hints, of the one command that made the entry at
+    /// position `p`.
     pub indices: Vec<usize>,
 }
 
