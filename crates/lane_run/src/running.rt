@@ -176,9 +176,10 @@ fn run_works<'a, D: Desk + Send, R: Threads + Wait + Sync, G: Gate + Sync>(
     Ok(answers)
 }
 
-/// Runs the commands of a batch, and the merger's if it has a first number, each lane at the desk with its number and
-/// the merger at desk 0, all at the same time. Returns the answers in the order of the script, followed by the
-/// merger's.
+/// Runs the commands of a batch, and the merger's if it has a first number, all lanes at the same time.
+///
+/// Each lane runs at the desk with its number, and the merger at desk 0. The answers are returned in the order of the
+/// script, followed by the merger's.
 ///
 /// Returns `Err(NoMemory)` only before any command has begun. A desk may run on a thread of its own or on the caller's.
 pub fn run_batch<D: Desk + Send, R: Threads + Wait + Sync, G: Gate + Sync>(
