@@ -23,7 +23,7 @@ checker_with rules options batches = record { rules = rules; options = options; 
 abbrev pub HasRecord : CheckerOf → Text → Type 0
 HasRecord checker trace = (made : RunRecord) × IsTraceOf checker.rules checker.options checker.batches trace made
 
--- Each command is of one of the lanes, and each name in it is the name of a table; and replies are traced.
+-- Each command belongs to one of the lanes, each name in it is the name of a table, and replies are traced.
 pub record AreChecked (options : Options) (batches : List Batch) : Type 0 where
   pub lanes : AllByRecursion (IsOfLanes options.lanes) batches
   pub named : AllByRecursion IsBatchNamed batches
