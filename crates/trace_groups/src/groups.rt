@@ -20,9 +20,10 @@ pub struct Group<'a> {
     pub hint: Hint,
 }
 
-/// Returns the groups of a trace: its lines, cut before each line that does not begin with a space. Returns `Ok(None)`
-/// if the first line begins with a space, or the last line has no line feed; no record has such a text. Returns
-/// `Err(NoMemory)` if memory runs out.
+/// Cuts a trace into its groups, before each line that does not begin with a space.
+///
+/// The result is `None` if the first line begins with a space, or the last line has no line feed; no record has such a
+/// text. Returns `Err(NoMemory)` if memory runs out.
 pub fn cut_trace(alloc: Global, trace: &[u8]) -> Result<Option<Vec<Group<'_>>>, NoMemory>
     ensures hints { IfOk result (λ cut. IfSome cut (λ groups. map (λ group. hint_as group.hint) groups.items ≡ map hint_read (groups_of trace.now))) }
     ensures texts { IfOk result (λ cut. IfSome cut (λ groups. map (λ group. group.text.now) groups.items ≡ map group_text (groups_of trace.now))) }
