@@ -1,4 +1,4 @@
--- What is held for work that has begun: how long it stays so, and what is answered with it.
+-- What is held for work that has begun: how long it stays valid, and the reply that is made with it.
 use Rattle.std.proofs.Common.{◌≡◌, refl, ap, sym, ◌∙◌, subst, ℕ, ◌≤◌, List, [], ◌++◌, true, false, length, take, cond, Option, Some, None, arith, length-append}
 use Rattle.std.proofs.lemmas.List.{take-append-le, take_all}
 use Rattle.segment_core.specs.Versions.{VersionOf}
@@ -23,7 +23,7 @@ use Rattle.command_replies.specs.Searches.{IsPinOf}
 use Rattle.command_replies.proofs.LoadLemmas.{Answers, added_none}
 use Rattle.command_replies.proofs.MergeLemmas.{planned_change, planned_later, planned_reply}
 
--- a search and a like add nothing
+-- work with a pin that is not a merge changes nothing
 no_change : (rules : Rules) (task : Task) (pinned : List Entry) → has_pin task ≡ true → merge_policy task ≡ None → change_of rules task pinned ≡ []
 no_change rules (Load name body) pinned kind plain = absurd (let f : false ≡ true = kind in cc)
 no_change rules (LoadFile name file) pinned kind plain = absurd (let f : false ≡ true = kind in cc)
@@ -40,15 +40,15 @@ none_added : (rules : Rules) (task : Task) (pinned : List Entry) (reply : Reply)
 none_added rules task pinned reply kind plain =
     ap (λ (whats : List What). cond (is_accepted (standing reply)) whats []) (no_change rules task pinned kind plain) ∙ either_none (is_accepted (standing reply))
 
--- what a search and a like add to a record
+-- what such work adds to a record
 pub pinned_adds : (rules : Rules) (who : Who) (task : Task) (pinned : List Entry) (reply : Reply) (made : RunRecord) → has_pin task ≡ true → merge_policy task ≡ None → made ≡ with_added who (adds rules task pinned reply) made
 pinned_adds rules who task pinned reply made kind plain = added_none who made ∙ ap (λ (whats : List What). with_added who whats made) (sym (none_added rules task pinned reply kind plain))
 
--- want of memory adds nothing
+-- nothing is added if memory runs out
 pub denied_adds : (rules : Rules) (who : Who) (task : Task) (pinned : List Entry) (made : RunRecord) → made ≡ with_added who (adds rules task pinned NoMemory) made
 denied_adds rules who task pinned made = added_none who made
 
--- what is answered at a pin alone
+-- the reply at a pin depends on the pin alone
 pub pinned_alone : (rules : Rules) (task : Task) (pinned now : List Entry) → has_pin task ≡ true → merge_policy task ≡ None → answer_to rules task pinned now ≡ answer_to rules task pinned pinned
 pinned_alone rules (Load name body) pinned now kind plain = absurd (let f : false ≡ true = kind in cc)
 pinned_alone rules (LoadFile name file) pinned now kind plain = absurd (let f : false ≡ true = kind in cc)
@@ -61,7 +61,7 @@ pinned_alone rules (Contain a b body) pinned now kind plain = refl
 pinned_alone rules (AsOf asked k body) pinned now kind plain = absurd (let f : false ≡ true = kind in cc)
 pinned_alone rules (Merge all) pinned now kind plain = absurd (let f : Some (policy_of all) ≡ None = plain in cc)
 
--- what is held stays so when entries follow
+-- what is held stays valid when entries follow
 pub held_at_grows : (journal more : List Entry) (policy : Option Policy) (held : Held) → IsHeldAt journal policy held → IsHeldAt (journal ++ more) policy held
 held_at_grows journal more None (At version) is =
     let long : version.at ≤ length (journal ++ more) = omega (arith, is.0, length-append journal more) in
@@ -80,12 +80,12 @@ held_newest journal version is =
     let whole : take version.at journal ≡ journal = ap (λ (n : ℕ). take n journal) here ∙ take_all (length journal) journal (omega arith) in
     (omega (arith, here), subst (λ (j : List Entry). IsPinOf j version) (sym whole) is)
 
--- A version is held for no merge, and a plan for one alone.
+-- A version is not held for a merge, and a plan is held only for one.
 pub at_no_merge : (journal : List Entry) (policy : Option Policy) (version : VersionOf) → IsHeldAt journal policy (At version) → policy ≡ None
 at_no_merge journal None version is = refl
 at_no_merge journal (Some policy) version is = absurd is
 
--- what is answered at a pin that is held
+-- the reply at a pin that is held
 pub held_answer : (rules : Rules) (task : Task) (journal : List Entry) (version : VersionOf) (reply : Reply) → has_pin task ≡ true → IsHeldAt journal (merge_policy task) (At version)
     → ((pinned : List Entry) → IsPinOf pinned version → Answers reply (answer_to rules task pinned pinned)) → Answers reply (answer_to rules task (take version.at journal) journal)
 held_answer rules task journal version reply kind holds answers =
@@ -99,7 +99,7 @@ pub held_can : (journal : List Entry) (policy : Option Policy) (planned : Planne
 held_can journal None planned is = absurd is
 held_can journal (Some policy) planned is = is.swaps
 
--- what the swap is answered
+-- the reply to the swap
 pub held_swap : (rules : Rules) (task : Task) (journal : List Entry) (planned : Planned) (reply : Reply) → IsHeldAt journal (merge_policy task) (Swap planned)
     → Answers reply (swap_reply planned.layout planned.merged journal) → Answers reply (answer_to rules task (take planned.layout.at journal) journal)
 held_swap rules (Merge all) journal planned reply is answers = (answers.0, answers.1 ∙ ap (reply_or_denied answers.0) (planned_reply (policy_of all) journal planned is))

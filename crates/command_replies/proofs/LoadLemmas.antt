@@ -1,4 +1,4 @@
--- What a load and a search are answered, from what their parts answer.
+-- The replies to a load and to a search, from the results of their parts.
 use Rattle.std.proofs.Common.{◌≡◌, refl, ap, sym, ◌∙◌, ℕ, ◌+◌, List, [], ◌∷◌, ◌++◌, append-nil, length, length-append, Bool, true, false, cond, ◌⊎◌, inl, inr, Option, Some, None}
 use Rattle.std.specs.Prelude.{option_map, find}
 use Rattle.lake_model.specs.declared.Who.{Who}
@@ -33,7 +33,7 @@ use Rattle.record_model.proofs.PlayLemmas.{fault_nowhere}
 use Rattle.command_replies.specs.Drops.{drop_refusal_reply, dropped_by}
 use Rattle.command_replies.specs.Loads.{IsRefusal, refusal_reply, loaded_by, with_added}
 
--- the reply is this one, or the one for want of memory
+-- the reply is this one, or that memory ran out
 abbrev pub Answers : Reply → Reply → Type 0
 Answers reply wanted = (denied : Bool) × (reply ≡ reply_or_denied denied wanted)
 
@@ -71,7 +71,7 @@ added_at catalogue limits journal entry at is h = h ∙ ap (λ (c : CatalogueOf)
 -- ---- what is read of a block
 
 module _ (keys : Keys) (name : Text) (bytes : List ℕ) (most : ℕ) (most_is : most ≡ most_columns keys) where
-  -- as many columns as these keys allow
+  -- the limit on columns is the one for these keys
   allowed : csv_fault most bytes ≡ csv_fault (most_columns keys) bytes
   allowed = ap (λ (n : ℕ). csv_fault n bytes) most_is
 
@@ -94,7 +94,7 @@ module _ (keys : Keys) (name : Text) (bytes : List ℕ) (most : ℕ) (most_is : 
   table_made rows none same small =
       sets_of none ∙ ap (sets_read keys name (records_of bytes)) (ap (sets_fault keys) (sym same) ∙ small) ∙ ap (λ r. IsTable (table_of keys name r)) (sym same)
 
--- ---- a load that its bytes refuse
+-- ---- a load whose bytes are not a table
 
 pub refused_nowhere : (read : TableRead) (reply : Reply) → IsRefusal read reply → is_accepted (standing reply) ≡ false
 refused_nowhere read reply (inl none) = ap (λ r. is_accepted (standing r)) none
@@ -122,7 +122,7 @@ loaded_answer rules journal read table reply is answers = (answers.0, answers.1 
 
 -- ---- searches
 
--- whatever is answered to a query, a body that is none is refused for its fault
+-- whatever the reply to a query is, a body that is not a query is refused for its fault
 pub query_refused : (keys : Keys) (answer : QueryRead → Reply) → ((fault : Fault) → answer (NoQuery fault) ≡ fault_reply fault) → (bytes : List ℕ) (e : QueryRefused) → (e ≡ query.NoMemory) ⊎ (query_fault keys bytes ≡ Some e)
     → Answers (query_reply e) (answer (query_read keys bytes))
 unfolding query_read
@@ -135,7 +135,7 @@ query_found keys answer bytes query none same = ap (λ ks. answer (IsQuery ks)) 
 
 -- ---- drops
 
--- What must be live is unknown, or else a limit refuses it, or it is accepted: as a refusal says it, and as a reply does.
+-- A name that must be live is unknown, or else a limit refuses the command, or it is accepted: as a refusal states it, and as a reply does.
 module _ {R : Type 0} (say : R → Reply) (name : Text) (n : ℕ) (accepted : Reply) (unknown : R) (full : Bounded → R) where
   pub live_refused : say unknown ≡ Unknown name n → ((x : Bounded) → say (full x) ≡ Full x.which x.count x.more n) → (b : Bool) (o : Option Bounded) (e : R)
       → cond b (option_map full o) (Some unknown) ≡ Some e → say e ≡ cond b (unless_lake_full n accepted o) (Unknown name n)

@@ -1,4 +1,4 @@
--- Merges: what is planned may be swapped, is small enough to be merged, and its swap is answered as the definitions say.
+-- Merges: what is planned may be swapped and is small enough to be merged, and the reply to its swap is that of the definitions.
 use Rattle.std.proofs.Common.{◌≡◌, refl, ap, sym, ◌∙◌, subst, ℕ, ◌+◌, ◌*◌, ◌<◌, ◌≤◌, List, [], ◌∷◌, ◌++◌, Bool, true, false, not, cond, length, take, map, get_or, Option, Some, None, option_map, arith, length-append}
 use Rattle.std.specs.Prelude.{find, sum_by, IfOk, Ok, Err}
 use Rattle.std.specs.declared.result.Result.{Result}
@@ -32,7 +32,7 @@ use Rattle.record_model.specs.Replies.{Merged, merge_gone, merge_planned, merge_
 use Rattle.command_replies.specs.declared.merging.Planned.{Planned}
 use Rattle.command_replies.specs.Merging.{CanSwap, IsPlanned, merge_of, planned_at, swap_of, swap_reply, unless_gone}
 
--- ---- what a plan says of the planned parts
+-- ---- what a plan states of the planned parts
 
 positions_kept : (parts : List Part) → load_positions (kept_loads parts) ≡ positions_in (unmarked_of parts)
 positions_kept parts = map-map (λ (load : ℕ × Table). load.0) (λ (p : Place). (p.position, p.table)) (unmarked_of parts)
@@ -92,7 +92,7 @@ live_sum f tables (entry ∷ entries) = by entry.who entry.what (live_sum f (liv
         omega (arith, h, fewer, more, first)
     by who (Swapped planned kept) h = h
 
--- the live tables of a layout, and those of a run of it
+-- the live tables of a layout, and those of a run of its parts
 live_split : (parts run : List Part) (stands : Run parts run) → live_of parts ≡ live_of stands.front ++ (live_of run ++ live_of stands.back)
 live_split parts run stands =
     ap live_of stands.whole
@@ -143,7 +143,7 @@ plan_among policy journal plan legal is = by (planned_parts policy (layout journ
         let same : plan_run (length journal) (part ∷ rest) ≡ plan = cc in
         subst (λ (p : PlanOf). IsAmongLive journal p.kept) same (among_live policy journal part rest legal e)
 
--- a plan in a lake whose limits are at most these keeps no more tables, and no more members, than they let it have
+-- if the limits of a lake are at most these, a plan in it keeps no more tables, and no more members, than these limits allow
 pub plan_small : (policy : Policy) (most limits : Counts) (journal : List Entry) (plan : PlanOf) → is_legal journal ≡ true → IsWithin most limits → IsWithin limits (counts journal)
     → plan_at policy (version_with (length journal) (layout journal)) ≡ Some plan → (length plan.kept ≤ most.live) × (sum_by members (load_tables plan.kept) ≤ most.members)
 plan_small policy most limits journal plan legal shipped within is =
@@ -151,7 +151,7 @@ plan_small policy most limits journal plan legal shipped within is =
     let light : sum_by members (live journal) ≤ 0 + sum_by members (loads_of journal) = live_sum members [] journal in
     (omega (arith, among.few, shipped.live, within.live), omega (arith, among.light, light, shipped.members, within.members))
 
--- ---- what a swap is answered, and adds
+-- ---- the reply to a swap, and what it adds
 
 find_map : {X Y : Type 0} (p : Y → Bool) (f : X → Y) (xs : List X) → find p (map f xs) ≡ option_map f (find (λ x. p (f x)) xs)
 find_map p f [] = refl
@@ -194,7 +194,7 @@ planned_change policy journal planned is =
     let pinned : List Entry = take planned.layout.at journal in
     ap swap_of is.plans ∙ swap_adds (length pinned) (planned_parts policy (layout pinned))
 
--- ---- what is held of a merge
+-- ---- what is held for a merge
 
 pub planned_later : (policy : Policy) (journal more : List Entry) (planned : Planned) → IsPlanned policy journal planned → IsPlanned policy (journal ++ more) planned
 planned_later policy journal more planned is =
@@ -223,7 +223,7 @@ planned_now policy journal version planned legal current shows plans =
       here,
     )
 
--- the same of what was planned, if it was
+-- the same for what was planned, if it was
 pub plans_on_ok : {F : Type 0} (policy : Policy) (journal : List Entry) (version : VersionOf) (made : Result Planned F) → is_legal journal ≡ true → version ≡ version_with (length journal) (layout journal)
     → IfOk made (λ planned. planned.layout ≡ shown_with version.at (shown version.parts)) → IfOk made (λ planned. planned.merged ≡ option_map merge_of (plan_at policy version))
     → IfOk made (λ planned. IsPlanned policy journal planned × (planned.layout.at ≡ length journal))
@@ -235,7 +235,7 @@ plans_on_ok policy journal version (Err e) legal current shows plans = tt
 abbrev widths : List (ℕ × Table) → ℕ
 widths loads = sum_by (λ table. length table.columns) (load_tables loads)
 
--- one more table, of at most so many columns
+-- one more table, which has at most `most` columns
 pub wider : (most n : ℕ) (loads : List (ℕ × Table)) (load : ℕ × Table) → load ≡ get_or loads n load → length load.1.columns ≤ most → n < length loads → widths (take n loads) ≤ most * n
     → widths (take (n + 1) loads) ≤ most * (n + 1)
 wider most n loads load is narrow within so_far =

@@ -1,4 +1,4 @@
--- What a timeline has taken of a journal, and what it takes then.
+-- What a timeline has taken of a journal, and what it takes next.
 use Rattle.std.proofs.Common.{◌≡◌, refl, ap, sym, ◌∙◌, subst, ℕ, ◌+◌, ◌^◌, ◌<◌, ◌≤◌, List, [], ◌∷◌, ◌++◌, append-nil, append_assoc, Bool, true, false, arith, cond, drop, length, length-append, lit<, take, None, Some, ◌⊎◌, inl, inr}
 use Rattle.std.specs.Prelude.{count_by, nat_lt}
 use Rattle.std.proofs.Math.Seq.{drop-append_seam}
@@ -18,11 +18,11 @@ use Rattle.record_model.specs.Rules.{wide_limits}
 use Rattle.command_replies.specs.Pasts.{past_refusal_reply}
 use Rattle.command_replies.proofs.LoadLemmas.{Answers}
 
--- nothing
+-- a timeline that has taken nothing
 pub none_taken : (past journal : List Entry) → past ≡ [] → IsPrefix past journal
 none_taken past journal none = (journal, ap (λ (j : List Entry). j ++ journal) none)
 
--- all
+-- a timeline that has taken everything
 pub all_taken : (past journal : List Entry) → past ≡ journal → IsPrefix past journal
 all_taken past journal all = subst (IsPrefix past) all ([], append-nil past)
 
@@ -30,7 +30,7 @@ all_taken past journal all = subst (IsPrefix past) all ([], append-nil past)
 pub prefix_on : (xs ys zs : List Entry) → IsPrefix xs ys → IsPrefix ys zs → IsPrefix xs zs
 prefix_on xs ys zs p q = (p.0 ++ q.0, sym (append_assoc xs p.0 q.0) ∙ ap (λ (j : List Entry). j ++ q.0) p.1 ∙ q.1)
 
--- a beginning, and what is left behind it
+-- a beginning, and what follows it
 pub rest_of : (xs ys : List Entry) → IsPrefix xs ys → xs ++ drop (length xs) ys ≡ ys
 rest_of xs ys p = ap (λ (zs : List Entry). xs ++ drop (length xs) zs) (sym p.1) ∙ ap (λ (zs : List Entry). xs ++ zs) (drop-append_seam xs p.0) ∙ p.1
 
@@ -53,7 +53,7 @@ loads_few (entry ∷ journal) = by entry.what (loads_few journal)
     by (Replaced table) rest = omega (arith, rest, more (Replaced table))
     by (Swapped planned kept) rest = omega (arith, rest, more (Swapped planned kept))
 
--- ---- what is left of a journal is taken
+-- ---- the rest of a journal is taken
 
 module _ (past journal entries : List Entry) (begins : IsPrefix past journal) (rest : entries ≡ drop (length past) journal) where
   pub caught : past ++ entries ≡ journal
@@ -73,9 +73,9 @@ module _ (past journal entries : List Entry) (begins : IsPrefix past journal) (r
         let small : 16777216 < 2 ^ 32 = lit< tt in
         omega (arith, small, ap (λ (j : List Entry). (counts j).members) caught, within.members, wide.members)
 
--- ---- what is answered
+-- ---- replies
 
--- a position of which there is no pin
+-- a position for which there is no pin
 pub past_refused : (keys : List Text) (asked k : ℕ) (journal : List Entry) (e : PastRefused) → ((e ≡ refused.NoMemory) × (past_refusal asked journal ≡ None)) ⊎ (past_refusal asked journal ≡ Some e)
     → Answers (past_refusal_reply asked e) (past_reply keys asked k journal)
 past_refused keys asked k journal e (inl wanting) = (true, ap (past_refusal_reply asked) wanting.0)
@@ -86,7 +86,7 @@ past_refused keys asked k journal e (inr late) = by (nat_lt (length journal) ask
     by true h = let same : refused.Later (length journal) ≡ e = cc in (false, ap (past_refusal_reply asked) (sym same))
     by false h = absurd (let none : None ≡ Some e = h in cc)
 
--- a position of which there is one
+-- a position for which there is one
 pub past_found : (keys : List Text) (asked k : ℕ) (journal : List Entry) → past_refusal asked journal ≡ None
     → Past (length keys) (answer (live (take asked journal)) keys k None) asked (length journal) ≡ past_reply keys asked k journal
 past_found keys asked k journal none = by (nat_lt (length journal) asked) none

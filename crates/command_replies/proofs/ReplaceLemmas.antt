@@ -1,4 +1,4 @@
--- What a replace is answered, from what its parts answer.
+-- The reply to a replace, from the results of its parts.
 use Rattle.std.proofs.Common.{◌≡◌, refl, ap, sym, ◌∙◌, ℕ, ◌+◌, List, [], length, true, false, cond, ◌⊎◌, inl, inr, Some, None}
 use Rattle.std.specs.Prelude.{find}
 use Rattle.lake_model.specs.declared.Who.{Who}
@@ -37,7 +37,7 @@ accepted_replace limits table journal h =
     live_accepted (replace_refusal_reply table.name) table.name (length journal) (Replaced table.name (length table.columns) (members table) (length journal + 1))
     (refused.Unknown (length journal)) (λ b. refused.Full b.which b.count b.more (length journal)) (is_live journal table.name) (find is_passed (replace_bounds limits table (counts journal))) h
 
--- ---- a replace that its bytes refuse
+-- ---- a replace whose bytes are not a table
 
 pub refused_replace_answer : (rules : Rules) (journal : List Entry) (read : TableRead) (reply : Reply) → IsRefusal read reply → Answers reply (replace_answer rules read journal)
 refused_replace_answer rules journal read reply (inl none) = (true, none)
@@ -48,7 +48,7 @@ pub refused_replace_adds : (rules : Rules) (who : Who) (name : Text) (bytes : Li
 refused_replace_adds rules who name bytes reply made why =
     added_none who made ∙ ap (λ b. with_added who (cond b (replaces (table_read rules.keys name bytes)) []) made) (sym (refused_nowhere (table_read rules.keys name bytes) reply why))
 
--- ---- one whose bytes are a table
+-- ---- a replace whose bytes are a table
 
 pub replaced_adds : (rules : Rules) (who : Who) (name : Text) (bytes : List ℕ) (table : Table) (reply : Reply) (made : RunRecord) → table_read rules.keys name bytes ≡ IsTable table
     → with_added who (replaced_by table reply) made ≡ with_added who (adds rules (Replace name bytes) made.journal reply) made

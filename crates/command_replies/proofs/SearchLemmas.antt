@@ -1,4 +1,4 @@
--- What is answered at a pin is what the definitions answer at the journal of its version.
+-- The answer at a pin is the answer of the definitions at the journal of its version.
 use Rattle.std.proofs.Common.{◌≡◌, refl, ap, sym, ◌∙◌, ℕ, ◌-◌, ◌≤◌, List, length, map, Option, Some, None, Bool, true, false, cond, ◌⊎◌, inl, inr, arith}
 use Rattle.std.specs.Prelude.{find, nat_eq, slice_get}
 use Rattle.std.proofs.lemmas.Bool.Decides.{nat_tests}
@@ -24,7 +24,7 @@ use Rattle.record_model.specs.Work.{lists_read, sets_probed, contain_reads, cont
 use Rattle.command_replies.specs.Searches.{IsPinOf, found_at, found_with, contained_at, column_reply}
 use Rattle.command_replies.proofs.LoadLemmas.{Answers}
 
--- What a search gave, and its log, are what a query finds at the version.
+-- The rows of a search, and its log, are those of the query at the version.
 pub found_here : (version : VersionOf) (query : Query) (search : SearchOf) (rows : List Row) (looks : List Look) (layout : Shown)
     → search ≡ search_with version query → rows ≡ answer_of (live_of search.version.parts) search.query → looks ≡ log profile search.query search.version.parts
     → layout ≡ shown_with version.at (shown version.parts) → found_with query.keys rows looks layout ≡ found_at version query
@@ -34,7 +34,7 @@ found_here version query search rows looks layout asked answered logged at =
     let entries : looks ≡ log profile query version.parts = logged ∙ ap (λ (s : SearchOf). log profile s.query s.version.parts) asked in
     λ i. found_with query.keys (all i) (entries i) (at i)
 
--- the same of a search for the columns that hold a fraction of the keys
+-- the same for a search for the columns that hold a fraction of the keys
 pub contained_here : (version : VersionOf) (keys : List Text) (a b : ℕ) (search : ContainOf) (rows : List Row) (looks : List Look) (layout : Shown)
     → search ≡ contain_with version keys a b → rows ≡ contain (live_of search.version.parts) search.keys search.a search.b → looks ≡ contain_log search.keys search.a search.b search.version.parts
     → layout ≡ shown_with version.at (shown version.parts) → found_with keys rows looks layout ≡ contained_at version keys a b
@@ -79,7 +79,7 @@ with_table k name place journal (Some table) low h =
     with_column k name place journal (slice_get table.columns (place - 1)) (sym (ap fault_of (column_at table place low)) ∙ h)
     ∙ ap (λ (column : Option Column). search_reply (excepting name k (keys_of column)) journal) (sym (column_at table place low))
 
--- a like whose column is there
+-- a like of a column that exists
 pub like_found : (version : VersionOf) (journal : List Entry) (k : ℕ) (name : Text) (place : ℕ) (keys : List Text) → IsPinOf journal version → 1 ≤ place
     → column_fault version.parts name place ≡ None → keys ≡ column_keys version.parts name place → search_reply (excepting name k keys) journal ≡ like_reply k name place journal
 like_found version journal k name place keys is low none same =
@@ -98,7 +98,7 @@ no_table : (k : ℕ) (name : Text) (place : ℕ) (journal : List Entry) (table :
 no_table k name place journal None e low h = let same : e ≡ refused.UnknownTable = cc in ap (column_reply name place (length journal)) same
 no_table k name place journal (Some table) e low h = no_column k name place journal (slice_get table.columns (place - 1)) e (sym (ap fault_of (column_at table place low)) ∙ h)
 
--- a like whose column is not there
+-- a like of a column that does not exist
 pub like_refused : (version : VersionOf) (journal : List Entry) (k : ℕ) (name : Text) (place at : ℕ) (e : ColumnRefused) → IsPinOf journal version → 1 ≤ place → at ≡ version.at
     → (e ≡ refused.NoMemory) ⊎ (column_fault version.parts name place ≡ Some e) → Answers (column_reply name place at e) (like_reply k name place journal)
 like_refused version journal k name place at e is low here (inl none) = (true, ap (column_reply name place at) none)

@@ -13,7 +13,7 @@ position_of (At version) = version.at
 position_of (Swap planned) = planned.layout.at
 position_of (Denied at) = at
 
--- What is held is of the beginning of the journal: a version, or for a merge of a policy what was planned.
+-- What is held belongs to a beginning of the journal: a version, or what was planned for a merge of the policy.
 abbrev pub IsHeldAt : List Entry → Option Policy → Held → Type 0
 IsHeldAt journal None (At version) = (version.at ≤ length journal) × IsPinOf (take version.at journal) version
 IsHeldAt journal None (Swap planned) = ⊥

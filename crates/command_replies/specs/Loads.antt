@@ -1,4 +1,4 @@
--- What a load is answered, and what it adds to a record.
+-- The reply to a load, and what it adds to a record.
 use Rattle.std.specs.Prelude.{◌≡◌, ◌≤◌, ◌+◌, ◌⊎◌, List, [], ◌∷◌, ◌++◌, map, if◌then◌else◌}
 use Rattle.lake_model.specs.declared.Who.{Who}
 use Rattle.lake_model.specs.Texts.{Text}
@@ -13,7 +13,7 @@ use Rattle.record_model.specs.Answered.{TableRead, NoTable, is_accepted, standin
 use Rattle.record_model.specs.Record.{RunRecord}
 use Rattle.run_record.specs.Rooms.{RecordOf}
 
--- the reply refuses what was read: for want of memory, or for its fault
+-- the reply refuses what was read: for its fault, or because memory ran out
 abbrev pub IsRefusal : TableRead → Reply → Type 0
 IsRefusal read reply = (reply ≡ NoMemory) ⊎ ((fault : Fault) × (read ≡ NoTable fault) × (reply ≡ fault_reply fault))
 
@@ -23,7 +23,7 @@ refusal_reply name (refused.Repeated at) = Repeated name at
 refusal_reply name (refused.Full which count more at) = Full which count more at
 refusal_reply name refused.NoMemory = NoMemory
 
--- what the load of a table adds, where its reply accepts it
+-- what the load of a table adds, if its reply accepts it
 abbrev pub loaded_by : Table → Reply → List What
 loaded_by table reply = if is_accepted (standing reply) then journal.Loaded table ∷ [] else []
 
@@ -31,8 +31,8 @@ loaded_by table reply = if is_accepted (standing reply) then journal.Loaded tabl
 abbrev pub with_added : Who → List What → RunRecord → RunRecord
 with_added who whats made = record made { journal = made.journal ++ map (entry_with who) whats }
 
--- What the answer to a command leaves behind: these things were added to the journal of the catalogue and to that of the record, which took room for one entry
--- at most; and nothing else is different.
+-- The result of answering a command: these things were added to the journal of the catalogue and to that of the record,
+-- which used room for at most one entry, and nothing else has changed.
 pub record Adds (who : Who) (whats : List What) (before after : CatalogueOf) (record_before record_after : RecordOf) : Type 0 where
   pub made : record_after.made ≡ with_added who whats record_before.made
   pub journal : record_after.made.journal ≡ after.journal

@@ -1,4 +1,4 @@
--- Merges: what was planned at a pin, and what its swap is answered and adds.
+-- Merges: what was planned at a pin, and the reply to its swap and what the swap adds.
 use Rattle.std.specs.Prelude.{◌≡◌, ◌≤◌, ℕ, ◌+◌, ⊤, not, List, [], ◌∷◌, length, take, find, if◌then◌else◌, Option, Some, None, option_map}
 use Rattle.lake_model.specs.declared.Policy.{Policy}
 use Rattle.lake_model.specs.Journal.{Entry, What, Swapped}
@@ -11,27 +11,27 @@ use Rattle.record_model.specs.Answered.{is_accepted, standing}
 use Rattle.record_model.specs.Replies.{Reply, Merged, NothingToMerge, Stale}
 use Rattle.command_replies.specs.declared.merging.Planned.{Planned}
 
--- what a plan is merged into
+-- the result of merging by a plan
 abbrev pub merge_of : PlanOf → MergedOf
 merge_of plan = merged_with plan.from (load_positions plan.kept) (load_tables plan.kept) plan.at
 
--- what comes of the plan at a journal
+-- the result of the plan at a journal
 abbrev pub planned_at : Policy → List Entry → Option MergedOf
 planned_at policy journal = option_map merge_of (plan_at policy (version_with (length journal) (layout journal)))
 
--- what was merged at the beginning of the journal
+-- the merge was made at a beginning of the journal
 abbrev pub CanSwap : List Entry → Option MergedOf → Type 0
 CanSwap journal None = ⊤
 CanSwap journal (Some merged) = (merged.at ≤ length journal) × IsMergeOf (layout (take merged.at journal)) merged
 
--- It was planned where the journal began so, and merged.
+-- The merge was planned, and its result built, at a beginning of the journal.
 pub record IsPlanned (policy : Policy) (journal : List Entry) (planned : Planned) : Type 0 where
   pub before : planned.layout.at ≤ length journal
   pub shows : planned.layout ≡ shown_layout (take planned.layout.at journal)
   pub plans : planned.merged ≡ planned_at policy (take planned.layout.at journal)
   pub swaps : CanSwap journal planned.merged
 
--- the reply to a swap, where this planned part, if any, is gone
+-- the reply to a swap, where the given one of the planned parts, if any, is missing
 abbrev pub unless_gone : Shown → MergedOf → ℕ → Option (ℕ × List ℕ) → Reply
 unless_gone shown merged at None = Merged shown (length merged.from) (length merged.kept) (at + 1)
 unless_gone shown merged at (Some part) = Stale shown part.0 at
@@ -45,6 +45,6 @@ abbrev pub swap_of : Option MergedOf → List What
 swap_of None = []
 swap_of (Some merged) = Swapped (numbers_in merged.from) merged.kept ∷ []
 
--- what a swap adds, where its reply accepts it
+-- what a swap adds, if its reply accepts it
 abbrev pub swapped_by : Option MergedOf → Reply → List What
 swapped_by merged reply = if is_accepted (standing reply) then swap_of merged else []

@@ -18,7 +18,7 @@ is_past (Contain a b body) = false
 is_past (AsOf asked k body) = true
 is_past (Merge all) = false
 
--- the reply to a position of which there is no pin
+-- the reply to a position for which there is no pin
 abbrev pub past_refusal_reply : ℕ → PastRefused → Reply
 past_refusal_reply asked (refused.Later at) = Later asked at
 past_refusal_reply asked refused.NoMemory = NoMemory

@@ -1,4 +1,4 @@
--- What a replace adds to a record, and what one that the catalogue refuses is answered.
+-- What a replace adds to a record, and the reply to one that the catalogue refuses.
 use Rattle.std.specs.Prelude.{List, [], ◌∷◌, if◌then◌else◌}
 use Rattle.lake_model.specs.Texts.{Text}
 use Rattle.lake_model.specs.Tables.{Table}
@@ -14,6 +14,6 @@ replace_refusal_reply name (refused.Unknown at) = Unknown name at
 replace_refusal_reply name (refused.Full which count more at) = Full which count more at
 replace_refusal_reply name refused.NoMemory = NoMemory
 
--- what the replace by a table adds, where its reply accepts it
+-- what the replace by a table adds, if its reply accepts it
 abbrev pub replaced_by : Table → Reply → List What
 replaced_by table reply = if is_accepted (standing reply) then journal.Replaced table ∷ [] else []

@@ -1,4 +1,4 @@
-//! Work answered in two steps, the pin and the reply, or in one.
+//! Answers work in two steps, the pin and the reply, or in one.
 ghost use Rattle.std.specs.Prelude.{◌≡◌, ◌<◌, false, true, Bool, List, length, take, None, Some};
 ghost use mathlib.Core.List.{IsPrefix};
 ghost use Rattle.lake_model.specs.declared.Counts.{Counts};
@@ -33,15 +33,15 @@ use std::alloc::Global;
 /// What is held for work that has begun, from its first step to its answer.
 #[derive(Drop)]
 pub enum Held {
-    /// For a search or a like, the version of the lake at the first step.
+    /// For a search, a like or a contain: the version of the lake at the first step.
     At(Pin),
-    /// For a merge, what was planned at the first step.
+    /// For a merge: what was planned at the first step.
     Swap(Planned),
-    /// Memory was wanting at the first step, where the journal was this long.
+    /// Memory ran out at the first step, when the journal had this length.
     Denied { at: u64 },
 }
 
-// Holds the newest version, or else the position at which memory was wanting for that.
+// Holds the newest version, or else the position at which memory ran out for it.
 fn hold(catalogue: &Catalogue) -> Held
     ensures held { IsHeldAt catalogue.now.journal None result }
     ensures position { position_of result ≡ length catalogue.now.journal }
@@ -52,7 +52,7 @@ fn hold(catalogue: &Catalogue) -> Held
     }
 }
 
-// Holds a merge that is planned in the newest version, or else the position at which memory was wanting for that.
+// Holds a merge that is planned in the newest version, or else the position at which memory ran out for it.
 fn hold_merge(alloc: Global, catalogue: &Catalogue, policy: Policy) -> Held
     requires { IsWithin wide_limits catalogue.now.limits }
     ensures held { IsHeldAt catalogue.now.journal (Some policy) result }
@@ -64,7 +64,7 @@ fn hold_merge(alloc: Global, catalogue: &Catalogue, policy: Policy) -> Held
     }
 }
 
-/// What is held for work that has a pin, from its first step on.
+/// Takes the first step of work that has a pin, and returns what is held for it.
 pub fn begin(alloc: Global, catalogue: &Catalogue, work: &Work<'_>) -> Held
     requires { IsWithin wide_limits catalogue.now.limits }
     ensures held { IsHeldAt catalogue.now.journal (merge_policy (work_of work.now).task) result }
@@ -76,7 +76,7 @@ pub fn begin(alloc: Global, catalogue: &Catalogue, work: &Work<'_>) -> Held
     }
 }
 
-// The reply to a search or a like at its pin.
+// Makes the reply to a search, a like or a contain at its pin.
 fn reply_at_pin(alloc: Global, keys: Keys, pin: Pin, work: &Work<'_>) -> Reply
     requires pins { has_pin (work_of work.now).task ≡ true }
     requires merges { merge_policy (work_of work.now).task ≡ None }
@@ -88,7 +88,7 @@ fn reply_at_pin(alloc: Global, keys: Keys, pin: Pin, work: &Work<'_>) -> Reply
     }
 }
 
-/// The reply to work that was begun. A merge that is swapped in puts its entry into the record.
+/// Makes the reply to work that was begun. A merge that is swapped in adds its entry to the record.
 pub fn reply_when_held(
     alloc: Global,
     catalogue: &mut Catalogue,
@@ -111,7 +111,7 @@ pub fn reply_when_held(
     }
 }
 
-// The reply to a request for the live tables.
+// Makes the reply to a request for the live tables.
 fn list_now(alloc: Global, catalogue: &Catalogue, keys: Keys) -> Reply
     ensures { (denied : Bool) × (reply_of result ≡ reply_or_denied denied (tables_reply catalogue.now.journal)) }
 {
@@ -121,7 +121,7 @@ fn list_now(alloc: Global, catalogue: &Catalogue, keys: Keys) -> Reply
     }
 }
 
-/// The reply to work that has no pin. An accepted load, drop or replace puts its entry into the record.
+/// Makes the reply to work that has no pin. An accepted load, drop or replace adds its entry to the record.
 pub fn reply_now(
     alloc: Global,
     catalogue: &mut Catalogue,

@@ -10,7 +10,7 @@ use catalogue::{Catalogue, DropRefused, Entry, Who};
 use column_set::Name;
 use run_record::{Reply, RunRecord};
 
-/// The reply to the drop of this name that the catalogue refuses.
+/// Makes the reply to a drop of this name that the catalogue refuses.
 pub fn reply_to_drop(refused: DropRefused, name: Name) -> Reply
     ensures { reply_of result ≡ drop_refusal_reply name refused }
 {
@@ -31,8 +31,8 @@ pub fn reply_to_drop(refused: DropRefused, name: Name) -> Reply
     }
 }
 
-/// Answers a drop: the live table of the name leaves the lake, with an entry of this caller and command in the catalogue's journal and
-/// in the record's.
+/// Answers a drop: the live table of the name leaves the lake, with an entry of this caller and command in the
+/// catalogue's journal and one in the record's.
 pub(crate) fn drop_table(
     catalogue: &mut Catalogue,
     who: Who,

@@ -1,4 +1,4 @@
-//! The reply to each command, made over a catalogue or a pin of it, with the entry that the command adds.
+//! Makes the reply to each command over a catalogue or a pin of it, with the entry that the command adds.
 #![tactic(auto)]
 
 mod answering;

@@ -29,8 +29,8 @@ pub struct Loadable {
     pub segment: Arc<Segment>,
 }
 
-/// The table of a block under a name with its segment, or the reply that refuses it: for the first fault of its records, or else of its
-/// sets, or for want of memory.
+/// Makes the table of a block under a name with its segment, or the reply that refuses it: for the first fault of its
+/// records, or else of its sets, or because memory ran out.
 pub fn make_table(alloc: Global, keys: Keys, name: &Name, body: &Body) -> Result<Loadable, Reply>
     ensures table { IfOk result (λ made. table_read keys name.now body.now ≡ IsTable made.table) }
     ensures segment { IfOk result (λ made. made.segment.value ≡ made.table ∷ []) }
@@ -46,8 +46,8 @@ pub fn make_table(alloc: Global, keys: Keys, name: &Name, body: &Body) -> Result
     }
 }
 
-/// The table of a file under a name with its segment, or the reply that refuses it: where no file came, for the reason of that, and
-/// else as a block of its bytes is refused.
+/// Makes the table of a file under a name with its segment, or the reply that refuses it: if the file could not be
+/// fetched, for that reason, and otherwise as for a block of its bytes.
 pub fn make_table_of_file(
     alloc: Global,
     keys: Keys,
@@ -66,7 +66,7 @@ pub fn make_table_of_file(
     }
 }
 
-// How many columns a table may have.
+// Returns how many columns a table may have.
 fn most_columns(keys: Keys) -> u32
     ensures value { result ≡ most_columns keys }
     ensures some { 1 ≤ result }
@@ -78,7 +78,7 @@ fn most_columns(keys: Keys) -> u32
     }
 }
 
-// The table of a block under a name, or the reply that refuses it.
+// Makes the table of a block under a name, or the reply that refuses it.
 fn read_sets(alloc: Global, keys: Keys, name: &Name, body: &Body) -> Result<SharedTable, Reply>
     ensures table { IfOk result (λ table. table_read keys name.now body.now ≡ IsTable table) }
     ensures members { IfOk result (λ table. members table ≤ 67108864) }
@@ -98,7 +98,7 @@ fn read_sets(alloc: Global, keys: Keys, name: &Name, body: &Body) -> Result<Shar
     }
 }
 
-// The segment of one table.
+// Builds the segment of one table.
 fn index_table(alloc: Global, table: &SharedTable) -> Result<Arc<Segment>, NoMemory>
     requires { members table.now ≤ 67108864 }
     ensures { IfOk result (λ segment. segment.value ≡ table.now ∷ []) }
@@ -110,7 +110,7 @@ fn index_table(alloc: Global, table: &SharedTable) -> Result<Arc<Segment>, NoMem
     Ok(Arc::new(alloc, segment)?)
 }
 
-// The reply to bytes that are no table.
+// Makes the reply to bytes that are not a table.
 fn reply_to_csv(refused: CsvRefused) -> Reply
     ensures { reply_of result ≡ csv_reply refused }
 {
@@ -123,7 +123,7 @@ fn reply_to_csv(refused: CsvRefused) -> Reply
     }
 }
 
-// The reply to fields that give no sets.
+// Makes the reply to fields that give no sets.
 fn reply_to_sets(refused: SetRefused) -> Reply
     ensures { reply_of result ≡ sets_reply refused }
 {
@@ -133,7 +133,7 @@ fn reply_to_sets(refused: SetRefused) -> Reply
     }
 }
 
-/// The reply to a table of this name that the catalogue refuses.
+/// Makes the reply to the load of a table of this name that the catalogue refuses.
 pub fn reply_to_load(refused: LoadRefused, name: Name) -> Reply
     ensures { reply_of result ≡ refusal_reply name refused }
 {
@@ -154,7 +154,8 @@ pub fn reply_to_load(refused: LoadRefused, name: Name) -> Reply
     }
 }
 
-// Loads a table. What the record and the reply keep of it is made before its entry, so that nothing is refused behind the entry.
+// Loads a table. What the record and the reply keep of the table is made before its entry, so that nothing can fail
+// after the entry.
 fn accept(
     catalogue: &mut Catalogue,
     who: Who,
@@ -188,8 +189,8 @@ fn accept(
     }
 }
 
-/// Answers a load: the table of the body comes into the lake under the name, with an entry of this caller and command in the
-/// catalogue's journal and in the record's.
+/// Answers a load: the table of the body comes into the lake under the name, with an entry of this caller and command
+/// in the catalogue's journal and one in the record's.
 pub(crate) fn load(
     alloc: Global,
     catalogue: &mut Catalogue,
@@ -210,7 +211,7 @@ pub(crate) fn load(
     }
 }
 
-/// Answers a load from a file: as a load of its bytes, where they came.
+/// Answers a load from a file like a load of its bytes, if it could be fetched.
 pub(crate) fn load_file(
     alloc: Global,
     catalogue: &mut Catalogue,

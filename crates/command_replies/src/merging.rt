@@ -1,4 +1,4 @@
-//! Merges: the plan at a pin with what comes of it, and the swap, which may come later.
+//! Merges: the plan at a pin with its result, and the swap, which may come later.
 ghost use Rattle.std.specs.Prelude.{◌≡◌, ◌≤◌, ◌<◌, ◌+◌, ◌*◌, Bool, length, sum_by, option_map, IfOk, Some};
 ghost use Rattle.lake_model.specs.Journal.{entry_with, Swapped};
 ghost use Rattle.lake_model.specs.Tables.{members};
@@ -22,14 +22,14 @@ use segment_core::{Layout, Merged, Numbers, Pin, Plan};
 use segment_merge::{merge, plan};
 use std::alloc::Global;
 
-/// A merge that was planned: the layout of the pin, and what came of the plan, where there was something to merge.
+/// A merge that was planned: the layout of the pin, and the result of the plan, if there was something to merge.
 #[derive(Drop)]
 pub struct Planned {
     pub layout: Layout,
     pub merged: Option<Merged>,
 }
 
-/// Plans a merge of the newest version, and builds the segment of what it keeps.
+/// Plans a merge of the newest version, and builds the segment of the tables that it keeps.
 pub(crate) fn plan_now(
     alloc: Global,
     catalogue: &Catalogue,
@@ -39,14 +39,14 @@ pub(crate) fn plan_now(
     ensures { IfOk result (λ planned. IsPlanned policy catalogue.now.journal planned × (planned.layout.at ≡ length catalogue.now.journal)) }
 {
     let pin = catalogue.pin()?;
-    // What is known of the journal and of its counts says that the plan is small enough.
+    // From what is known of the journal and of its counts it follows that the plan is small enough.
     let _legal = catalogue.journal();
     let _within = catalogue.counts();
     plan_pinned(alloc, &pin, policy)
 }
 
-/// Plans a merge of the version that a pin holds, and builds the segment of what it keeps. The plan keeps no more tables and members
-/// than a lake may have.
+/// Plans a merge of the version that a pin holds, and builds the segment of the tables that it keeps. The plan has to
+/// keep no more tables and members than a lake may have.
 pub fn plan_pinned(alloc: Global, pin: &Pin, policy: Policy) -> Result<Planned, NoMemory>
     requires few { (plan : PlanOf) → plan_at policy pin.now ≡ Some plan → length plan.kept ≤ 262144 }
     requires light { (plan : PlanOf) → plan_at policy pin.now ≡ Some plan → sum_by members (load_tables plan.kept) ≤ 16777216 }
@@ -64,7 +64,7 @@ pub fn plan_pinned(alloc: Global, pin: &Pin, policy: Policy) -> Result<Planned, 
     Ok(Planned { layout, merged })
 }
 
-// What comes of a plan that keeps no more tables and members than a lake may have.
+// Merges by a plan that keeps no more tables and members than a lake may have.
 fn merge_few(alloc: Global, plan: Plan) -> Result<Merged, NoMemory>
     requires few { length plan.kept ≤ 262144 }
     requires light { sum_by members (load_tables plan.kept) ≤ 16777216 }
@@ -74,7 +74,7 @@ fn merge_few(alloc: Global, plan: Plan) -> Result<Merged, NoMemory>
     merge(alloc, plan)
 }
 
-// Each table has at most 4,096 columns, which is known of a table that is looked at.
+// Shows that each table has at most 4,096 columns, which is known of each table when it is looked at.
 fn look_at_widths(loads: &[(u64, SharedTable)])
     ensures { sum_by (λ t. length t.columns) (load_tables loads.now) ≤ 4096 * length loads.now }
 {
@@ -83,8 +83,9 @@ fn look_at_widths(loads: &[(u64, SharedTable)])
     }
 }
 
-/// Answers a merge that was planned: what was merged comes in the place of the planned parts, with an entry of this caller and command
-/// in the catalogue's journal and in the record's. The record's entry is made first, so that nothing is refused behind the entry.
+/// Answers a merge that was planned: what was merged replaces the planned parts, with an entry of this caller and
+/// command in the catalogue's journal and one in the record's. The record's entry is made first, so that nothing can
+/// fail after the catalogue's.
 pub(crate) fn swap(
     alloc: Global,
     catalogue: &mut Catalogue,
@@ -122,7 +123,7 @@ pub(crate) fn swap(
     }
 }
 
-// The entry of a swap.
+// Makes the entry of a swap.
 fn swap_entry(alloc: Global, who: Who, merged: &Merged) -> Result<Entry, NoMemory>
     ensures { IfOk result (λ entry. entry ≡ entry_with who (Swapped (numbers_in merged.now.from) merged.now.kept)) }
 {

@@ -25,7 +25,7 @@ use run_record::Reply;
 use segment_core::Pin;
 use std::alloc::Global;
 
-// The reply to a position that there is no pin of.
+// Makes the reply to a position for which there is no pin.
 fn reply_to_position(refused: PastRefused, asked: u64) -> Reply
     ensures { reply_of result ≡ past_refusal_reply asked refused }
 {
@@ -35,7 +35,8 @@ fn reply_to_position(refused: PastRefused, asked: u64) -> Reply
     }
 }
 
-// The k columns of the live tables of a pin that share most keys with a query.
+// Finds the k columns of the live tables of a pin that share most keys with a query. Returns `Err(NoMemory)` if memory
+// runs out.
 fn rows_at(alloc: Global, pin: &Pin, query: &QuerySet, k: u32) -> Result<KeptRows, NoMemory>
     requires low { 1 ≤ k }
     requires high { k ≤ 10000 }
@@ -45,7 +46,7 @@ fn rows_at(alloc: Global, pin: &Pin, query: &QuerySet, k: u32) -> Result<KeptRow
     prepared.run(&Profile).rows.keep_all(alloc)
 }
 
-// The reply to a search of the tables that were live after the first `asked` entries of those taken.
+// Makes the reply to a search of the tables that were live after the first `asked` of the entries taken.
 fn search_past(
     alloc: Global,
     keys: Keys,
@@ -78,8 +79,8 @@ fn search_past(
     }
 }
 
-/// Answers a search of an earlier position, where the timeline has taken the journal that it is answered at: the reply is that at this
-/// journal, or that memory is wanting.
+/// Answers a search of an earlier position, from a timeline that has taken the journal at which it is answered. The
+/// reply is the one at this journal, or that memory ran out.
 pub fn finish_past(alloc: Global, keys: Keys, past: &mut Timeline, task: &Task) -> Reply
     requires past { is_past (task_of task.now) ≡ true }
     requires in_range { IsTaskInRange task.now }
@@ -100,7 +101,8 @@ pub fn finish_past(alloc: Global, keys: Keys, past: &mut Timeline, task: &Task) 
     }
 }
 
-// Takes what the journal of the catalogue has behind what the timeline took.
+// Takes the entries of the catalogue's journal that follow those which the timeline has taken. If memory runs out, it
+// has taken only the first of them.
 fn catch_up(catalogue: &Catalogue, past: &mut Timeline) -> Result<(), NoMemory>
     requires begins { IsPrefix past.old catalogue.now.journal }
     requires limits { IsWithin wide_limits catalogue.now.limits }
@@ -112,8 +114,8 @@ fn catch_up(catalogue: &Catalogue, past: &mut Timeline) -> Result<(), NoMemory>
     past.take_all(&journal[past.taken() as usize..])
 }
 
-/// Answers a search of an earlier position at the newest one. The timeline takes what it has not taken of the journal, and out of memory
-/// the first of that.
+/// Answers a search of an earlier position, at the newest one. The timeline takes the entries of the journal that it
+/// has not taken yet; if memory runs out, only the first of them.
 pub(crate) fn search_past_now(
     alloc: Global,
     catalogue: &Catalogue,

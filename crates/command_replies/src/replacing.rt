@@ -1,4 +1,4 @@
-//! Replaces: the table of a block takes the place of the live table of its name, by one entry.
+//! Replaces: the table of a block replaces the live table of the same name, with one entry.
 ghost use Rattle.std.specs.Prelude.{◌≡◌, ◌<◌, ◌+◌, ◌≤◌, ◌∷◌, [], Bool};
 ghost use Rattle.lake_model.specs.Tables.{members};
 ghost use Rattle.script_model.specs.Commands.{Replace};
@@ -19,7 +19,7 @@ use segment_core::Segment;
 use std::alloc::Global;
 use std::sync::Arc;
 
-/// The reply to the replace of the table of this name that the catalogue refuses.
+/// Makes the reply to a replace of the table of this name that the catalogue refuses.
 pub fn reply_to_replace(refused: ReplaceRefused, name: Name) -> Reply
     ensures { reply_of result ≡ replace_refusal_reply name refused }
 {
@@ -40,8 +40,8 @@ pub fn reply_to_replace(refused: ReplaceRefused, name: Name) -> Reply
     }
 }
 
-// Puts a table in the place of the live one of its name. What the record and the reply keep of it is made before its entry, so that
-// nothing is refused behind the entry.
+// Replaces the live table of the same name by a table. What the record and the reply keep of the table is made before
+// its entry, so that nothing can fail after the entry.
 fn accept(
     catalogue: &mut Catalogue,
     who: Who,
@@ -75,8 +75,8 @@ fn accept(
     }
 }
 
-/// Answers a replace: the table of the body comes in the place of the live table of the name, with one entry of this caller and command
-/// in the catalogue's journal and in the record's.
+/// Answers a replace: the table of the body replaces the live table of the name, with one entry of this caller and
+/// command in the catalogue's journal and one in the record's.
 pub(crate) fn replace(
     alloc: Global,
     catalogue: &mut Catalogue,

@@ -1,4 +1,4 @@
-//! What is asked of the lake at a pin: searches, likes, contains, and the list of the live tables.
+//! Questions that are answered at a pin of the lake: searches, likes, contains, and the list of the live tables.
 ghost use Rattle.std.specs.Prelude.{◌≡◌, ◌≤◌, Bool, List, false, None, option_copied, IfOk};
 ghost use Rattle.josie_search.specs.Search.{query_with};
 ghost use Rattle.lake_model.specs.declared.Counts.{Counts};
@@ -24,7 +24,7 @@ use run_record::Reply;
 use segment_core::{ColumnRefused, Layout, Pin};
 use std::alloc::Global;
 
-/// The reply to a body that is no query.
+/// Makes the reply to a body that is not a query.
 pub(crate) fn reply_to_query(refused: QueryRefused) -> Reply
     ensures { reply_of result ≡ query_reply refused }
 {
@@ -35,7 +35,7 @@ pub(crate) fn reply_to_query(refused: QueryRefused) -> Reply
     }
 }
 
-// The reply to the name of a table and a place, counted from 1, that name no column at this position.
+// Makes the reply to the name of a table and a place, counted from 1, if there is no such column at this position.
 fn reply_to_column(refused: ColumnRefused, name: &Name, place: u32, at: u64) -> Reply
     ensures { reply_of result ≡ column_reply name.now place at refused }
 {
@@ -47,7 +47,7 @@ fn reply_to_column(refused: ColumnRefused, name: &Name, place: u32, at: u64) -> 
     }
 }
 
-// The reply of what was found for a query, and of what was read for that.
+// Makes the reply from what was found for a query and what was read for it.
 fn found(
     alloc: Global,
     query: &QuerySet,
@@ -65,7 +65,7 @@ fn found(
     })
 }
 
-// What a query finds at a pin, with the columns of the excepted table left out, and what it read for that.
+// Finds the answer to a query at a pin, without the columns of the excepted table, and states what was read for it.
 fn find(
     alloc: Global,
     pin: &Pin,
@@ -82,7 +82,7 @@ fn find(
     found(alloc, query, &prepared.run(&Profile), layout)
 }
 
-// What is found at a pin of the columns that hold at least a of b parts of a query, and what was read for that.
+// Finds the columns at a pin that hold at least a of b parts of a query, and states what was read for them.
 fn find_holding(
     alloc: Global,
     pin: &Pin,
@@ -100,7 +100,7 @@ fn find_holding(
     found(alloc, query, &prepared.run(), layout)
 }
 
-// The reply to a search: the k columns of the live tables that share most keys with the lines of the body.
+// Makes the reply to a search: the k columns of the live tables that share most keys with the lines of the body.
 fn search(alloc: Global, keys: Keys, pin: &Pin, k: u32, body: &Body) -> Reply
     requires low { 1 ≤ k }
     requires high { k ≤ 10000 }
@@ -116,7 +116,8 @@ fn search(alloc: Global, keys: Keys, pin: &Pin, k: u32, body: &Body) -> Reply
     }
 }
 
-// The reply to a contain: the columns of the live tables that hold at least a of b parts of the keys of the body's lines.
+// Makes the reply to a contain: the columns of the live tables that hold at least a of b parts of the keys of the
+// body's lines.
 fn contain(alloc: Global, keys: Keys, pin: &Pin, a: u32, b: u32, body: &Body) -> Reply
     requires some { 1 ≤ a }
     requires whole { a ≤ b }
@@ -133,7 +134,8 @@ fn contain(alloc: Global, keys: Keys, pin: &Pin, a: u32, b: u32, body: &Body) ->
     }
 }
 
-// The reply to a like: the k columns of the other live tables that share most keys with the column at the place of this one.
+// Makes the reply to a like: the k columns of the other live tables that share most keys with the column at a place of
+// this one.
 fn like(alloc: Global, pin: &Pin, k: u32, name: &Name, place: u32) -> Reply
     requires low { 1 ≤ k }
     requires high { k ≤ 10000 }
@@ -150,7 +152,7 @@ fn like(alloc: Global, pin: &Pin, k: u32, name: &Name, place: u32) -> Reply
     }
 }
 
-// The reply to a request for the live tables, in the order of their loads.
+// Makes the reply to a request for the live tables, in the order of their loads and replaces.
 fn list(alloc: Global, pin: &Pin) -> Reply
     ensures { (journal : List Entry) → IsPinOf journal pin.now → (denied : Bool) × (reply_of result ≡ reply_or_denied denied (tables_reply journal)) }
 {
@@ -163,8 +165,8 @@ fn list(alloc: Global, pin: &Pin) -> Reply
     }
 }
 
-/// Answers a search, a like, a contain or a request for the live tables at a pin: the reply is that at the journal whose version the pin holds, or
-/// that memory is wanting.
+/// Answers a search, a like, a contain or a request for the live tables at a pin. The reply is the one at the journal
+/// whose version the pin holds, or that memory ran out.
 pub fn finish(alloc: Global, keys: Keys, pin: Pin, task: &Task) -> Reply
     requires asks { is_update_task (task_of task.now) ≡ false }
     requires merges { merge_policy (task_of task.now) ≡ None }

@@ -1,4 +1,4 @@
--- The turns of a batch, and the record that they make.
+-- The turns of a batch, and the record that results from them.
 use Rattle.std.proofs.Common.{◌≡◌, ap, sym, ◌∙◌, subst, ℕ, zero, suc, ◌+◌, ◌-◌, ◌*◌, ◌≤◌, List, [], ◌∷◌, ◌++◌, append-nil, Bool, length, length-append, map, arith, replicate, Option}
 use Rattle.std.specs.List.{flat_map, range_with_len}
 use Rattle.std.proofs.lemmas.Simd.{map-map}
@@ -29,7 +29,7 @@ two_more n l =
     let e : 2 * (n + 1) ≡ 2 * n + 1 + 1 = omega arith in
     ap (λ (k : ℕ). replicate k l) e ∙ replicate_next (2 * n + 1) l ∙ ap (λ (ls : List ℕ). ls ++ l ∷ []) (replicate_next (2 * n) l)
 
--- all turns, of which some were taken
+-- all turns, some of which were taken
 pub turns_left : (n all l : ℕ) → n ≤ all → replicate (2 * n) l ++ replicate (2 * all - 2 * n) l ≡ replicate (2 * all) l
 turns_left n all l h =
     let e : 2 * n + (2 * all - 2 * n) ≡ 2 * all = omega (arith, h) in
@@ -47,7 +47,7 @@ turns_each steps lanes = flat_map (λ l. replicate steps l) lanes
 one_lane : (steps l : ℕ) → turns_each steps (l ∷ []) ≡ replicate steps l
 one_lane steps l = append-nil (replicate steps l)
 
--- the turns of one lane more
+-- the turns of one more lane
 pub lane_more : (steps n : ℕ) → turns_each steps (range_with_len 1 (n + 1)) ≡ turns_each steps (range_with_len 1 n) ++ replicate steps (n + 1)
 lane_more steps n =
     let e : n + 1 ≡ suc n = omega arith in
@@ -58,7 +58,7 @@ lane_more steps n =
     ∙ ap (λ (ls : List ℕ). turns_each steps (range_with_len 1 n) ++ ls) (one_lane steps (1 + n))
     ∙ ap (λ (m : ℕ). turns_each steps (range_with_len 1 n) ++ replicate steps m) f
 
--- the merger's turns behind those of the lanes
+-- the merger's turns after those of the lanes
 pub merger_last : (steps n : ℕ) → turns_each steps (range_with_len 1 n ++ 0 ∷ []) ≡ turns_each steps (range_with_len 1 n) ++ replicate steps 0
 merger_last steps n = flat_map-append (λ l. replicate steps l) (range_with_len 1 n) (0 ∷ []) ∙ ap (λ (ls : List ℕ). turns_each steps (range_with_len 1 n) ++ ls) (one_lane steps 0)
 

@@ -11,14 +11,14 @@ use Rattle.batch_work.specs.Works.{work_of, works_of}
 use Rattle.lake_core.specs.Lanes.{LaneOf, done_in}
 use Rattle.batch_work.proofs.GatherLemmas.{gathered_next}
 
--- a record with these answers behind its own
+-- a record with these answers after its own
 abbrev pub with_answers : List Answered → RunRecord → RunRecord
 with_answers answers made = record made { answers = made.answers ++ answers }
 
 abbrev pub lists_of : List LaneOf → List (List Done)
 lists_of lanes = map done_in lanes
 
--- how far the answers were gathered: those of the first n commands, with room for the others
+-- how far the answers were gathered: those of the first n commands, with room for the rest
 pub record Gathers (commands : List Command) (n : ℕ) (lanes now : List LaneOf) (before out : RecordOf) : Type 0 where
   pub rest : with_answers (answers_of (gathered (drop n commands) (lists_of now))) out.made ≡ with_answers (answers_of (gathered commands (lists_of lanes))) before.made
   pub room : length commands ≤ out.answers_room + n

@@ -28,7 +28,7 @@ use Rattle.record_model.proofs.LegalLemmas.{either_none}
 pub none_left : (rules : Rules) (journal : List Entry) (lane : LaneOf) → lane.todo ≡ [] → alone journal lane ≡ step rules (alone journal lane) (0, false)
 none_left rules journal lane none = sym (ap (λ (cs : List Command). lane_step rules false journal (played lane ∷ []) 0 cs (played lane)) none)
 
--- the first command, where it has no pin
+-- the first command, if it has no pin
 pub answered_now : (rules : Rules) (denied : Bool) (journal after : List Entry) (command : Command) (todo : List Command) (reply : Reply) (lane new : LaneOf)
     → lane.todo ≡ command ∷ todo → has_pin command.task ≡ false → reply ≡ reply_or_denied denied (answer_to rules command.task journal journal)
     → after ≡ journal ++ entries_of rules journal command reply → new ≡ lane_from todo None (lane.done ++ done_with command reply ∷ [])
@@ -39,7 +39,7 @@ answered_now rules denied journal after command todo reply lane new first kind s
     ∙ sym (ap (λ b. step_of rules denied journal (played lane ∷ []) 0 lane.done command todo b (pin_of lane.held)) kind)
     ∙ sym (ap (λ (cs : List Command). lane_step rules denied journal (played lane ∷ []) 0 cs (played lane)) first)
 
--- the first command, where it has a pin that is not taken yet
+-- the first command, if it has a pin that was not taken yet
 pub begun : (rules : Rules) (journal : List Entry) (command : Command) (todo : List Command) (held : Held) (lane new : LaneOf)
     → lane.todo ≡ command ∷ todo → has_pin command.task ≡ true → lane.held ≡ None → position_of held ≡ length journal → new ≡ lane_from lane.todo (Some held) lane.done
     → alone journal new ≡ step rules (alone journal lane) (0, false)
@@ -50,7 +50,7 @@ begun rules journal command todo held lane new first kind none here is =
     ∙ sym (ap (λ b. step_of rules false journal (played lane ∷ []) 0 lane.done command todo b (pin_of lane.held)) kind)
     ∙ sym (ap (λ (cs : List Command). lane_step rules false journal (played lane ∷ []) 0 cs (played lane)) first)
 
--- the first command, where its pin was taken
+-- the first command, if its pin was taken
 pub answered_then : (rules : Rules) (denied : Bool) (journal after : List Entry) (command : Command) (todo : List Command) (held : Held) (reply : Reply) (lane new : LaneOf)
     → lane.todo ≡ command ∷ todo → has_pin command.task ≡ true → lane.held ≡ Some held
     → reply ≡ reply_or_denied denied (answer_to rules command.task (take (position_of held) journal) journal)
@@ -66,13 +66,13 @@ answered_then rules denied journal after command todo held reply lane new first 
 
 -- ---- what is held
 
--- what is held stays so when entries follow
+-- what is held stays valid when entries follow
 pub held_grows : (journal more : List Entry) (todo : List Command) (held : Option Held) → IsHeld journal todo held → IsHeld (journal ++ more) todo held
 held_grows journal more todo None is = is
 held_grows journal more [] (Some held) is = is
 held_grows journal more (command ∷ todo) (Some held) is = held_at_grows journal more (merge_policy command.task) held is
 
--- ---- what a step leaves to do
+-- ---- what is left to do after a step
 
 pub one_less : (lane new : LaneOf) (command : Command) (todo : List Command) → lane.todo ≡ command ∷ todo → new.todo ≡ todo → length new.todo + 1 ≡ length lane.todo
 one_less lane new command todo first rest =

@@ -50,12 +50,12 @@ among commands command lane a (suc count) (suc k) at here =
     let apart : (command.lane == a) ≡ false = grind (arith, nat_tests, at) in
     (λ i. other commands command a apart i ∷ among commands command lane (a + 1) count k (omega (arith, at)) here i)
 
--- One more command comes behind those of its lane.
+-- One more command is added after those of its lane.
 pub one_more : (count : ℕ) (commands : List Command) (command : Command) (lane : Lane) (l : ℕ) → l ≡ command.lane → slice_get (lanes_from 0 count commands) l ≡ Some lane
     → slice_set (lanes_from 0 count commands) l (with_one command lane) ≡ lanes_from 0 count (commands ++ command ∷ [])
 one_more count commands command lane l is here = among commands command lane 0 count l (let e : command.lane ≡ 0 + l = omega (arith, is) in e) here
 
--- ---- lanes as the code holds them
+-- ---- lanes in the code
 
 all_new : (lanes more : List LaneOf) → AreNew lanes → AreNew more → AreNew (lanes ++ more)
 all_new [] more are and = and
@@ -76,7 +76,7 @@ shared_none lanes new only is =
     let e : lanes ≡ lane_from [] None [] ∷ [] = only ∙ ap (λ (lane : LaneOf). lane ∷ []) is in
     subst (AreShared 0 []) (sym e) (record { lanes_are = refl; all = refl; fresh = ((refl, refl), tt) })
 
--- one idle lane more
+-- one more idle lane
 pub shared_idle : (count : ℕ) (lanes later : List LaneOf) (new : LaneOf) → AreShared count [] lanes → new ≡ lane_from [] None [] → later ≡ lanes ++ new ∷ [] → AreShared (count + 1) [] later
 shared_idle count lanes later new so_far is pushed =
     let e : later ≡ lanes ++ lane_from [] None [] ∷ [] = pushed ∙ ap (λ (lane : LaneOf). lanes ++ lane ∷ []) is in
@@ -98,7 +98,7 @@ of_lanes count [] n d are within = absurd (omega (arith, within))
 of_lanes count (command ∷ commands) zero d are within = are.0
 of_lanes count (command ∷ commands) (suc n) d are within = of_lanes count commands n d are.1 (omega (arith, within))
 
--- a command's lane is there
+-- a command's lane exists
 pub lane_within : (count : ℕ) (commands : List Command) (n : ℕ) (some : List Command) (lanes : List LaneOf) (command : Command) → IsWithinLanes count commands → n < length commands → command ≡ get_or commands n command
     → AreShared count some lanes → command.lane < length lanes
 lane_within count commands n some lanes command are within is shared =
@@ -106,7 +106,7 @@ lane_within count commands n some lanes command are within is shared =
     let same : command.lane ≡ (get_or commands n command).lane = ap (λ (c : Command). c.lane) is in
     omega (arith, high, same, many count some lanes shared)
 
--- one command more
+-- one more command
 pub shared_more : (count : ℕ) (commands : List Command) (n : ℕ) (lanes later : List LaneOf) (command : Command) (lane new : LaneOf) (l : ℕ) → n < length commands → command ≡ get_or commands n command
     → AreShared count (take n commands) lanes → l ≡ command.lane → l < length lanes → lane ≡ get_or lanes l lane → new ≡ lane_from (lane.todo ++ command ∷ []) lane.held [] → later ≡ slice_set lanes l new
     → AreShared count (take (n + 1) commands) later

@@ -26,7 +26,7 @@ first_or : Lane → List Lane → Lane
 first_or lane [] = lane
 first_or lane (x ∷ xs) = x
 
--- what becomes of a lane alone becomes of it among others
+-- what happens to a lane alone happens to it among others
 carried : (journal after : List Entry) (old new : Lane) (lanes : List Lane) (l : ℕ) → play_with after (new ∷ []) ≡ play_with journal (old ∷ [])
     → play_with after (slice_set lanes l new) ≡ play_with journal (slice_set lanes l old)
 unfolding first_or
@@ -139,7 +139,7 @@ goes_on {keys} order later before mid after first second = record {
 pub ready_after : {keys : Keys} (order : List ℕ) (before after : StateOf) → Goes keys order before after → IsReady after
 ready_after {keys} order before after goes = record { journal = ap (λ (m : RunRecord). m.journal) goes.made; held = goes.held; entries = goes.entries; limits = goes.within; past = goes.past }
 
--- a lane that has nothing left stays, however often it has its turn
+-- a lane that has nothing left does not change, however many turns it has
 pub goes_idle : {keys : Keys} (state : StateOf) (l k : ℕ) → IsReady state → length (get_or state.lanes l (lane_from [] None [])).todo ≡ 0 → Goes keys (replicate k l) state state
 goes_idle {keys} state l k ready none = record {
   leads = leads_idle (rules_with keys state.catalogue.limits) state.catalogue.journal state.lanes l k none;
@@ -169,7 +169,7 @@ held_here journal [] l lane are within is = absurd (omega (arith, within))
 held_here journal (x ∷ lanes) zero lane are within is = subst (λ (y : LaneOf). IsHeld journal y.todo y.held) (sym is) are.0
 held_here journal (x ∷ lanes) (suc l) lane are within is = held_here journal lanes l lane are.1 (omega (arith, within)) is
 
--- what a step of one lane leaves of all
+-- the result of a step of one lane for all lanes
 pub goes_one : {keys : Keys} (catalogue catalogue' : CatalogueOf) (past past' : List Entry) (lanes : List LaneOf) (out out' : RecordOf) (l : ℕ) (lane new : LaneOf) (more : List Entry) (denied : Bool)
     → IsReady (state_with catalogue past lanes out) → IsPrefix past' catalogue'.journal → l < length lanes → lane ≡ get_or lanes l lane
     → alone catalogue'.journal new ≡ step (rules_with keys catalogue.limits) (alone catalogue.journal lane) (0, denied)
@@ -193,7 +193,7 @@ goes_one {keys} catalogue catalogue' past past' lanes out out' l lane new more d
       syncs_room = syncs;
     }
 
--- turns, and more turns
+-- turns, and then more turns
 pub goes_by : {keys : Keys} (order later whole : List ℕ) (before mid after : StateOf) → order ++ later ≡ whole → Goes keys order before mid → Goes keys later mid after → Goes keys whole before after
 goes_by {keys} order later whole before mid after same first second = subst (λ (ls : List ℕ). Goes keys ls before after) same (goes_on order later before mid after first second)
 

@@ -1,4 +1,4 @@
--- The lanes of the work of a batch: its commands, and the merger's behind them.
+-- The lanes of the work of a batch: its commands, and then the merger's.
 use Rattle.std.proofs.Common.{◌≡◌, refl, ap, sym, ◌∙◌, subst, ℕ, zero, suc, ◌+◌, ◌<◌, ◌≤◌, [], ◌∷◌, ◌++◌, append-nil, Bool, true, false, cond, map, Option, Some, None, arith}
 use Rattle.std.specs.Prelude.{◌==◌, filter}
 use Rattle.std.specs.List.{AllByRecursion, range_with_len}
@@ -24,7 +24,7 @@ mergers : (merger : Option ℕ) (batch : Batch) → AreMergers (merges_of merger
 mergers None batch = tt
 mergers (Some first) batch = mergers_from first (updates batch)
 
--- all work is of the merger's lane or of one up to n
+-- all work belongs to the merger's lane or to one of lanes 1 to n
 pub within_lanes : (n : ℕ) (merger : Option ℕ) (batch works : Batch) → IsOfLanes n batch → works ≡ batch ++ merges_of merger batch → IsWithinLanes n works
 within_lanes n merger batch works are is =
     subst (IsWithinLanes n) (sym is) (all_append (λ (c : Command). c.lane ≤ n) batch (merges_of merger batch)

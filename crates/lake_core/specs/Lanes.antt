@@ -1,4 +1,4 @@
--- The lanes of a batch as the code holds them, and the play that they are at.
+-- The lanes of a batch in the code, and the play that they represent.
 use Rattle.std.specs.Prelude.{◌≡◌, ℕ, ◌+◌, ⊤, List, [], ◌∷◌, length, map, sum_by, Option, Some, None}
 use Rattle.std.specs.List.{AllByRecursion, range_with_len}
 use Rattle.lake_model.specs.Journal.{Entry}
@@ -21,7 +21,7 @@ abbrev pub pin_of : Option Held → Option ℕ
 pin_of None = None
 pin_of (Some held) = Some (position_of held)
 
--- the lane as the play has it
+-- the lane of the play that a lane of the code represents
 abbrev pub played : LaneOf → Lane
 played lane = lane_with lane.todo (pin_of lane.held) lane.done
 
@@ -37,7 +37,7 @@ IsHeld journal (command ∷ todo) (Some held) = IsHeldAt journal (merge_policy c
 abbrev pub AreHeld : List Entry → List LaneOf → Type 0
 AreHeld journal lanes = AllByRecursion (λ lane. IsHeld journal lane.todo lane.held) lanes
 
--- how many commands are still to do
+-- the number of commands still to do
 abbrev pub left_in : LaneOf → ℕ
 left_in lane = length lane.todo
 
@@ -55,7 +55,7 @@ AreNew lanes = AllByRecursion (λ lane. (lane.held ≡ None) × (lane.done ≡ [
 abbrev pub done_in : LaneOf → List Done
 done_in lane = lane.done
 
--- the merger's lane and so many others, with the commands that each has to do, none of which is begun
+-- the merger's lane and `count` others, with the commands that each has to do, none of which has begun
 pub record AreShared (count : ℕ) (commands : List Command) (lanes : List LaneOf) : Type 0 where
   pub lanes_are : map played lanes ≡ map (lane_of commands) (range_with_len 0 (count + 1))
   pub all : left lanes ≡ length commands

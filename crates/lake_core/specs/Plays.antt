@@ -1,4 +1,4 @@
--- A play as the code holds it, and where a stated order of turns leads it.
+-- A play in the code, and where a stated order of turns leads it.
 use Rattle.std.specs.Prelude.{◌≡◌, ◌≤◌, ℕ, Bool, List, length}
 use mathlib.Core.List.{IsPrefix}
 use Rattle.lake_model.specs.declared.Keys.{Keys}
@@ -22,8 +22,8 @@ state_with catalogue past lanes out = record { catalogue = catalogue; past = pas
 abbrev pub play_at : StateOf → Play
 play_at state = play_of state.catalogue.journal state.lanes
 
--- The record has the journal of the lake, what is held and what the timeline took is of that journal, there is room for an entry of each command left, and the
--- limits are at most those of a lake as it is shipped.
+-- The record has the journal of the lake, what is held and what the timeline took belong to that journal, there is room
+-- for an entry of each command that is left, and the limits are at most those of a lake in the program.
 pub record IsReady (state : StateOf) : Type 0 where
   pub journal : state.out.made.journal ≡ state.catalogue.journal
   pub held : AreHeld state.catalogue.journal state.lanes
@@ -31,11 +31,11 @@ pub record IsReady (state : StateOf) : Type 0 where
   pub limits : IsWithin wide_limits state.catalogue.limits
   pub past : IsPrefix state.past state.catalogue.journal
 
--- the turns of this order lead from one play to another, with memory wanting at some of them or at none
+-- the turns of this order lead from one play to another, and memory runs out at some of them or at none
 abbrev pub Leads : Rules → List ℕ → Play → Play → Type 0
 Leads rules order before after = (denials : List Bool) × (length denials ≡ length order) × (after ≡ play rules order denials before)
 
--- The turns of this order lead from one state to another: of the record only the journal changes.
+-- The turns of this order lead from one state to another. Of the record only the journal changes.
 pub record Goes (keys : Keys) (order : List ℕ) (before after : StateOf) : Type 0 where
   pub leads : Leads (rules_with keys before.catalogue.limits) order (play_at before) (play_at after)
   pub held : AreHeld after.catalogue.journal after.lanes

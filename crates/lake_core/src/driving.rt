@@ -21,7 +21,7 @@ use no_memory::NoMemory;
 use run_record::{Answered, RunRecord};
 use std::alloc::Global;
 
-// So many lanes besides the merger's, all of them idle. The merger's is the first.
+// Makes `lanes` idle lanes after that of the merger, which is the first and also idle.
 fn idle_lanes<'a>(alloc: Global, lanes: u32) -> Result<Vec<Lane<'a>>, NoMemory>
     ensures { IfOk result (λ all. AreShared lanes [] all.items) }
 {
@@ -33,7 +33,7 @@ fn idle_lanes<'a>(alloc: Global, lanes: u32) -> Result<Vec<Lane<'a>>, NoMemory>
     Ok(all)
 }
 
-// The lanes with the work that each has to do, in its order.
+// Makes the lanes, each with the work that it has to do, in its order.
 fn share_out<'a>(alloc: Global, works: &[Work<'a>], lanes: u32) -> Result<Vec<Lane<'a>>, NoMemory>
     requires { IsWithinLanes lanes (works_of works.now) }
     ensures { IfOk result (λ all. AreShared lanes (works_of works.now) all.items) }
@@ -45,7 +45,7 @@ fn share_out<'a>(alloc: Global, works: &[Work<'a>], lanes: u32) -> Result<Vec<La
     Ok(all)
 }
 
-// The next step of a lane, where there is such a lane and it has one.
+// Takes the next step of a lane, if the lane exists and has one.
 fn step(
     alloc: Global,
     catalogue: &mut Catalogue,
@@ -63,7 +63,7 @@ fn step(
     }
 }
 
-// The steps of a piece, one after another.
+// Takes the steps of a piece, one after another.
 fn play_piece(
     alloc: Global,
     catalogue: &mut Catalogue,
@@ -81,14 +81,14 @@ fn play_piece(
     }
 }
 
-// Whether a lane has nothing left to do, as one that does not exist.
+// Returns whether a lane has nothing left to do. That also holds of a lane that does not exist.
 fn is_idle(lanes: &[Lane<'_>], lane: usize) -> bool
     ensures { result ≡ true → length (get_or lanes.now lane (lane_from [] None [])).todo ≡ 0 }
 {
     lane >= lanes.len() || lanes[lane].is_idle()
 }
 
-// What is left of a lane that has at most so much work, each of at most two steps.
+// Takes the steps that are left of a lane with at most `works` commands, each of which has at most two steps.
 fn play_lane(
     alloc: Global,
     catalogue: &mut Catalogue,
@@ -111,7 +111,7 @@ fn play_lane(
     }
 }
 
-// What is left, lane by lane, the merger last.
+// Takes the steps that are left, lane by lane, the merger last.
 fn play_rest(
     alloc: Global,
     catalogue: &mut Catalogue,
@@ -140,7 +140,7 @@ fn play_rest(
     play_lane(alloc, catalogue, keys, past, lanes, 0, works, out);
 }
 
-// The first answer of those that a lane has done, taken out.
+// Takes out the first answer of those that a lane has done.
 fn next_done(lanes: &mut [Lane<'_>], lane: usize) -> Option<Answered>
     ensures answer { option_to_list result ≡ answers_of (take 1 (get_or (map done_in lanes.old) lane [])) }
     ensures rest { map done_in lanes.new ≡ slice_set (map done_in lanes.old) lane (drop 1 (get_or (map done_in lanes.old) lane [])) }
@@ -152,7 +152,7 @@ fn next_done(lanes: &mut [Lane<'_>], lane: usize) -> Option<Answered>
     }
 }
 
-// The answers to the work, in its order, taken out of the lanes and put into the record.
+// Takes the answers to the work out of the lanes, in the order of the work, and adds them to the record.
 fn gather(works: &[Work<'_>], lanes: &mut [Lane<'_>], out: &mut RunRecord)
     requires { length works.now ≤ out.old.answers_room }
     ensures made { out.new.made ≡ record out.old.made { answers = out.old.made.answers ++ answers_of (gathered (works_of works.now) (map done_in lanes.old)) } }
@@ -165,8 +165,8 @@ fn gather(works: &[Work<'_>], lanes: &mut [Lane<'_>], out: &mut RunRecord)
     }
 }
 
-// All steps of the lanes: first those of the piece, and then what is left. The answers come into the record in the order of the
-// work, and it notes how long the journal is.
+// Takes all steps of the lanes: first those of the piece, and then those that are left. The answers are added to the
+// record in the order of the work, and then the length of the journal.
 fn play(
     alloc: Global,
     catalogue: &mut Catalogue,
@@ -192,14 +192,17 @@ fn play(
     out.add_sync();
 }
 
-/// Answers the commands of a batch, of which each is of a lane from 1 to `lanes`: the steps of the lanes are taken in the order of the
-/// piece, and what is left behind it lane by lane, the merger last. Values are compared by the match of `keys`. A load, a drop, a replace, a
-/// list of the tables and a search of an earlier position is one step; a search, a like, a contain and a merge are two, the pin and the
-/// answer. `past` has taken the journal up to some position, and takes more of it where an earlier position is asked for. `merger` is the
-/// merger's first number in this batch, where there is one; it has a merge for each load, drop and replace. The answers come in the order of
-/// the script, and then the merger's.
+/// Answers the commands of a batch, each of which belongs to a lane from 1 to `lanes`.
 ///
-/// Want of memory is answered before any step; from then on it is the reply to the command that meets it, which adds no entry.
+/// The steps of the lanes are taken in the order of the piece, and those left after it lane by lane, the merger last.
+/// Values are compared by the kind of keys in `keys`. A load, a drop, a replace, a list of the tables and a search of
+/// an earlier position are one step; a search, a like, a contain and a merge are two, the pin and the answer. `past`
+/// has taken the journal up to some position, and takes more of it when an earlier position is asked for. `merger` is
+/// the merger's first number in this batch, if there is a merger; it has a merge for each load, drop and replace. The
+/// answers come in the order of the script, and then the merger's.
+///
+/// Returns `Err(NoMemory)` only before any step is taken. If memory runs out later, that is the reply to the command
+/// for which it runs out, and the command adds no entry.
 pub fn drive(
     alloc: Global,
     catalogue: &mut Catalogue,
@@ -213,7 +216,7 @@ pub fn drive(
 ) -> Result<(), NoMemory>
     requires journal { out.old.made.journal ≡ catalogue.old.journal }
     requires lanes { IsOfLanes lanes batch.now }
-    // the limits of the lake are at most those of one as it is shipped
+    // the limits of the lake are at most those of a lake in the program
     requires limits { IsWithin wide_limits catalogue.old.limits }
     requires past { IsPrefix past.old catalogue.old.journal }
     // the merger's numbers stay below 2^64

@@ -1,4 +1,4 @@
-//! A lane of a batch: the work that it still has to do, what it holds for the first of it, and what it has done.
+//! A lane of a batch: the work that it still has to do, what it holds for the first of that, and what it has done.
 ghost use Rattle.std.specs.Prelude.{◌≡◌, ◌==◌, ◌≤◌, ◌<◌, ◌+◌, ◌++◌, ◌∷◌, [], Bool, List, drop, length, take, MatchOption, None, OnOk, Some, option_to_list, map};
 ghost use mathlib.Core.List.{IsPrefix};
 ghost use Rattle.lake_model.specs.Journal.{Entry};
@@ -22,7 +22,7 @@ use std::alloc::Global;
 use std::collections::VecDeque;
 use std::marker::Model;
 
-/// A lane of a batch. There is room for what is done of the work still to do.
+/// A lane of a batch. Its list of finished work has room for all the work still to do.
 #[derive(Drop)]
 pub struct Lane<'a> {
     todo: VecDeque<Work<'a>>,
@@ -44,7 +44,7 @@ impl<'a> Model for Lane<'a> {
 }
 
 impl<'a> Lane<'a> {
-    /// A lane that has nothing to do. It takes no memory.
+    /// Makes a lane that has nothing to do. It takes no memory.
     pub fn new(alloc: Global) -> Lane<'a>
         ensures { result ≡ lane_from [] None [] }
     {
@@ -55,7 +55,7 @@ impl<'a> Lane<'a> {
         }
     }
 
-    /// Puts work behind that still to do.
+    /// Adds work after the work still to do, or returns `Err(NoMemory)`.
     pub fn add(&mut self, work: Work<'a>) -> Result<(), NoMemory>
         requires { self.old.done ≡ [] }
         ensures { OnOk result (self.new ≡ lane_from (self.old.todo ++ work_of work.entry ∷ []) self.old.held []) }
@@ -68,21 +68,21 @@ impl<'a> Lane<'a> {
         Ok(())
     }
 
-    /// Whether nothing is left to do.
+    /// Returns whether nothing is left to do.
     pub fn is_idle(&self) -> bool
         ensures { result ≡ (length self.now.todo == 0) }
     {
         self.todo.is_empty()
     }
 
-    // The first of the work still to do.
+    // Returns the first of the work still to do.
     fn first(&self) -> Option<Work<'a>>
         ensures { MatchOption result (self.now.todo ≡ []) (λ work. self.now.todo ≡ work_of work ∷ drop 1 self.now.todo) }
     {
         self.todo.front().copied()
     }
 
-    // The first of the work still to do is answered.
+    // Answers the first of the work still to do.
     fn answer(&mut self, reply: Reply)
         ensures { (command : CommandOf) (todo : List CommandOf) → self.old.todo ≡ command ∷ todo → self.new ≡ lane_from todo None (self.old.done ++ done_with command (reply_of reply) ∷ []) }
     {
@@ -92,9 +92,10 @@ impl<'a> Lane<'a> {
         }
     }
 
-    /// Takes the next step, where there is one: the first of the work still to do is answered; but a search, a like or a merge has a
-    /// step before, in which the version of the lake is held at which it is answered, or the merge is planned. A search of an earlier position
-    /// has one step, before which the timeline takes what it lacks of the journal.
+    /// Takes the next step, if there is one: the first of the work still to do is answered. A search, a like, a contain
+    /// or a merge has a step before that, in which the version of the lake at which it is answered is held, or the
+    /// merge is planned. A search of an earlier position has one step, in which the timeline first takes the entries of
+    /// the journal that it has not taken yet.
     pub fn step(
         &mut self,
         alloc: Global,

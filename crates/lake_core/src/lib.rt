@@ -1,4 +1,5 @@
-//! Commands answered over a catalogue on one thread, one after another, with their answers and entries put into the record of the run.
+//! Answers commands over a catalogue on one thread, one after another, and adds their answers and entries to the record
+//! of the run.
 #![tactic(auto)]
 
 mod driving;

@@ -1,4 +1,5 @@
-//! How much is looked at in the segments of a lake: what the reply of each search tells, one column for each like, and nothing besides.
+//! Tests of how much is looked at in the segments of a lake: what the reply to each search states, one column for each
+//! like, and nothing else.
 ghost use Rattle.std.specs.Prelude.{◌≡◌, ◌≤◌, IfOk};
 ghost use Rattle.script_model.specs.Lanes.{IsOfLanes};
 
@@ -12,7 +13,7 @@ use run_record::{Reply, RunRecord};
 use std::alloc::Global;
 use std::test::Fail;
 
-// Three tables of weather stations, of the weather and of a census.
+// Three tables: of weather stations, of the weather and of a census.
 const STATIONS: &str =
     "\u{feff}station_id,city,country\r\n1,\"São Paulo, SP\",Brazil\r\n2,Zürich,Switzerland\r\n3,\"New\nYork\",USA\r\n";
 
@@ -21,7 +22,7 @@ const WEATHER: &str = "place,temp\nZÜRICH,12\n\"São Paulo, SP\",25\nLima,18\n"
 const CENSUS: &str =
     "City,Country,Pop\nzürich,switzerland,400000\nOslo,Norway,700000\n\"são paulo, sp\",Brazil,12000000\n";
 
-// The load of a table of this text.
+// Makes the load of a table with this text.
 fn load(alloc: Global, number: u64, table: &str, text: &str) -> Result<Command, Fail>
     ensures { IfOk result (λ command. command.lane ≡ 1) }
 {
@@ -32,7 +33,7 @@ fn load(alloc: Global, number: u64, table: &str, text: &str) -> Result<Command, 
     Ok(command(number, 1, task))
 }
 
-// The search for the columns that are most like the one at a place of a table.
+// Makes the search for the columns that are most like the one at a place of a table.
 fn like(number: u64, table: &str, place: u32) -> Result<Command, Fail>
     requires { 1 ≤ place }
     ensures { IfOk result (λ command. command.lane ≡ 1) }
@@ -45,7 +46,7 @@ fn like(number: u64, table: &str, place: u32) -> Result<Command, Fail>
     Ok(command(number, 1, task))
 }
 
-// Three tables that are merged, and a search that is decided by the rarest of four keys.
+// Makes three tables, their merge, and a search that is decided by the rarest of four keys.
 fn one_list_decides(alloc: Global) -> Result<Batch, Fail>
     ensures { IfOk result (λ batch. IsOfLanes 1 batch) }
 {
@@ -63,7 +64,7 @@ fn one_list_decides(alloc: Global) -> Result<Batch, Fail>
     Ok(Batch::new(Vec::from_array(alloc, commands)?))
 }
 
-// Three tables, and a search by each of two columns of the first.
+// Makes three tables, and a search by each of two columns of the first.
 fn likes(alloc: Global) -> Result<Batch, Fail>
     ensures { IfOk result (λ batch. IsOfLanes 1 batch) }
 {
@@ -77,7 +78,7 @@ fn likes(alloc: Global) -> Result<Batch, Fail>
     Ok(Batch::new(Vec::from_array(alloc, commands)?))
 }
 
-// What the meters of all segments say.
+// Sums the meters of all segments.
 fn meters(catalogue: &Catalogue) -> Result<u64, Fail> {
     let pin = catalogue.pin()?;
     let mut sum = 0u64;
@@ -87,7 +88,7 @@ fn meters(catalogue: &Catalogue) -> Result<u64, Fail> {
     Ok(sum)
 }
 
-// How many reads, and how many probes, the replies tell.
+// Sums the reads and the probes that the replies state.
 fn told(record: &RunRecord) -> (u64, u64) {
     let mut sums = (0u64, 0u64);
     for answered in record.answers() {
@@ -101,7 +102,7 @@ fn told(record: &RunRecord) -> (u64, u64) {
     sums
 }
 
-// What the meters of a lake say behind a batch of one lane; and what the replies tell.
+// Returns the sum of the meters of a lake after a batch of one lane, and the reads and probes that the replies state.
 fn metered(alloc: Global, batch: &Batch) -> Result<(u64, (u64, u64)), Fail>
     requires { IsOfLanes 1 batch.now }
 {

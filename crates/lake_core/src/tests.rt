@@ -1,4 +1,4 @@
-//! Lanes whose steps are taken in several orders, and merges among them.
+//! Tests of lanes whose steps are taken in several orders, with merges among them.
 ghost use Rattle.std.specs.Prelude.{◌≡◌, ◌≤◌, ◌<◌, ◌^◌, IfOk};
 ghost use Rattle.script_model.specs.Lanes.{IsOfLanes};
 ghost use Rattle.commands.specs.Tasks.{IsTaskInRange};
@@ -12,7 +12,8 @@ use run_record::{Reply, RunRecord};
 use std::alloc::Global;
 use std::test::Fail;
 
-// What an answer is, with its position; a search has the number of its rows before, a swap and a stale merge that of their plan.
+// The kind of an answer, with its position. A search has the number of its rows first, a swap and a stale merge the
+// position of their plan.
 #[derive(Clone, Copy, Debug, PartialEq, Eq)]
 enum Kind {
     Loaded(u64),
@@ -28,7 +29,7 @@ enum Kind {
 
 use Kind::{Dropped, Found, Later, Loaded, Merged, Nothing, Past, Stale};
 
-// The kind of a reply.
+// Returns the kind of a reply.
 fn kind_of(reply: &Reply) -> Kind {
     match reply {
         Reply::Loaded { at, .. } => Loaded(*at),
@@ -43,17 +44,17 @@ fn kind_of(reply: &Reply) -> Kind {
     }
 }
 
-// The name that a text is.
+// Reads a text as a name.
 pub(crate) fn name(text: &str) -> Result<Name, Fail> {
     Ok(Name::read(text.as_bytes()).ok_or("no name")?)
 }
 
-// A body of these bytes.
+// Makes a body of these bytes.
 pub(crate) fn body(alloc: Global, text: &str) -> Result<Body, Fail> {
     Ok(Body::new(Vec::from_slice(alloc, text.as_bytes())?).ok_or("no body")?)
 }
 
-// A command.
+// Makes a command.
 pub(crate) fn command(number: u64, lane: u32, task: Task) -> Command
     requires lane { 1 ≤ lane }
     requires task { IsTaskInRange task }
@@ -62,7 +63,7 @@ pub(crate) fn command(number: u64, lane: u32, task: Task) -> Command
     Command { number, lane, task }
 }
 
-// The load of a table of one column with one key, on lane 1.
+// Makes the load of a table of one column with one key, on lane 1.
 fn load(alloc: Global, number: u64, table: &str) -> Result<Command, Fail>
     ensures { IfOk result (λ command. command.lane ≡ 1) }
 {
@@ -73,7 +74,7 @@ fn load(alloc: Global, number: u64, table: &str) -> Result<Command, Fail>
     Ok(command(number, 1, task))
 }
 
-// A search for that key.
+// Makes a search for that key.
 fn search(alloc: Global, number: u64, lane: u32) -> Result<Command, Fail>
     requires { 1 ≤ lane }
     ensures { IfOk result (λ command. command.lane ≡ lane) }
@@ -85,7 +86,7 @@ fn search(alloc: Global, number: u64, lane: u32) -> Result<Command, Fail>
     Ok(command(number, lane, task))
 }
 
-// The drop of a table.
+// Makes the drop of a table.
 fn drop_table(number: u64, lane: u32, table: &str) -> Result<Command, Fail>
     requires { 1 ≤ lane }
     ensures { IfOk result (λ command. command.lane ≡ lane) }
@@ -94,7 +95,7 @@ fn drop_table(number: u64, lane: u32, table: &str) -> Result<Command, Fail>
     Ok(command(number, lane, task))
 }
 
-// A search for that key among the tables that were live after so many entries, on lane 2.
+// Makes a search for that key among the tables that were live after the first `asked` entries, on lane 2.
 fn search_past(alloc: Global, number: u64, asked: u64) -> Result<Command, Fail>
     requires { asked < 2 ^ 32 }
     ensures { IfOk result (λ command. command.lane ≡ 2) }
@@ -107,7 +108,8 @@ fn search_past(alloc: Global, number: u64, asked: u64) -> Result<Command, Fail>
     Ok(command(number, 2, task))
 }
 
-// Lane 1 loads a table and drops it; lane 2 searches what was live after its load, and after its drop.
+// Makes a batch in which lane 1 loads a table and drops it, and lane 2 searches what was live after the load, and after
+// the drop.
 fn searches_of_the_past(alloc: Global) -> Result<Batch, Fail>
     ensures { IfOk result (λ batch. IsOfLanes 2 batch) }
 {
@@ -120,7 +122,7 @@ fn searches_of_the_past(alloc: Global) -> Result<Batch, Fail>
     Ok(Batch::new(Vec::from_array(alloc, commands)?))
 }
 
-// Lane 1 loads two tables and searches them; lane 2 drops the second and searches too.
+// Makes a batch in which lane 1 loads two tables and searches them, and lane 2 drops the second and searches as well.
 fn searches(alloc: Global) -> Result<Batch, Fail>
     ensures { IfOk result (λ batch. IsOfLanes 2 batch) }
 {
@@ -134,7 +136,7 @@ fn searches(alloc: Global) -> Result<Batch, Fail>
     Ok(Batch::new(Vec::from_array(alloc, commands)?))
 }
 
-// Lane 1 loads four tables and merges; lane 2 merges too.
+// Makes a batch in which lane 1 loads four tables and merges, and lane 2 merges as well.
 fn merges(alloc: Global) -> Result<Batch, Fail>
     ensures { IfOk result (λ batch. IsOfLanes 2 batch) }
 {
@@ -149,7 +151,7 @@ fn merges(alloc: Global) -> Result<Batch, Fail>
     Ok(Batch::new(Vec::from_array(alloc, commands)?))
 }
 
-// Lane 1 loads four tables and drops one.
+// Makes a batch in which lane 1 loads four tables and drops one.
 fn updates(alloc: Global) -> Result<Batch, Fail>
     ensures { IfOk result (λ batch. IsOfLanes 2 batch) }
 {
@@ -163,7 +165,8 @@ fn updates(alloc: Global) -> Result<Batch, Fail>
     Ok(Batch::new(Vec::from_array(alloc, commands)?))
 }
 
-// The kinds of the answers of a batch of two lanes, from an index on, in a new lake; with a merger, if it is asked for.
+// Returns the kinds of the answers of a batch of two lanes, from an index on, in a new lake, with a merger if `merge`
+// is set.
 fn answers(
     alloc: Global,
     batch: &Batch,
@@ -214,7 +217,8 @@ fn orders(rt: HostRuntime) -> Result<(), Fail> {
     Ok(())
 }
 
-// A search of the past has one step. It stands at the position of that step, and finds what was live at the one that it asks for.
+// A search of an earlier position has one step. Its reply has the position of that step, and finds what was live at the
+// position asked for.
 #[test]
 fn past(rt: HostRuntime) -> Result<(), Fail> {
     let alloc = rt.alloc();
@@ -232,7 +236,7 @@ fn past(rt: HostRuntime) -> Result<(), Fail> {
     Ok(())
 }
 
-// Where lane 1 swaps before lane 2 plans, nothing is left to merge; where it swaps after that, the plan of lane 2 is stale.
+// If lane 1 swaps before lane 2 plans, nothing is left to merge; if it swaps after that, the plan of lane 2 is stale.
 #[test]
 fn two_merges(rt: HostRuntime) -> Result<(), Fail> {
     let alloc = rt.alloc();
@@ -248,7 +252,7 @@ fn two_merges(rt: HostRuntime) -> Result<(), Fail> {
     Ok(())
 }
 
-// The merger plans before the drop, and swaps after it. Of its five commands the others find nothing to merge.
+// The merger plans before the drop, and swaps after it. The other four of its five commands find nothing to merge.
 #[test]
 fn merger(rt: HostRuntime) -> Result<(), Fail> {
     let alloc = rt.alloc();

@@ -43,16 +43,16 @@ use Rattle.record_model.proofs.LegalLemmas.{either_none}
 self_prefix : (now : List Entry) → (length now ≤ length now) × (take (length now) now ≡ now)
 self_prefix now = (omega arith, take_all (length now) now (omega arith))
 
--- a pass that holds no turn, and has seen nothing more
+-- a pass that holds no turn, and has seen nothing more, is unchanged
 pub same_pass : (pass : Known Entry) → pass.holds ≡ false → pass ≡ after_seeing pass pass.seen false
 same_pass pass free = ap (λ (b : Bool). after_seeing pass pass.seen b) free
 
--- what the pass had seen, followed by what it saw since
+-- what the pass had seen, followed by what it has seen since
 behind_of : (rules : Rules) (command : Command) (before : Known Entry) (reply : Reply) (after : List Entry) → (a : IsAnswered rules command before reply after) → before.seen ++ (a.grows.rest ++ entries_of rules a.pinned command reply) ≡ after
 behind_of rules command before reply after a =
     sym (append_assoc before.seen a.grows.rest (entries_of rules a.pinned command reply)) ∙ ap (λ (j : List Entry). j ++ entries_of rules a.pinned command reply) a.grows.begins ∙ sym a.added
 
--- The one answer is right between what was seen before and after.
+-- The one answer is right between what was seen before it and after it.
 answered_right : (rules : Rules) (command : Command) (before : Known Entry) (reply : Reply) (after : List Entry) → (a : IsAnswered rules command before reply after) → command.lane ≡ before.caller
     → IsRight rules before.caller before.seen (a.grows.rest ++ entries_of rules a.pinned command reply) (done_with command reply ∷ [])
 answered_right rules command before reply after a mine =
@@ -72,7 +72,7 @@ answered_step rules command before reply after a same = record {
   right = answered_right rules command before reply after.seen a;
 }
 
--- the same for a command that is the pass's own where its lane is
+-- the same for a command that is the pass's own if its lane is
 pub answered_by : (rules : Rules) (command own : Command) (before : Known Entry) (reply : Reply) (after : Known Entry) → (command.lane ≡ before.caller → own ≡ command) → own.lane ≡ before.caller
     → IsAnswered rules own before reply after.seen → after ≡ after_seeing before after.seen before.holds → IsStep rules before command reply after
 answered_by rules command own before reply after is mine a same =
@@ -85,7 +85,7 @@ answered_by rules command own before reply after is mine a same =
 
 -- ---- commands without a pin
 
--- what was made of a command without a pin
+-- a command without a pin was answered if its reply was made
 pub made_answered : (rules : Rules) (number : ℕ) (task : Task) (answer : List Entry → Reply) (whats : Reply → List What) (before : Known Entry) (reply : Reply) (after : List Entry)
     → ((found : List Entry) → answer found ≡ answer_to rules task found found) → ((found : List Entry) → whats reply ≡ adds rules task found reply)
     → IsMade answer whats number before reply after → IsAnswered rules (command_with number before.caller task) before reply after
@@ -154,7 +154,7 @@ pub replace_refused : (rules : Rules) (number : ℕ) (name : Text) (bytes : List
 replace_refused rules number name bytes before reply why =
     unmoved rules (command_with number before.caller (Replace name bytes)) before reply (refused_replace_answer rules before.seen (table_read rules.keys name bytes) reply why) (refused_nowhere (table_read rules.keys name bytes) reply why)
 
--- ---- what is asked
+-- ---- questions
 
 asks_nothing : (rules : Rules) (task : Task) → is_update_task task ≡ false → merge_policy task ≡ None → (pinned : List Entry) → change_of rules task pinned ≡ []
 asks_nothing rules (Load name body) u m pinned = absurd (let f : true ≡ false = u in cc)
@@ -243,9 +243,9 @@ merge_denied rules number all before after grows = record {
   added = sym (append-nil after);
 }
 
--- ---- searches of the past
+-- ---- searches of an earlier position
 
--- one adds nothing, and is no merge
+-- such a search adds nothing, and is not a merge
 pub asks_past : (task : Task) → is_past task ≡ true → (is_update_task task ≡ false) × (merge_policy task ≡ None)
 asks_past (Load name body) h = absurd (let f : false ≡ true = h in cc)
 asks_past (LoadFile name file) h = absurd (let f : false ≡ true = h in cc)
@@ -264,7 +264,7 @@ asked_past rules number task before reply after past grows answers = let (update
 
 -- ---- what a timeline took
 
--- a beginning of what was seen before an answer is one of what is seen then
+-- a beginning of what was seen before an answer is a beginning of what is seen then
 pub begins_still : {rules : Rules} {command : Command} {before : Known Entry} {reply : Reply} {after : List Entry} → IsAnswered rules command before reply after → (past : List Entry) → IsPrefix past before.seen → IsPrefix past after
 begins_still {rules} {command} {before} {reply} {after} a past begins = prefix_on past before.seen after begins (a.grows.rest ++ entries_of rules a.pinned command reply, behind_of rules command before reply after a)
 

@@ -1,4 +1,5 @@
--- A batch at the desks of a run: apart after its commands, together again after they are handed the journal, and what that is for the record.
+-- A batch at the desks of a run: apart after its commands, together again after they are handed the journal, and what follows for the
+-- record.
 use Rattle.std.proofs.Common.{◌≡◌, refl, ap, sym, ◌∙◌, subst, ℕ, zero, suc, ◌+◌, ◌-◌, ◌<◌, ◌≤◌, List, [], ◌∷◌, ◌++◌, length, length-append, take, drop, map, Option, Some, None, arith, false}
 use Rattle.std.specs.Prelude.{slice_get, Ok, Err, OnOk}
 use Rattle.std.specs.List.{AllByRecursion, range_with_len}
@@ -26,7 +27,7 @@ use Rattle.lake_desk.proofs.Chains.{Comes, chain_right, lane_right}
 use Rattle.lake_desk.proofs.Lanes.{kept_own}
 use Rattle.lake_desk.proofs.Places.{there, within_list}
 
--- ---- the commands have desks
+-- ---- each command has a desk
 
 merges_within : (n first count : ℕ) → 0 < n → AreWithin n (map (λ number. command_with number 0 (Merge false)) (range_with_len first count))
 merges_within n first zero low = tt
@@ -44,7 +45,7 @@ commands_within lanes count merger batch are is =
 
 -- ---- after the commands
 
--- what the commands of its lane make of a desk
+-- what the commands of its lane do to a desk
 came : (rules : Rules) (lanes : ℕ) (journal : List Entry) (commands : List Command) (answers : List Answered) (before served : List (Known Entry)) → AreTogether lanes journal before → AreServed (IsStep rules) before commands answers served
     → (l : ℕ) (later : Known Entry) → slice_get served l ≡ Some later → (desk : Known Entry) × (slice_get before l ≡ Some desk) × Comes rules l desk (done_of l commands answers) later
 came rules lanes journal commands answers before served together ran l later at =

@@ -16,7 +16,7 @@ use Rattle.lane_run.specs.Chains.{Chain}
 use Rattle.lake_desk.specs.Answering.{IsStep}
 use Rattle.lake_desk.proofs.Lanes.{kept_own, none_right, not_own}
 
--- what a chain makes of a lane
+-- what a chain does to a lane
 pub record Comes (rules : Rules) (lane : ℕ) (before : Known Entry) (done : List Done) (after : Known Entry) : Type 0 where
   pub behind : List Entry
   pub sees : after ≡ after_seeing before (before.seen ++ behind) before.holds
@@ -45,7 +45,7 @@ chain_right rules lane before (d ∷ done) after own is (between, here, later) =
       right = right_on rules lane before.seen here.behind rest.behind (done_with d.command d.reply ∷ []) done first second;
     }
 
--- The answers of a lane are right between the journal before the batch and any that the lane's list has grown to.
+-- The answers of a lane are right between the journal before the batch and any journal to which the lane's list has grown.
 pub lane_right : (rules : Rules) (lane : ℕ) (journal behind : List Entry) (commands : List Command) (answers : List Answered) (before after : Known Entry) → before.seen ≡ journal → lane ≡ before.caller
     → Chain (IsStep rules) before (done_of lane commands answers) after → Grows caller_of (callers_of after) after.seen (journal ++ behind)
     → IsRight rules lane journal behind (done_of lane commands answers)

@@ -1,4 +1,4 @@
--- The opening desk sees what one lane after another has seen.
+-- The opening desk sees what each lane has seen, one after another.
 use Rattle.std.proofs.Common.{◌≡◌, refl, ap, sym, ◌∙◌, subst, ℕ, zero, suc, ◌+◌, ◌-◌, ◌<◌, ◌≤◌, List, [], ◌∷◌, ◌++◌, length, take, get_or, arith, Bool, false}
 use Rattle.std.specs.Prelude.{slice_set}
 use Rattle.std.specs.List.{AllByRecursion}
@@ -43,7 +43,7 @@ gathered_more n lanes before now later lane met so_far within at meets grows beg
           (begin_last later.seen (take n lanes) lane (begin_on now.seen later.seen (take n lanes) (on.rest, on.begins) so_far.begin) begins);
     }
 
--- writing what is there changes nothing
+-- writing what is already there changes nothing
 pub set_same : (lanes : List (Known Entry)) (n : ℕ) (lane new : Known Entry) → n < length lanes → lane ≡ get_or lanes n lane → new ≡ lane → slice_set lanes n new ≡ lanes
 set_same [] n lane new within at is = absurd (omega (arith, within))
 set_same (x ∷ lanes) zero lane new within at is = ap (λ (p : Known Entry). p ∷ lanes) (is ∙ at)
@@ -51,7 +51,7 @@ set_same (x ∷ lanes) (suc n) lane new within at is = ap (λ (ps : List (Known 
 
 -- ---- the desks as one list, the opening one first
 
--- how far the others were gathered, where the next is at this place
+-- how far the others were gathered, if the next one is at this place
 pub record GathersTo (n : ℕ) (before now : List (Known Entry)) : Type 0 where
   pub opening : Known Entry
   pub later : Known Entry
@@ -69,7 +69,7 @@ of_next : (n : ℕ) (opening : Known Entry) (lanes : List (Known Entry)) (lane :
 of_next zero opening lanes lane up at = absurd (omega (arith, up))
 of_next (suc n) opening lanes lane up at = at ∙ ap (λ (k : ℕ). get_or lanes k lane) (let e : n ≡ suc n - 1 = omega arith in e)
 
--- what is written at the first place and at the next of the others
+-- the result of writing at the first place and at the next of the others
 set_two : (n : ℕ) (opening : Known Entry) (lanes : List (Known Entry)) (noted later : Known Entry) → 1 ≤ n → slice_set (slice_set (opening ∷ lanes) n noted) 0 later ≡ later ∷ slice_set lanes (n - 1) noted
 set_two zero opening lanes noted later up = absurd (omega (arith, up))
 set_two (suc n) opening lanes noted later up = ap (λ (k : ℕ). later ∷ slice_set lanes k noted) (let e : n ≡ suc n - 1 = omega arith in e)
@@ -122,7 +122,7 @@ lock_at lock [] n lane h within is = absurd (omega (arith, within))
 lock_at lock (x ∷ lanes) zero lane h within is = ap (λ (p : Known Entry). p.lock) is ∙ h.0
 lock_at lock (x ∷ lanes) (suc n) lane h within is = lock_at lock lanes n lane h.1 (omega (arith, within)) is
 
--- the next desk and the opening one are of one lock
+-- the next desk and the opening one have one lock
 pub gathers_lock : (n : ℕ) (before now : List (Known Entry)) (lane noted first : Known Entry) → GathersTo n before now → AreOfOneLock before → 1 ≤ n → n < length now → lane ≡ get_or now n lane
     → first ≡ get_or (slice_set now n noted) 0 first → lane.lock ≡ first.lock
 gathers_lock n before now lane noted first so_far one up within at from =

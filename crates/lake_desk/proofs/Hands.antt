@@ -11,7 +11,7 @@ use Rattle.turn_lock.proofs.Histories.{prefix_whole}
 use Rattle.lake.specs.Lawful.{caller_of}
 use Rattle.lake_desk.specs.Gathered.{AllBegin, AllMeet, AreHandedOut, AreOfOneLock, IsBehindAll}
 
--- of a beginning and the whole, the longer is the whole
+-- of a beginning and the whole, the longer one is the whole
 pub longer_whole : (xs ys : List Entry) → IsPrefix xs ys → longer xs ys ≡ ys
 longer_whole xs ys p = by (ltb (length xs) (length ys)) refl
   where
@@ -19,7 +19,7 @@ longer_whole xs ys p = by (ltb (length xs) (length ys)) refl
     by true is = refl
     by false is = prefix_whole xs ys p (let le : length ys ≤ length xs = grind (arith, nat_tests) in le)
 
--- the first n lanes have come to see the list, and the others are as they were
+-- the first n lanes have come to see the list, and the others are unchanged
 abbrev pub AreHanded : List Entry → ℕ → List (Known Entry) → List (Known Entry) → Type 0
 AreHanded whole zero olds news = olds ≡ news
 AreHanded whole (suc n) [] [] = Unit {0}
@@ -27,7 +27,7 @@ AreHanded whole (suc n) [] (new ∷ news) = ⊥
 AreHanded whole (suc n) (old ∷ olds) [] = ⊥
 AreHanded whole (suc n) (old ∷ olds) (new ∷ news) = (new ≡ after_seeing old whole false) × Grows caller_of (callers_of old) old.seen whole × AreHanded whole n olds news
 
--- what the step leaves at a place
+-- the desk that the step leaves at a place
 pub record IsHanded (whole : List Entry) (lane new : Known Entry) : Type 0 where
   pub same : new ≡ after_seeing lane whole false
   pub grows : Grows caller_of (callers_of lane) lane.seen whole
@@ -59,7 +59,7 @@ handed_all whole (suc n) [] (x ∷ news) h le = absurd h
 handed_all whole (suc n) (old ∷ olds) [] h le = absurd h
 handed_all whole (suc n) (old ∷ olds) (x ∷ news) h le = (h.0, h.1, handed_all whole n olds news h.2 (omega (arith, le)))
 
--- a fact of all lanes holds of the next of those that are left
+-- a fact of all lanes holds of the next lane that is left
 pub left_at : (P : Known Entry → Type 0) (whole : List Entry) (n : ℕ) (olds news : List (Known Entry)) (lane : Known Entry) → AreHanded whole n olds news → AllByRecursion P olds → n < length news → lane ≡ get_or news n lane → P lane
 left_at P whole zero [] news lane h all within at = absurd (let e : length {A = Known Entry} [] ≡ length news = ap (λ (ls : List (Known Entry)). length ls) h in omega (arith, e, within))
 left_at P whole zero (old ∷ olds) [] lane h all within at = absurd (omega (arith, within))
@@ -71,7 +71,7 @@ left_at P whole (suc n) (old ∷ olds) (x ∷ news) lane h all within at = left_
 
 -- ---- the desks as one list, the opening one first
 
--- how far the others were handed the list, where the next is at this place
+-- how far the list was handed to the others, if the next one is at this place
 pub record HandsTo (n : ℕ) (before now : List (Known Entry)) : Type 0 where
   pub opening : Known Entry
   pub lanes : List (Known Entry)
@@ -101,13 +101,13 @@ set_next (suc n) opening noted later now new up is same =
     ap (λ (ds : List (Known Entry)). slice_set (slice_set ds 0 noted) (suc n) new) is ∙ ap (λ (p : Known Entry). p ∷ slice_set later n new) same
     ∙ ap (λ (k : ℕ). opening ∷ slice_set later k new) (let e : n ≡ suc n - 1 = omega arith in e)
 
--- what the next desk has seen begins the list
+-- what the next desk has seen is a beginning of the list
 pub hands_begin : (n : ℕ) (before now : List (Known Entry)) (noted lane : Known Entry) → (so_far : HandsTo n before now) → 1 ≤ n → n < length now → lane ≡ get_or (slice_set now 0 noted) n lane → IsPrefix lane.seen so_far.opening.seen
 hands_begin n before now noted lane so_far up within at =
     let inside : n - 1 < length so_far.later = omega (arith, up, within, ap (λ (ds : List (Known Entry)). length ds) so_far.now_is) in
     left_at (λ (p : Known Entry). IsPrefix p.seen so_far.opening.seen) so_far.opening.seen (n - 1) so_far.lanes so_far.later lane so_far.handed so_far.begin inside (next_is n so_far.opening noted so_far.later now lane up so_far.now_is at)
 
--- the opening desk and the next are of one lock
+-- the opening desk and the next one have one lock
 pub hands_lock : (n : ℕ) (before now : List (Known Entry)) (first noted lane : Known Entry) → HandsTo n before now → AreOfOneLock before → 1 ≤ n → n < length now → first ≡ get_or now 0 first
     → lane ≡ get_or (slice_set now 0 noted) n lane → first.lock ≡ lane.lock
 hands_lock n before now first noted lane so_far one up within from at =

@@ -10,7 +10,7 @@ use Rattle.lake.specs.Lawful.{caller_of}
 use Rattle.record_model.specs.Play.{Done}
 use Rattle.record_model.specs.Right.{IsRight}
 
--- entries of callers other than these are none of a lane's own, where the lane is one of them
+-- entries of callers other than these are not a lane's own, if the lane is one of them
 pub not_own : (lane : ℕ) (callers : List ℕ) (entries : List Entry) → Has callers lane → IsOfOthers caller_of callers entries → AllByRecursion (λ e. (e.who.caller == lane) ≡ false) entries
 not_own lane callers [] has others = tt
 not_own lane callers (e ∷ entries) has others =
@@ -19,7 +19,7 @@ not_own lane callers (e ∷ entries) has others =
       not_own lane callers entries has others.1,
     )
 
--- what is kept for a lane is of the lane
+-- what the filter keeps for a lane is the lane's
 pub kept_own : (lane : ℕ) (done : List Done) → AllByRecursion (λ d. d.command.lane ≡ lane) (filter (λ (d : Done). d.command.lane == lane) done)
 kept_own lane [] = tt
 kept_own lane (d ∷ done) = by (d.command.lane == lane) refl (kept_own lane done)
@@ -28,6 +28,6 @@ kept_own lane (d ∷ done) = by (d.command.lane == lane) refl (kept_own lane don
     by true is rest = ((let e : d.command.lane ≡ lane = grind (arith, nat_tests, is) in e), rest)
     by false is rest = rest
 
--- no answers are right where nothing has come
+-- an empty list of answers is right if nothing was added
 pub none_right : (rules : Rules) (lane : ℕ) (before : List Entry) → IsRight rules lane before [] []
 none_right rules lane before = record { entries = refl; placed = tt; positions = omega (arith, ap (λ (j : List Entry). length j) (append-nil before)); unplaced = tt }

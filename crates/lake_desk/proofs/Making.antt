@@ -1,4 +1,4 @@
--- What a lake accepts or refuses, as an answer.
+-- What a lake accepts or refuses, as a reply.
 use Rattle.std.proofs.Common.{◌≡◌, refl, ap, sym, ◌∙◌, ℕ, ◌+◌, List, [], ◌∷◌, ◌++◌, append-nil, length, length-append, false, map, ◌⊎◌, Option, Some, None, arith}
 use Rattle.lake_model.specs.declared.Counts.{Counts}
 use Rattle.lake_model.specs.Texts.{Text}
@@ -27,7 +27,7 @@ use Rattle.lake_desk.specs.Answering.{IsMade}
 at_end : (found after : List Entry) (entry : Entry) (at : ℕ) → after ≡ found ++ entry ∷ [] → at ≡ length after → at ≡ length found + 1
 at_end found after entry at ends is = omega (arith, is, ap (λ (j : List Entry). length j) ends, length-append found (entry ∷ []))
 
--- what an accepted change makes, where the answer says it of a journal at which nothing refuses it
+-- the result of an accepted change, if the answer is the accepting one at a journal at which nothing refuses it
 made_by : {R : Type 0} (refusal : List Entry → Option R) (answer : List Entry → Reply) (adds : Reply → List What) (said : ℕ → Reply) (what : What)
     → ((found : List Entry) → refusal found ≡ None → answer found ≡ said (length found + 1)) → ((at : ℕ) → adds (said at) ≡ what ∷ [])
     → (number at : ℕ) (before : Known Entry) (reply : Reply) (after : List Entry)
@@ -42,7 +42,7 @@ made_by refusal answer adds said what answers one number at before reply after a
       added = accepted.added.ends ∙ ap (λ (ws : List What). found ++ map (entry_with (who_with before.caller number)) ws) (sym (one at) ∙ ap adds (sym is));
     }
 
--- what a refused change makes
+-- the result of a refused change
 unmade_by : (answer : List Entry → Reply) (adds : Reply → List What) (number : ℕ) (before : Known Entry) (reply said : Reply) (after : List Entry)
     → Grows caller_of (callers_of before) before.seen after → Answers said (answer after) → adds said ≡ [] → reply ≡ said → IsMade answer adds number before reply after
 unmade_by answer adds number before reply said after grows (denied, answers) none is = record {

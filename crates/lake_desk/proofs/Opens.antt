@@ -1,4 +1,4 @@
--- The desks of a lake that nobody has used are together.
+-- The desks of an unused lake are together.
 use Rattle.std.proofs.Common.{◌≡◌, refl, ap, sym, ◌∙◌, subst, ℕ, zero, suc, ◌+◌, ◌-◌, List, [], ◌∷◌, ◌++◌, map, Option, Some, None, arith, false}
 use Rattle.std.specs.Prelude.{slice_get, pred, IfSome}
 use Rattle.std.specs.List.{range_with_len}
@@ -30,7 +30,7 @@ opened_together lock lanes desks are = subst (AreTogether lanes []) (sym are) (r
         let number : 1 + l ≡ suc l = omega arith in
         (ap (λ (p : Known Entry). p.lock) is, ap (λ (p : Known Entry). p.caller) is ∙ number, ap (λ (p : Known Entry). p.holds) is, ap (λ (p : Known Entry). p.seen) is)
 
--- ---- one desk more
+-- ---- one more desk
 
 pred_minus : (n lanes : ℕ) → pred (lanes - n) ≡ lanes - (n + 1)
 pred_minus n lanes = by (lanes - n) refl

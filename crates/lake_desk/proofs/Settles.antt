@@ -1,4 +1,4 @@
--- The desks of a batch, gathered, read and handed out.
+-- The desks of a batch when they were gathered, when the journal was read, and when it was handed out.
 use Rattle.std.proofs.Common.{◌≡◌, ap, sym, ◌∙◌, subst, ℕ, ◌+◌, ◌<◌, ◌≤◌, List, ◌∷◌, ◌++◌, length, drop, get_or, Some, arith, false}
 use Rattle.std.specs.Prelude.{slice_get, slice_set}
 use Rattle.std.specs.List.{AllByRecursion}

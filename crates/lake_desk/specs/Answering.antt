@@ -1,4 +1,4 @@
--- What an answer at a lake is.
+-- When a command was answered at a lake.
 use Rattle.std.specs.Prelude.{ℕ, ◌≡◌, ◌≤◌, Bool, false, List, [], ◌∷◌, ◌++◌, length, take, map}
 use Rattle.record_model.specs.Rules.{Rules}
 use Rattle.lake_model.specs.Journal.{Entry, What, entry_with, who_with}
@@ -11,8 +11,8 @@ use Rattle.record_model.specs.Answered.{answer_to, has_pin}
 use Rattle.record_model.specs.Play.{done_with, entries_of, reply_or_denied}
 use Rattle.record_model.specs.Right.{IsRight}
 
--- The pass saw entries of others, and then what the reply adds, under its caller and this number. The reply is what this function says of
--- what was seen just before, or that of a command that ran out of memory.
+-- The pass saw entries of others, and then what the reply adds, under its caller and this number. The reply is the
+-- given function of what was seen just before, or that memory ran out.
 pub record IsMade (answer : List Entry → Reply) (adds : Reply → List What) (number : ℕ) (before : Known Entry) (reply : Reply) (after : List Entry) : Type 0 where
   pub found : List Entry
   pub denied : Bool
@@ -20,7 +20,8 @@ pub record IsMade (answer : List Entry → Reply) (adds : Reply → List What) (
   pub is : reply ≡ reply_or_denied denied (answer found)
   pub added : after ≡ found ++ map (entry_with (who_with before.caller number)) (adds reply)
 
--- A command was answered: at what was seen when it was pinned, which for one without a pin is what was seen just before the reply.
+-- A command was answered at what was seen when it was pinned; for a command without a pin this is what was seen just
+-- before the reply.
 pub record IsAnswered (rules : Rules) (command : Command) (before : Known Entry) (reply : Reply) (after : List Entry) : Type 0 where
   pub found : List Entry
   pub pinned : List Entry
@@ -32,8 +33,8 @@ pub record IsAnswered (rules : Rules) (command : Command) (before : Known Entry)
   pub is : reply ≡ reply_or_denied denied (answer_to rules command.task pinned found)
   pub added : after ≡ found ++ entries_of rules pinned command reply
 
--- A command with its reply takes a pass from what it has seen to what it sees then: nothing else of it changes, and where the command is of the
--- pass's own lane, the one answer is right between the two.
+-- A command with its reply takes a pass from what it had seen to what it sees then. Nothing else of the pass changes,
+-- and if the command is of the pass's own lane, the one answer is right between the two.
 pub record IsStep (rules : Rules) (before : Known Entry) (command : Command) (reply : Reply) (after : Known Entry) : Type 0 where
   pub behind : List Entry
   pub sees : after ≡ after_seeing before (before.seen ++ behind) before.holds

@@ -1,4 +1,4 @@
--- What the desks have seen after the commands of a batch, and how they are brought together.
+-- What the desks have seen after the commands of a batch, and how this is exchanged between them.
 use Rattle.std.specs.Prelude.{ℕ, ◌+◌, ◌≡◌, ⊤, false, List, [], ◌∷◌, length, slice_get, Some}
 use Rattle.std.specs.List.{AllByRecursion}
 use mathlib.Core.List.{IsPrefix}
@@ -8,15 +8,15 @@ use Rattle.turn_lock.specs.History.{Grows}
 use Rattle.turn_lock.specs.Passes.{Known, after_seeing, callers_of}
 use Rattle.lake.specs.Lawful.{caller_of}
 
--- The desks are of one lock and numbered from 0, and hold no turn. Each has seen this journal, and some of what followed while its lane was
--- answered. The first is that of the pass that gave the others their numbers.
+-- The desks have one lock, are numbered from 0, and hold no turn. Each has seen this journal, and some of what followed
+-- while its lane was answered. The first is that of the pass that gave the others their numbers.
 pub record AreApart (lanes : ℕ) (journal : List Entry) (desks : List (Known Entry)) : Type 0 where
   pub lock : TableId
   pub count : length desks ≡ lanes + 1
   pub each : (l : ℕ) (desk : Known Entry) → slice_get desks l ≡ Some desk → (desk.lock ≡ lock) × (desk.caller ≡ l) × (desk.holds ≡ false) × IsPrefix journal desk.seen
   pub opening : (desk : Known Entry) → slice_get desks 0 ≡ Some desk → desk.given ≡ Some (lanes + 1)
 
--- the desks are of one lock
+-- the desks have one lock
 pub record AreOfOneLock (desks : List (Known Entry)) : Type 0 where
   pub lock : TableId
   pub each : AllByRecursion (λ desk. desk.lock ≡ lock) desks
@@ -25,19 +25,19 @@ pub record AreOfOneLock (desks : List (Known Entry)) : Type 0 where
 abbrev pub AreFree : List (Known Entry) → Type 0
 AreFree desks = AllByRecursion (λ desk. desk.holds ≡ false) desks
 
--- what each desk has seen begins this list
+-- what each desk has seen is a beginning of this list
 abbrev pub AllBegin : List Entry → List (Known Entry) → Type 0
 AllBegin whole desks = AllByRecursion (λ desk. IsPrefix desk.seen whole) desks
 
--- each desk has come to see this list, which goes on from its own with entries of other callers
+-- each desk has come to see this list, which goes on from the desk's own with entries of other callers
 abbrev pub AllMeet : List Entry → List (Known Entry) → List (Known Entry) → Type 0
 AllMeet whole [] [] = ⊤
 AllMeet whole [] (new ∷ news) = ⊥
 AllMeet whole (old ∷ olds) [] = ⊥
 AllMeet whole (old ∷ olds) (new ∷ news) = (new ≡ after_seeing old whole false) × Grows caller_of (callers_of old) old.seen whole × AllMeet whole olds news
 
--- The first desk has come to see a list that goes on from its own with entries of other callers, and that each other desk's list begins. The
--- others are as they were.
+-- The first desk has come to see a list that goes on from its own with entries of other callers, and that begins with
+-- each other desk's list. The others are unchanged.
 pub record IsGathered (before after : List (Known Entry)) : Type 0 where
   pub opening : Known Entry
   pub later : Known Entry
@@ -48,14 +48,14 @@ pub record IsGathered (before after : List (Known Entry)) : Type 0 where
   pub grows : Grows caller_of (callers_of opening) opening.seen later.seen
   pub begin : AllBegin later.seen lanes
 
--- what each other desk has seen begins what the first has seen
+-- what each other desk has seen is a beginning of what the first has seen
 pub record IsBehindAll (desks : List (Known Entry)) : Type 0 where
   pub opening : Known Entry
   pub lanes : List (Known Entry)
   pub are : desks ≡ opening ∷ lanes
   pub begin : AllBegin opening.seen lanes
 
--- Each other desk has come to see what the first has seen, and the first is as it was.
+-- Each other desk has come to see what the first has seen, and the first is unchanged.
 pub record AreHandedOut (before after : List (Known Entry)) : Type 0 where
   pub opening : Known Entry
   pub lanes : List (Known Entry)

@@ -11,16 +11,17 @@ use Rattle.record_model.specs.Record.{Answered, RunRecord}
 use Rattle.record_model.specs.InTurn.{with_sync}
 use Rattle.record_model.specs.Right.{IsBatchRight}
 
--- The desks are of one lock and numbered from 0, hold no turn, and have each seen this whole journal. The first is that of the pass that gave
--- the others their numbers.
+-- The desks have one lock, are numbered from 0, hold no turn, and have each seen the whole journal. The first is that
+-- of the pass that gave the others their numbers.
 pub record AreTogether (lanes : ℕ) (journal : List Entry) (desks : List (Known Entry)) : Type 0 where
   pub lock : TableId
   pub count : length desks ≡ lanes + 1
   pub each : (l : ℕ) (desk : Known Entry) → slice_get desks l ≡ Some desk → (desk.lock ≡ lock) × (desk.caller ≡ l) × (desk.holds ≡ false) × (desk.seen ≡ journal)
   pub opening : (desk : Known Entry) → slice_get desks 0 ≡ Some desk → desk.given ≡ Some (lanes + 1)
 
--- The record got one batch more: the entries that it made, one answer for each command, and the length of the journal after it. The journal
--- is legal and of these lanes and the merger, and each lane's answers are right between the journal before the batch and the one after it.
+-- The record got one more batch: the entries that it made, one answer for each command, and the length of the journal
+-- after it. The journal is legal and its callers are these lanes and the merger, and each lane's answers are right
+-- between the journal before the batch and the one after it.
 pub record IsOneBatchMore (rules : Rules) (lanes : ℕ) (commands : List Command) (before now : RunRecord) : Type 0 where
   pub behind : List Entry
   pub answers : List Answered
@@ -41,6 +42,6 @@ with_answers answers made = record made { answers = made.answers ++ answers }
 abbrev pub with_entries : List Entry → RunRecord → RunRecord
 with_entries entries made = record made { journal = made.journal ++ entries }
 
--- the record with the answers of one batch more, the entries that it made, and its end
+-- the record with the answers of one more batch, the entries that it made, and its end
 abbrev pub with_batch : List Answered → List Entry → RunRecord → RunRecord
 with_batch answers behind made = with_sync (with_entries behind (with_answers answers made))

@@ -1,4 +1,4 @@
-//! Loads and replaces by what was read, and what is asked of the lake at a pin.
+//! Loads and replaces by bytes that were read, and questions that are answered at a pin of the lake.
 ghost use Rattle.std.specs.Prelude.{◌≡◌, false, true, None};
 ghost use mathlib.Core.List.{IsPrefix};
 ghost use Rattle.turn_lock.specs.Passes.{after_seeing};
@@ -106,7 +106,8 @@ pub(crate) fn drop_named<B: Bounds, R: Wait>(
     drop_table(rt, lake, pass, number, name)
 }
 
-/// Answers a search, a like, a contain or a request for the live tables at a pin of the newest version. The lock is free from the pin on.
+/// Answers a search, a like, a contain or a request for the live tables, at a pin of the newest version. The lock is
+/// free from the pin on.
 pub(crate) fn ask<B: Bounds, R: Wait, G: Gate>(
     rt: &R,
     alloc: Global,
@@ -134,8 +135,8 @@ pub(crate) fn ask<B: Bounds, R: Wait, G: Gate>(
     finish(alloc, keys, pin, task)
 }
 
-/// Answers a search of an earlier position at the newest one. The timeline takes what it has not taken of the journal, and out of memory
-/// the first of that. The lock is free once the entries are read.
+/// Answers a search of an earlier position, at the newest one. The timeline takes the entries of the journal that it
+/// has not taken yet; if memory runs out, only the first of them. The lock is free once the entries are read.
 pub(crate) fn ask_past<B: Bounds, R: Wait, G: Gate>(
     rt: &R,
     alloc: Global,

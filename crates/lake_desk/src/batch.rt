@@ -23,7 +23,7 @@ use std::alloc::Global;
 use std::sync::Wait;
 use std::thread::Threads;
 
-// Appends the answers to those of the record, for which it has room.
+// Appends the answers to those of the record, which has room for them.
 fn add_answers(answers: Vec<Answered>, out: &mut RunRecord)
     requires { length answers.items ≤ out.old.answers_room }
     ensures made { out.new.made ≡ with_answers answers.items out.old.made }
@@ -35,7 +35,7 @@ fn add_answers(answers: Vec<Answered>, out: &mut RunRecord)
     }
 }
 
-// Appends the entries to the record's journal, for which it has room.
+// Appends the entries to the record's journal, which has room for them.
 fn add_entries(entries: Vec<Entry>, out: &mut RunRecord)
     requires { length entries.items ≤ out.old.entries_room }
     ensures made { out.new.made ≡ with_entries entries.items out.old.made }
@@ -47,7 +47,7 @@ fn add_entries(entries: Vec<Entry>, out: &mut RunRecord)
     }
 }
 
-// Puts the answers of a batch and its entries into the record, for which it has room, and notes its end.
+// Adds the answers and the entries of a batch to the record, which has room for them, and marks the end of the batch.
 fn add_batch(answers: Vec<Answered>, entries: Vec<Entry>, out: &mut RunRecord)
     requires answers { length answers.items ≤ out.old.answers_room }
     requires entries { length entries.items ≤ out.old.entries_room }
@@ -59,9 +59,10 @@ fn add_batch(answers: Vec<Answered>, entries: Vec<Entry>, out: &mut RunRecord)
     out.add_sync();
 }
 
-// Brings the desks together after the commands of a batch, and puts its answers and entries into the record.
+// Brings the desks together after the commands of a batch, and adds its answers and entries to the record.
 //
-// The lanes are handed what the first desk has seen last of all, since the reading of the journal before may show it more.
+// What the first desk has seen is handed to the lanes last of all, since reading the journal before that may show it
+// more.
 fn settle<'a, B: Bounds, R: Wait>(
     rt: &R,
     desks: &mut [LakeDesk<'a, B>],
@@ -86,12 +87,14 @@ fn settle<'a, B: Bounds, R: Wait>(
     Ok(())
 }
 
-/// Answers a batch: the commands of all lanes at the same time, each lane at the desk of its number, and beside them those of the merger, where
-/// it has a first number, at the first desk. Then the record gets the answers in the order of the script followed by the merger's, the
-/// entries that were made, and the end of the batch.
+/// Answers a batch at the desks of a run, and adds it to the record.
 ///
-/// `Err(NoMemory)` leaves the record as it was. By then the lake may have entries that the record does not have, so the run cannot go on with
-/// these desks.
+/// The commands of all lanes are answered at the same time, each lane at the desk with its number, and beside them
+/// those of the merger at the first desk, if the merger has a first number. The record then gets the answers in the
+/// order of the script, followed by the merger's, the entries that were made, and the end of the batch.
+///
+/// `Err(NoMemory)` leaves the record unchanged. The lake may by then have entries that the record does not have, so the
+/// run cannot go on with these desks.
 pub fn answer_batch<'a, B: Bounds + Send + Sync, R: Threads + Wait + Sync, G: Gate + Sync>(
     rt: &R,
     alloc: Global,

@@ -15,8 +15,9 @@ use run_record::Reply;
 use segment_core::Segment;
 use std::sync::{Arc, Wait};
 
-/// Loads a table, with the segment of this table alone, and answers the command of this number. What the reply keeps of the table is
-/// made first, so that nothing can be refused once the entry is there.
+/// Loads a table, given with the segment of this table alone, and returns the reply to the command with this number.
+/// The parts of the reply that describe the table are made first, so that nothing can fail once the entry is in the
+/// journal.
 pub(crate) fn load<B: Bounds, R: Wait>(
     rt: &R,
     lake: &Lake<B>,
@@ -44,7 +45,7 @@ pub(crate) fn load<B: Bounds, R: Wait>(
     }
 }
 
-/// Drops the live table of a name, and answers the command of this number.
+/// Drops the live table of a name, and returns the reply to the command with this number.
 pub(crate) fn drop_table<B: Bounds, R: Wait>(
     rt: &R,
     lake: &Lake<B>,
@@ -65,8 +66,9 @@ pub(crate) fn drop_table<B: Bounds, R: Wait>(
     }
 }
 
-/// Puts a table, with the segment of this table alone, in the place of the live table of its name, and answers the command of this
-/// number. What the reply keeps of the table is made first, so that nothing can be refused once the entry is there.
+/// Replaces the live table of the same name by a table, given with the segment of this table alone, and returns the
+/// reply to the command with this number. The parts of the reply that describe the table are made first, so that
+/// nothing can fail once the entry is in the journal.
 pub(crate) fn replace<B: Bounds, R: Wait>(
     rt: &R,
     lake: &Lake<B>,

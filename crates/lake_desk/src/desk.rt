@@ -28,11 +28,11 @@ use std::marker::Model;
 use std::sync::Wait;
 use std::thread::Threads;
 
-/// A desk at which one caller of a lake answers commands, and compares values by the match that holds for the whole lake. Contracts see it
-/// as the caller's pass, which holds no turn.
+/// A desk at which one caller of a lake answers commands. It compares values by the kind of keys that holds for the
+/// whole lake. Contracts see it as the caller's pass, which holds no turn.
 ///
-/// Its timeline takes what the caller has seen of the lake's journal, but only where an earlier position is asked for; before that it has
-/// no memory.
+/// Its timeline takes what the caller has seen of the lake's journal, but only when an earlier position is asked for;
+/// until then it holds no memory.
 #[derive(Drop)]
 pub struct LakeDesk<'a, B: Bounds> {
     alloc: Global,
@@ -58,8 +58,8 @@ impl<'a, B: Bounds> Model for LakeDesk<'a, B> {
 }
 
 impl<'a, B: Bounds> LakeDesk<'a, B> {
-    /// The desk of this pass of the lake, whose values are compared by this match, with a timeline that has taken a beginning of what the pass
-    /// has seen, or with a new one. It takes no memory.
+    /// Makes the desk of a pass of the lake, whose values are compared by the given kind of keys, with a timeline that
+    /// has taken a beginning of what the pass has seen, or with a new one. It takes no memory.
     pub fn new(
         alloc: Global,
         keys: Keys,
@@ -83,7 +83,7 @@ impl<'a, B: Bounds> LakeDesk<'a, B> {
         }
     }
 
-    /// The pass of the desk, with all that it has seen, and its timeline, which has taken a beginning of that.
+    /// Returns the desk's pass, with all that it has seen, and its timeline, which has taken a beginning of that.
     pub fn into_pass(self) -> (Pass<B>, Option<Timeline>)
         ensures pass { result.0 ≡ self.entry }
         ensures past { Begins result.1 self.entry.seen }
@@ -91,7 +91,7 @@ impl<'a, B: Bounds> LakeDesk<'a, B> {
         (self.pass, Some(self.past))
     }
 
-    /// A note of what the desk has seen.
+    /// Makes a note of what the desk has seen.
     pub fn note(&mut self) -> Note<B>
         ensures desk { self.new ≡ self.old }
         ensures note { result ≡ noted self.old.lock self.old.seen }
@@ -99,7 +99,7 @@ impl<'a, B: Bounds> LakeDesk<'a, B> {
         self.lake.note(&mut self.pass)
     }
 
-    /// Sees what the note has, if that is more.
+    /// Extends what the desk has seen to what the note has, if that is more.
     pub fn meet(&mut self, note: Note<B>)
         requires { note.lock ≡ self.old.lock }
         ensures longer { self.new ≡ after_seeing self.old (longer self.old.seen note.seen) false }
@@ -111,7 +111,8 @@ impl<'a, B: Bounds> LakeDesk<'a, B> {
         self.lake.meet(&mut self.pass, note);
     }
 
-    /// Reads the lake's journal: the entries after a position that the desk has seen already. The desk has then seen these too.
+    /// Reads the entries of the lake's journal after a position that the desk has already seen. The desk has then seen
+    /// these as well. Returns `Err(NoMemory)` if memory runs out.
     pub fn journal<R: Wait>(&mut self, rt: &R, after: u64) -> Result<Vec<Entry>, NoMemory>
         requires seen { after ≤ length self.old.seen }
         ensures desk { self.new ≡ after_seeing self.old self.new.seen false }
@@ -123,7 +124,8 @@ impl<'a, B: Bounds> LakeDesk<'a, B> {
         lake.journal(rt, self.alloc, &mut self.pass, after)
     }
 
-    /// How many caller numbers the desk's pass has left to give. What the pass that gives them has seen is all of callers with a number.
+    /// Returns how many caller numbers the desk's pass has left to give. If the pass gives numbers, all entries that it
+    /// has seen are of callers whose numbers it gave.
     pub fn numbers(&self) -> u32
         ensures left { result ≡ self.now.left }
         ensures given { (count : ℕ) → self.now.given ≡ Some count → IsOfGiven caller_of count self.now.seen }
@@ -132,7 +134,7 @@ impl<'a, B: Bounds> LakeDesk<'a, B> {
         self.lake.left(&self.pass)
     }
 
-    // The reply to the command of this number.
+    // Makes the reply to the command with this number.
     fn reply<R: Wait, G: Gate>(&mut self, rt: &R, number: u64, task: &Task, gate: &G) -> Reply
         requires { IsTaskInRange task.now }
         ensures free { self.old.holds ≡ false }

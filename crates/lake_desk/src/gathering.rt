@@ -1,11 +1,11 @@
-//! What the desks have seen of the journal, brought together after the commands of a batch.
+//! Exchanges what the desks have seen of the journal, after the commands of a batch.
 ghost use Rattle.std.specs.Prelude.{◌<◌, length};
 ghost use Rattle.lake_desk.specs.Gathered.{AreFree, AreHandedOut, AreOfOneLock, IsBehindAll, IsGathered};
 
 use crate::desk::LakeDesk;
 use lake::Bounds;
 
-/// The first desk sees, one after another, what each of the others has seen.
+/// Shows the first desk, one after another, what each of the others has seen.
 pub(crate) fn gather<'a, B: Bounds>(desks: &mut [LakeDesk<'a, B>])
     requires some { 0 < length desks.old }
     requires lock { AreOfOneLock desks.old }
@@ -18,7 +18,7 @@ pub(crate) fn gather<'a, B: Bounds>(desks: &mut [LakeDesk<'a, B>])
     }
 }
 
-/// Each of the other desks sees all that the first has seen. What follows its own list there is of other callers.
+/// Shows each of the other desks all that the first has seen. What follows its own list there is of other callers.
 pub(crate) fn hand_out<'a, B: Bounds>(desks: &mut [LakeDesk<'a, B>])
     requires lock { AreOfOneLock desks.old }
     requires behind { IsBehindAll desks.old }

@@ -1,4 +1,5 @@
-//! Commands answered at a lake that many threads change at once, each thread at a desk of its own, and the batches of a run over all desks.
+//! Answers commands at a lake that many threads change at once, each thread at a desk of its own, and answers the
+//! batches of a run over all desks.
 #![tactic(auto)]
 
 mod asking;

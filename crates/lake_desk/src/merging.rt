@@ -22,7 +22,7 @@ use run_record::Reply;
 use std::alloc::Global;
 use std::sync::Wait;
 
-// Plans a merge of the newest version, and builds what it keeps. The lock is free from the pin on.
+// Plans a merge of the newest version, and builds the merged part. The lock is free from the pin on.
 fn plan_newest<B: Bounds, R: Wait>(
     rt: &R,
     alloc: Global,
@@ -42,7 +42,7 @@ fn plan_newest<B: Bounds, R: Wait>(
     plan_pinned(alloc, &pin, policy)
 }
 
-// Swaps in what was planned, where there was something to merge.
+// Swaps in what was planned, if there was something to merge.
 fn swap<B: Bounds, R: Wait>(
     rt: &R,
     lake: &Lake<B>,
@@ -74,14 +74,15 @@ fn swap<B: Bounds, R: Wait>(
     }
 }
 
-// The policy of a merge.
+// Returns the policy of a merge.
 fn policy_of(all: bool) -> Policy
     ensures { result ≡ policy_of all }
 {
     if all { Policy::All } else { Policy::Tier }
 }
 
-/// Answers a merge: it is planned and built at a pin of the newest version, and what comes of it is swapped in at whatever the journal is then.
+/// Answers a merge: it is planned and built at a pin of the newest version, and the result is swapped in at the newest
+/// journal after that.
 pub(crate) fn merge_parts<B: Bounds, R: Wait, G: Gate>(
     rt: &R,
     alloc: Global,

@@ -1,4 +1,5 @@
-//! How much a desk looks at in the segments of a lake: what the reply of each search tells, one column for each like, and nothing besides.
+//! Tests of how much a desk looks at in the segments of a lake: what the reply to each search states, one column for
+//! each like, and nothing else.
 ghost use Rattle.std.specs.Prelude.{◌≡◌, ◌≤◌, IfOk};
 
 use crate::tests::{body, command, name};
@@ -15,7 +16,7 @@ use std::sync::Wait;
 use std::test::Fail;
 use std::thread::Threads;
 
-// Three tables of weather stations, of the weather and of a census.
+// Three tables: of weather stations, of the weather and of a census.
 const STATIONS: &str =
     "\u{feff}station_id,city,country\r\n1,\"São Paulo, SP\",Brazil\r\n2,Zürich,Switzerland\r\n3,\"New\nYork\",USA\r\n";
 
@@ -24,7 +25,7 @@ const WEATHER: &str = "place,temp\nZÜRICH,12\n\"São Paulo, SP\",25\nLima,18\n"
 const CENSUS: &str =
     "City,Country,Pop\nzürich,switzerland,400000\nOslo,Norway,700000\n\"são paulo, sp\",Brazil,12000000\n";
 
-// The load of a table of this text.
+// Makes the load of a table with this text.
 fn load(alloc: Global, number: u64, table: &str, text: &str) -> Result<Command, Fail> {
     let task = Task::Load {
         name: name(table)?,
@@ -33,7 +34,7 @@ fn load(alloc: Global, number: u64, table: &str, text: &str) -> Result<Command, 
     Ok(command(number, 1, task))
 }
 
-// The search for the columns that are most like the one at a place of a table.
+// Makes the search for the columns that are most like the one at a place of a table.
 fn like(number: u64, table: &str, place: u32) -> Result<Command, Fail>
     requires { 1 ≤ place }
 {
@@ -45,7 +46,7 @@ fn like(number: u64, table: &str, place: u32) -> Result<Command, Fail>
     Ok(command(number, 1, task))
 }
 
-// Three tables that are merged, and a search that is decided by the rarest of four keys.
+// Makes three tables, their merge, and a search that is decided by the rarest of four keys.
 fn one_list_decides(alloc: Global) -> Result<Vec<Command>, Fail> {
     let search = Task::Search {
         k: 1,
@@ -61,7 +62,7 @@ fn one_list_decides(alloc: Global) -> Result<Vec<Command>, Fail> {
     Ok(Vec::from_array(alloc, commands)?)
 }
 
-// Three tables, and a search by each of two columns of the first.
+// Makes three tables, and a search by each of two columns of the first.
 fn likes(alloc: Global) -> Result<Vec<Command>, Fail> {
     let commands = [
         load(alloc, 1, "stations", STATIONS)?,
@@ -73,7 +74,7 @@ fn likes(alloc: Global) -> Result<Vec<Command>, Fail> {
     Ok(Vec::from_array(alloc, commands)?)
 }
 
-// How many reads, and how many probes, a reply tells beside those of others.
+// Adds the reads and the probes that a reply states to those of the other replies.
 fn told_by(reply: &Reply, others: (u64, u64)) -> (u64, u64) {
     match reply {
         Reply::Found { reads, probes, .. } => (
@@ -84,7 +85,7 @@ fn told_by(reply: &Reply, others: (u64, u64)) -> (u64, u64) {
     }
 }
 
-// What the meters of all segments say.
+// Sums the meters of all segments.
 fn meters<R: Wait>(rt: &R, lake: &Lake<Standard>, pass: &mut Pass<Standard>) -> Result<u64, Fail>
     requires { pass.old.lock ≡ lake.now }
 {
@@ -96,7 +97,7 @@ fn meters<R: Wait>(rt: &R, lake: &Lake<Standard>, pass: &mut Pass<Standard>) -> 
     Ok(sum)
 }
 
-// What the meters of a lake say behind commands at one desk; and what the replies tell.
+// Returns the sum of the meters of a lake after commands at one desk, and the reads and probes that the replies state.
 fn metered<R: Threads + Wait + Sync>(
     rt: &R,
     alloc: Global,

@@ -12,7 +12,7 @@ use lake::{Bounds, Lake, Pass};
 use no_memory::NoMemory;
 use std::alloc::Global;
 
-/// A lake as the program has it where values are compared by canonical caseless matching.
+/// The lake of a run that compares values by canonical caseless matching.
 pub struct Standard;
 
 impl Bounds for Standard {
@@ -24,7 +24,7 @@ impl Bounds for Standard {
     ghost keys = { Canonical };
 }
 
-/// A lake as the program has it where values are compared by compatibility caseless matching.
+/// The lake of a run that compares values by compatibility caseless matching.
 pub struct Wide;
 
 impl Bounds for Wide {
@@ -36,7 +36,7 @@ impl Bounds for Wide {
     ghost keys = { Compatibility };
 }
 
-// The desks of so many lanes, each with a new pass.
+// Makes the desks of the given number of lanes, each with a new pass.
 fn lane_desks<'a, B: Bounds>(
     alloc: Global,
     keys: Keys,
@@ -57,7 +57,8 @@ fn lane_desks<'a, B: Bounds>(
     Ok(desks)
 }
 
-/// The desks of a run over a lake that nobody has used, at which values are compared by this match: that of the opening pass, and then one for each lane, numbered from 1.
+/// Makes the desks of a run over an unused lake whose values are compared by the given kind of keys: that of the
+/// opening pass, and then one for each lane, numbered from 1. Returns `Err(NoMemory)` if memory runs out.
 pub fn open_desks<'a, B: Bounds>(
     alloc: Global,
     keys: Keys,

@@ -1,4 +1,5 @@
-//! Batches one after another, with a merger. No clause says that a thread runs, nor that memory is there.
+//! Tests of batches one after another, with a merger. No clause promises that a thread runs, or that memory is
+//! available.
 ghost use Rattle.std.specs.Prelude.{◌≡◌, ◌≤◌, false, true, IfOk, None};
 ghost use Rattle.script_model.specs.Lanes.{IsOfLanes};
 ghost use Rattle.record_model.specs.Record.{empty};
@@ -18,17 +19,17 @@ use std::sync::Wait;
 use std::test::Fail;
 use std::thread::Threads;
 
-// The name that a text is.
+// Reads a text as a name.
 pub(crate) fn name(text: &str) -> Result<Name, Fail> {
     Ok(Name::read(text.as_bytes()).ok_or("no name")?)
 }
 
-// A body of these bytes.
+// Makes a body of these bytes.
 pub(crate) fn body(alloc: Global, text: &str) -> Result<Body, Fail> {
     Ok(Body::new(Vec::from_slice(alloc, text.as_bytes())?).ok_or("no body")?)
 }
 
-// A command.
+// Makes a command.
 pub(crate) fn command(number: u64, lane: u32, task: Task) -> Command
     requires lane { 1 ≤ lane }
     requires task { IsTaskInRange task }
@@ -37,7 +38,7 @@ pub(crate) fn command(number: u64, lane: u32, task: Task) -> Command
     Command { number, lane, task }
 }
 
-// The load of a table of one column with one key.
+// Makes the load of a table of one column with one key.
 fn load(alloc: Global, number: u64, lane: u32, table: &str) -> Result<Command, Fail>
     requires { 1 ≤ lane }
     ensures { IfOk result (λ command. command.lane ≡ lane) }
@@ -49,8 +50,8 @@ fn load(alloc: Global, number: u64, lane: u32, table: &str) -> Result<Command, F
     Ok(command(number, lane, task))
 }
 
-// Lane 1 loads two tables, asks for the live ones, for columns like one of them and for what was live after the first load, drops a table that
-// there is not, loads a file that there is not, and merges.
+// Makes a batch in which lane 1 loads two tables, asks for the live ones, for columns like one of them and for what was
+// live after the first load, drops a table that does not exist, loads a file that does not exist, and merges.
 fn one_of_each(alloc: Global) -> Result<Batch, Fail>
     ensures { IfOk result (λ batch. IsOfLanes 2 batch) }
 {
@@ -81,7 +82,7 @@ fn one_of_each(alloc: Global) -> Result<Batch, Fail>
     Ok(Batch::new(Vec::from_array(alloc, commands)?))
 }
 
-// The record of a run with two lanes and a merger that has done nothing.
+// Makes the record of a run with two lanes and a merger in which nothing was done yet.
 fn record_of_two_lanes(alloc: Global) -> RunRecord
     ensures { result.made ≡ empty (options_with 2 None true false Canonical) }
 {
@@ -96,7 +97,7 @@ fn record_of_two_lanes(alloc: Global) -> RunRecord
     record
 }
 
-// The record of this batch answered twice over a new lake, with a merger.
+// Returns the record of this batch, answered twice over a new lake, with a merger.
 fn answered_twice<R: Threads + Wait + Sync>(
     rt: &R,
     alloc: Global,
@@ -125,7 +126,7 @@ fn answered_twice<R: Threads + Wait + Sync>(
     Ok(record)
 }
 
-// The position that a reply was made at, where it is one of those that the tests meet.
+// Returns the position at which a reply was made, for the kinds of reply that occur in these tests.
 fn position(reply: &Reply) -> Option<u64> {
     match reply {
         Reply::Found { layout, .. } | Reply::NothingToMerge { layout } => Some(layout.at()),
@@ -139,7 +140,7 @@ fn position(reply: &Reply) -> Option<u64> {
     }
 }
 
-// The positions of the record's replies.
+// Returns the positions of the record's replies.
 fn positions(alloc: Global, record: &RunRecord) -> Result<Vec<Option<u64>>, Fail> {
     let mut positions = Vec::new(alloc);
     for answered in record.answers() {
@@ -148,7 +149,8 @@ fn positions(alloc: Global, record: &RunRecord) -> Result<Vec<Option<u64>>, Fail
     Ok(positions)
 }
 
-// The merger has a merge for each load and drop, and finds nothing to merge. In the second batch the names are there already.
+// The merger has a merge for each load and drop, and finds nothing to merge. In the second batch the names exist
+// already.
 #[test]
 fn one_lane_answers_in_its_order(rt: HostRuntime) -> Result<(), Fail> {
     let batch = one_of_each(rt.alloc())?;

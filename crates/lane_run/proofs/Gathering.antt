@@ -10,7 +10,7 @@ use Rattle.batch_work.specs.Works.{work_of, works_of}
 use Rattle.batch_work.proofs.GatherLemmas.{gathered_next}
 use Rattle.lane_run.proofs.Serving.{any_default}
 
--- writing what is there changes nothing
+-- writing what is already there changes nothing
 pub set_same : {X : Type 0} (xs : List X) (n : ℕ) (x : X) → n < length xs → get_or xs n x ≡ x → slice_set xs n x ≡ xs
 set_same [] n x within is = refl
 set_same (y ∷ xs) zero x within is = ap (λ z. z ∷ xs) (sym is)
@@ -21,7 +21,7 @@ set_same_map f xs n x within =
     set_same (map f xs) n (f (get_or xs n x)) (omega (arith, within, length-map xs f))
     (get_or-map f xs n (get_or xs n x) (f (get_or xs n x)) within ∙ ap f (any_default xs n (get_or xs n x) x within))
 
--- how far the answers were gathered: those of the first n commands, with room for the others
+-- how far the answers were gathered: those of the first n commands, with room for the rest
 pub record Gathers (commands : List Command) (n : ℕ) (lists now : List (List Done)) (room : ℕ) (answers : List Answered) : Type 0 where
   pub rest : answers ++ answers_of (gathered (drop n commands) now) ≡ answers_of (gathered commands lists)
   pub few : length answers ≤ n

@@ -7,7 +7,7 @@ use Rattle.std.specs.Fork.{AcceptsAt, AcceptsEach, ChangesAt, ChangesEach}
 use Rattle.lane_run.specs.Numbered.{AllChange, AllNumbered}
 
 module _ {X : Type 0} (P : ℕ → X → Type 0) where
-  -- what holds of all holds of each half
+  -- a fact of all elements holds of each half
   halves : (first mid : ℕ) (front back : List X) → mid ≡ first + length front → AllNumbered P first (front ++ back) → AllNumbered P first front × AllNumbered P mid back
   halves first mid [] back is all = (tt, subst (λ (n : ℕ). AllNumbered P n back) (omega (arith, is)) all)
   halves first mid (x ∷ front) back is all = let rest = halves (first + 1) mid front back (omega (arith, is)) all.1 in ((all.0, rest.0), rest.1)
@@ -16,7 +16,7 @@ module _ {X : Type 0} (P : ℕ → X → Type 0) where
   numbered_halves first mid front back whole is cut all = halves first mid front back is (subst (AllNumbered P first) cut all)
 
 module _ {X : Type 0} (R : ℕ → X → X → Type 0) where
-  -- what changes in both halves changes in all
+  -- if both halves change, the whole changes
   both : (first mid : ℕ) (front fronts back backs : List X) → mid ≡ first + length front → AllChange R first front fronts → AllChange R mid back backs → AllChange R first (front ++ back) (fronts ++ backs)
   both first mid [] [] back backs is h k = subst (λ (n : ℕ). AllChange R n back backs) (omega (arith, is)) k
   both first mid [] (y ∷ fronts) back backs is h k = absurd h
@@ -42,7 +42,7 @@ module _ {F T : Type 0} (g : Shared F (ℕ × (MutBor T × Unit {0})) ((Unit {0}
     accepts_from (first + 1) xs (λ i p within is. let e : first + suc i ≡ (first + 1) + i = omega arith in subst (λ (n : ℕ). g.pre f (n, (p, tt))) e (accepts (suc i) p (omega (arith, within)) is)),
   )
 
-  -- a call at each place may be made with the number of the place
+  -- the call at each place may be made with the number of the place
   pub accepts_numbered : (xs : List T) → AcceptsEach g f xs → AllNumbered (AcceptsAt g f) 0 xs
   accepts_numbered xs accepts = accepts_from 0 xs (λ i p within is. let e : i ≡ 0 + i = omega arith in subst (λ (n : ℕ). g.pre f (n, (p, tt))) e (accepts i p within is))
 
@@ -53,6 +53,6 @@ module _ {F T : Type 0} (g : Shared F (ℕ × (MutBor T × Unit {0})) ((Unit {0}
   changes_from first (x ∷ xs) (y ∷ ys) h (suc i) d within =
       let e : (first + 1) + i ≡ first + suc i = omega arith in subst (λ (n : ℕ). ChangesAt g f n (get_or xs i d) (get_or ys i d)) e (changes_from (first + 1) xs ys h.1 i d (omega (arith, within)))
 
-  -- what each element came to by its call, by the number of its place
+  -- each element was changed by its call, with the number of its place
   pub changes_each : (xs ys : List T) → AllChange (ChangesAt g f) 0 xs ys → ChangesEach g f xs ys
   changes_each xs ys h i d within = let e : 0 + i ≡ i = omega arith in (refl, subst (λ (n : ℕ). ChangesAt g f n (get_or xs i d) (get_or ys i d)) e (changes_from 0 xs ys h i d within))

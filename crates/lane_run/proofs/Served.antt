@@ -57,7 +57,7 @@ all_front P [] x h = (tt, h.0)
 all_front P (y ∷ xs) x h = let rest = all_front P xs x h.1 in ((h.0, rest.0), rest.1)
 
 module _ {D : Type 0} where
-  -- one desk more has sat down
+  -- one more desk was seated
   pub sits_more : (room total : ℕ) (seats later : List (Seat D)) (yielded : List D) (rooms fewer : List (VecDeque Done Global)) (given : Seat D)
       → map desk_in seats ≡ yielded → AllByRecursion (IsFresh room) seats → AllByRecursion (IsRoom room) rooms → length rooms + length yielded ≡ total
       → later ≡ seats ++ given ∷ [] → rooms ≡ fewer ++ given.done ∷ []
@@ -70,7 +70,7 @@ module _ {D : Type 0} where
         omega (arith, count, ap (λ (rs : List (VecDeque Done Global)). length rs) popped, length-append fewer (given.done ∷ []), length-append yielded (given.desk ∷ [])),
       )
 
-  -- what a list of all seats' desks has at a place
+  -- the element of a list of seats that has a desk at a place
   got : {X : Type 0} (f : X → D) (xs : List X) (l : ℕ) (y : D) → slice_get (map f xs) l ≡ Some y → (x : X) × (l < length xs) × (get_or xs l x ≡ x) × (f x ≡ y)
   got f [] l y is = absurd (let e : None ≡ Some y = is in cc)
   got f (x ∷ xs) zero y is = (x, omega arith, refl, cc)

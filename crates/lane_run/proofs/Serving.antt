@@ -59,7 +59,7 @@ module _ {D : Type 0} (step : D → Command → Reply → D → Type 0) where
         chain = so_far.chain;
       }
 
-  -- the desk has answered the commands of its lane among the first n, and there is room for the replies to the others
+  -- the desk has answered the commands of its lane among the first n, and there is room for the replies to the rest
   pub record IsServing (lane : ℕ) (works : List Work) (n : ℕ) (before : D) (seat : Seat D) : Type 0 where
     pub serves : Serves step lane (take n (works_of works)) before seat.done.items seat.desk
     pub few : length seat.done.items ≤ n

@@ -7,7 +7,7 @@ module _ {X : Type 0} where
   AllNumbered P first [] = ⊤
   AllNumbered P first (x ∷ xs) = P first x × AllNumbered P (first + 1) xs
 
-  -- a fact of each element, its number, and what stands in its place
+  -- a fact of each element, its number, and the element that replaces it
   abbrev pub AllChange : (ℕ → X → X → Type 0) → ℕ → List X → List X → Type 0
   AllChange R first [] [] = ⊤
   AllChange R first [] (y ∷ ys) = ⊥

@@ -1,4 +1,4 @@
-//! Calls at the elements of a slice, the busy ones of which run at once.
+//! Calls a function on the elements of a slice; the calls on busy elements run at the same time.
 ghost use Rattle.std.specs.Prelude.{◌≡◌, ◌<◌, ◌+◌, ◌^◌, length};
 ghost use Rattle.std.specs.Fork.{AcceptsAt, AcceptsEach, ChangesAt, ChangesEach};
 ghost use Rattle.std.specs.Thread.{IsSend, IsSync};
@@ -6,8 +6,9 @@ ghost use Rattle.lane_run.specs.Numbered.{AllChange, AllNumbered};
 
 use std::thread::{Threads, join_mut};
 
-/// Calls f(i, &mut items[i]) at each place. The calls at busy places run at once, each on a thread of its own, but one on the caller's, where
-/// threads can be made; where none can be made, they run one after another on the caller's thread.
+/// Calls f(i, &mut items[i]) at each place. If threads can be made, the calls at busy places run at the same time, one
+/// on the caller's thread and each of the others on a thread of its own; if none can be made, they run one after
+/// another on the caller's thread.
 pub fn for_each_busy<R: Threads + Sync, T: Send, F: Fn(usize, &mut T) + Sync>(
     rt: &R,
     f: &F,
@@ -20,14 +21,14 @@ pub fn for_each_busy<R: Threads + Sync, T: Send, F: Fn(usize, &mut T) + Sync>(
     call_each(rt, f, busy, 0, items);
 }
 
-// Whether a place is busy from one on, below another.
+// Returns whether a place from `from` to below `to` is busy.
 fn is_any_busy(busy: &[bool], from: usize, to: usize) -> bool {
     busy.iter()
         .enumerate()
         .any(|(place, is_busy)| *is_busy && from <= place && place < to)
 }
 
-// The call at one place.
+// Makes the call at one place.
 fn call_one<T, F: Fn(usize, &mut T)>(f: &F, place: usize, item: &mut T)
     requires { AcceptsAt F.Fn f.now place item.old }
     ensures { ChangesAt F.Fn f.now place item.old item.new }
@@ -35,7 +36,8 @@ fn call_one<T, F: Fn(usize, &mut T)>(f: &F, place: usize, item: &mut T)
     f(place, item);
 }
 
-// The calls at places from one on, at which the first element stands. A thread is started only where both halves have busy places.
+// Makes the calls at the places from `first` on, which is that of the first element. A thread is started only if both
+// halves have busy places.
 #[cycle(halves)]
 fn call_each<R: Threads + Sync, T: Send, F: Fn(usize, &mut T) + Sync>(
     rt: &R,
@@ -66,7 +68,7 @@ fn call_each<R: Threads + Sync, T: Send, F: Fn(usize, &mut T) + Sync>(
     }
 }
 
-// The calls at two halves, the first on a thread of its own.
+// Makes the calls at two halves, the first on a thread of its own.
 #[cycle(halves)]
 fn call_halves<R: Threads + Sync, T: Send, F: Fn(usize, &mut T) + Sync>(
     rt: &R,

@@ -1,4 +1,4 @@
-//! The lanes of a batch, all at once, each at a desk of its own.
+//! Runs the lanes of a batch, all at the same time, each at a desk of its own.
 #![tactic(auto)]
 
 mod desk;

@@ -1,4 +1,4 @@
-//! The lanes of a batch, which all run at once.
+//! The lanes of a batch, which all run at the same time.
 ghost use Rattle.std.specs.Prelude.{◌≡◌, ◌≤◌, ◌<◌, ◌+◌, ◌++◌, ◌^◌, ⊤, MatchOption, [], drop, get_or, option_to_list, slice_set, take, length, map, IfOk, OnErr, vec_capacity, vec_len};
 ghost use Rattle.std.specs.List.{AllByRecursion};
 ghost use Rattle.record_model.specs.Play.{answers_of, gathered, merges_of};
@@ -21,7 +21,7 @@ use std::mem;
 use std::sync::Wait;
 use std::thread::Threads;
 
-// So many lists, all empty, with room for so much in each.
+// Makes `count` empty lists with room for `room` elements in each.
 fn rooms_for<'a>(
     alloc: Global,
     count: usize,
@@ -37,7 +37,7 @@ fn rooms_for<'a>(
     Ok(rooms)
 }
 
-// Puts each desk into a seat, with room for what it will have done.
+// Seats each desk, with room for what it will have done.
 fn sit<'a, D: Drop>(
     desks: Vec<D>,
     mut rooms: Vec<VecDeque<Done<'a>>>,
@@ -59,7 +59,7 @@ fn sit<'a, D: Drop>(
     }
 }
 
-// Puts the desks of the seats back.
+// Moves the desks of the seats back.
 fn rise<'a, D: Drop>(seats: Vec<Seat<'a, D>>, desks: &mut Vec<D>)
     requires empty { desks.old.items ≡ [] }
     requires room { vec_len seats ≤ vec_capacity desks.old }
@@ -71,7 +71,7 @@ fn rise<'a, D: Drop>(seats: Vec<Seat<'a, D>>, desks: &mut Vec<D>)
     }
 }
 
-// The first answer of those that a seat has, taken out.
+// Takes out the first answer of those that a seat has.
 fn next_done<'a, D>(seats: &mut [Seat<'a, D>], lane: usize) -> Option<Answered>
     ensures answer { option_to_list result ≡ answers_of (take 1 (get_or (map done_in seats.old) lane [])) }
     ensures rest { map done_in seats.new ≡ slice_set (map done_in seats.old) lane (drop 1 (get_or (map done_in seats.old) lane [])) }
@@ -84,7 +84,7 @@ fn next_done<'a, D>(seats: &mut [Seat<'a, D>], lane: usize) -> Option<Answered>
     }
 }
 
-// The answers to the work, in its order, taken out of the seats.
+// Takes the answers to the work out of the seats, in the order of the work.
 fn gather<'a, D>(works: &[Work<'a>], seats: &mut [Seat<'a, D>], answers: &mut Vec<Answered>)
     requires empty { answers.old.items ≡ [] }
     requires room { length works.now ≤ vec_capacity answers.old }
@@ -98,7 +98,7 @@ fn gather<'a, D>(works: &[Work<'a>], seats: &mut [Seat<'a, D>], answers: &mut Ve
     }
 }
 
-// Of so many lanes, those that have work.
+// Returns which of `count` lanes have work.
 fn busy_lanes(alloc: Global, works: &[Work<'_>], count: usize) -> Result<Vec<bool>, NoMemory> {
     let mut busy = vec![in alloc; false; count]?;
     for work in works {
@@ -109,7 +109,7 @@ fn busy_lanes(alloc: Global, works: &[Work<'_>], count: usize) -> Result<Vec<boo
     Ok(busy)
 }
 
-// Each desk answers the work of its lane, those that have work all at once.
+// Lets each desk answer the work of its lane, those that have work at the same time.
 fn serve_all<'a, D: Desk + Send, R: Threads + Wait + Sync, G: Gate + Sync>(
     rt: &R,
     works: &[Work<'a>],
@@ -131,7 +131,7 @@ fn serve_all<'a, D: Desk + Send, R: Threads + Wait + Sync, G: Gate + Sync>(
     );
 }
 
-// Each desk answers the work of its lane, and the answers are gathered.
+// Lets each desk answer the work of its lane, and gathers the answers.
 fn answer_all<'a, D: Desk + Send, R: Threads + Wait + Sync, G: Gate + Sync>(
     rt: &R,
     works: &[Work<'a>],
@@ -149,9 +149,10 @@ fn answer_all<'a, D: Desk + Send, R: Threads + Wait + Sync, G: Gate + Sync>(
     gather(works, seats, answers);
 }
 
-// Runs the work of each lane at the desk of its number, all lanes at once, and gives the answers in the order of the work.
+// Runs the work of each lane at the desk with its number, all lanes at the same time, and returns the answers in the
+// order of the work.
 //
-// Want of memory is answered before any desk has answered anything.
+// Returns `Err(NoMemory)` only before any desk has answered anything.
 fn run_works<'a, D: Desk + Send, R: Threads + Wait + Sync, G: Gate + Sync>(
     rt: &R,
     alloc: Global,
@@ -175,10 +176,12 @@ fn run_works<'a, D: Desk + Send, R: Threads + Wait + Sync, G: Gate + Sync>(
     Ok(answers)
 }
 
-/// Runs the commands of a batch, and the merger's where it has a first number, each lane at the desk of its number and the merger at that
-/// of 0, all at once, and gives the answers in the order of the script, with the merger's behind.
+/// Runs the commands of a batch, and the merger's if it has a first number, all lanes at the same time.
 ///
-/// Want of memory is answered before any command is begun. A desk may run on a thread of its own or on the caller's.
+/// Each lane runs at the desk with its number, and the merger at desk 0. The answers are returned in the order of the
+/// script, followed by the merger's.
+///
+/// Returns `Err(NoMemory)` only before any command has begun. A desk may run on a thread of its own or on the caller's.
 pub fn run_batch<D: Desk + Send, R: Threads + Wait + Sync, G: Gate + Sync>(
     rt: &R,
     alloc: Global,

@@ -23,7 +23,7 @@ pub struct Seat<'a, D> {
 }
 
 impl<'a, D> Seat<'a, D> {
-    /// The first answer of those that it has, taken out.
+    /// Takes out the first of its answers.
     pub fn next_done(&mut self) -> Option<Answered>
         ensures answer { option_to_list result ≡ answers_of (take 1 self.old.done.items) }
         ensures rest { self.new.done.items ≡ drop 1 self.old.done.items }
@@ -33,7 +33,7 @@ impl<'a, D> Seat<'a, D> {
     }
 }
 
-// The desk answers work.
+// Lets the desk answer work.
 fn answer<D: Desk, R: Threads + Wait + Sync, G: Gate + Sync>(
     rt: &R,
     desk: &mut D,
@@ -48,7 +48,7 @@ fn answer<D: Desk, R: Threads + Wait + Sync, G: Gate + Sync>(
     }
 }
 
-/// The desk answers the work of its lane, in its order.
+/// Lets the desk answer the work of its lane, in its order.
 pub fn serve<'a, D: Desk, R: Threads + Wait + Sync, G: Gate + Sync>(
     rt: &R,
     works: &[Work<'a>],

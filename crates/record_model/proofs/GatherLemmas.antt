@@ -59,7 +59,7 @@ behind command commands lists h n l = by (command.lane == l) refl
 step_is : (command : Command) (commands : List Command) (lists : List (List Done)) → (n : IsNext command commands lists) → gathered (command ∷ commands) lists ≡ n.first ∷ gathered commands (slice_set lists command.lane n.others)
 step_is command commands lists n = ap (λ (done : List Done). take 1 done ++ gathered commands (slice_set lists command.lane (drop 1 done))) n.list
 
--- The answers are of the commands, in their order,
+-- The answers are those of the commands, in their order,
 pub gathered_commands : (commands : List Command) (lists : List (List Done)) → AreLists commands lists → commands_in (gathered commands lists) ≡ commands
 gathered_commands [] lists h = refl
 gathered_commands (command ∷ commands) lists h =
@@ -68,7 +68,7 @@ gathered_commands (command ∷ commands) lists h =
     ∙ ap (λ (c : Command). c ∷ commands_in (gathered commands (slice_set lists command.lane n.others))) n.is
     ∙ ap (λ (cs : List Command). command ∷ cs) (gathered_commands commands (slice_set lists command.lane n.others) (behind command commands lists h n))
 
--- and those of one lane are that lane's.
+-- and those of one lane are the lane's.
 pub gathered_lane : (commands : List Command) (lists : List (List Done)) (l : ℕ) → AreLists commands lists → filter (λ (d : Done). d.command.lane == l) (gathered commands lists) ≡ get_or lists l []
 gathered_lane [] lists l h = by (get_or lists l []) (h l)
   where

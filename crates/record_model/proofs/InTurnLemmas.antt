@@ -14,7 +14,7 @@ use Rattle.record_model.specs.Record.{RunRecord}
 use Rattle.record_model.specs.Play.{Done, done_with, Lane, lane_with, Play, play_with, reply_or_denied, entries_of, answered, step_of, step, with_denials, play, gathered, answers_of, record_after, batch_after}
 use Rattle.record_model.specs.InTurn.{after_command, in_turn, with_sync, IsOneLane}
 
--- One more command comes behind all others.
+-- One more command is answered after all the others.
 pub in_turn_more : (rules : Rules) (commands : List Command) (denials : List Bool) (command : Command) (denied : Bool) (before : RunRecord) → length denials ≡ length commands
     → in_turn rules (commands ++ command ∷ []) (denials ++ denied ∷ []) before ≡ after_command rules (in_turn rules commands denials before) command denied
 unfolding in_turn
@@ -41,7 +41,7 @@ idle_turns : (rules : Rules) (journal : List Entry) (done : List Done) (order : 
 idle_turns rules journal done [] = refl
 idle_turns rules journal done (l ∷ order) = ap (λ (state : Play). fold (step rules) state (with_denials order [])) (idle_turn rules journal done l false) ∙ idle_turns rules journal done order
 
--- the turns that remain of lane 1, and then others
+-- the turns that lane 1 has left, and then others
 abbrev turns_left : ℕ → List ℕ → List ℕ
 turns_left n others = replicate n 1 ++ others
 
@@ -51,14 +51,14 @@ runs rules n others turns state = fold (step rules) state (with_denials (turns_l
 reply_at : Rules → List Entry → Command → Bool → Reply
 reply_at rules journal command denied = reply_or_denied denied (answer_to rules command.task journal journal)
 
--- a command without a pin is answered in its first turn
+-- a command without a pin is answered in its first turn,
 answer_turn : (rules : Rules) (journal : List Entry) (command : Command) (todo : List Command) (done : List Done) (denied : Bool) → has_pin command.task ≡ false
     → step rules (alone journal (lane_with (command ∷ todo) None done)) (1, denied)
     ≡ alone (journal ++ entries_of rules journal command (reply_at rules journal command denied)) (lane_with todo None (done ++ done_with command (reply_at rules journal command denied) ∷ []))
 unfolding reply_at
 answer_turn rules journal command todo done denied kind = ap (λ b. step_of rules denied journal (idle ∷ lane_with (command ∷ todo) None done ∷ []) 1 done command todo b None) kind
 
--- and one with a pin in its second, where the journal is still that of the pin
+-- and one with a pin in its second, when the journal is still that of the pin
 pin_turn : (rules : Rules) (journal : List Entry) (command : Command) (todo : List Command) (done : List Done) → has_pin command.task ≡ true
     → step rules (alone journal (lane_with (command ∷ todo) None done)) (1, false) ≡ alone journal (lane_with (command ∷ todo) (Some (length journal)) done)
 pin_turn rules journal command todo done kind = ap (λ b. step_of rules false journal (idle ∷ lane_with (command ∷ todo) None done ∷ []) 1 done command todo b None) kind
@@ -75,7 +75,7 @@ pinned_turn rules journal command todo done denied kind =
 
 -- ---- all commands
 
--- what was played of lane 1 behind a record: these turns give it all its answers
+-- what lane 1 played after a record: these turns give it all its answers
 record Plays (rules : Rules) (n : ℕ) (others : List ℕ) (commands : List Command) (done : List Done) (before after : RunRecord) : Type 0 where
   turns : List Bool
   more : List Done
@@ -83,7 +83,7 @@ record Plays (rules : Rules) (n : ℕ) (others : List ℕ) (commands : List Comm
   size : length more ≡ length commands
   is : after ≡ record before { journal = after.journal; answers = before.answers ++ answers_of more }
 
--- the rest behind one command
+-- the rest after one command
 after_one : (rules : Rules) (n m : ℕ) (others : List ℕ) (first : List Bool) (command : Command) (commands : List Command) (done : List Done) (before after : RunRecord) (denied : Bool)
     → ((turns : List Bool) → runs rules n others (first ++ turns) (alone before.journal (lane_with (command ∷ commands) None done))
     ≡ runs rules m others turns (alone (after_command rules before command denied).journal (lane_with commands None (done ++ done_with command (reply_at rules before.journal command denied) ∷ []))))
@@ -115,7 +115,7 @@ first_plays rules (suc (suc n)) others command commands done before after denied
     (λ turns. ap (λ (state : Play). runs rules n others turns (step rules state (1, denied))) (pin_turn rules before.journal command commands done kind)
     ∙ ap (runs rules n others turns) (pinned_turn rules before.journal command commands done denied kind)) (rest n (omega (arith, enough)))
 
--- What lane 1 plays where it has turns enough, its commands in turn.
+-- What lane 1 plays if it has enough turns: its commands in turn.
 lane_plays : (rules : Rules) (others : List ℕ) (commands : List Command) (denials : List Bool) (n : ℕ) (done : List Done) (before : RunRecord) → 2 * length commands ≤ n
     → Plays rules n others commands done before (in_turn rules commands denials before)
 unfolding in_turn
@@ -150,7 +150,7 @@ gathered_one (command ∷ batch) (d ∷ done) one same =
     let lists : List (List Done) = [] ∷ (d ∷ done) ∷ [] in
     ap (λ (l : ℕ). take 1 (get_or lists l []) ++ gathered batch (slice_set lists l (drop 1 (get_or lists l [])))) one.0 ∙ ap (λ ds. d ∷ ds) (gathered_one batch done one.1 (omega (arith, same)))
 
--- the record behind a batch whose play ends with these answers of lane 1
+-- the record after a batch whose play ends with these answers of lane 1
 record_of_one : (before after : RunRecord) (batch : Batch) (done : List Done) (state : Play) → IsOneLane batch → state ≡ alone after.journal (lane_with [] None done) → length done ≡ length batch
     → after ≡ record before { journal = after.journal; answers = before.answers ++ answers_of done } → record_after before (batch ++ []) state ≡ with_sync after
 record_of_one before after batch done state one ends size is =

@@ -87,7 +87,7 @@ merge_follows stay who policy pinned behind legal = by (planned_parts policy (la
     by [] planned = refl
     by (part ∷ parts) planned = gone part parts (find (λ planned. not (has_part (layout (pinned ++ behind)) planned)) (part ∷ parts)) planned refl
 
--- what a command adds may follow, wherever before it is pinned
+-- what a command adds may follow the journal, wherever before that the command was pinned
 task_follows : PlansStay → (rules : Rules) (who : Who) (task : Task) (pinned behind : List Entry) → is_legal (pinned ++ behind) ≡ true
     → is_legal_behind (pinned ++ behind) (map (entry_with who) (adds rules task pinned (answer_to rules task pinned (pinned ++ behind)))) ≡ true
 task_follows stay rules who (Load name body) pinned behind legal = load_follows rules who (table_read rules.keys name body) (pinned ++ behind)
@@ -114,7 +114,7 @@ reply_follows stay rules command false pinned behind now whole legal =
 
 -- ---- a legal play
 
--- commands of these lanes and of the merger
+-- commands of these lanes or of the merger
 abbrev AreWithin : ℕ → List Command → Type 0
 AreWithin n commands = AllByRecursion (λ command. command.lane ≤ n) commands
 
@@ -228,11 +228,11 @@ right_from stay rules options batches denials lanes =
           (subst (λ answers. AreBatchesRight rules options.lanes options.merge 1 made.journal 0 batches ran.syncs answers) (sym ran.answers_are) ran.right);
     }
 
--- the same but for whether its source was read to the end
+-- the same except for whether its source was read to the end
 ended_right : (rules : Rules) (lanes : ℕ) (merge : Bool) (batches : List Batch) (made : RunRecord) (ended : Bool) → IsRecordRight rules lanes merge batches made → IsRecordRight rules lanes merge batches (with_end ended made)
 ended_right rules lanes merge batches made ended right = record { legal = right.legal; callers = right.callers; each = right.each }
 
--- A record that was played is right: in whatever order, wherever memory was wanting, with merges and a merger.
+-- A record that was played is right: in whatever order, wherever memory ran out, with merges and a merger.
 pub record_right : PlansStay → (rules : Rules) (options : Options) (batches : List Batch) (made : RunRecord) → AllByRecursion (IsOfLanes options.lanes) batches → IsPlayed rules options batches made
     → IsRecordRight rules options.lanes options.merge batches made
 record_right stay rules options batches made lanes (denials, is) =

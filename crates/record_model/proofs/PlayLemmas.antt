@@ -30,7 +30,7 @@ use Rattle.record_model.specs.Answered.{TableRead, IsTable, NoTable, QueryRead, 
 use Rattle.record_model.specs.Play.{Done, done_with, who_of, entries_of, reply_or_denied}
 use Rattle.record_model.specs.Right.{Moment, moments, moments_by, Rises, IsPlaced, IsUnplaced, own_entries, entries_by, at_position, accepted, IsRight}
 
--- ---- what the reply to a command can be
+-- ---- the possible replies to a command
 
 pub data Shape (rules : Rules) (task : Task) (pinned now : List Entry) (reply : Reply) : Type 0 where
   Static : (stands : standing reply ≡ Nowhere) (is : reply ≡ answer_to rules task [] []) → Shape rules task pinned now reply
@@ -148,7 +148,7 @@ shape rules (Contain a b body) pinned now same = contain_shape rules a b body pi
 shape rules (AsOf asked k body) pinned now same = subst (λ q. Shape rules (AsOf asked k body) q now (past_answer asked k (query_read rules.keys body) now)) (sym (same refl)) (past_shape rules asked k body now (query_read rules.keys body) refl)
 shape rules (Merge all) pinned now same = merge_shape rules all pinned now
 
--- ---- a reply fits behind its pin
+-- ---- a reply may follow its pin
 
 pub record FitsBy (rules : Rules) (command : Command) (pinned now : List Entry) (reply : Reply) (s : Standing) (added : List Entry) : Type 0 where
   pub placed : IsPlaced rules (now ++ added) command reply s

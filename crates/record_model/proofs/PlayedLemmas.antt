@@ -40,7 +40,7 @@ merges_are true next batch = by next (updates batch)
     by a zero = tt
     by a (suc count) = (refl, by (a + 1) count)
 
--- what was played behind a record
+-- what was played from a record on
 pub record Played (rules : Rules) (n : ℕ) (merge : Bool) (next : ℕ) (batches : List Batch) (before made : RunRecord) : Type 0 where
   pub behind : List Entry
   pub syncs : List ℕ
@@ -80,7 +80,7 @@ one_more rules n merge next batch batches piece denials before made lanes rest =
       );
     }
 
--- A record that was played is right for its batches, whatever the pieces and wherever memory was wanting.
+-- A record that was played is right for its batches, whatever the pieces and wherever memory ran out.
 pub played_right : (rules : Rules) (n : ℕ) (merge : Bool) (next : ℕ) (batches : List Batch) (pieces : List (List ℕ)) (denials : List (List Bool)) (before : RunRecord) → AllByRecursion (AreLanes n) batches
     → Played rules n merge next batches before (played_from rules n merge next batches pieces denials before)
 unfolding played_from
@@ -99,7 +99,7 @@ played_right rules n merge next (batch ∷ batches) pieces denials before lanes 
     lanes.0
     (played_right rules n merge (next + updates batch) batches (drop 1 pieces) (drop 1 denials) (batch_after rules n batch (merger_commands merge next batch) (head_or_empty pieces) (head_or_empty denials) before) lanes.1)
 
--- ---- one batch behind another
+-- ---- one batch after another
 
 abbrev batch_behind : Rules → ℕ → Bool → Batch → List Bool → RunRecord → ℕ → List ℕ → RunRecord
 batch_behind rules lanes merge batch turns before next piece = batch_after rules lanes batch (merger_commands merge next batch) piece turns before
@@ -112,7 +112,7 @@ later_piece : (pieces : List (List ℕ)) (n : ℕ) → get_or (drop 1 pieces) n 
 later_piece [] n = refl
 later_piece (piece ∷ pieces) n = refl
 
--- One more batch is played behind the others.
+-- One more batch is played after the others.
 pub batches_go_on : (rules : Rules) (lanes : ℕ) (merge : Bool) (next : ℕ) (batches : List Batch) (batch : Batch) (pieces : List (List ℕ)) (denials : List (List Bool)) (turns : List Bool) (before : RunRecord)
     → length denials ≡ length batches
     → played_from rules lanes merge next (batches ++ batch ∷ []) pieces (denials ++ turns ∷ []) before

@@ -61,7 +61,7 @@ set_others (x ∷ lanes) zero (suc m) new e = refl
 set_others (x ∷ lanes) (suc l) zero new e = refl
 set_others (x ∷ lanes) (suc l) (suc m) new e = set_others lanes l m new (let z : (l == m) ≡ false = grind (arith, nat_tests, e) in z)
 
--- a lane that has nothing left stays
+-- a lane that has nothing left does not change
 still : (lanes : List Lane) (l : ℕ) → weight (get_or lanes l idle) ≡ 0 → Moves l lanes lanes
 still lanes l h = record { here = record { serves = refl; falls = omega (arith, h) }; others = λ m e. refl; size = refl }
 
@@ -109,7 +109,7 @@ step_at_moves : (rules : Rules) (denied : Bool) (journal : List Entry) (lanes : 
 step_at_moves rules denied journal lanes l None e = still lanes l (ap weight (got lanes l None e))
 step_at_moves rules denied journal lanes l (Some lane) e = lane_step_moves rules denied journal lanes l lane lane.todo e refl
 
--- how often a lane has its turn
+-- how many turns a lane has
 abbrev turns_of : ℕ → List (ℕ × Bool) → ℕ
 turns_of m [] = 0
 turns_of m (turn ∷ turns) = cond (turn.0 == m) 1 0 + turns_of m turns
@@ -143,7 +143,7 @@ turns_occur m [] denials = refl
 turns_occur m (l ∷ order) [] = ap (λ (n : ℕ). cond (l == m) 1 0 + n) (turns_occur m order [])
 turns_occur m (l ∷ order) (denied ∷ denials) = ap (λ (n : ℕ). cond (l == m) 1 0 + n) (turns_occur m order denials)
 
--- Where a lane has as many turns as it has steps, nothing is left of it, and it has answered all its commands.
+-- If a lane has as many turns as it has steps, nothing is left of it, and it has answered all its commands.
 pub all_done : (rules : Rules) (m : ℕ) (order : List ℕ) (denials : List Bool) (state : Play) → 2 * length (get_or state.lanes m idle).todo ≤ occurs m order → (get_or state.lanes m idle).done ≡ []
     → commands_in (get_or (play rules order denials state).lanes m idle).done ≡ (get_or state.lanes m idle).todo
 unfolding play
@@ -167,7 +167,7 @@ play_size : (rules : Rules) (order : List ℕ) (denials : List Bool) (state : Pl
 unfolding play
 play_size rules order denials state = size_stays rules state (with_denials order denials)
 
--- ---- how often a lane comes in a whole order
+-- ---- how often a lane occurs in a whole order
 
 occurs-append : (m : ℕ) (xs ys : List ℕ) → occurs m (xs ++ ys) ≡ occurs m xs + occurs m ys
 occurs-append m [] ys = omega arith
@@ -340,7 +340,7 @@ lanes_size n batch merges = let z : length (lanes_of n batch merges) ≡ 1 + len
     by a zero = refl
     by a (suc count) = let z : length (map (lane_of batch) (range_with_len a (suc count))) ≡ 1 + length (map (lane_of batch) (range_with_len (a + 1) count)) = omega arith in omega (arith, z, by (a + 1) count)
 
--- A batch played in any order, and with memory wanting anywhere, is right.
+-- A batch played in any order is right, wherever memory runs out.
 pub played_batch_right : (rules : Rules) (n : ℕ) (batch : Batch) (merges : List Command) (piece : List ℕ) (denials : List Bool) (before : List Entry) → AreLanes n batch → AreLane 0 merges
     → (behind : List Entry) × ((play_batch rules n batch merges piece denials before).journal ≡ before ++ behind)
     × ((l : ℕ) → l ≤ n → IsRight rules l before behind (done_of l (batch ++ merges) (answers_of (batch_done rules n batch merges piece denials before))))

@@ -80,7 +80,7 @@ entries_stay rules journal more command reply (Added at) h = ap (λ p. at_positi
 entries_stay rules journal more command reply (PlannedAndSaw pinned at) h = refl
 entries_stay rules journal more command reply (PlannedAndAdded pinned at) h = ap (λ p. at_position at (entries_of rules p command reply)) (take-append-le pinned journal more h.pinned)
 
--- what a list of answers says of a journal, it says of one that goes on
+-- what a list of answers states of a journal, it states of one that goes on
 pub all_placed_stay : (rules : Rules) (journal more : List Entry) (done : List Done) (low high : ℕ) → high ≤ length journal → Rises low (moments done) high
     → AllByRecursion (λ d. IsPlaced rules journal d.command d.reply (standing d.reply)) done
     → AllByRecursion (λ d. IsPlaced rules (journal ++ more) d.command d.reply (standing d.reply)) done

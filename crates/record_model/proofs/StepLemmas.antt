@@ -19,7 +19,7 @@ abbrev pub PinIs : ℕ → List Moment → ℕ → Option ℕ → Type 0
 PinIs low ms size None = ⊤
 PinIs low ms size (Some at) = Rises low ms at × (at ≤ size)
 
--- a lane in the midst of a batch
+-- a lane in the middle of a batch
 pub record LaneIs (rules : Rules) (before behind : List Entry) (l : ℕ) (lane : Lane) : Type 0 where
   pub right : IsRight rules l before behind lane.done
   pub mine : AllByRecursion (λ c. c.lane ≡ l) lane.todo
@@ -166,7 +166,7 @@ steps_keep : (rules : Rules) (before : List Entry) (state : Play) (turns : List 
 steps_keep rules before state [] is = is
 steps_keep rules before state (turn ∷ turns) is = steps_keep rules before (step rules state turn) turns (step_keeps rules before state turn is)
 
--- Whatever the order, and wherever memory is wanting, every lane is right behind a play.
+-- Whatever the order, and wherever memory runs out, every lane is right after a play.
 pub play_keeps : (rules : Rules) (order : List ℕ) (denials : List Bool) (before : List Entry) (state : Play) → PlayIs rules before state → PlayIs rules before (play rules order denials state)
 unfolding play
 play_keeps rules order denials before state is = steps_keep rules before state (with_denials order denials) is
@@ -189,7 +189,7 @@ lanes_start : (rules : Rules) (before : List Entry) (batch : Batch) (n count : �
 lanes_start rules before batch n zero = tt
 lanes_start rules before batch n (suc count) = (record { right = none_done rules n before; mine = own_lane n batch; pinned = tt }, lanes_start rules before batch (n + 1) count)
 
--- Behind a batch in a stated order each lane's answers, and the merger's, are right between the journal before it and the journal after it.
+-- After a batch in a stated order each lane's answers, and the merger's, are right between the journal before it and the journal after it.
 pub batch_right : (rules : Rules) (lanes : ℕ) (batch : Batch) (merges : List Command) (piece : List ℕ) (denials : List Bool) (before : List Entry)
     → AllByRecursion (λ c. c.lane ≡ 0) merges → PlayIs rules before (play_batch rules lanes batch merges piece denials before)
 batch_right rules lanes batch merges piece denials before mine =

@@ -1,4 +1,4 @@
--- The text of watched queries over a journal that goes on, and that the same rows are equal.
+-- The text of watched queries over a journal that goes on, and that rows are the same exactly if they are equal.
 use Rattle.std.proofs.Common.{◌≡◌, refl, ap, sym, ◌∙◌, ℕ, List, [], ◌∷◌, ◌++◌, true, false, append-nil, append_assoc, flat_map}
 use Rattle.std.specs.Prelude.{◌==◌, bytes_eq}
 use Rattle.std.proofs.lemmas.Bool.{eq-eqb, eqb-true, and_parts}
@@ -63,7 +63,7 @@ lines_on k queries before (entry ∷ xs) ys =
     ∙ sym (append_assoc here (lines_behind k queries now xs) (lines_behind k queries (now ++ xs) ys))
     ∙ ap (λ (journal : List Entry). (here ++ lines_behind k queries now xs) ++ lines_behind k queries journal ys) (append_assoc before (entry ∷ []) xs)
 
--- The text of entries and of more behind them is the one behind the other.
+-- The text of some entries and of more after them is one text followed by the other.
 pub watch_text_on : (k : ℕ) (queries : List (List Text)) (before xs ys : List Entry)
     → watch_text_behind k queries before (xs ++ ys) ≡ watch_text_behind k queries before xs ++ watch_text_behind k queries (before ++ xs) ys
 watch_text_on k queries before xs ys =

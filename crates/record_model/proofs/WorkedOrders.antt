@@ -1,4 +1,4 @@
--- Worked runs with lanes, stated orders, a merger and traces: from the bytes of a script to the bytes that are written where memory is ample.
+-- Worked runs with lanes, stated orders, a merger and traces: from the bytes of a script to the bytes that are written if memory is ample.
 use Rattle.std.proofs.Common.{◌≡◌, refl, List, [], ◌∷◌, ℕ}
 use Rattle.std.specs.Prelude.{codes, false, flat_map, Some, true}
 use Rattle.std.specs.Str.{trim_start, trim_end, chars, is_utf8}
@@ -31,7 +31,8 @@ lines texts = flat_map line_text texts
 abbrev written : Options → List ℕ → List ℕ
 written options script = text (with_end true (played (standard_rules Canonical) options (commands standard options.lanes script []).batches []))
 
--- A merge of four parts is planned, and one of its tables dropped before it ends: a search that was pinned between finds no dropped table, nor does one behind the merge.
+-- A merge of four parts is planned, and one of its tables is dropped before it ends: a search that was pinned in between does not find the
+-- dropped table, nor does one after the merge.
 merge_planned_before_a_drop : written (options_with 2 (Some ((1 ∷ 1 ∷ 1 ∷ 1 ∷ 1 ∷ 2 ∷ 2 ∷ 2 ∷ 1 ∷ 1 ∷ 1 ∷ []) ∷ [])) false false Canonical) (lines (codes "load a1" ∷ codes "c" ∷ codes "x" ∷ codes "." ∷ codes "load a2" ∷ codes "c" ∷ codes "x" ∷ codes "." ∷ codes "load a3" ∷ codes "c" ∷ codes "x" ∷ codes "." ∷ codes "load a4" ∷ codes "c" ∷ codes "x" ∷ codes "." ∷ codes "merge" ∷ codes "@2 drop a2" ∷ codes "@2 search 9" ∷ codes "x" ∷ codes "." ∷ codes "search 9" ∷ codes "x" ∷ codes "." ∷ [])) ≡ lines (codes "1 loaded a1 columns 1 members 1 at 1" ∷ codes "2 loaded a2 columns 1 members 1 at 2" ∷ codes "3 loaded a3 columns 1 members 1 at 3" ∷ codes "4 loaded a4 columns 1 members 1 at 4" ∷ codes "5 merged 4 parts into 4 tables at 6" ∷ codes "6 dropped a2 at 5" ∷ codes "7 answer 3 of 1 at 5" ∷ codes "  1 a1 1 \"c\"" ∷ codes "  1 a3 1 \"c\"" ∷ codes "  1 a4 1 \"c\"" ∷ codes "8 answer 3 of 1 at 6" ∷ codes "  1 a1 1 \"c\"" ∷ codes "  1 a3 1 \"c\"" ∷ codes "  1 a4 1 \"c\"" ∷ [])
 unfolding lines_of read next_record records_from strip_bom is_utf8 caseless trim_start trim_end chars encode digits in_order put_in_order rows_fault text_fault line_fault table_read query_read play played_from
 merge_planned_before_a_drop = refl
@@ -41,12 +42,12 @@ search_pinned_before_a_drop : written (options_with 2 (Some ((1 ∷ 1 ∷ 1 ∷ 
 unfolding lines_of read next_record records_from strip_bom is_utf8 caseless trim_start trim_end chars encode digits in_order put_in_order rows_fault text_fault line_fault table_read query_read play played_from
 search_pinned_before_a_drop = refl
 
--- Two lanes plan a merge of the same parts, and the second comes too late.
+-- Two lanes plan a merge of the same parts, and the second is too late.
 same_parts_merged_twice : written (options_with 2 (Some ((1 ∷ 1 ∷ 1 ∷ 2 ∷ 1 ∷ 2 ∷ []) ∷ [])) false false Canonical) (lines (codes "load a" ∷ codes "c" ∷ codes "x" ∷ codes "." ∷ codes "load b" ∷ codes "c" ∷ codes "x" ∷ codes "." ∷ codes "merge all" ∷ codes "@2 merge all" ∷ [])) ≡ lines (codes "1 loaded a columns 1 members 1 at 1" ∷ codes "2 loaded b columns 1 members 1 at 2" ∷ codes "3 merged 2 parts into 2 tables at 3" ∷ codes "4 refused stale part 1 at 3" ∷ [])
 unfolding lines_of read next_record records_from strip_bom is_utf8 caseless trim_start trim_end chars encode digits in_order put_in_order rows_fault text_fault line_fault table_read query_read play played_from
 same_parts_merged_twice = refl
 
--- The merger takes its turns in a stated order, and its replies come behind the batch; all is traced.
+-- The merger takes its turns in a stated order, and its replies come after the batch; all is traced.
 merger_with_a_trace : written (options_with 1 (Some ((1 ∷ 1 ∷ 1 ∷ 1 ∷ 0 ∷ 0 ∷ []) ∷ [])) true true Canonical) (lines (codes "load a1" ∷ codes "c" ∷ codes "x" ∷ codes "." ∷ codes "load a2" ∷ codes "c" ∷ codes "x" ∷ codes "." ∷ codes "load a3" ∷ codes "c" ∷ codes "x" ∷ codes "." ∷ codes "load a4" ∷ codes "c" ∷ codes "x" ∷ codes "." ∷ [])) ≡ lines (codes "1 loaded a1 columns 1 members 1 at 1" ∷ codes "2 loaded a2 columns 1 members 1 at 2" ∷ codes "3 loaded a3 columns 1 members 1 at 3" ∷ codes "4 loaded a4 columns 1 members 1 at 4" ∷ codes "m1 merged 4 parts into 4 tables at 5" ∷ codes "  layout at 4 parts 1:1 2:2 3:3 4:4" ∷ codes "m2 refused nothing to merge at 5" ∷ codes "  layout at 5 parts 5:1,2,3,4" ∷ codes "m3 refused nothing to merge at 5" ∷ codes "  layout at 5 parts 5:1,2,3,4" ∷ codes "m4 refused nothing to merge at 5" ∷ codes "  layout at 5 parts 5:1,2,3,4" ∷ codes "journal 5" ∷ codes "  1 load lane 1 command 1 a1" ∷ codes "  2 load lane 1 command 2 a2" ∷ codes "  3 load lane 1 command 3 a3" ∷ codes "  4 load lane 1 command 4 a4" ∷ codes "  5 swap lane 0 command m1 from 1,2,3,4 kept 1,2,3,4" ∷ [])
 unfolding lines_of read next_record records_from strip_bom is_utf8 caseless trim_start trim_end chars encode digits in_order put_in_order rows_fault text_fault line_fault table_read query_read play played_from
 merger_with_a_trace = refl

@@ -1,5 +1,5 @@
--- Worked runs that watch queries, from the files of the queries and the bytes of a script to the bytes that are written where memory is ample and
--- nothing fails.
+-- Worked runs that watch queries, from the files of the queries and the bytes of a script to the bytes that are written if memory is ample
+-- and nothing fails.
 use Rattle.std.proofs.Common.{◌≡◌, refl, ℕ, List, [], ◌∷◌, ◌++◌}
 use Rattle.std.specs.Prelude.{codes, flat_map, map}
 use Rattle.std.specs.Str.{trim_start, trim_end, chars, is_utf8}
@@ -41,12 +41,12 @@ watched k files script = told k (queries_from 1 (map Bytes files)) (journal_of s
 abbrev grows_and_shrinks : List ℕ
 grows_and_shrinks = lines (codes "load s" ∷ codes "c" ∷ codes "a" ∷ codes "." ∷ codes "load t" ∷ codes "c" ∷ codes "a" ∷ codes "b" ∷ codes "." ∷ codes "drop t" ∷ codes "load u" ∷ codes "c" ∷ codes "z" ∷ codes "." ∷ [])
 
--- a better table comes and goes, and one that has nothing to do with the query is not told
+-- a better table comes and goes, and a table that has no key of the query changes nothing
 one_query : watched 1 (lines (codes "a" ∷ codes "b" ∷ []) ∷ []) grows_and_shrinks ≡ lines (codes "1 query 1 rows 1" ∷ codes "  1 s 1 \"c\"" ∷ codes "2 query 1 rows 1" ∷ codes "  2 t 1 \"c\"" ∷ codes "3 query 1 rows 1" ∷ codes "  1 s 1 \"c\"" ∷ codes "end 4" ∷ [])
 unfolding lines_of read next_record records_from strip_bom is_utf8 caseless trim_start trim_end chars encode digits in_order put_in_order rows_fault text_fault line_fault table_read query_read play played_from given_read queries_from same_rows lines_behind
 one_query = refl
 
--- a row falls behind the first and comes back, and each query is told what concerns it
+-- a row drops to second place and returns to the first, and each query reports only its own changes
 two_queries : watched 2 (lines (codes "a" ∷ codes "b" ∷ []) ∷ lines (codes "z" ∷ []) ∷ []) grows_and_shrinks ≡ lines (codes "1 query 1 rows 1" ∷ codes "  1 s 1 \"c\"" ∷ codes "2 query 1 rows 2" ∷ codes "  2 t 1 \"c\"" ∷ codes "  1 s 1 \"c\"" ∷ codes "3 query 1 rows 1" ∷ codes "  1 s 1 \"c\"" ∷ codes "4 query 2 rows 1" ∷ codes "  1 u 1 \"c\"" ∷ codes "end 4" ∷ [])
 unfolding lines_of read next_record records_from strip_bom is_utf8 caseless trim_start trim_end chars encode digits in_order put_in_order rows_fault text_fault line_fault table_read query_read play played_from given_read queries_from same_rows lines_behind
 two_queries = refl

@@ -1,4 +1,4 @@
--- What each command is answered, what it adds to the journal, and the positions that its reply shows.
+-- The reply to each command, what the command adds to the journal, and the positions that its reply shows.
 use Rattle.std.specs.Prelude.{ℕ, Bool, true, false, List, [], ◌∷◌, if◌then◌else◌, Option, Some, None}
 use Rattle.lake_model.specs.declared.Policy.{Policy}
 use Rattle.lake_model.specs.declared.Policy.TheVariants.{Tier, All}
@@ -18,17 +18,18 @@ use Rattle.lake_model.specs.Plan.{plan}
 use Rattle.script_model.specs.Commands.{File, Bytes, Failed, Missing, TooLong, Task, Load, LoadFile, DropTable, Replace, Tables, Search, Like, Contain, AsOf, Merge}
 use Rattle.record_model.specs.Replies.{Reply, Loaded, Dropped, Replaced, Listed, Found, Past, Merged, Repeated, Unknown, NoColumn, Full, NothingToMerge, Later, Stale, Fault, OfCsv, OfSets, OfQuery, OfFile, FailedFault, MissingFault, TooLongFault, fault_reply, load_reply, drop_reply, replace_reply, tables_reply, search_reply, like_reply, contain_reply, past_reply, merge_reply}
 
--- the table of bytes, or the refusal of these bytes
+-- the table of some bytes, or why they are refused
 pub data TableRead : Type 0 where
   IsTable : (table : Table) → TableRead
   NoTable : (fault : Fault) → TableRead
 
--- the keys of a body, or its refusal
+-- the keys of a body, or why it is refused
 pub data QueryRead : Type 0 where
   IsQuery : (keys : List Text) → QueryRead
   NoQuery : (fault : Fault) → QueryRead
 
--- The table of bytes under a name. The first fault of the records refuses them, or else the first of the sets.
+-- The table of some bytes under a name. They are refused for the first fault of the records, or else for the first of
+-- the sets.
 abbrev pub sets_read : Keys → Text → List Record → Option SetRefused → TableRead
 sets_read keys name rows None = IsTable (table_of keys name rows)
 sets_read keys name rows (Some why) = NoTable (OfSets why)
@@ -40,7 +41,7 @@ records_read keys name rows (Some why) = NoTable (OfCsv why)
 unfoldable pub table_read : Keys → Text → List ℕ → TableRead
 table_read keys name bytes = records_read keys name (records_of bytes) (csv_fault (most_columns keys) bytes)
 
--- the query of a body, whose first fault refuses it
+-- the query of a body, which is refused for its first fault
 abbrev pub keys_read : Keys → List ℕ → Option QueryRefused → QueryRead
 keys_read keys body None = IsQuery (query_of keys body)
 keys_read keys body (Some why) = NoQuery (OfQuery why)
@@ -94,7 +95,7 @@ answer_to rules (Contain a b body) pinned now = contain_answer a b (query_read r
 answer_to rules (AsOf asked k body) pinned now = past_answer asked k (query_read rules.keys body) now
 answer_to rules (Merge all) pinned now = merge_reply (policy_of all) pinned now
 
--- A search, a like, a contain and a merge have a pin of their own. One of the past sees the journal once, when it is answered.
+-- A search, a like, a contain and a merge have a pin of their own. An asof sees the journal once, when it is answered.
 abbrev pub has_pin : Task → Bool
 has_pin (Load name body) = false
 has_pin (LoadFile name file) = false
@@ -107,7 +108,7 @@ has_pin (Contain a b body) = true
 has_pin (AsOf asked k body) = false
 has_pin (Merge all) = true
 
--- what a command adds, where it is accepted
+-- what a command adds if it is accepted
 abbrev pub loads : TableRead → List What
 loads (IsTable table) = journal.Loaded table ∷ []
 loads (NoTable fault) = []
@@ -132,7 +133,7 @@ change_of rules (Contain a b body) pinned = []
 change_of rules (AsOf asked k body) pinned = []
 change_of rules (Merge all) pinned = swaps (plan (policy_of all) pinned)
 
--- where a reply stands: at no position, at one it has seen, at its own entry; a merge has the position of its plan besides
+-- the positions of a reply: none, one that it saw, or that of its own entry; a merge also has the position of its plan
 pub data Standing : Type 0 where
   Nowhere : Standing
   Saw : (at : ℕ) → Standing

@@ -21,7 +21,7 @@ done_with command reply = record { command = command; reply = reply }
 abbrev pub who_of : Command → Who
 who_of command = who_with command.lane command.number
 
--- a lane: the commands still to do, the position of the first of them's pin, and what is done
+-- a lane: the commands still to do, the position of the pin of the first of them, and what is done
 pub record Lane : Type 0 where
   pub todo : List Command
   pub pin : Option ℕ
@@ -56,7 +56,7 @@ step_of rules denied journal lanes l done command todo true None = play_with jou
 step_of rules denied journal lanes l done command todo true (Some at) = answered rules denied journal lanes l done command todo (take at journal)
 step_of rules denied journal lanes l done command todo false pin = answered rules denied journal lanes l done command todo journal
 
--- the next step of a lane, where it has one; `denied` says that memory is wanting, if the step is one that answers
+-- the next step of a lane, if it has one; `denied` says that memory runs out, if the step is one that answers
 abbrev pub lane_step : Rules → Bool → List Entry → List Lane → ℕ → List Command → Lane → Play
 lane_step rules denied journal lanes l [] lane = play_with journal lanes
 lane_step rules denied journal lanes l (command ∷ todo) lane = step_of rules denied journal lanes l lane.done command todo (has_pin command.task) lane.pin
@@ -68,7 +68,7 @@ step_at rules denied journal lanes l (Some lane) = lane_step rules denied journa
 abbrev pub step : Rules → Play → ℕ × Bool → Play
 step rules play turn = step_at rules turn.1 play.journal play.lanes turn.0 (slice_get play.lanes turn.0)
 
--- each turn with what is said of memory in it; where nothing more is said, there is enough
+-- each turn, with whether memory runs out in it; past the end of that list it does not
 abbrev pub with_denials : List ℕ → List Bool → List (ℕ × Bool)
 with_denials [] denials = []
 with_denials (l ∷ order) [] = (l, false) ∷ with_denials order []
@@ -77,12 +77,12 @@ with_denials (l ∷ order) (denied ∷ denials) = (l, denied) ∷ with_denials o
 unfoldable pub play : Rules → List ℕ → List Bool → Play → Play
 play rules order denials before = fold (step rules) before (with_denials order denials)
 
--- the merger's commands in a batch, from its next number on
+-- the merger's commands in a batch, numbered from its next number on
 abbrev pub merger_commands : Bool → ℕ → Batch → List Command
 merger_commands false next batch = []
 merger_commands true next batch = map (λ n. command_with n 0 (Merge false)) (range_with_len next (updates batch))
 
--- the same, where the merger's next number is given if there is a merger
+-- the same, where the merger's next number is given exactly if there is a merger
 abbrev pub merges_of : Option ℕ → Batch → List Command
 merges_of None batch = []
 merges_of (Some next) batch = merger_commands true next batch
@@ -98,7 +98,7 @@ lanes_of n batch merges = lane_with merges None [] ∷ map (lane_of batch) (rang
 abbrev pub whole_order : List ℕ → ℕ → ℕ → List ℕ
 whole_order piece n steps = piece ++ flat_map (λ l. replicate steps l) (range_with_len 1 n ++ 0 ∷ [])
 
--- the answers of commands in their order, where each lane's answers stand in a list of its own
+-- the answers of commands in their order, where each lane's answers are in a list of their own
 abbrev pub gathered : List Command → List (List Done) → List Done
 gathered [] lists = []
 gathered (command ∷ commands) lists =
@@ -111,7 +111,7 @@ play_batch rules lanes batch merges piece denials journal =
 abbrev pub answers_of : List Done → List Answered
 answers_of done = map (λ d. answered_with (who_of d.command) d.reply) done
 
--- a batch's answers come in script order, and then the merger's
+-- a batch's answers come in the order of the script, and then the merger's
 abbrev pub record_after : RunRecord → List Command → Play → RunRecord
 record_after before commands play = record before {
   journal = play.journal;
@@ -126,7 +126,7 @@ head_or_empty (xs ∷ xss) = xs
 abbrev pub batch_after : Rules → ℕ → Batch → List Command → List ℕ → List Bool → RunRecord → RunRecord
 batch_after rules lanes batch merges piece denials before = record_after before (batch ++ merges) (play_batch rules lanes batch merges piece denials before.journal)
 
--- the record behind these batches, where `next` is the merger's next number
+-- the record after these batches, where `next` is the merger's next number
 unfoldable pub played_from : Rules → ℕ → Bool → ℕ → List Batch → List (List ℕ) → List (List Bool) → RunRecord → RunRecord
 played_from rules lanes merge next [] pieces denials before = before
 played_from rules lanes merge next (batch ∷ batches) pieces denials before =
@@ -137,10 +137,10 @@ abbrev pub pieces_of : Option (List (List ℕ)) → List (List ℕ)
 pieces_of None = []
 pieces_of (Some pieces) = pieces
 
--- the record of these batches with these options, where memory is wanting at these turns
+-- the record of these batches with these options, where memory runs out at these turns
 abbrev pub played : Rules → Options → List Batch → List (List Bool) → RunRecord
 played rules options batches denials = played_from rules options.lanes options.merge 1 batches (pieces_of options.order) denials (empty options)
 
--- The record was played of these batches, with these options, where memory was wanting at some turns or at none.
+-- The record was played from these batches with these options, and memory ran out at some turns or at none.
 abbrev pub IsPlayed : Rules → Options → List Batch → RunRecord → Type 0
 IsPlayed rules options batches made = (denials : List (List Bool)) × (made ≡ with_end made.ended (played rules options batches denials))

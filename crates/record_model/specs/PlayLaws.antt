@@ -11,34 +11,36 @@ use Rattle.record_model.specs.Right.{IsRecordRight, IsRight}
 use Rattle.record_model.specs.InTurn.{after_command, in_turn, with_sync, IsOneLane}
 use Rattle.script_model.specs.Lanes.{IsOfLanes}
 
--- What was played is right, in whatever order it was played, wherever memory was wanting, with merges and a merger.
+-- What was played is right, in whatever order it was played, wherever memory ran out, with merges and a merger.
 abbrev pub PlayedIsRight : Type 0
 PlayedIsRight = (rules : Rules) (options : Options) (batches : List Batch) (made : RunRecord) → AllByRecursion (IsOfLanes options.lanes) batches
     → IsPlayed rules options batches made → IsRecordRight rules options.lanes options.merge batches made
 
--- One more command in turn comes behind all others.
+-- One more command in turn is answered after all the others.
 abbrev pub GoesOnInTurn : Type 0
 GoesOnInTurn = (rules : Rules) (commands : List Command) (denials : List Bool) (command : Command) (denied : Bool) (before : RunRecord) → length denials ≡ length commands
     → in_turn rules (commands ++ command ∷ []) (denials ++ denied ∷ []) before ≡ after_command rules (in_turn rules commands denials before) command denied
 
--- What the commands of a batch of one lane make in turn is that batch played without a stated order, with memory wanting at some turns or at none.
+-- The record of answering the commands of a one-lane batch in turn is that of the batch played without a stated order,
+-- in which memory runs out at some turns or at none.
 abbrev pub BatchIsPlayed : Type 0
 BatchIsPlayed = (rules : Rules) (batch : Batch) (denials : List Bool) (before : RunRecord) → IsOneLane batch
     → (turns : List Bool) × (batch_after rules 1 batch [] [] turns before ≡ with_sync (in_turn rules batch denials before))
 
--- One more batch is played behind the others, where its piece is the one at its place and `next` was the merger's next number before them.
+-- One more batch is played after the others, with the piece at its place in the order, where `next` was the merger's
+-- next number before the others.
 abbrev pub BatchesGoOn : Type 0
 BatchesGoOn = (rules : Rules) (lanes : ℕ) (merge : Bool) (next : ℕ) (batches : List Batch) (batch : Batch) (pieces : List (List ℕ)) (denials : List (List Bool)) (turns : List Bool) (before : RunRecord)
     → length denials ≡ length batches
     → played_from rules lanes merge next (batches ++ batch ∷ []) pieces (denials ++ turns ∷ []) before
     ≡ batch_after rules lanes batch (merger_commands merge (next + sum_by updates batches) batch) (get_or pieces (length batches) []) turns (played_from rules lanes merge next batches pieces denials before)
 
--- Answers of a lane that are right stay right when entries of other callers come behind.
+-- Right answers of a lane stay right when entries of other callers follow.
 abbrev pub AnswersStayRight : Type 0
 AnswersStayRight = (rules : Rules) (lane : ℕ) (before behind more : List Entry) (done : List Done) → AllByRecursion (λ e. (e.who.caller == lane) ≡ false) more
     → IsRight rules lane before behind done → IsRight rules lane before (behind ++ more) done
 
--- Two lists of a lane's answers, the one right up to a journal and the other from it on, are right in a row.
+-- Two lists of a lane's answers, one right up to a journal and the other from there on, are right in a row.
 abbrev pub AnswersGoOn : Type 0
 AnswersGoOn = (rules : Rules) (lane : ℕ) (before behind more : List Entry) (done later : List Done) → IsRight rules lane before behind done
     → IsRight rules lane (before ++ behind) more later → IsRight rules lane before (behind ++ more) (done ++ later)

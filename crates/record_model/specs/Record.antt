@@ -1,4 +1,4 @@
--- The record of a run: its journal, its answers, and the length of the journal behind each batch.
+-- The record of a run: its journal, its answers, and the length of the journal after each batch.
 use Rattle.std.specs.Prelude.{ℕ, Bool, false, List, []}
 use Rattle.lake_model.specs.declared.Who.{Who}
 use Rattle.lake_model.specs.Journal.{Entry}
@@ -23,6 +23,6 @@ pub record RunRecord : Type 0 where
 abbrev pub empty : Options → RunRecord
 empty options = record { options = options; journal = []; answers = []; syncs = []; ended = false }
 
--- whether the source was read to its end
+-- the record with a statement of whether the source was read to its end
 abbrev pub with_end : Bool → RunRecord → RunRecord
 with_end ended made = record made { ended = ended }

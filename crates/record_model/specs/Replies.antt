@@ -1,4 +1,4 @@
--- What each command is answered at a journal, where its bytes and its query are as they should be.
+-- The reply to each command at a journal, if its bytes and its query have no fault.
 use Rattle.std.specs.Prelude.{ℕ, ◌+◌, ◌-◌, nat_lt, not, List, [], ◌∷◌, length, map, find, slice_get, take, if◌then◌else◌, Option, Some, None}
 use Rattle.lake_model.specs.declared.Which.{Which}
 use Rattle.lake_model.specs.declared.Policy.{Policy}
@@ -45,11 +45,11 @@ pub data Reply : Type 0 where
   QueryTooLarge : Reply
   NoMemory : Reply
 
--- why no file came
+-- why a file could not be fetched
 pub data FileFault : Type 0 where
   FailedFault MissingFault TooLongFault : FileFault
 
--- what is wrong with a command's bytes or with its file, whatever the journal
+-- what is wrong with a command's bytes or with its file, whatever the journal is
 pub data Fault : Type 0 where
   OfCsv : (why : CsvRefused) → Fault
   OfSets : (why : SetRefused) → Fault
@@ -83,7 +83,7 @@ fault_reply (OfSets why) = sets_reply why
 fault_reply (OfQuery why) = query_reply why
 fault_reply (OfFile why) = file_reply why
 
--- the first limit that would be passed, or else this
+-- the first limit that would be passed, or else the given reply
 abbrev pub unless_lake_full : ℕ → Reply → Option Bounded → Reply
 unless_lake_full at reply None = reply
 unless_lake_full at reply (Some b) = Full b.which b.count b.more at
@@ -118,7 +118,7 @@ contain_reply keys a b journal =
     let parts = layout journal in
     Found (length keys) (contain (live journal) keys a b) (contain_reads keys a b parts) (contain_probes keys a b parts) (shown_layout journal)
 
--- the answer over the tables that were live after the first so many entries, of which there are not more than the journal has
+-- the answer over the tables that were live after the first `asked` entries, or a refusal if the journal has fewer
 abbrev pub past_reply : List Text → ℕ → ℕ → List Entry → Reply
 past_reply keys asked k journal =
     let at = length journal in
@@ -138,7 +138,7 @@ like_table k name place journal (Some table) = like_column k name place journal 
 abbrev pub like_reply : ℕ → Text → ℕ → List Entry → Reply
 like_reply k name place journal = like_table k name place journal (live_table journal name)
 
--- a merge that was planned at one journal and ends at another, where this planned part, if any, is not there
+-- a merge that was planned at one journal and ends at another, where the given part of the plan, if any, is missing
 abbrev pub merge_gone : List Entry → List Entry → List Part → Option Part → Reply
 merge_gone before journal planned None = Merged (shown_layout before) (length planned) (length (unmarked_of planned)) (length journal + 1)
 merge_gone before journal planned (Some part) = Stale (shown_layout before) part.number (length journal)

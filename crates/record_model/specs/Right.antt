@@ -1,4 +1,4 @@
--- What it is for a lane's answers, and for a record, to be right.
+-- When a lane's answers, and when a record, are right.
 use Rattle.std.specs.Prelude.{ℕ, ◌+◌, ◌-◌, ◌==◌, ◌≡◌, ◌≤◌, ◌<◌, ◌⊎◌, ⊤, Bool, true, false, List, [], ◌∷◌, ◌++◌, length, map, take, drop, filter, flat_map, zip}
 use Rattle.std.specs.List.{AllByRecursion, enumerate_from}
 use Rattle.record_model.specs.Rules.{Rules}
@@ -12,7 +12,7 @@ use Rattle.record_model.specs.Play.{Done, done_with, who_of, entries_of, merger_
 
 -- ---- the positions along a lane
 
--- a position that a reply shows, and whether it is that of the reply's own entry
+-- a position that a reply shows, and whether it is the position of the reply's own entry
 pub record Moment : Type 0 where
   pub own : Bool
   pub at : ℕ
@@ -37,14 +37,15 @@ abbrev pub IsBehind : Bool → ℕ → ℕ → Type 0
 IsBehind true low at = low < at
 IsBehind false low at = low ≤ at
 
--- the positions never fall, from one bound to another, and an own entry's is greater than each before it
+-- the positions never fall, from the lower bound to the upper one, and the position of an own entry is greater than
+-- each before it
 abbrev pub Rises : ℕ → List Moment → ℕ → Type 0
 Rises low [] high = low ≤ high
 Rises low (moment ∷ moments) high = IsBehind moment.own low moment.at × Rises moment.at moments high
 
 -- ---- replies
 
--- the position of the plan or the pin, and the one that the reply is made at
+-- the position of the plan or the pin, and the position at which the reply is made
 abbrev pub pinned_by : Standing → ℕ
 pinned_by Nowhere = 0
 pinned_by (Saw at) = at
@@ -59,7 +60,8 @@ made_by (Added at) = at - 1
 made_by (PlannedAndSaw pinned at) = at
 made_by (PlannedAndAdded pinned at) = at - 1
 
--- the reply that the command has at these positions; one with no position is the same at each journal, so also at the empty one
+-- the reply to the command at these positions; a reply with no position is the same at each journal, so also at the
+-- empty one
 abbrev pub answer_by : Rules → List Entry → Command → Standing → Reply
 answer_by rules journal command standing = answer_to rules command.task (take (pinned_by standing) journal) (take (made_by standing) journal)
 
@@ -79,14 +81,14 @@ IsUnplaced rules command reply (PlannedAndAdded pinned at) = ⊤
 
 -- ---- entries
 
--- a lane's own entries behind a journal, with their positions
+-- a lane's own entries after a journal, with their positions
 abbrev pub own_entries : ℕ → List Entry → List Entry → List (ℕ × Entry)
 own_entries lane before behind = filter (λ e. e.1.who.caller == lane) (enumerate_from (length before + 1) behind)
 
 abbrev pub at_position : ℕ → List Entry → List (ℕ × Entry)
 at_position at entries = map (λ e. (at, e)) entries
 
--- the entry of an accepted update, at its reply's position; none of another command
+-- the entry of an accepted update, at its reply's position; other commands have none
 abbrev pub entries_by : Rules → List Entry → Command → Reply → Standing → List (ℕ × Entry)
 entries_by rules journal command reply Nowhere = []
 entries_by rules journal command reply (Saw at) = []
@@ -97,7 +99,7 @@ entries_by rules journal command reply (PlannedAndAdded pinned at) = at_position
 abbrev pub accepted : Rules → List Entry → List Done → List (ℕ × Entry)
 accepted rules journal done = flat_map (λ d. entries_by rules journal d.command d.reply (standing d.reply)) done
 
--- ---- a lane's answers between a journal and the same with more behind it
+-- ---- a lane's answers between a journal and the same with more entries after it
 
 pub record IsRight (rules : Rules) (lane : ℕ) (before behind : List Entry) (done : List Done) : Type 0 where
   pub entries : own_entries lane before behind ≡ accepted rules (before ++ behind) done
@@ -113,12 +115,12 @@ done_of lane commands answers = filter (λ d. d.command.lane == lane) (map (λ p
 abbrev pub between : ℕ → ℕ → List Entry → List Entry
 between from to journal = take (to - from) (drop from journal)
 
--- the answers of a batch whose commands, the merger's last, are these
+-- the answers of a batch with these commands, of which the merger's come last
 pub record IsBatchRight (rules : Rules) (lanes : ℕ) (journal : List Entry) (from to : ℕ) (commands : List Command) (answers : List Answered) : Type 0 where
   pub answered : map (λ a. a.who) answers ≡ map who_of commands
   pub each : (lane : ℕ) → lane ≤ lanes → IsRight rules lane (take from journal) (between from to journal) (done_of lane commands answers)
 
--- one sync for each batch, rising; every command has one answer
+-- there is one sync for each batch, and the syncs rise; every command has one answer
 abbrev pub AreBatchesRight : Rules → ℕ → Bool → ℕ → List Entry → ℕ → List Batch → List ℕ → List Answered → Type 0
 AreBatchesRight rules lanes merge next journal from [] [] [] = from ≡ length journal
 AreBatchesRight rules lanes merge next journal from [] [] (answer ∷ answers) = ⊥

@@ -14,11 +14,11 @@ use Rattle.script_model.specs.Words.{line_text}
 use Rattle.record_model.specs.Replies.{Reply, Loaded, Dropped, Replaced, Listed, Found, Past, Merged, Repeated, Unknown, NoColumn, Full, NothingToMerge, Later, Stale, NoHeader, TooManyColumns, Unequal, NotUtf8, TooManyValues, FileFailed, FileMissing, FileTooLong, QueryNotUtf8, QueryTooLarge, NoMemory}
 use Rattle.record_model.specs.Record.{Answered, RunRecord}
 
--- words with one space between
+-- texts with one space between them
 abbrev pub spaced : List Text → Text
 spaced words = join_by (λ word. word) (0x20 ∷ []) words
 
--- numbers with a comma between, or `none`
+-- numbers with commas between them, or `none`
 abbrev pub listed : (ℕ → Text) → List ℕ → Text
 listed text [] = codes "none"
 listed text (n ∷ ns) = join_by text (0x2C ∷ []) (n ∷ ns)
@@ -70,7 +70,7 @@ refused words = codes "refused" ∷ words
 abbrev pub at_words : ℕ → List Text
 at_words at = codes "at" ∷ decimal at ∷ []
 
--- the words of a reply's first line, behind its number
+-- the texts of a reply's first line after its number, separated by spaces
 abbrev pub reply_words : Reply → List Text
 reply_words (Loaded name columns members at) = codes "loaded" ∷ name ∷ codes "columns" ∷ decimal columns ∷ codes "members" ∷ decimal members ∷ at_words at
 reply_words (Dropped name at) = codes "dropped" ∷ name ∷ at_words at
@@ -104,7 +104,7 @@ table_line table = codes "  " ++ spaced (table.name ∷ codes "columns" ∷ deci
 abbrev pub row_line : Row → Text
 row_line row = codes "  " ++ spaced (decimal row.overlap ∷ row.table ∷ decimal row.place ∷ quoted row.column ∷ [])
 
--- the lines behind the first
+-- the lines after the first
 abbrev pub more_lines : Reply → List Text
 more_lines (Listed tables at) = map table_line tables
 more_lines (Found query rows reads probes layout) = map row_line rows
@@ -114,7 +114,7 @@ more_lines reply = []
 abbrev pub work_line : ℕ → ℕ → Text
 work_line reads probes = codes "  work reads " ++ spaced (decimal reads ∷ codes "probes" ∷ decimal probes ∷ [])
 
--- the lines that a trace puts behind a reply
+-- the lines that a trace adds after a reply
 abbrev pub trace_lines : Reply → List Text
 trace_lines (Found query rows reads probes layout) = work_line reads probes ∷ layout_line layout ∷ []
 trace_lines (Merged layout parts tables at) = layout_line layout ∷ []
@@ -122,14 +122,14 @@ trace_lines (NothingToMerge layout) = layout_line layout ∷ []
 trace_lines (Stale layout gone at) = layout_line layout ∷ []
 trace_lines reply = []
 
--- the number of a command, behind `m` where it is the merger's
+-- the number of a command, after `m` if it is the merger's
 abbrev pub command_text : Who → Text
 command_text who = (if who.caller == 0 then 0x6D ∷ [] else []) ++ decimal who.command
 
 abbrev pub answer_lines : Bool → Answered → List Text
 answer_lines trace answer = spaced (command_text answer.who ∷ reply_words answer.reply) ∷ more_lines answer.reply ++ (if trace then trace_lines answer.reply else [])
 
--- the merger's replies are written with a trace alone
+-- the merger's replies are written only in a trace
 abbrev pub written_lines : Bool → Answered → List Text
 written_lines trace answer = if answer.who.caller == 0 && not trace then [] else answer_lines trace answer
 
@@ -157,7 +157,7 @@ answers_text trace answers = flat_map line_text (flat_map (written_lines trace) 
 abbrev pub journal_text : Bool → List Entry → Text
 journal_text due entries = if due then flat_map line_text (journal_lines entries) else []
 
--- the text of the answers from one on, and of the journal where it is due
+-- the text of the answers from the given one on, and of the journal if it is due
 abbrev pub text_behind : Bool → ℕ → RunRecord → Text
 text_behind trace first made = answers_text trace (drop first made.answers) ++ journal_text (trace && made.ended) made.journal
 

@@ -1,6 +1,6 @@
-//! The definitions of what a run makes of a script: replies, the record of a run, the play of batches in a stated order, right records,
-//! the texts that are written, and the table of statuses. There is no code here but the plain types that both the code and the definitions
-//! use, and the laws of the definitions.
+//! The definitions of the result of a run: replies, the record of a run, the play of batches in a stated order, right
+//! records, the texts that are written, and the table of statuses. There is no code here except the plain types that
+//! both the code and the definitions use, and the laws of the definitions.
 #![tactic(auto)]
 
 mod laws;
@@ -8,7 +8,7 @@ mod laws;
 pub use laws::{batches_law, in_turn_law, played_is_right_law, right_lanes_law};
 use script_model::Reason;
 
-/// Why a file that the words of the command line name gives no query.
+/// Why a file that the command line names gives no query.
 #[derive(Clone, Copy, Debug, PartialEq, Eq)]
 pub enum GivenWhy {
     /// It could not be read.
@@ -30,17 +30,18 @@ pub enum Status {
     Done,
     /// The line, counted from 1, is the first that is at fault.
     Script { line: u64, reason: Reason },
-    /// The words of the command line are refused, and nothing was read or written.
+    /// The command line is refused, and nothing was read or written.
     Usage,
-    /// The path of this number among the words, counted from 1, is the first that gives no query, for this reason. The source was not read,
-    /// and nothing was written.
+    /// The path with this number on the command line, counted from 1, is the first that gives no query, for this
+    /// reason. The source was not read, and nothing was written.
     Given { path: u32, why: GivenWhy },
     /// The source failed.
     ReadFault,
     /// The sink failed.
     WriteFault,
-    /// The source was read to its end, and the trace that was checked is that of no right run of the script. All text was written.
+    /// The source was read to its end, but the trace that was checked is not that of any right run of the script. All
+    /// text was written.
     Refuted,
-    /// Memory was wanting.
+    /// Memory ran out.
     NoMemory,
 }

@@ -1,4 +1,4 @@
--- What lines give does not depend on the paths that were asked for before.
+-- The result of lines does not depend on the paths that were asked for before.
 use Rattle.std.proofs.Common.{◌≡◌, refl, ap, ◌∙◌, ℕ, ◌+◌, ◌-◌, List, [], ◌∷◌, ◌++◌, append_assoc, Bool, true, false, length, cond}
 use Rattle.std.specs.Prelude.{nat_lt, Option, Some, None}
 use Rattle.script_model.specs.declared.Reason.{Reason}
@@ -10,7 +10,7 @@ use Rattle.script_model.specs.Saying.{Said, Nothing, Wrong, Sync, Does, Fetches,
 use Rattle.script_model.specs.Reading.{Grammar, Open, Reading, Reached, Stands, AtFault, LinesRead, read_with, Turn, Goes, Gives, Fails, turned, turn_of, read_more, read, counted, does, with_command, opened, fetched, file_size, next_file, unless_fault, line_fault, body_fault, line_in, is_end, body_after, with_body, block_ended}
 use Rattle.script_model.specs.Script.{Commands, commands_with, commands_from, within, ended, FaultAt, begun_fault, unless_begun_fault, last_turn, end_turned, at_end}
 
--- these paths, asked for before all others
+-- these paths were asked for before all others
 abbrev pub asking : List Text → Reading → Reading
 asking paths reading = record reading { asked = paths ++ reading.asked }
 
@@ -116,7 +116,7 @@ pub ended_asking : (grammar : Grammar) (over : Bool) (paths : List Text) (rest :
 ended_asking grammar over paths rest batches (Stands reading) = stands_asking grammar over paths batches rest reading (begun_fault grammar reading.block reading.bytes rest)
 ended_asking grammar over paths rest batches (AtFault line why asked) = refl
 
--- What an input gives does not depend on the paths asked for before.
+-- The result of an input does not depend on the paths asked for before.
 pub commands_from_asking : (grammar : Grammar) (paths : List Text) (reading : Reading) (bytes : List ℕ) → commands_from grammar (asking paths reading) bytes ≡ commands_asking paths (commands_from grammar reading bytes)
 commands_from_asking grammar paths reading bytes =
     let over : Bool = nat_lt (grammar.input - reading.used) (length bytes) in

@@ -1,4 +1,4 @@
--- What stands behind the limit of a script changes nothing, and a script that passes its limit is at fault.
+-- What follows the limit of a script changes nothing, and a script that exceeds its limit is at fault.
 use Rattle.std.proofs.Common.{◌≡◌, ap, sym, ◌∙◌, subst, ℕ, ◌+◌, ◌-◌, ◌<◌, List, [], ◌++◌, Bool, true, length, arith, length-append}
 use Rattle.std.specs.Prelude.{nat_lt, Option, Some, None}
 use Rattle.std.proofs.lemmas.List.{take-append-le}
@@ -10,7 +10,7 @@ use Rattle.script_model.specs.Commands.{Batch}
 use Rattle.script_model.specs.Reading.{Grammar, Reading, Reached, Stands, AtFault, LinesRead, read, read_with}
 use Rattle.script_model.specs.Script.{Whole, FaultAt, Commands, commands_with, commands_from, within, ended, begun_fault, unless_begun_fault}
 
--- what an input gives, from its beginning within the limit and whether it passes the limit
+-- the result for an input, from its beginning within the limit and whether it exceeds the limit
 abbrev given_by : Grammar → Reading → Text → Bool → Commands
 given_by grammar reading beginning over =
     let made = read grammar (read_with [] (Stands reading)) (lines_of beginning).ended in

@@ -1,4 +1,4 @@
--- Whole lines in front of an input: what they give, and what comes behind them.
+-- Whole lines at the beginning of an input: their result, and what follows them.
 use Rattle.std.proofs.Common.{◌≡◌, refl, ap, sym, ◌∙◌, subst, ℕ, ◌+◌, ◌≤◌, ◌⊎◌, inl, inr, List, [], ◌∷◌, ◌++◌, append_assoc, length, arith, length-append, flat_map}
 use Rattle.std.specs.List.{AllByRecursion}
 use Rattle.lake_model.specs.Texts.{Text, Lines, lines_with, lines_of}
@@ -23,7 +23,7 @@ lines_whole (line ∷ lines) rest whole =
 
 -- ---- one line, and then the others
 
--- what lines give that stand in no fault
+-- the result of lines that have no fault
 abbrev pub Gave : Grammar → Reading → List Text → List Batch → Reading → Type 0
 Gave grammar reading lines made after = read grammar (read_with [] (Stands reading)) lines ≡ read_with made (Stands after)
 
@@ -100,9 +100,9 @@ lines_use grammar (line ∷ lines) reading made after all =
           omega (arith, size, here, lines_use grammar lines gave.next gave.later after gave.others)
     ]
 
--- ---- what comes behind
+-- ---- what follows
 
--- An input that begins with whole lines gives what they give, and then what comes behind them.
+-- An input that begins with whole lines gives their result, and then that of what follows them.
 pub commands_lines : (grammar : Grammar) (lines : List Text) (reading : Reading) (made : List Batch) (after : Reading) (more : Text) → AllByRecursion NoFeed lines
     → Gave grammar reading lines made after → after.used ≤ grammar.input
     → commands_from grammar reading (flat_map line_text lines ++ more) ≡ with_batches made (commands_from grammar after more)

@@ -6,12 +6,12 @@ use Rattle.std.proofs.lemmas.Bool.{and_parts, eqb-false, leb-true, not-true}
 use Rattle.lake_model.specs.Texts.{Text}
 use Rattle.script_model.specs.Words.{digits_value, is_digit, is_number}
 
--- a number gets no less by more digits
+-- more digits do not make a number less
 more_digits : (n : ℕ) (digits : Text) → n ≤ fold (λ n digit. n * 10 + (digit - 48)) n digits
 more_digits n [] = omega arith
 more_digits n (digit ∷ digits) = omega (arith, more_digits (n * 10 + (digit - 48)) digits)
 
--- decimal digits of which the first is not 0 have a value of at least 1
+-- decimal digits, the first of which is not 0, have a value of at least 1
 pub positive : (text : Text) → is_number text ≡ true → 1 ≤ digits_value text
 positive [] h = cc h
 positive (digit ∷ digits) h =

@@ -27,7 +27,7 @@ joined_byte b true lines rest ys e = rw e refl
 joined_byte b false [] rest ys e = rw (e, e) refl
 joined_byte b false (line ∷ lines) rest ys e = rw e refl
 
--- What comes behind a text goes on from behind its last line feed.
+-- What follows a text goes on after its last line feed.
 pub lines_more : (xs ys : Text) → lines_of (xs ++ ys) ≡ joined (lines_of xs) ys
 unfolding lines_of
 lines_more [] ys = refl
@@ -51,7 +51,7 @@ pub read_on : (grammar : Grammar) (before : LinesRead) (xs ys : List Text) → r
 unfolding read
 read_on grammar before xs ys = fold-append _ before xs ys
 
--- ---- the batches that were given stay
+-- ---- the batches given before are kept
 
 abbrev pub behind_batches : List Batch → LinesRead → LinesRead
 behind_batches given made = read_with (given ++ made.batches) made.reached
@@ -66,7 +66,7 @@ more_behind : (grammar : Grammar) (given batches : List Batch) (reached : Reache
 more_behind grammar given batches (Stands reading) line = turned_behind given batches (reading.lines + 1) (turn_of grammar line reading)
 more_behind grammar given batches (AtFault at why asked) line = refl
 
--- What lines give does not depend on the batches given before.
+-- The result of lines does not depend on the batches given before.
 pub read_behind : (grammar : Grammar) (given : List Batch) (before : LinesRead) (lines : List Text)
     → read grammar (behind_batches given before) lines ≡ behind_batches given (read grammar before lines)
 unfolding read
@@ -148,13 +148,13 @@ turn_uses grammar line reading = line_uses grammar reading.block line (counted (
 
 -- ---- one line
 
--- what an input gives behind a turn
+-- the result of an input after a turn
 abbrev pub after_turn : Grammar → ℕ → Turn → Text → Commands
 after_turn grammar line (Goes reading) more = commands_from grammar reading more
 after_turn grammar line (Gives batch reading) more = with_batches (batch ∷ []) (commands_from grammar reading more)
 after_turn grammar line (Fails why asked) more = commands_with [] (FaultAt line why) asked
 
--- the end of an input of which so many bytes may still come
+-- the end of an input of which at most this many bytes may still come
 abbrev finish : Grammar → ℕ → Text → LinesRead → Commands
 finish grammar room more made = ended grammar (nat_lt room (length more)) (lines_of (take room more)).rest made.batches made.reached
 
@@ -179,7 +179,7 @@ over_line room line more h =
     let e : length (line ++ 0x0A ∷ more) ≡ length line + 1 + length more = omega (arith, length-append line (0x0A ∷ more)) in
     ap (nat_lt room) e ∙ grind (arith, nat_tests, h)
 
--- An input that begins with a whole line, which may still come, is that line's turn and then the rest.
+-- An input that begins with a whole line within the limit gives that line's turn and then the rest.
 pub commands_line : (grammar : Grammar) (reading : Reading) (line more : Text) → NoFeed line → reading.used + (length line + 1) ≤ grammar.input
     → commands_from grammar reading (line ++ 0x0A ∷ more) ≡ after_turn grammar (reading.lines + 1) (turn_of grammar line reading) more
 unfolding read
@@ -197,7 +197,7 @@ commands_line grammar reading line more whole h =
 
 -- ---- a part of an input
 
--- The batches that the lines so far give are the first of the whole input's, however it goes on.
+-- The batches of the lines so far are the first batches of the whole input, however it goes on.
 pub batches_first : (grammar : Grammar) (reading : Reading) (given left : Text) → reading.used + length (given ++ left) ≤ grammar.input
     → (later : Commands) × (commands_from grammar reading (given ++ left) ≡ with_batches (read grammar (read_with [] (Stands reading)) (lines_of given).ended).batches later)
 batches_first grammar reading given left h =

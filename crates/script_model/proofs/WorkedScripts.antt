@@ -24,7 +24,7 @@ no_name : (commands_of (lines (codes "replace" ∷ codes "c" ∷ codes "." ∷ [
 unfolding lines_of read
 no_name = refl
 
--- a line of neither form
+-- a line whose command word is unknown
 unknown : (commands_of (lines (codes "load t" ∷ codes "c" ∷ codes "x" ∷ codes "." ∷ codes "find" ∷ []))).end ≡ FaultAt 5 reason.Unknown
 unfolding lines_of read
 unknown = refl

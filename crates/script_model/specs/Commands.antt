@@ -2,7 +2,7 @@
 use Rattle.std.specs.Prelude.{ℕ, Bool, true, false, List, count_by}
 use Rattle.lake_model.specs.Texts.{Text}
 
--- what came of the fetch of a file
+-- the result of fetching a file
 pub data File : Type 0 where
   Bytes : (bytes : List ℕ) → File
   Failed : File
@@ -46,7 +46,7 @@ is_update_task (Contain a b body) = false
 is_update_task (AsOf asked k body) = false
 is_update_task (Merge all) = false
 
--- how many loads, drops and replaces a batch has
+-- the number of loads, drops and replaces of a batch
 abbrev pub updates : Batch → ℕ
 updates batch = count_by (λ command. is_update_task command.task) batch
 
@@ -62,6 +62,6 @@ is_fetch (Contain a b body) = false
 is_fetch (AsOf asked k body) = false
 is_fetch (Merge all) = false
 
--- how many files a batch asks for
+-- the number of files that a batch asks for
 abbrev pub fetches : Batch → ℕ
 fetches batch = count_by (λ command. is_fetch command.task) batch

@@ -7,7 +7,7 @@ use Rattle.script_model.specs.Commands.{File, Bytes, Failed, Missing, TooLong, T
 use Rattle.script_model.specs.Words.{without_return}
 use Rattle.script_model.specs.Saying.{Front, closed, Said, Nothing, Wrong, Sync, Does, Fetches, Opens}
 
--- what a line outside a block says, which sizes pass their limits, and how many bytes an input may have
+-- what a line outside a block says, which sizes exceed their limits, and how many bytes an input may have
 pub record Grammar : Type 0 where
   pub says : Text → Said
   pub line_passes : ℕ → Bool
@@ -16,15 +16,15 @@ pub record Grammar : Type 0 where
   pub bytes_pass : ℕ → Bool
   pub input : ℕ
 
--- a block whose end is still to come: the line and the lane of its command, the front, and the body so far
+-- a block that has not ended yet: the line and the lane of its command, the front, and the body so far
 pub record Open : Type 0 where
   pub line : ℕ
   pub lane : ℕ
   pub front : Front
   pub body : List ℕ
 
--- How far a script was read: its lines and bytes, its commands, those of the batch at hand and the bytes of their bodies and files, the
--- open block, the paths asked for, and what comes of later fetches.
+-- How far a script was read: its lines and bytes, its commands, those of the current batch and the bytes of their
+-- bodies and files, the open block, the paths asked for, and the results of later fetches.
 pub record Reading : Type 0 where
   pub lines : ℕ
   pub used : ℕ
@@ -35,7 +35,7 @@ pub record Reading : Type 0 where
   pub asked : List Text
   pub later : List File
 
--- what lines give: batches, and then how far they were read, or the line at fault
+-- the result of reading lines: batches, and then how far they were read, or the line at fault
 pub data Reached : Type 0 where
   Stands : (reading : Reading) → Reached
   AtFault : (line : ℕ) (reason : Reason) (asked : List Text) → Reached
@@ -50,7 +50,7 @@ pub data Turn : Type 0 where
   Gives : (batch : Batch) (reading : Reading) → Turn
   Fails : (reason : Reason) (asked : List Text) → Turn
 
--- one more command, of so many bytes
+-- one more command, of `size` bytes
 abbrev pub with_command : ℕ → Task → ℕ → Reading → Reading
 with_command lane task size reading = record reading {
   numbered = reading.numbered + 1;
@@ -78,7 +78,7 @@ abbrev pub fetched : ℕ → Text → Text → File → Reading → Reading
 fetched lane name path file reading =
     record (with_command lane (LoadFile name file) (file_size file) reading) { asked = reading.asked ++ path ∷ []; later = drop 1 reading.later }
 
--- a command comes, unless the batch is full
+-- a command is added, unless the batch is full
 abbrev pub unless_batch_full : Grammar → Reading → Turn → Turn
 unless_batch_full grammar reading turn = if grammar.is_full (length reading.commands) then Fails reason.BatchCommands reading.asked else turn
 
@@ -92,7 +92,7 @@ does grammar (Fetches lane name path) reading =
     let file = next_file reading.later in
     unless_batch_full grammar reading (if grammar.bytes_pass (reading.bytes + file_size file) then Fails reason.BatchBytes (reading.asked ++ path ∷ []) else Goes (fetched lane name path file reading))
 
--- what is wrong with a line outside a block, and with the body of a block, by their size alone
+-- what is wrong with a line outside a block, or with the body of a block, by its size alone
 abbrev pub line_fault : Grammar → Text → Option Reason
 line_fault grammar line = if grammar.line_passes (length (without_return line)) then Some reason.LineTooLong else None
 
@@ -110,7 +110,7 @@ unless_fault (Some why) reading turn = Fails why reading.asked
 abbrev pub is_end : Text → Bool
 is_end line = bytes_eq (without_return line) (codes ".")
 
--- a line of a block without the dot that it begins with
+-- a line of a block, without the dot if it begins with one
 abbrev pub undotted : Text → Text
 undotted line = if get_or line 0 0 == 0x2E then drop 1 line else line
 
@@ -123,7 +123,7 @@ with_body block body reading = record reading { block = Some (record block { bod
 abbrev pub block_ended : Open → Reading → Reading
 block_ended block reading = record (with_command block.lane (closed block.front block.body) (length block.body) reading) { block = None }
 
--- a line that a line feed ended
+-- a line that was ended by a line feed
 abbrev pub line_in : Grammar → Option Open → Text → Reading → Turn
 line_in grammar None line reading = unless_fault (line_fault grammar line) reading (does grammar (grammar.says (without_return line)) reading)
 line_in grammar (Some block) line reading =
@@ -144,11 +144,11 @@ turned batches line (Goes reading) = read_with batches (Stands reading)
 turned batches line (Gives batch reading) = read_with (batches ++ batch ∷ []) (Stands reading)
 turned batches line (Fails why asked) = read_with batches (AtFault line why asked)
 
--- one more line; behind a fault nothing is read
+-- one more line; nothing is read after a fault
 abbrev pub read_more : Grammar → List Batch → Reached → Text → LinesRead
 read_more grammar batches (Stands reading) line = turned batches (reading.lines + 1) (turn_of grammar line reading)
 read_more grammar batches (AtFault at why asked) line = read_with batches (AtFault at why asked)
 
--- what these lines give, as the beginning of an input that goes on
+-- the result of reading these lines, as the beginning of an input that goes on
 unfoldable pub read : Grammar → LinesRead → List Text → LinesRead
 read grammar before lines = fold (λ b line. read_more grammar b.batches b.reached line) before lines

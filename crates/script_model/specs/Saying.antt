@@ -1,4 +1,4 @@
--- What one line outside a block says, by its words alone.
+-- What one line outside a block says, from its words alone.
 use Rattle.std.specs.Prelude.{ℕ, ◌==◌, Bool, ◌&&◌, ◌||◌, if◌then◌else◌, List, [], ◌∷◌, drop, find, get_or, nat_le, nat_lt, bytes_eq, codes, true, false, Option, Some, None}
 use Rattle.std.specs.List.{list_all}
 use Rattle.std.specs.Str.{is_utf8}
@@ -32,7 +32,7 @@ pub data Said : Type 0 where
   Fetches : (lane : ℕ) (name path : Text) → Said
   Opens : (lane : ℕ) (front : Front) → Said
 
--- with a number, where there is one
+-- what is said with a number, if there is one
 abbrev pub said_with : Option ℕ → (ℕ → Said) → Said
 said_with None said = Wrong reason.Words
 said_with (Some n) said = said n
@@ -50,7 +50,7 @@ abbrev pub forms : List (Text × Form)
 forms = (codes "load", LoadForm) ∷ (codes "loadfile", LoadFileForm) ∷ (codes "drop", DropForm) ∷ (codes "replace", ReplaceForm)
     ∷ (codes "tables", TablesForm) ∷ (codes "search", SearchForm) ∷ (codes "like", LikeForm) ∷ (codes "contain", ContainForm) ∷ (codes "asof", AsOfForm) ∷ (codes "merge", MergeForm) ∷ (codes "sync", SyncForm) ∷ []
 
--- a path is the text behind the name, without the spaces at its end, and is UTF-8
+-- a path is the text after the name without the spaces at its end, and is UTF-8
 abbrev pub fetch_said : ℕ → Text → Text → Said
 fetch_said lane name path = said_if (is_name name && is_utf8 path) (Fetches lane name path)
 
@@ -65,7 +65,7 @@ contain_said lane a b = said_with (number 10000 a) (λ a. said_with (number 1000
 abbrev pub asof_said : ℕ → Text → Text → Said
 asof_said lane asked k = said_with (number_or_zero 4294967295 asked) (λ asked. said_with (number 10000 k) (λ k. Opens lane (AsOfBlock asked k)))
 
--- a command of this form, where these words stand behind its command word; `text` is what they stand in
+-- a command of this form, from the words after its command word; `text` is the text that has these words
 abbrev pub says : Form → ℕ → List Text → Text → Said
 says LoadForm lane (name ∷ []) text = said_if (is_name name) (Opens lane (LoadBlock name))
 says LoadFileForm lane (name ∷ word ∷ more) text = fetch_said lane name (before_spaces (behind_word text))
@@ -87,11 +87,11 @@ abbrev pub of_form : ℕ → Text → Option (Text × Form) → Said
 of_form lane text None = Wrong reason.Unknown
 of_form lane text (Some form) = says form.1 lane (words (behind_word text)) (behind_word text)
 
--- the command of a text without its lane
+-- the command of a text without a lane
 abbrev pub command_said : ℕ → Text → Said
 command_said lane text = of_form lane text (find (λ form. bytes_eq form.0 (first_word text)) forms)
 
--- the command of a text behind its lane word; every lane is at most `lanes`, and `sync` has none
+-- the command of a text after its word for the lane; no lane is greater than `lanes`, and `sync` has none
 abbrev pub lane_said : ℕ → Option ℕ → Text → Said
 lane_said lanes None text = Wrong reason.Words
 lane_said lanes (Some lane) text =
@@ -103,7 +103,7 @@ lane_said lanes (Some lane) text =
 abbrev pub is_skipped : Text → Bool
 is_skipped text = list_all is_space text || get_or text 0 0 == 0x23
 
--- a first word that begins with `@` names the lane, which is 1 without it
+-- a first word that begins with `@` gives the lane; without it the lane is 1
 abbrev pub said : ℕ → Text → Said
 said lanes text =
     if is_skipped text then Nothing

@@ -1,4 +1,4 @@
--- The commands of a script: what its lines give, and its end.
+-- The commands of a script: the result of reading its lines, and its end.
 use Rattle.std.specs.Prelude.{ℕ, ◌+◌, ◌-◌, Bool, if◌then◌else◌, List, [], ◌∷◌, ◌++◌, length, take, nat_lt, nat_le, Option, Some, None}
 use Rattle.script_model.specs.declared.Reason.{Reason}
 use Rattle.script_model.specs.declared.Reason.TheVariants as reason
@@ -20,12 +20,12 @@ pub record Commands : Type 0 where
 abbrev pub commands_with : List Batch → End → List Text → Commands
 commands_with batches end asked = record { batches = batches; end = end; asked = asked }
 
--- what is wrong already with a line of which this much has come
+-- what is already wrong with a line of which this much has come
 abbrev pub begun_fault : Grammar → Option Open → ℕ → Text → Option Reason
 begun_fault grammar None bytes line = line_fault grammar line
 begun_fault grammar (Some block) bytes line = if is_end line then None else body_fault grammar bytes (body_after block line)
 
--- the last batch, where it has a command
+-- the last batch, if it has a command
 abbrev pub last_batch : Batch → List Batch
 last_batch [] = []
 last_batch (command ∷ commands) = (command ∷ commands) ∷ []
@@ -34,7 +34,7 @@ abbrev pub at_end : List Batch → Option Open → Reading → Commands
 at_end batches None reading = commands_with (batches ++ last_batch reading.commands) Whole reading.asked
 at_end batches (Some block) reading = commands_with batches (FaultAt block.line reason.NoEnd) reading.asked
 
--- the last line, where it has a byte, is read like the others, but that no line feed ended it
+-- the last line, if it has a byte, is read like the others, except that no line feed ended it
 abbrev pub last_turn : Grammar → Option Open → Text → Reading → Turn
 last_turn grammar block [] reading = Goes reading
 last_turn grammar None (byte ∷ bytes) reading = line_in grammar None (byte ∷ bytes) (counted (length (byte ∷ bytes)) reading)
@@ -49,7 +49,8 @@ abbrev pub unless_begun_fault : Option Reason → List Batch → Reading → Com
 unless_begun_fault None batches reading commands = commands
 unless_begun_fault (Some why) batches reading commands = commands_with batches (FaultAt (reading.lines + 1) why) reading.asked
 
--- where `rest` is what stands behind the last line feed, and `over` says that the input is longer than it may be
+-- the result at the end, where `rest` is what follows the last line feed, and `over` says that the input is longer than
+-- it may be
 abbrev pub ended : Grammar → Bool → Text → List Batch → Reached → Commands
 ended grammar over rest batches (AtFault line why asked) = commands_with batches (FaultAt line why) asked
 ended grammar over rest batches (Stands reading) =
@@ -60,14 +61,14 @@ ended grammar over rest batches (Stands reading) =
 abbrev pub start : List File → Reading
 start files = record { lines = 0; used = 0; numbered = 0; commands = []; bytes = 0; block = None; asked = []; later = files }
 
--- the bytes that may still come
+-- the bytes that are still within the limit
 abbrev pub within : Grammar → Reading → List ℕ → List ℕ
 within grammar reading bytes = take (grammar.input - reading.used) bytes
 
 abbrev pub read_from : Grammar → Reading → List ℕ → LinesRead
 read_from grammar reading bytes = read grammar (read_with [] (Stands reading)) (lines_of (within grammar reading bytes)).ended
 
--- what the rest of an input gives
+-- the result of reading the rest of an input
 abbrev pub commands_from : Grammar → Reading → List ℕ → Commands
 commands_from grammar reading bytes =
     let read = read_from grammar reading bytes in
@@ -84,14 +85,14 @@ grammar_of limits lanes = record {
   input = limits.input;
 }
 
--- The commands of a whole script, where these come of its fetches, in their order.
+-- The commands of a whole script, if these are the results of its fetches, in their order.
 abbrev pub commands : ScriptLimits → ℕ → List ℕ → List File → Commands
 commands limits lanes bytes files = commands_from (grammar_of limits lanes) (start files) bytes
 
 abbrev pub standard : ScriptLimits
 standard = record { line = 4096; block = 67108864; commands = 4096; bytes = 536870912; input = 68719476736 }
 
--- what a source has left, where it tells
+-- what a source has left, if that is known
 abbrev pub left_of : Option (List ℕ) → List ℕ
 left_of None = []
 left_of (Some bytes) = bytes

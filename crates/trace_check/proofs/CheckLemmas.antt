@@ -1,4 +1,4 @@
--- The verdict, from what was found out of a trace.
+-- The verdict, from what was read of a trace.
 use Rattle.std.proofs.Common.{◌≡◌, ap, sym, ◌∙◌, ℕ, ◌^◌, ◌<◌, List, Bool, true, false, flat_map, length, map, take, subst}
 use Rattle.std.specs.Prelude.{IfOk, Result, Ok, Err}
 use Rattle.std.specs.List.{AllByRecursion}
@@ -47,7 +47,7 @@ decided decide rules options lanes merge batches trace commands hints texts give
     (subst (λ (m : Bool). length (all_commands m 1 batches) < 2 ^ 64) (sym are.merge_is) given.few) same
     (hints_are ∙ ap (λ (cs : List Command). take (length cs) (map hint_read (groups_of trace))) same) texts_are
 
--- the verdict is true exactly where the groups are right
+-- the verdict is true exactly if the groups are right
 pub judged : EndsDecide → (rules : Rules) (options : Options) (lanes : ℕ) (merge : Bool) (batches : List Batch) (trace : Text) (commands : List Command) (hints : List Hint) (texts : List Text) → AreGiven lanes merge batches commands → AreOptionsOf lanes merge options
     → AreRead trace hints texts → (b : Bool) → (b ≡ true → IsRight rules lanes merge batches commands hints texts) → (IsRight rules lanes merge batches commands hints texts → b ≡ true) → b ≡ verdict rules options batches trace
 judged decide rules options lanes merge batches trace commands hints texts given are found b sound complete =

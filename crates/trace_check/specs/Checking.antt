@@ -1,4 +1,4 @@
--- The checker of a finished run: the batches of its script, and what it is for a trace to be that of a right record of them.
+-- The checker of a finished run: the batches of its script, and when a trace is that of a right record of them.
 use Rattle.std.specs.Prelude.{◌≡◌, true, List}
 use Rattle.std.specs.List.{AllByRecursion}
 use Rattle.lake_model.specs.Texts.{Text}
@@ -19,11 +19,11 @@ pub record CheckerOf : Type 0 where
 abbrev pub checker_with : Rules → Options → List Batch → CheckerOf
 checker_with rules options batches = record { rules = rules; options = options; batches = batches }
 
--- some right record of the batches has the trace for its text
+-- some right record of the batches has the trace as its text
 abbrev pub HasRecord : CheckerOf → Text → Type 0
 HasRecord checker trace = (made : RunRecord) × IsTraceOf checker.rules checker.options checker.batches trace made
 
--- Each command is of one of the lanes, and each name in it is the name of a table; and replies are traced.
+-- Each command belongs to one of the lanes, each name in it is the name of a table, and replies are traced.
 pub record AreChecked (options : Options) (batches : List Batch) : Type 0 where
   pub lanes : AllByRecursion (IsOfLanes options.lanes) batches
   pub named : AllByRecursion IsBatchNamed batches

@@ -1,4 +1,4 @@
-//! The checker, which is given the batches of a script one after another, and then the trace.
+//! The checker, which takes the batches of a script one after another, and then the trace.
 ghost use Rattle.std.specs.Prelude.{◌≡◌, ◌<◌, ◌^◌, ◌∷◌, ◌++◌, [], IfOk, OnErr, OnOk, false, length, true};
 ghost use Rattle.catalogue.specs.Kept.{IsWithin};
 ghost use Rattle.script_model.specs.Lanes.{IsOfLanes};
@@ -16,8 +16,8 @@ use std::alloc::Global;
 use std::marker::Model;
 use trace_laws::verdict_law;
 
-/// Checks a finished run: it holds the batches of a script, and says whether a trace is the text of some right record of them. A contract
-/// sees the rules and the options of the run, and the batches so far.
+/// Checks a finished run: it holds the batches of a script, and decides whether a trace is the text of some right
+/// record of them. Its model is the rules and the options of the run, and the batches so far.
 #[derive(Drop)]
 pub struct Checker {
     alloc: Global,
@@ -40,10 +40,10 @@ impl Model for Checker {
 }
 
 impl Checker {
-    /// A checker of runs with these options, in a lake of these limits, with no batch yet. It takes no memory.
+    /// Makes a checker of runs with these options, in a lake with these limits, with no batch yet. It takes no memory.
     pub fn new(alloc: Global, options: Options, limits: Limits) -> Checker
         requires trace { options.trace ≡ true }
-        // the limits are at most those of a lake as it is shipped
+        // the limits are at most those of a lake in the program
         requires limits { IsWithin wide_limits limits }
         ensures { result ≡ checker_with (rules_with options.keys limits) options [] }
     {
@@ -55,7 +55,8 @@ impl Checker {
         }
     }
 
-    /// The next batch of the script. It costs a walk over the commands. Out of memory, nothing has changed.
+    /// Adds the next batch of the script, at the cost of a walk over the commands. If memory runs out, it returns
+    /// `Err(NoMemory)` and nothing has changed.
     pub fn add(&mut self, batch: Batch) -> Result<(), NoMemory>
         requires lanes { IsOfLanes self.old.options.lanes batch }
         ensures added { OnOk result (self.new ≡ checker_with self.old.rules self.old.options (self.old.batches ++ batch ∷ [])) }
@@ -66,9 +67,10 @@ impl Checker {
         Ok(())
     }
 
-    /// Whether the trace is the text of some right record of the batches, ended and with these options. A trace with a byte more, fewer or
-    /// other than such a text is of no right record. Each command is done again, up to the first answer that differs, and want of memory
-    /// for that is an error and never a verdict.
+    /// Decides whether the trace is the text of some right record of the batches, ended and with these options. A trace
+    /// that differs from such a text by a byte, or is longer or shorter, is not accepted. Each command is done again,
+    /// up to the first answer that differs; if memory runs out for that, the result is `Err(NoMemory)` and never a
+    /// verdict.
     pub fn verdict(self, trace: &[u8]) -> Result<bool, NoMemory>
         ensures value { IfOk result (λ yes. yes ≡ verdict self.rules self.options self.batches trace.now) }
         ensures right { IfOk result (λ yes. yes ≡ true → HasRecord self trace.now) }
@@ -78,7 +80,7 @@ impl Checker {
         self.judge(trace)
     }
 
-    // The verdict, with what is known of the batches.
+    // Returns the verdict, and states what is known of the batches.
     fn judge(&self, trace: &[u8]) -> Result<bool, NoMemory>
         ensures value { IfOk result (λ yes. yes ≡ verdict self.now.rules self.now.options self.now.batches trace.now) }
         ensures known { AreChecked self.now.options self.now.batches }

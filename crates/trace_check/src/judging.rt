@@ -24,8 +24,8 @@ use trace_groups::{Group, cut_trace};
 use trace_numbers::find_owners;
 use trace_replay::{hints_of, replay};
 
-/// What the verdict asks of a run: by which match values are the same, the limits of its lake, how many lanes it has, whether a merger runs
-/// beside them, and the batches of its script.
+/// The input of the verdict from a run: the kind of keys by which it compares values, the limits of its lake, how many
+/// lanes it has, whether a merger runs beside them, and the batches of its script.
 #[derive(Clone, Copy)]
 pub(crate) struct Run<'a> {
     pub(crate) keys: Keys,
@@ -35,8 +35,8 @@ pub(crate) struct Run<'a> {
     pub(crate) batches: &'a [Batch],
 }
 
-// Whether these are the groups of a right run with this work: there are as many as it wants, their positions are those of one run, and the
-// answers and the journal are the same when they are made again.
+// Returns whether these are the groups of a right run with this work: there are as many as the work requires, their
+// positions are those of one run, and the answers and the journal are the same when they are made again.
 fn are_right(
     alloc: Global,
     run: &Run<'_>,
@@ -60,7 +60,8 @@ fn are_right(
     replay(alloc, run.keys, run.limits, works, groups, &owners)
 }
 
-/// The verdict on a trace. Of the options it rests only on those that `run` has, and on that replies are traced.
+/// Returns the verdict on a trace. It depends on no options except those in `run`, and requires that replies are
+/// traced. Returns `Err(NoMemory)` if memory runs out.
 pub(crate) fn judge(alloc: Global, run: &Run<'_>, trace: &[u8]) -> Result<bool, NoMemory>
     requires limits { IsWithin wide_limits run.now.limits }
     requires lanes { AllByRecursion (IsOfLanes run.now.lanes) run.now.batches.now }

@@ -1,4 +1,4 @@
-//! The checker of a finished run: whether the bytes of a trace are the text of some right record of the batches of a script.
+//! Checks a finished run: whether the bytes of a trace are the text of some right record of the batches of a script.
 #![tactic(auto)]
 
 mod checker;

@@ -1,4 +1,4 @@
-//! The names in a batch have no space and no line feed. There is no test: each name is that of a table.
+//! States that the names in a batch have no space and no line feed. Nothing is tested: each name is that of a table.
 ghost use Rattle.commands.specs.Tasks.{task_of};
 ghost use Rattle.trace_laws.specs.Named.{IsBatchNamed, IsTaskNamed};
 ghost use Rattle.trace_laws.specs.Reading.{IsName};
@@ -6,14 +6,14 @@ ghost use Rattle.trace_laws.specs.Reading.{IsName};
 use column_set::Name;
 use commands::{Batch, Task};
 
-// A name has neither a space nor a line feed.
+// States that a name has no space and no line feed.
 fn name_law(name: &Name)
     ensures { IsName name.now }
 {
     let _bytes = name.bytes();
 }
 
-// Nor has one in a task.
+// States the same of the names in a task.
 fn task_law(task: &Task)
     ensures { IsTaskNamed (task_of task.now) }
 {
@@ -31,7 +31,7 @@ fn task_law(task: &Task)
     }
 }
 
-/// No name in a batch has a space or a line feed. It costs a walk over the commands.
+/// States that no name in a batch has a space or a line feed. It costs a walk over the commands.
 pub(crate) fn batch_law(batch: &Batch)
     ensures { IsBatchNamed batch.now }
 {

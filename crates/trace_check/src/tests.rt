@@ -1,4 +1,4 @@
-//! Traces of small runs, written by hand, and with one thing changed.
+//! Tests with traces of small runs, written by hand, and with one thing changed.
 ghost use Rattle.std.specs.Prelude.{◌≡◌, ◌≤◌, IfOk, true};
 ghost use Rattle.script_model.specs.Lanes.{IsOfLanes};
 ghost use Rattle.commands.specs.Tasks.{IsTaskInRange};
@@ -11,7 +11,7 @@ use lake_model::Keys;
 use std::alloc::Global;
 use std::test::Fail;
 
-// A checker of traced runs on two lanes, with a merger or without.
+// Makes a checker of traced runs on two lanes, with or without a merger.
 fn checker(alloc: Global, merge: bool) -> Checker
     ensures { result.options.lanes ≡ 2 }
 {
@@ -25,7 +25,7 @@ fn checker(alloc: Global, merge: bool) -> Checker
     Checker::new(alloc, options, Limits::standard())
 }
 
-// The verdict on a trace of one batch.
+// Returns the verdict on a trace of one batch.
 fn judge_one(alloc: Global, merge: bool, batch: Batch, trace: &str) -> Result<bool, Fail>
     requires { IsOfLanes 2 batch }
 {
@@ -34,7 +34,7 @@ fn judge_one(alloc: Global, merge: bool, batch: Batch, trace: &str) -> Result<bo
     Ok(checker.verdict(trace.as_bytes())?)
 }
 
-// The verdict on a trace of two batches.
+// Returns the verdict on a trace of two batches.
 fn judge_two(
     alloc: Global,
     merge: bool,
@@ -51,7 +51,7 @@ fn judge_two(
     Ok(checker.verdict(trace.as_bytes())?)
 }
 
-// A command.
+// Makes a command.
 fn command(number: u64, lane: u32, task: Task) -> Command
     requires lane { 1 ≤ lane }
     requires task { IsTaskInRange task }
@@ -60,12 +60,12 @@ fn command(number: u64, lane: u32, task: Task) -> Command
     Command { number, lane, task }
 }
 
-// A body of these bytes.
+// Makes a body of these bytes.
 fn body(alloc: Global, text: &str) -> Result<Body, Fail> {
     Ok(Body::new(Vec::from_slice(alloc, text.as_bytes())?).ok_or("no body")?)
 }
 
-// The load of a table of one column with the value x.
+// Makes the load of a table of one column with the value x.
 fn load(alloc: Global, number: u64, lane: u32, table: &str) -> Result<Command, Fail>
     requires { 1 ≤ lane }
     ensures { IfOk result (λ command. command.lane ≡ lane) }
@@ -77,7 +77,7 @@ fn load(alloc: Global, number: u64, lane: u32, table: &str) -> Result<Command, F
     Ok(command(number, lane, task))
 }
 
-// A search for that value.
+// Makes a search for that value.
 fn search(alloc: Global, number: u64, lane: u32) -> Result<Command, Fail>
     requires { 1 ≤ lane }
     ensures { IfOk result (λ command. command.lane ≡ lane) }
@@ -89,7 +89,7 @@ fn search(alloc: Global, number: u64, lane: u32) -> Result<Command, Fail>
     Ok(command(number, lane, task))
 }
 
-// A load and a search, both on lane 1.
+// Makes a batch of a load and a search, both on lane 1.
 fn load_and_search(alloc: Global) -> Result<Batch, Fail>
     ensures { IfOk result (λ batch. IsOfLanes 2 batch) }
 {
@@ -97,7 +97,7 @@ fn load_and_search(alloc: Global) -> Result<Batch, Fail>
     Ok(Batch::new(Vec::from_array(alloc, commands)?))
 }
 
-// One load, on lane 1.
+// Makes a batch of one load, on lane 1.
 fn one_load(alloc: Global, number: u64, table: &str) -> Result<Batch, Fail>
     ensures { IfOk result (λ batch. IsOfLanes 2 batch) }
 {
@@ -105,7 +105,7 @@ fn one_load(alloc: Global, number: u64, table: &str) -> Result<Batch, Fail>
     Ok(Batch::new(Vec::from_array(alloc, commands)?))
 }
 
-// Lane 1 searches twice, and lane 2 loads.
+// Makes a batch in which lane 1 searches twice, and lane 2 loads.
 fn two_lanes(alloc: Global) -> Result<Batch, Fail>
     ensures { IfOk result (λ batch. IsOfLanes 2 batch) }
 {
@@ -155,7 +155,7 @@ fn a_forged_row(rt: HostRuntime) -> Result<(), Fail> {
     Ok(())
 }
 
-// Memory may have been wanting for any command, and a load then adds no entry.
+// Memory may have run out for any command; a load then adds no entry.
 #[test]
 fn want_of_memory(rt: HostRuntime) -> Result<(), Fail> {
     let alloc = rt.alloc();
@@ -168,7 +168,8 @@ fn want_of_memory(rt: HostRuntime) -> Result<(), Fail> {
     Ok(())
 }
 
-// Each search of lane 1 may come before the load of lane 2 or behind it, but the second not before where the first stood.
+// Each search of lane 1 may come before the load of lane 2 or after it, but the second may not have an earlier position
+// than the first.
 #[test]
 fn positions_along_a_lane(rt: HostRuntime) -> Result<(), Fail> {
     let alloc = rt.alloc();
@@ -195,7 +196,7 @@ fn an_update_behind_its_sync(rt: HostRuntime) -> Result<(), Fail> {
     Ok(())
 }
 
-// The merger counts its commands through all batches.
+// The merger numbers its commands through all batches.
 #[test]
 fn merges_of_two_batches(rt: HostRuntime) -> Result<(), Fail> {
     let alloc = rt.alloc();

@@ -1,4 +1,4 @@
-//! What is to be done in a run: the work of all batches, one after another.
+//! The work of a run: that of all batches, one after another.
 ghost use Rattle.std.specs.Prelude.{◌≡◌, IfOk};
 ghost use Rattle.trace_laws.specs.Verdict.{all_commands};
 ghost use Rattle.batch_work.specs.Works.{works_of};
@@ -8,8 +8,9 @@ use commands::Batch;
 use no_memory::NoMemory;
 use std::alloc::Global;
 
-/// The commands of all batches, behind those of each batch its merges, if there is a merger, which numbers them from 1 on through all
-/// batches. Numbers past 64 bits, for which no memory has room, count as want of memory.
+/// Returns the commands of all batches, each batch followed by its merges if there is a merger, which numbers them from
+/// 1 on through all batches. If the numbers exceed 64 bits, for which there could be no memory, the result is
+/// `Err(NoMemory)`, as when memory runs out.
 pub(crate) fn all_works<'a>(
     alloc: Global,
     merge: bool,

@@ -63,7 +63,7 @@ tested_at test commands hints i c size low h =
     let d : Hinted = hinted_with c Wanting in
     sym (ap test (zip_at commands hints i c d size low)) ∙ all_at (λ (h : Hinted). test h ≡ true) hinted i d (all_tested test hinted h) (omega (arith, low, zip_length commands hints size))
 
--- and the other way round
+-- and conversely
 tested_by : (test : Hinted → Bool) (commands : List Command) (hints : List Hint) → length hints ≡ length commands
     → ((i : ℕ) (c : Command) → i < length commands → test (hinted_with (get_or commands i c) (get_or hints i Wanting)) ≡ true) → list_all test (hinted_zip commands hints) ≡ true
 tested_by test [] hints size h = refl
@@ -86,7 +86,7 @@ lines_joined (a ∷ answers) lines =
     ∙ sym (flat_map-append line_text (answer_lines true a) (flat_map (answer_lines true) answers ++ lines))
     ∙ ap (flat_map line_text) (sym (append_assoc (answer_lines true a) (flat_map (answer_lines true) answers) lines))
 
--- the texts that the groups of a record's text have
+-- the texts of the groups of a record's text
 abbrev texts_of : RunRecord → List Text
 texts_of made = map group_text (map (answer_lines true) made.answers ++ journal_lines made.journal ∷ [])
 
@@ -96,7 +96,7 @@ text_joined made traced ended =
     joined_texts group_text (map (answer_lines true) made.answers ++ journal_lines made.journal ∷ [])
     ∙ lines_joined made.answers (journal_lines made.journal) ∙ sym (text_lines made traced ended)
 
--- ---- the record that is remade
+-- ---- the remade record
 
 -- the text of an answer that is made again
 abbrev text_again : Rules → List Entry → Hinted → Text
@@ -208,7 +208,7 @@ verdict_of law rules options batches trace traced facts =
     let is : text made ≡ trace = sym (text_joined made traced refl) ∙ ap (λ (ts : List Text). flat_map (λ text. text) ts) (texts_again rules journal hinted ∙ sym texts) ∙ facts.whole in
     joined (passes rules options batches hints) (bytes_eq (text made) trace) passing (texts_same (text made) trace is)
 
--- the verdict and the facts of these commands, hints and texts
+-- the verdict is decided by the facts of these commands, hints and texts
 abbrev Decide : Rules → Options → List Batch → Text → List Command → List Hint → List Text → Type 0
 Decide rules options batches trace commands hints texts =
     (verdict rules options batches trace ≡ true → (is_cut trace ≡ true) × IsWhole rules options batches trace commands hints texts)

@@ -29,7 +29,7 @@ use Rattle.trace_ends.specs.Within.{ArePositions, IsWithin}
 use Rattle.trace_ends.proofs.EndLemmas.{tested_at, zip_get}
 use Rattle.trace_ends.proofs.WithinLemmas.{owner_made, positions_within, unplanned_same}
 
--- ---- each position has one entry at most
+-- ---- each position has at most one entry
 
 loads_few : (read : TableRead) → length (loads read) ≤ 1
 loads_few (IsTable table) = omega arith
@@ -113,7 +113,7 @@ stands_accepted (Added at) n h = refl
 stands_accepted (PlannedAndSaw pinned at) n h = cc
 stands_accepted (PlannedAndAdded pinned at) n h = refl
 
--- a reply whose hint has an own position is accepted
+-- a reply whose hint has a position of its own is accepted
 told_accepted : (reply : Reply) (hint : Hint) (n : ℕ) → hint_of reply ≡ hint → is_at n hint ≡ true → is_accepted (standing reply) ≡ true
 told_accepted reply hint n told at = stands_accepted (standing reply) n (sym (hint_at n reply) ∙ ap (is_at n) told ∙ at)
 
@@ -121,7 +121,7 @@ adds_at : (rules : Rules) (now : List Entry) (command : Command) (hint : Hint) (
 adds_at rules now command Wanting n at accepted = cc
 adds_at rules now command (Stands s) n at accepted = adds_one rules command.task (take (pinned_by s) now) now accepted
 
--- the one that is found to stand at a position is its owner
+-- the answer that is found for a position is its owner
 owner_is_found : (commands : List Command) (hints : List Hint) (position index : ℕ) (c : Command) → length hints ≡ length commands → index < length commands → IsOwner hints position index
     → find (λ (h : Hinted). is_at position h.hint) (hinted_zip commands hints) ≡ Some (hinted_with (get_or commands index c) (get_or hints index Wanting))
 owner_is_found commands hints position index c size inside owner =
@@ -165,11 +165,11 @@ owner_at commands hints size q one_each apart filled low =
     let owner : IsOwner (told hinted) (q + 1) found.0 = record { stands = stands; only = λ i at. apart_same hinted (q + 1) i found.0 apart at stands } in
     (found.0, subst (λ (hs : List Hint). IsOwner hs (q + 1) found.0) (told_zip commands hints one_each) owner)
 
--- the journal that all hints make
+-- the journal that results from all hints
 abbrev whole_of : Rules → List Command → List Hint → List Entry
 whole_of rules commands hints = rebuilt rules (hinted_zip commands hints) (counted (hinted_zip commands hints))
 
--- each position has one owner, and each reply that is made again over the whole journal stands where its hint says
+-- each position has one owner, and each reply that is made again over the whole journal has its hint
 record Replies (rules : Rules) (commands : List Command) (hints : List Hint) : Type 0 where
   are : ArePositions commands hints
   apart : are_apart (hinted_zip commands hints) ≡ true

@@ -1,4 +1,4 @@
--- The positions of answers that rise along each lane lie within the journal.
+-- The positions of answers, if they rise along each lane, are within the journal.
 use Rattle.std.proofs.Common.{◌≡◌, refl, ap, sym, ◌∙◌, subst, ℕ, zero, suc, ◌+◌, ◌≤◌, ◌<◌, List, [], ◌∷◌, ◌++◌, length, get_or, take, drop, Bool, true, false, Option, Some, None, arith}
 use Rattle.std.specs.Prelude.{◌==◌, ◌&&◌, is_some}
 use Rattle.std.specs.List.{AllByRecursion, list_all, range_with_len}
@@ -34,7 +34,7 @@ unplanned_same (Stands (Added at)) e = refl
 unplanned_same (Stands (PlannedAndSaw pinned at)) e = cc
 unplanned_same (Stands (PlannedAndAdded pinned at)) e = cc
 
--- an answer whose positions rise to some bound
+-- an answer whose positions rise up to some bound
 within : (size : ℕ) (hint : Hint) (ms : List Moment) (high : ℕ) → high ≤ size → Rises 0 (moments_of hint ++ ms) high → IsWithin size hint
 within size Wanting ms high le h = record { made = omega arith; pinned = omega arith; own = λ p e. cc; planned = λ p e. cc; unplanned = unplanned_same Wanting }
 within size (Stands Nowhere) ms high le h = record { made = omega arith; pinned = omega arith; own = λ p e. cc; planned = λ p e. cc; unplanned = unplanned_same (Stands Nowhere) }
@@ -121,7 +121,7 @@ batches_within lanes size merge next from (batch ∷ batches) hints of rising le
     (all_append (λ (h : Hinted). IsWithin size h.hint) now more (batch_within lanes size from sync merge next batch (take (length commands) hints) (omega (arith, le, count)) of.0 k.0)
     (batches_within lanes size merge (next + updates batch) sync batches (drop (length commands) hints) of.1 k.1 (omega (arith, le, count))))
 
--- the hint of any index; behind the last there is none that has a position
+-- the hint with any index; after the last there is none with a position
 each_within : (size : ℕ) (hinted : List Hinted) → AreWithin size hinted → (i : ℕ) → IsWithin size (get_or (told hinted) i Wanting)
 each_within size [] h i = within size Wanting [] 0 (omega arith) (omega arith)
 each_within size (x ∷ hinted) h zero = h.0

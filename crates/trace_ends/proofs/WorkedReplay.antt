@@ -1,4 +1,4 @@
--- What is read of a short trace with a merge, and replies that are made where their hints say, worked out.
+-- Worked readings of a short trace with a merge, and worked replies that are made at the positions of their hints.
 use Rattle.std.proofs.Common.{◌≡◌, refl, List, [], ◌∷◌, map, Some, None}
 use Rattle.std.specs.Prelude.{codes, flat_map}
 use Rattle.lake_model.specs.Texts.{Text, lines_of}
@@ -36,7 +36,7 @@ texts : map group_text (groups_of trace) ≡ group_text loaded ∷ group_text me
 unfolding lines_of
 texts = refl
 
--- the load is made at no entry, and the merge at one
+-- the load is made when the journal has no entry, and the merge when it has one
 made : map made_at hints ≡ 0 ∷ 1 ∷ 0 ∷ []
 unfolding lines_of
 made = refl
@@ -61,6 +61,6 @@ none_listed = refl
 none_dropped : reply_at (standard_rules Canonical) [] (command_with 1 1 (DropTable (codes "t"))) (Stands (Saw 0)) ≡ Unknown (codes "t") 0
 none_dropped = refl
 
--- where the hint says that memory was wanting, the reply says so
+-- if the hint is that memory ran out, the reply says so
 wanting : reply_at (standard_rules Canonical) [] (command_with 1 1 Tables) Wanting ≡ NoMemory
 wanting = refl

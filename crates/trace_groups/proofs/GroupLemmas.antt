@@ -1,4 +1,4 @@
--- Lines in front of a text that are one group, and the groups of what is behind them.
+-- Lines at the beginning of a text that are one group, and the groups of what follows them.
 use Rattle.std.proofs.Common.{◌≡◌, refl, ap, sym, ◌∙◌, subst, ℕ, ◌≤◌, ◌<◌, List, [], ◌∷◌, ◌++◌, append_assoc, length, length-append, take, drop, ◌-◌, Bool, true, false, cond, arith}
 use Rattle.std.specs.Prelude.{◌==◌, ◌&&◌, get_or, not, IfNone, Option, None, Some}
 use Rattle.std.proofs.lemmas.List.{append-nil}
@@ -14,7 +14,7 @@ use Rattle.trace_groups.specs.Pieces.{IsGroup, IsSplit, group_text}
 
 -- ---- a group that may go on
 
--- whole lines of which the first alone begins an answer
+-- whole lines, of which only the first begins an answer
 pub record Leads (front : Text) : Type 0 where
   pub lines : List Text
   pub are : lines_of front ≡ lines_with lines []
@@ -52,9 +52,9 @@ leads_more front line lead whole other =
           ∙ ap (λ (ls : List Text). groups_with [] (ls ∷ (grouped later).groups)) (sym (append_assoc lines (line ∷ []) (grouped later).opening));
     }
 
--- ---- what begins a text
+-- ---- how a text begins
 
--- a text that begins with no space has no line in front of its first answer
+-- a text that does not begin with a space has no line before its first answer
 opening_none : (text : Text) → (get_or text 0 0 == 0x20) ≡ false → (grouped (lines_of text).ended).opening ≡ []
 unfolding lines_of
 opening_none [] other = refl
@@ -125,7 +125,7 @@ group_is front behind lead first =
 
 -- ---- the first line of a text
 
--- a line's first byte says whether it begins an answer
+-- a line's first byte decides whether it begins an answer
 pub first_by : (text line behind : Text) (b : Bool) → IsSplit text line behind → (get_or text 0 0 == 0x20) ≡ b → is_first line ≡ not b
 first_by text line behind b split e = by line split.is
   where

@@ -1,4 +1,4 @@
--- A trace of which some groups are cut off.
+-- A trace from which some groups were cut.
 use Rattle.std.proofs.Common.{◌≡◌, refl, ap, sym, ◌∙◌, List, [], ◌∷◌, ◌++◌, append_assoc, flat_map, true, false, arith}
 use Rattle.std.proofs.lemmas.Bool.{eqb-true}
 use Rattle.std.specs.Prelude.{◌==◌, get_or, length, map}
@@ -51,7 +51,7 @@ emptied : (rest : Text) → (length rest == 0) ≡ true → rest ≡ []
 emptied [] empty = refl
 emptied (byte ∷ rest) empty = let none : length (byte ∷ rest) ≡ 0 = eqb-true (length (byte ∷ rest)) 0 empty in absurd (omega (arith, none))
 
--- nothing is left
+-- nothing remains
 pub all_cut : (trace : Text) (hints : List Hint) (texts : List Text) (bytes rest : Text) → IsCutTo trace hints texts bytes rest → (length rest == 0) ≡ true
     → (hints ≡ map hint_read (groups_of trace)) × (texts ≡ map group_text (groups_of trace)) × (bytes ≡ trace)
 all_cut trace hints texts bytes rest done empty =

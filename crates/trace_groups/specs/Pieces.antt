@@ -1,4 +1,4 @@
--- A text split behind its first line, and behind its first group of lines.
+-- A text split after its first line, and after its first group of lines.
 use Rattle.std.specs.Prelude.{◌<◌, ◌==◌, ◌≡◌, false, List, ◌∷◌, ◌++◌, flat_map, get_or, length}
 use Rattle.lake_model.specs.Texts.{Text, lines_of}
 use Rattle.script_model.specs.Words.{NoFeed, line_text}
@@ -8,12 +8,12 @@ use Rattle.trace_laws.specs.Reading.{groups_of, is_cut}
 abbrev pub group_text : List Text → Text
 group_text lines = flat_map line_text lines
 
--- a line, its line feed, and what is behind
+-- a line, its line feed, and what follows
 pub record IsSplit (text line behind : Text) : Type 0 where
   pub whole : NoFeed line
   pub is : text ≡ line ++ 0x0A ∷ behind
 
--- the lines of the first group, and what is behind them
+-- the lines of the first group, and what follows them
 pub record IsGroup (text front behind : Text) : Type 0 where
   pub is : text ≡ front ++ behind
   pub some : 0 < length front

@@ -1,4 +1,4 @@
-//! The groups of a trace, each as a piece of it.
+//! The groups of a trace, each a slice of it.
 ghost use Rattle.std.specs.Prelude.{◌≡◌, ◌==◌, ◌<◌, IfNone, IfOk, IfSome, false, flat_map, get_or, length, map};
 ghost use Rattle.lake_model.specs.Texts.{lines_of};
 ghost use Rattle.script_model.specs.Words.{line_text};
@@ -16,12 +16,14 @@ use trace_hints::{Hint, hint_of_lines};
 pub struct Group<'a> {
     /// The lines, each with its line feed.
     pub text: &'a [u8],
-    /// What they tell of where the answer was made.
+    /// The hint that they give of where the answer was made.
     pub hint: Hint,
 }
 
-/// The groups of a trace: its lines, cut before each that does not begin with a space. `None` where the first line begins with one, or
-/// the last line has no line feed; no record has such a text.
+/// Cuts a trace into its groups, before each line that does not begin with a space.
+///
+/// The result is `None` if the first line begins with a space, or the last line has no line feed; no record has such a
+/// text. Returns `Err(NoMemory)` if memory runs out.
 pub fn cut_trace(alloc: Global, trace: &[u8]) -> Result<Option<Vec<Group<'_>>>, NoMemory>
     ensures hints { IfOk result (λ cut. IfSome cut (λ groups. map (λ group. hint_as group.hint) groups.items ≡ map hint_read (groups_of trace.now))) }
     ensures texts { IfOk result (λ cut. IfSome cut (λ groups. map (λ group. group.text.now) groups.items ≡ map group_text (groups_of trace.now))) }
@@ -44,7 +46,8 @@ pub fn cut_trace(alloc: Global, trace: &[u8]) -> Result<Option<Vec<Group<'_>>>, 
     Ok(Some(groups))
 }
 
-// The first group of a text whose first line begins it, and what is behind the group. `None` where the last line has no line feed.
+// Splits a text, whose first line begins a group, into this group and the rest. Returns `None` if the last line has no
+// line feed.
 fn split_group(text: &[u8]) -> Option<(&[u8], &[u8])>
     requires some { 0 < length text.now }
     requires first { (get_or text.now 0 0 == 0x20) ≡ false }
@@ -59,7 +62,7 @@ fn split_group(text: &[u8]) -> Option<(&[u8], &[u8])>
     Some(text.split_at(text.len() - behind.len()))
 }
 
-// The hint of the lines of a group.
+// Returns the hint of the lines of a group.
 fn hint_of_group(alloc: Global, text: &[u8]) -> Result<Hint, NoMemory>
     ensures { IfOk result (λ hint. hint_as hint ≡ hint_read (lines_of text.now).ended) }
 {

@@ -1,4 +1,4 @@
-//! A trace cut into the lines of its answers and those of its journal, each group with the hint that it tells.
+//! Cuts a trace into the lines of its answers and those of its journal, each group with its hint.
 #![tactic(auto)]
 
 mod groups;

@@ -6,7 +6,7 @@ ghost use Rattle.trace_groups.specs.Pieces.{IsSplit};
 
 use memchr::memchr;
 
-// The first line of a text, and what is behind its line feed. `None` where there is no line feed.
+// Returns the first line of a text and what follows its line feed, or `None` if there is no line feed.
 pub(crate) fn split_line(text: &[u8]) -> Option<(&[u8], &[u8])>
     ensures line { IfSome result (λ pair. IsSplit text.now pair.0.now pair.1.now) }
     ensures none { IfNone result (NoFeed text.now) }
@@ -15,7 +15,7 @@ pub(crate) fn split_line(text: &[u8]) -> Option<(&[u8], &[u8])>
     Some((&text[..at], &text[at + 1..]))
 }
 
-// The same, or nothing and nothing.
+// Returns the same, or two empty slices if there is no line feed.
 pub(crate) fn first_line(text: &[u8]) -> (&[u8], &[u8])
     ensures line { result.0.now ≡ get_or (lines_of text.now).ended 0 [] }
     ensures next { get_or (lines_of result.1.now).ended 0 [] ≡ get_or (lines_of text.now).ended 1 [] }

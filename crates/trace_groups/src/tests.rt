@@ -1,4 +1,4 @@
-//! The groups of traces as a run writes them, and of texts that are no trace.
+//! Tests of the groups of traces as a run writes them, and of texts that are not traces.
 use crate::cut_trace;
 use std::alloc::Global;
 use std::process::Abort;
@@ -8,7 +8,7 @@ use trace_hints::Hint;
 const TRACE: &str =
     "1 loaded t columns 1 members 1 at 1\n2 answer 1 of 1 at 1\n  1 t 1 \"c\"\n  work reads 1 probes 0\n  layout at 1 parts 1:1\nm1 merged 1 parts into 1 tables at 2\n  layout at 1 parts 1:1\njournal 1\n  1 load lane 1 command 1 t\n";
 
-// The groups of a trace have these hints and so many bytes.
+// Checks that the groups of a trace have these hints and these numbers of bytes.
 fn cuts(
     rt: &(impl Abort + AllocGlobal),
     trace: &str,
@@ -25,7 +25,7 @@ fn cuts(
     Ok(())
 }
 
-// There are no groups.
+// Checks that a text has no groups.
 fn is_not_cut(rt: &(impl Abort + AllocGlobal), text: &str) -> Result<(), Fail> {
     let groups = cut_trace(rt.alloc(), text.as_bytes())?;
     assert!(rt; groups.is_none(), "{text}");

@@ -1,4 +1,4 @@
--- A hint of the code, as the definitions have it.
+-- The hint of the definitions for a hint of the code.
 use Rattle.record_model.specs.Answered as model
 use Rattle.trace_laws.specs.Hints.{Hint}
 use Rattle.trace_laws.specs.Hints as hint

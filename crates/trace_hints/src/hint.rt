@@ -1,4 +1,4 @@
-//! The hint of an answer, read from its first line and from the line behind it.
+//! The hint of an answer, read from its first line and the line after it.
 ghost use Rattle.std.specs.Prelude.{◌≡◌, IfOk, None, Some, [], false, map, true};
 ghost use Rattle.trace_laws.specs.Hints.{Stands};
 ghost use Rattle.trace_laws.specs.Reading.{at_of, cut, hint_by, layout_at, read_number, standing_by, word_at};
@@ -7,10 +7,10 @@ ghost use Rattle.trace_hints.specs.Told.{hint_as};
 use no_memory::NoMemory;
 use std::alloc::Global;
 
-/// What an answer's text tells of where it was made.
+/// What the text of an answer shows of where it was made.
 #[derive(Clone, Copy, Debug, PartialEq, Eq)]
 pub enum Hint {
-    /// Memory was wanting.
+    /// Memory ran out.
     Wanting,
     /// It has no position.
     Nowhere,
@@ -24,7 +24,8 @@ pub enum Hint {
     PlannedAndAdded { pinned: u64, at: u64 },
 }
 
-/// What an answer's first line tells, and the line behind it, which may be empty where there is none.
+/// Reads the hint from an answer's first line and the line after it, which is empty if there is none. Returns
+/// `Err(NoMemory)` if memory runs out for the words of the lines.
 pub fn hint_of_lines(alloc: Global, first: &[u8], next: &[u8]) -> Result<Hint, NoMemory>
     ensures { IfOk result (λ hint. hint_as hint ≡ hint_by (cut first.now) (cut next.now)) }
 {
@@ -33,14 +34,14 @@ pub fn hint_of_lines(alloc: Global, first: &[u8], next: &[u8]) -> Result<Hint, N
     Ok(hint_of_words(&first_words, &next_words))
 }
 
-// The words of a line, cut at each space.
+// Splits a line at each space.
 fn words(alloc: Global, line: &[u8]) -> Result<Vec<&[u8]>, NoMemory>
     ensures { IfOk result (λ words. map (λ word. word.now) words.items ≡ cut line.now) }
 {
     Ok(line.split(|byte| *byte == b' ').collect(alloc)?)
 }
 
-// The hint of the words of a first line and of the line behind it.
+// Returns the hint given by the words of a first line and of the line after it.
 fn hint_of_words(words: &[&[u8]], next: &[&[u8]]) -> Hint
     ensures { hint_as result ≡ hint_by (map (λ word. word.now) words.now) (map (λ word. word.now) next.now) }
 {
@@ -53,7 +54,8 @@ fn hint_of_words(words: &[&[u8]], next: &[&[u8]]) -> Hint
     }
 }
 
-// Where an answer stands, whose line has these words behind its number, and this line behind it.
+// Returns the hint of an answer that has the position `at`, from the first two words after its number and the words of
+// the next line.
 fn standing(first: &[u8], second: &[u8], next: &[&[u8]], at: u64) -> Hint
     ensures { hint_as result ≡ Stands (standing_by first.now second.now (map (λ word. word.now) next.now) at) }
 {
@@ -77,14 +79,14 @@ fn standing(first: &[u8], second: &[u8], next: &[&[u8]], at: u64) -> Hint
     }
 }
 
-// The position of the layout that these words show.
+// Returns the position of the layout from the words of its line.
 fn layout_at(words: &[&[u8]]) -> u64
     ensures { result ≡ layout_at (map (λ word. word.now) words.now) }
 {
     read_number(word_at(words, 4))
 }
 
-// The number behind the word `at` that stands last but one.
+// Returns the number after the word `at`, if that is the last word but one.
 fn at_of(words: &[&[u8]]) -> Option<u64>
     ensures { result ≡ at_of (map (λ word. word.now) words.now) }
 {
@@ -95,7 +97,7 @@ fn at_of(words: &[&[u8]]) -> Option<u64>
     }
 }
 
-// The word at a place, counted from 0, and nothing where there is none.
+// Returns the word at a place, counted from 0, or an empty word if there is none.
 fn word_at<'a>(words: &[&'a [u8]], place: usize) -> &'a [u8]
     ensures { result.now ≡ word_at (map (λ word. word.now) words.now) place }
 {
@@ -105,7 +107,7 @@ fn word_at<'a>(words: &[&'a [u8]], place: usize) -> &'a [u8]
     }
 }
 
-// The value of a word's digits, as far as 64 bits go.
+// Returns the value of a word's digits, but at most 2^64 - 1.
 fn read_number(word: &[u8]) -> u64
     ensures { result ≡ read_number word.now }
 {

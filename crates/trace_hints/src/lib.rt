@@ -1,5 +1,5 @@
-//! What the lines of an answer in a trace tell of where it was made, and the last positions of lanes, by which a trace is checked
-//! before any reply is made again.
+//! The hints that the lines of answers in a trace give of where the answers were made, and the last positions of lanes.
+//! With these a trace is checked before any reply is made again.
 #![tactic(auto)]
 
 mod hint;

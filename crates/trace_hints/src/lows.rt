@@ -1,4 +1,4 @@
-//! The last position of each lane, which no later answer of the lane may be before.
+//! The last position of each lane; no later answer of the lane may have an earlier one.
 ghost use Rattle.std.specs.Prelude.{◌≡◌, ◌<◌, ◌∷◌, [], None, Some, false, get_or, length, true};
 ghost use Rattle.record_model.specs.Right.{own, saw};
 ghost use Rattle.trace_laws.specs.Lows.{climbed, with_low};
@@ -7,8 +7,8 @@ ghost use Rattle.trace_hints.specs.Told.{hint_as};
 
 use crate::hint::Hint;
 
-/// One more answer of a lane: the lane's new last position is put among those of all lanes. It says whether the positions rise; where
-/// they do not, nothing is put.
+/// Adds one more answer of a lane, by storing the lane's new last position. Returns whether the positions rise; if they
+/// do not, nothing is stored.
 pub fn one_more(lows: &mut [u64], lane: usize, hint: Hint) -> bool
     requires lane { lane < length lows.old }
     ensures rises { result ≡ true → with_low lows.old lane (climbed (get_or lows.old lane 0) (moments_of (hint_as hint))) ≡ Some lows.new }
@@ -24,7 +24,8 @@ pub fn one_more(lows: &mut [u64], lane: usize, hint: Hint) -> bool
     }
 }
 
-// The last position of a lane that stood at `low`, behind an answer of this hint, and nothing where a position falls.
+// Returns the last position of a lane after an answer with this hint, where `low` was the last one before it, or `None`
+// if a position falls.
 fn climb(low: u64, hint: Hint) -> Option<u64>
     ensures { result ≡ climbed low (moments_of (hint_as hint)) }
 {
@@ -37,14 +38,14 @@ fn climb(low: u64, hint: Hint) -> Option<u64>
     }
 }
 
-// A position that an answer saw.
+// Returns a position that an answer saw, if it is not below `low`.
 fn rise(low: u64, at: u64) -> Option<u64>
     ensures { result ≡ climbed low (saw at ∷ []) }
 {
     if low <= at { Some(at) } else { None }
 }
 
-// The position of an answer's own entry.
+// Returns the position of an answer's own entry, if it is above `low`.
 fn rise_own(low: u64, at: u64) -> Option<u64>
     ensures { result ≡ climbed low (own at ∷ []) }
 {

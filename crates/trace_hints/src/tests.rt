@@ -1,10 +1,10 @@
-//! The hints of lines as a run writes them, and the lows of two lanes.
+//! Tests of the hints of lines as a run writes them, and of the last positions of two lanes.
 use crate::{Hint, hint_of_lines, one_more};
 use std::alloc::Global;
 use std::process::Abort;
 use std::test::Fail;
 
-// The two lines tell this.
+// Checks the hint that two lines give.
 fn tells(
     rt: &(impl Abort + AllocGlobal),
     first: &str,
@@ -82,7 +82,7 @@ fn merges(rt: HostRuntime) -> Result<(), Fail> {
     )
 }
 
-// A number is read as far as 64 bits go.
+// A number above 2^64 - 1 is read as 2^64 - 1.
 #[test]
 fn large_numbers(rt: HostRuntime) -> Result<(), Fail> {
     tells(

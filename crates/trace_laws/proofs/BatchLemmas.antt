@@ -18,7 +18,7 @@ use Rattle.trace_laws.specs.Checks.{AreEntered}
 use Rattle.trace_laws.proofs.OwnLemmas.{Pairs, Picks, Climbs, AreIn, AreOf, owned, picks_are, picks_few, picks_all}
 use Rattle.trace_laws.proofs.TotalLemmas.{total, total_each, total_share, total_filter}
 
--- ---- a command adds one entry at most
+-- ---- a command adds at most one entry
 
 abbrev AtMostOne : {X : Type 0} → List X → Type 0
 AtMostOne [] = ⊤
@@ -106,7 +106,7 @@ step_goes rules low high journal command reply (PlannedAndAdded pinned at) ms re
     (one_added (is_accepted (standing reply)) (change_of rules command.task (take pinned journal)) (one_change rules command.task (take pinned journal)))
     (omega (arith, rises.0, rises.1.0)) (rises_le at ms high rises.1.1) (more at rises.1.1)
 
--- all are of the lane
+-- all answers belong to the lane
 abbrev pub AreLane : ℕ → List Done → Type 0
 AreLane lane done = AllByRecursion (λ d. d.command.lane ≡ lane) done
 
@@ -169,8 +169,8 @@ pub callers_enumerated : (lanes n : ℕ) (es : List Entry) → AllByRecursion (�
 callers_enumerated lanes n [] h = tt
 callers_enumerated lanes n (e ∷ es) h = (h.0, callers_enumerated lanes (n + 1) es h.1)
 
--- Where the answers of each lane rise, each accepted one has its entry in the journal, and there are as many of these as entries,
--- each lane's own entries are those of its accepted answers.
+-- If the answers of each lane rise, each accepted one has its entry in the journal, and there are as many of these as entries, then each
+-- lane's own entries are those of its accepted answers.
 pub own_are : (rules : Rules) (lanes from to : ℕ) (journal : List Entry) (done : List Done) → AllByRecursion (λ d. d.command.lane ≤ lanes) done
     → AllByRecursion (λ e. e.who.caller ≤ lanes) (between from to journal)
     → ((lane : ℕ) → lane ≤ lanes → Rises from (moments (of_lane lane done)) to)

@@ -82,7 +82,7 @@ all_filled rules journal done (suc n) tells le =
     let made = tells.made in
     ap (λ (b : Bool). b && is_filled (hinted_of done) n) (any_hinted (suc n) done (made n (omega arith) (omega (arith, le)))) ∙ all_filled rules journal done n tells (omega (arith, le))
 
--- ---- no two stand at one position
+-- ---- no two updates at one position
 
 abbrev count_at : ℕ → List Hinted → ℕ
 count_at n [] = 0
@@ -193,7 +193,7 @@ all_in_size : (size : ℕ) (done : List Done) → AllByRecursion (Stood size) do
 all_in_size size [] h = tt
 all_in_size size (d ∷ done) h = ((λ n at. in_size_by size (standing d.reply) h.0.ordered h.0.low n (sym (hint_at n d.reply) ∙ at)), all_in_size size done h.1)
 
--- ---- each reply tells again
+-- ---- each reply has its hint again
 
 same_standing_self : (s : Standing) → same_standing s s ≡ true
 same_standing_self Nowhere = refl
@@ -273,7 +273,7 @@ verdict_decides rules options batches trace of names traced few = (
       ∙ ap (λ (t : Text). bytes_eq t trace) best.1.is ∙ texts_same trace trace refl),
 )
 
--- ---- what the code of a checker stands on
+-- ---- what the code of a checker relies on
 
 pub verdict_groups : VerdictGroups
 verdict_groups rules options batches trace of names traced few said =
@@ -282,7 +282,7 @@ verdict_groups rules options batches trace of names traced few said =
     let named = right_named rules options.lanes options.merge batches made of names is.right in
     (sym (ap is_cut is.is) ∙ text_cut made traced refl named, ap groups_of (sym is.is) ∙ text_grouped made traced refl named)
 
--- The journal that was rebuilt up to a position is the front of the whole.
+-- The journal that was rebuilt up to a position is the beginning of the whole.
 pub rebuilt_front : (rules : Rules) (hinted : List Hinted) (size n : ℕ) → n ≤ size → length (rebuilt rules hinted n) ≡ n → take n (rebuilt rules hinted size) ≡ rebuilt rules hinted n
 rebuilt_front rules hinted size n le long =
     let k : ℕ = size - n in

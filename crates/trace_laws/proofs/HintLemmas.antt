@@ -1,4 +1,4 @@
--- A reply that is right is the one that is made again where its hint says, and what is made again there is right.
+-- A right reply is the one that is made again at the positions of its hint, and what is made again there is right.
 use Rattle.std.proofs.Common.{◌≡◌, refl, ap, ◌∙◌, ℕ, ◌≤◌, inl, inr, List, [], ◌∷◌, Bool, true, false, arith, ◌<◌, ◌++◌, length, take}
 use Rattle.std.proofs.lemmas.Bool.Decides.{nat_tests}
 use Rattle.std.specs.Prelude.{◌&&◌, nat_lt, nat_le}
@@ -15,7 +15,7 @@ use Rattle.trace_laws.specs.Checks.{is_behind, rises, PositionsDecide}
 
 -- ---- what is right is what is made again
 
--- a reply with this standing that is right
+-- a right reply with this standing
 placed_is : (rules : Rules) (journal : List Entry) (command : Command) (reply : Reply) (s : Standing) → (reply ≡ NoMemory → ⊥)
     → IsPlaced rules journal command reply s → IsUnplaced rules command reply s → reply ≡ answer_by rules journal command s
 placed_is rules journal command reply Nowhere some placed (inl none) = absurd (some none)

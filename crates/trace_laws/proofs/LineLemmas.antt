@@ -177,7 +177,7 @@ whole_words (QueryNotUtf8 line) h = (refl, (refl, (whole_decimal line, (refl, tt
 whole_words QueryTooLarge h = (refl, (refl, tt))
 whole_words NoMemory h = (refl, tt)
 
--- lines behind a first one
+-- lines after a first one
 abbrev AreMore : List Text → Type 0
 AreMore lines = AllByRecursion (λ l. (is_whole l ≡ true) × (is_first l ≡ false)) lines
 
@@ -321,7 +321,7 @@ text_lines made traced ended =
     ∙ ap (λ (ls : List Text). flat_map line_text ls ++ flat_map line_text (journal_lines made.journal)) (written_all made.answers)
     ∙ sym (flat_map-append line_text (flat_map (answer_lines true) made.answers) (journal_lines made.journal))
 
--- The lines of the text of an ended record with a trace, grouped, are those of its answers and of its journal.
+-- The lines of the text of an ended record with a trace, grouped, are those of its answers and those of its journal.
 pub text_grouped : (made : RunRecord) → made.options.trace ≡ true → made.ended ≡ true → IsRecordNamed made → groups_of (text made) ≡ map (answer_lines true) made.answers ++ journal_lines made.journal ∷ []
 unfolding all_lines_of lines_of
 text_grouped made traced ended named =
@@ -334,7 +334,7 @@ text_grouped made traced ended named =
     ∙ ap (λ (g : Groups). g.groups) (answers_grouped made.answers (journal_lines made.journal) named.replies (ap (λ (g : Groups). g.opening) last))
     ∙ ap (λ (g : Groups). map (answer_lines true) made.answers ++ g.groups) last
 
--- It has no line in front of its first answer, and no byte behind its last line feed.
+-- It has no line before its first answer, and no byte after its last line feed.
 pub text_cut : (made : RunRecord) → made.options.trace ≡ true → made.ended ≡ true → IsRecordNamed made → is_cut (text made) ≡ true
 unfolding all_lines_of lines_of
 text_cut made traced ended named =

@@ -1,4 +1,4 @@
--- One pass over the answers says whether the positions rise along each lane.
+-- One pass over the answers decides whether the positions rise along each lane.
 use Rattle.std.proofs.Common.{◌+◌, ◌≤◌, ◌≡◌, refl, ap, sym, ◌∙◌, subst, ℕ, zero, suc, ◌<◌, List, [], ◌∷◌, ◌++◌, flat_map, length, Bool, true, false, cond, arith}
 use Rattle.std.specs.Prelude.{◌==◌, ◌&&◌, nat_le, filter, get_or, replicate, slice_set, Option, Some, None}
 use Rattle.std.specs.List.{AllByRecursion, list_all}
@@ -27,7 +27,7 @@ rises_split low (m ∷ ms) ns to = by (is_behind m.own low m.at) (rises_split m.
     by true h = h
     by false h = refl
 
--- ---- the list of lows
+-- ---- the list of last positions
 
 set_other : (lows : List ℕ) (m l low : ℕ) → (m == l) ≡ false → get_or (slice_set lows m low) l 0 ≡ get_or lows l 0
 set_other lows m l low e = get_or-set_other lows m l low 0 (λ same. not_both ⊥ (m == l) (eq-eqb m l (sym same)) e)
@@ -46,7 +46,7 @@ low_all to (x ∷ lows) h = ap (λ (b : Bool). b && list_all (λ low. nat_le low
 abbrev pub mine : List Hinted → ℕ → List Moment
 mine hinted lane = flat_map (λ (h : Hinted). moments_of h.hint) (filter (λ (h : Hinted). h.command.lane == lane) hinted)
 
--- a lane's positions, where the first answer is its own
+-- a lane's positions, if the first answer is its own
 pub own_first : (h : Hinted) (hinted : List Hinted) (lane : ℕ) → (h.command.lane == lane) ≡ true → mine (h ∷ hinted) lane ≡ moments_of h.hint ++ mine hinted lane
 own_first h hinted lane e = ap (λ (b : Bool). flat_map (λ (h : Hinted). moments_of h.hint) (cond b (h ∷ filter (λ (h : Hinted). h.command.lane == lane) hinted) (filter (λ (h : Hinted). h.command.lane == lane) hinted))) e
 

@@ -50,7 +50,7 @@ hint_is h k e = cc
 abbrev AreTold : Rules → List Entry → List Hinted → Type 0
 AreTold rules journal hinted = list_all (tells rules journal) hinted ≡ true
 
--- their hints are those that they were made by
+-- their hints are those from which they were made
 told_hints : (rules : Rules) (journal : List Entry) (commands : List Command) (hints : List Hint) → length hints ≡ length commands → AreTold rules journal (hinted_zip commands hints)
     → map reply_hint (map (answer_again rules journal) (hinted_zip commands hints)) ≡ hints
 told_hints rules journal [] [] size told = refl
@@ -87,7 +87,7 @@ all_zip merge next (batch ∷ batches) answers =
     ap (λ (ds : List Done). dones commands (take (length commands) answers) ++ ds) (all_zip merge (next + updates batch) batches (drop (length commands) answers))
     ∙ one_zip commands (all_commands merge (next + updates batch) batches) answers
 
--- each is made again
+-- each reply is the same when it is made again
 again_zip : (rules : Rules) (journal : List Entry) (commands : List Command) (hints : List Hint) → AreTold rules journal (hinted_zip commands hints)
     → AllByRecursion (IsMadeAgain rules journal) (dones commands (map (answer_again rules journal) (hinted_zip commands hints)))
 again_zip rules journal [] hints told = tt
@@ -98,7 +98,7 @@ again_zip rules journal (c ∷ commands) (h ∷ hints) told =
 
 -- ---- the journal that is rebuilt
 
--- what a hinted command puts into the journal at its position
+-- what a command with its hint puts into the journal at its position
 record Fine (rules : Rules) (journal : List Entry) (h : Hinted) : Type 0 where
   puts : (n : ℕ) → is_at (suc n) h.hint ≡ true → AddsOne (change_of rules h.command.task (take (pinned_of h.hint) journal)) × (pinned_of h.hint ≤ n)
 
@@ -183,7 +183,7 @@ entry_found rules hinted size n low fine filled h found own at =
     ap (rebuilt rules hinted) f ∙ rest.1 ∙ ap (λ (es : List Entry). es ++ rest.0) next.2 ∙ append_assoc (rebuilt rules hinted n) (entry ∷ []) rest.0 in
     (next.0, next.1, ap (λ (es : List Entry). slice_get es n) whole ∙ ap (slice_get (rebuilt rules hinted n ++ entry ∷ rest.0)) (sym before) ∙ get_begun (rebuilt rules hinted n) rest.0 entry)
 
--- ---- positions apart
+-- ---- no two at one position
 
 abbrev FoundIn : List Hinted → Hinted → Type 0
 FoundIn hinted h = (n : ℕ) → is_at n h.hint ≡ true → find (λ (x : Hinted). is_at n x.hint) hinted ≡ Some h
@@ -328,7 +328,7 @@ all_entered rules hinted size (d ∷ done) fine filled sound found =
 abbrev pub RiseFrom : ℕ → Bool → ℕ → ℕ → List Batch → List Answered → Type 0
 RiseFrom lanes merge next from batches answers = batches_rise lanes merge next from batches (map reply_hint answers) ≡ true
 
--- one batch's tests, in the words of its answers
+-- one batch's tests, stated of its answers
 record BatchRises (lanes from sync : ℕ) (done : List Done) : Type 0 where
   sync_is : sync ≡ from + counted (hinted_of done)
   rising : (lane : ℕ) → lane ≤ lanes → rises from (moments (of_lane lane done)) sync ≡ true

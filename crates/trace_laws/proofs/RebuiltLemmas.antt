@@ -1,4 +1,4 @@
--- A right record is the one that its commands and the hints of its answers make.
+-- A right record is the one that its commands and the hints of its answers determine.
 use Rattle.std.proofs.Common.{◌≡◌, refl, ap, sym, ◌∙◌, subst, ℕ, zero, suc, ◌+◌, ◌-◌, ◌≤◌, ◌<◌, ◌⊎◌, inl, inr, List, [], ◌∷◌, ◌++◌, map, length, take, drop, Bool, true, false, cond, arith}
 use Rattle.std.specs.Prelude.{nat_lt, ◌==◌, ◌||◌, Option, Some, None, slice_get, find, ⊤}
 use Rattle.std.specs.List.{AllByRecursion, list_any}
@@ -106,7 +106,7 @@ adds_one rules (Contain a b body) pinned now h = absurd (contain_adds a b (query
 adds_one rules (AsOf asked k body) pinned now h = absurd (past_adds asked k (query_read rules.keys body) now h)
 adds_one rules (Merge all) pinned now h = merge_adds pinned now (planned_parts (policy_of all) (layout pinned)) h
 
--- ---- what an answer tells of its entry
+-- ---- what an answer shows of its entry
 
 -- a merge is planned before its entry
 abbrev pub IsOrdered : Standing → Type 0
@@ -116,7 +116,7 @@ IsOrdered (Added at) = 1 ≤ at
 IsOrdered (PlannedAndSaw pinned at) = ⊤
 IsOrdered (PlannedAndAdded pinned at) = pinned < at
 
--- the journal has at n + 1 what the answer puts there
+-- the journal has at n + 1 the entry that the answer puts there
 record Puts (rules : Rules) (journal : List Entry) (n : ℕ) (h : Hinted) : Type 0 where
   entry : Entry
   there : slice_get journal n ≡ Some entry
@@ -265,7 +265,7 @@ all_known : (rules : Rules) (journal : List Entry) (done : List Done) → AllByR
 all_known rules journal [] a h o = tt
 all_known rules journal (d ∷ done) a h o = (record { again = a.0; has = h.0; ordered = o.0 }, all_known rules journal done a.1 h.1 o.1)
 
--- what the batches from one on say of the journal
+-- what the batches from one on state of the journal
 pub record Tells (rules : Rules) (journal : List Entry) (from : ℕ) (done : List Done) : Type 0 where
   pub known : AllByRecursion (Known rules journal) done
   pub made : (n : ℕ) → from ≤ n → n < length journal → HasDone (suc n) done
@@ -336,7 +336,7 @@ puts_known rules journal d n k h = by d.reply refl k.again
         subst (λ (x : Hint). Puts rules journal n (hinted_with d.command x)) (sym hint)
         (puts_by rules journal d.command d.reply (standing d.reply) n refl h (again ∙ ap (reply_by rules journal d.command) hint) k.has k.ordered)
 
--- the first answer that stands at a position puts its entry there
+-- the first answer whose entry is at a position puts its entry there
 found_puts : (rules : Rules) (journal : List Entry) (n : ℕ) (done : List Done) → AllByRecursion (Known rules journal) done → HasDone (suc n) done
     → (h : Hinted) × (find (λ (h : Hinted). is_at (suc n) h.hint) (hinted_of done) ≡ Some h) × Puts rules journal n h
 found_puts rules journal n [] known has = cc

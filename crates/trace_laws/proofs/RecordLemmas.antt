@@ -1,4 +1,4 @@
--- A record is right exactly where it passes the tests.
+-- A record is right exactly if it passes the tests.
 use Rattle.std.proofs.Common.{◌≡◌, refl, ap, sym, ◌∙◌, subst, ℕ, zero, suc, ◌+◌, ◌-◌, ◌≤◌, List, [], ◌∷◌, ◌++◌, length, length-append, take, drop, Bool, true, false, cond, arith}
 use Rattle.std.specs.Prelude.{◌==◌, Some, slice_get}
 use Rattle.std.specs.List.{AllByRecursion, enumerate_from}
@@ -215,7 +215,7 @@ entered_all rules journal [] h = tt
 entered_all rules journal (d ∷ done) h =
     all_append (λ (e : ℕ × Entry). slice_get journal (e.0 - 1) ≡ Some e.1) (entries_by rules journal d.command d.reply (standing d.reply)) (accepted rules journal done) h.0 (entered_all rules journal done h.1)
 
--- what one lane says of the whole journal
+-- what one lane states of the whole journal
 pub record LaneSays (rules : Rules) (lane from to : ℕ) (journal : List Entry) (mine : List Done) : Type 0 where
   pub rising : Rises from (moments mine) to
   pub again : AllByRecursion (IsMadeAgain rules journal) mine

@@ -1,4 +1,4 @@
--- The lines of an answer tell its hint.
+-- The lines of an answer give its hint.
 use Rattle.std.proofs.Common.{◌≡◌, refl, ap, ◌∙◌, ℕ, zero, suc, ◌+◌, ◌≤◌, ◌<◌, ◌^◌, ◌-◌, List, [], ◌∷◌, ◌++◌, length, Bool, true, false, cond, arith}
 use Rattle.std.specs.Fmt.{digits, digits_onto, digit_glyph}
 use Rattle.std.specs.Prelude.{min, ◌*◌, ◌==◌, ◌&&◌, ◌%◌, ◌/◌, nat_lt, not, codes, decimal, get_or, ⊤}
@@ -70,7 +70,7 @@ some_from k n = by (n / 10 == 0) (some_onto k (n / 10) (digit_glyph false (n % 1
     by true h = omega arith
     by false h = h
 
--- whatever the number
+-- a number in decimal is clean
 pub clean_decimal : (n : ℕ) → is_clean (decimal n) ≡ true
 unfolding digits
 clean_decimal n = clean_onto 64 n [] refl
@@ -134,12 +134,12 @@ cut_last (x ∷ w) h =
 abbrev pub AreClean : List Text → Type 0
 AreClean words = AllByRecursion (λ w. is_clean w ≡ true) words
 
--- words that are written with a space between are read again
+-- words that are written with one space between them are read back
 pub cut_spaced : (w : Text) (words : List Text) → AreClean (w ∷ words) → cut (spaced (w ∷ words)) ≡ w ∷ words
 cut_spaced w [] h = ap cut (append-nil w) ∙ cut_last w h.0
 cut_spaced w (v ∷ words) h = cut_word w (spaced (v ∷ words)) h.0 ∙ ap (λ (ws : List Text). w ∷ ws) (cut_spaced v words h.1)
 
--- ---- the words of a reply, each by itself
+-- ---- the words of each reply
 
 abbrev at_flat : ℕ → List Text
 at_flat at = codes "at" ∷ decimal at ∷ []
@@ -243,7 +243,7 @@ layout_told layout h =
 
 -- ---- the hint
 
--- the layout that stands in the line behind the first
+-- the line after the first is that of the layout
 abbrev IsNext : Reply → List Text → Type 0
 IsNext (Merged layout parts tables at) next = layout_at next ≡ layout.at
 IsNext (Stale layout gone at) next = layout_at next ≡ layout.at
@@ -284,7 +284,7 @@ is_next w who (Merged layout parts tables at) h = layout_told layout h.0
 is_next w who (Stale layout gone at) h = layout_told layout h.0
 is_next w who reply h = tt
 
--- The lines of an answer tell its hint.
+-- The lines of an answer give its hint.
 pub hint_of_lines : (who : Who) (reply : Reply) → IsReadable reply → hint_read (answer_lines true (answered_with who reply)) ≡ hint_of reply
 hint_of_lines who reply h =
     let next : List Text = cut (get_or (answer_lines true (answered_with who reply)) 1 []) in

@@ -1,4 +1,4 @@
--- Whichever right record has a trace for its text, it is the one that the hints of the trace make.
+-- Any right record that has a trace as its text is the one that the hints of the trace determine.
 use Rattle.std.proofs.Common.{◌≡◌, refl, ap, sym, ◌∙◌, subst, ℕ, suc, ◌+◌, ◌-◌, ◌≤◌, ◌<◌, ◌^◌, List, [], ◌∷◌, ◌++◌, map, length, length-append, take, drop, Bool, true, cond, arith}
 use Rattle.std.specs.Prelude.{⊤}
 use Rattle.std.specs.List.{AllByRecursion}
@@ -65,7 +65,7 @@ all_hinted merge next (batch ∷ batches) answers =
     ∙ ap (λ (hs : List Hinted). hinted_zip commands (take (length commands) (map reply_hint answers)) ++ hs) (all_hinted merge (next + updates batch) batches (drop (length commands) answers) ∙ ap (hinted_zip later) (sym (drop-map reply_hint (length commands) answers)))
     ∙ zip_append commands later (map reply_hint answers)
 
--- ---- how many are accepted
+-- ---- the number of accepted updates
 
 size_by : (rules : Rules) (journal : List Entry) (command : Command) (reply : Reply) (s : Standing) → standing reply ≡ s → reply ≡ answer_by rules journal command s → length (entries_by rules journal command reply s) ≡ puts_one (Stands s)
 size_by rules journal command reply Nowhere st again = refl
@@ -229,7 +229,7 @@ counted_few (c ∷ commands) (h ∷ hints) = omega (arith, counted_few commands 
 abbrev record_of : Options → List Entry → List Answered → List ℕ → Bool → RunRecord
 record_of options journal answers syncs ended = record { options = options; journal = journal; answers = answers; syncs = syncs; ended = ended }
 
--- The hints of a trace are those of the answers of a right record that has it for its text.
+-- The hints of a trace are those of the answers of any right record that has it as its text.
 pub hints_found : (rules : Rules) (options : Options) (batches : List Batch) (trace : Text) (made : RunRecord) → AllByRecursion (IsOfLanes options.lanes) batches
     → options.trace ≡ true → length (all_commands options.merge 1 batches) < 2 ^ 64 → IsRecordNamed made → IsTraceOf rules options batches trace made
     → hints_of batches options.merge trace ≡ map reply_hint made.answers

@@ -1,4 +1,4 @@
--- Verdicts on short traces, worked out, from the bytes of a script and of a trace.
+-- Worked verdicts on short traces, from the bytes of a script and of a trace.
 use Rattle.std.proofs.Common.{◌≡◌, refl, ℕ, List, [], ◌∷◌, Bool, true, false}
 use Rattle.std.specs.Prelude.{codes, flat_map, None}
 use Rattle.std.specs.Str.{trim_start, trim_end, chars, is_utf8}
@@ -26,7 +26,7 @@ use Rattle.trace_laws.specs.Passing.{verdict}
 abbrev lines : List (List ℕ) → List ℕ
 lines texts = flat_map line_text texts
 
--- the verdict on a trace of a script of so many lanes, without a merger
+-- the verdict on a trace of a script with the given number of lanes, without a merger
 abbrev checked : ℕ → List (List ℕ) → List (List ℕ) → Bool
 checked lanes script trace = verdict (standard_rules Canonical) (options_with lanes None false true Canonical) (commands standard lanes (lines script) []).batches (lines trace)
 
@@ -39,17 +39,17 @@ empty_run : checked 1 [] (codes "journal 0" ∷ []) ≡ true
 unfolding lines_of read digits
 empty_run = refl
 
--- a list of no tables, and a drop of none
+-- a list of no tables, and the drop of an unknown one
 asked : checked 1 (codes "tables" ∷ codes "drop t" ∷ []) (codes "1 tables 0 at 0" ∷ codes "2 refused unknown t at 0" ∷ codes "journal 0" ∷ []) ≡ true
 unfolding lines_of read digits
 asked = refl
 
--- want of memory is always right
+-- that memory ran out is always right
 denied : checked 1 (codes "tables" ∷ codes "drop t" ∷ []) (codes "1 no memory" ∷ codes "2 refused unknown t at 0" ∷ codes "journal 0" ∷ []) ≡ true
 unfolding lines_of read digits
 denied = refl
 
--- a reply of another position, or of another count, is wrong
+-- a reply with another position, or with another count, is wrong
 elsewhere : checked 1 (codes "tables" ∷ codes "drop t" ∷ []) (codes "1 tables 0 at 1" ∷ codes "2 refused unknown t at 0" ∷ codes "journal 0" ∷ []) ≡ false
 unfolding lines_of read digits
 elsewhere = refl
@@ -58,7 +58,7 @@ miscounted : checked 1 (codes "tables" ∷ codes "drop t" ∷ []) (codes "1 tabl
 unfolding lines_of read digits
 miscounted = refl
 
--- two lanes load one name: either may be first, and each refusal is at its own point
+-- two lanes load one name: either may be first, and each refusal is at its own position
 abbrev two_loads : List (List ℕ)
 two_loads = codes "load t" ∷ codes "c" ∷ codes "a" ∷ codes "." ∷ codes "@2 load t" ∷ codes "c" ∷ codes "b" ∷ codes "." ∷ []
 
@@ -70,7 +70,7 @@ second_lane : checked 2 two_loads (codes "1 refused repeated t at 1" ∷ codes "
 unfolding lines_of read next_record records_from strip_bom is_utf8 caseless trim_start trim_end chars encode digits in_order put_in_order rows_fault text_fault line_fault table_read query_read
 second_lane = refl
 
--- both at one point, and a journal line that is left out
+-- both loads at one position, and a journal without one of its lines
 both_first : checked 2 two_loads (codes "1 loaded t columns 1 members 1 at 1" ∷ codes "2 loaded t columns 1 members 1 at 1" ∷ codes "journal 1" ∷ codes "  1 load lane 1 command 1 t" ∷ []) ≡ false
 unfolding lines_of read next_record records_from strip_bom is_utf8 caseless trim_start trim_end chars encode digits in_order put_in_order rows_fault text_fault line_fault table_read query_read
 both_first = refl
@@ -89,12 +89,12 @@ replaced : checked 1 replacing (codes "1 loaded t columns 1 members 1 at 1" ∷ 
 unfolding lines_of read next_record records_from strip_bom is_utf8 caseless trim_start trim_end chars encode digits in_order put_in_order rows_fault text_fault line_fault table_read query_read
 replaced = refl
 
--- the words of a load where the table was replaced
+-- the text of a load for a table that was replaced
 not_loaded : checked 1 replacing (codes "1 loaded t columns 1 members 1 at 1" ∷ codes "2 loaded t columns 1 members 1 at 2" ∷ codes "3 refused repeated t at 2" ∷ codes "journal 2" ∷ codes "  1 load lane 1 command 1 t" ∷ codes "  2 replace lane 1 command 2 t" ∷ []) ≡ false
 unfolding lines_of read next_record records_from strip_bom is_utf8 caseless trim_start trim_end chars encode digits in_order put_in_order rows_fault text_fault line_fault table_read query_read
 not_loaded = refl
 
--- what was live after the first entry, and a position that is still to come
+-- what was live after the first entry, and a position past the end of the journal
 abbrev past : List (List ℕ)
 past = codes "load t" ∷ codes "c" ∷ codes "a" ∷ codes "." ∷ codes "drop t" ∷ codes "asof 1 1" ∷ codes "a" ∷ codes "." ∷ codes "asof 3 1" ∷ codes "a" ∷ codes "." ∷ []
 
@@ -102,12 +102,12 @@ past_told : checked 1 past (codes "1 loaded t columns 1 members 1 at 1" ∷ code
 unfolding lines_of read next_record records_from strip_bom is_utf8 caseless trim_start trim_end chars encode digits in_order put_in_order rows_fault text_fault line_fault table_read query_read
 past_told = refl
 
--- the answer of the present in place of that of the past
+-- the answer at the newest position instead of the earlier one
 present_told : checked 1 past (codes "1 loaded t columns 1 members 1 at 1" ∷ codes "2 dropped t at 2" ∷ codes "3 answer 0 of 1 as of 1 at 2" ∷ codes "4 refused later 3 at 2" ∷ codes "journal 2" ∷ codes "  1 load lane 1 command 1 t" ∷ codes "  2 drop lane 1 command 2 t" ∷ []) ≡ false
 unfolding lines_of read next_record records_from strip_bom is_utf8 caseless trim_start trim_end chars encode digits in_order put_in_order rows_fault text_fault line_fault table_read query_read
 present_told = refl
 
--- a row of an answer, as it is and forged
+-- a row of an answer, correct and forged
 abbrev searched : List (List ℕ)
 searched = codes "load t" ∷ codes "c" ∷ codes "a" ∷ codes "." ∷ codes "search 1" ∷ codes "a" ∷ codes "." ∷ []
 

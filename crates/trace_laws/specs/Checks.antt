@@ -1,4 +1,4 @@
--- The tests of a checker: what it looks at, reply by reply and entry by entry, where a record is right.
+-- The tests of a checker, reply by reply and entry by entry, which decide whether a record is right.
 use Rattle.std.specs.Prelude.{ℕ, ◌+◌, ◌-◌, ◌≡◌, ◌≤◌, Bool, true, false, ◌&&◌, nat_lt, nat_le, List, [], ◌∷◌, ◌++◌, length, map, take, drop, zip, slice_get, Some}
 use Rattle.std.specs.List.{AllByRecursion}
 use Rattle.record_model.specs.Rules.{Rules}
@@ -18,7 +18,8 @@ abbrev pub is_behind : Bool → ℕ → ℕ → Bool
 is_behind true low at = nat_lt low at
 is_behind false low at = nat_le low at
 
--- whether the positions never fall, from one bound to another, and an own entry's is greater than each before it
+-- whether the positions never fall, from the lower bound to the upper one, and the position of an own entry is greater
+-- than each before it
 abbrev pub rises : ℕ → List Moment → ℕ → Bool
 rises low [] high = nat_le low high
 rises low (moment ∷ moments) high = is_behind moment.own low moment.at && rises moment.at moments high
@@ -28,20 +29,20 @@ PositionsDecide = (low : ℕ) (moments : List Moment) (high : ℕ) → (rises lo
 
 -- ---- a batch
 
--- the commands with their replies, in script order
+-- the commands with their replies, in the order of the script
 abbrev pub dones : List Command → List Answered → List Done
 dones commands answers = map (λ pair. done_with pair.0 pair.1.reply) (zip commands answers)
 
--- the reply is the one that is made again where it says that it was made
+-- the reply is the one that is made again at the positions that it shows
 abbrev pub IsMadeAgain : Rules → List Entry → Done → Type 0
 IsMadeAgain rules journal d = d.reply ≡ reply_by rules journal d.command (hint_of d.reply)
 
--- each of these entries stands in the journal at its position
+-- each of these entries is in the journal, at its position
 abbrev pub AreEntered : List Entry → List (ℕ × Entry) → Type 0
 AreEntered journal entries = AllByRecursion (λ e. slice_get journal (e.0 - 1) ≡ Some e.1) entries
 
--- Each reply is made again, each accepted update has its entry, there are as many of these as entries, and the positions rise along
--- each lane. Nothing is said of one lane's entries.
+-- Each reply is the same when it is made again, each accepted update has its entry, there are as many of these as
+-- entries, and the positions rise along each lane. The entries of single lanes are not mentioned.
 pub record IsBatchChecked (rules : Rules) (lanes : ℕ) (journal : List Entry) (from to : ℕ) (commands : List Command) (answers : List Answered) : Type 0 where
   pub answered : map (λ a. a.who) answers ≡ map who_of commands
   pub again : AllByRecursion (IsMadeAgain rules journal) (dones commands answers)
@@ -64,7 +65,7 @@ pub record IsRecordChecked (rules : Rules) (lanes : ℕ) (merge : Bool) (batches
   pub callers : AllByRecursion (λ e. e.who.caller ≤ lanes) made.journal
   pub each : AreBatchesChecked rules lanes merge 1 made.journal 0 batches made.syncs made.answers
 
--- A record is right exactly where it passes the tests.
+-- A record is right exactly if it passes the tests.
 abbrev pub ChecksDecide : Type 0
 ChecksDecide = (rules : Rules) (lanes : ℕ) (merge : Bool) (batches : List Batch) (made : RunRecord) → AllByRecursion (IsOfLanes lanes) batches
     → (IsRecordChecked rules lanes merge batches made → IsRecordRight rules lanes merge batches made) × (IsRecordRight rules lanes merge batches made → IsRecordChecked rules lanes merge batches made)

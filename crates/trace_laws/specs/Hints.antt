@@ -1,4 +1,4 @@
--- What the text of a reply tells of where it was made, and the reply that is made again there.
+-- What the text of a reply shows of where it was made, and the reply that is made again there.
 use Rattle.std.specs.Prelude.{List}
 use Rattle.record_model.specs.Rules.{Rules}
 use Rattle.lake_model.specs.Journal.{Entry}
@@ -7,12 +7,12 @@ use Rattle.record_model.specs.Replies.{Reply, NoMemory}
 use Rattle.record_model.specs.Answered.{Standing, standing}
 use Rattle.record_model.specs.Right.{answer_by}
 
--- memory was wanting, or the reply stands there
+-- memory ran out, or the reply was made at these positions
 pub data Hint : Type 0 where
   Wanting : Hint
   Stands : (standing : Standing) → Hint
 
--- all that the checker has to know of a reply before it makes it again
+-- all that the checker has to know of a reply before making it again
 abbrev pub hint_of : Reply → Hint
 hint_of NoMemory = Wanting
 hint_of reply = Stands (standing reply)

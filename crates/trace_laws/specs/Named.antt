@@ -1,4 +1,4 @@
--- Records whose names have no space and no line feed, as every name of a table has none.
+-- Records whose names have no space and no line feed, like every name of a table.
 use Rattle.std.specs.Prelude.{⊤}
 use Rattle.std.specs.List.{AllByRecursion}
 use Rattle.lake_model.specs.Journal.{What, Loaded, Dropped, Replaced, Swapped}

@@ -1,4 +1,4 @@
--- What the lines of an answer tell of where it was made.
+-- What the lines of an answer show of where it was made.
 use Rattle.std.specs.Prelude.{ℕ, min, ◌-◌, ◌^◌, ◌<◌, ◌≡◌, ◌==◌, Bool, true, false, ◌&&◌, ◌||◌, not, if◌then◌else◌, List, [], ◌∷◌, length, get_or, bytes_eq, codes, Option, Some, None, ⊤}
 use Rattle.std.specs.List.{slice_split, list_all}
 use Rattle.lake_model.specs.Texts.{Text, lines_of}
@@ -7,7 +7,7 @@ use Rattle.record_model.specs.Replies.{Reply, Loaded, Dropped, Replaced, Listed,
 use Rattle.record_model.specs.Answered.{Standing, Nowhere, Saw, Added, PlannedAndSaw, PlannedAndAdded}
 use Rattle.trace_laws.specs.Hints.{Hint, Wanting, Stands}
 
--- the words of a line, cut at each space
+-- the texts between the spaces of a line
 abbrev pub cut : Text → List Text
 cut line = slice_split is_space line
 
@@ -17,15 +17,15 @@ word_at words i = get_or words i []
 abbrev pub is_word : Text → Text → Bool
 is_word word literal = bytes_eq word literal
 
--- the value of a word's digits, as far as 64 bits go; of a word that is no number this is some number
+-- the value of a word's digits, up to the limit of 64 bits; a word that is not a number gives some number
 abbrev pub read_number : Text → ℕ
 read_number word = min (digits_value word) (2 ^ 64 - 1)
 
--- the number behind the word `at` that stands last but one
+-- the number after the word `at`, if that is the last word but one
 abbrev pub at_of : List Text → Option ℕ
 at_of words = if is_word (word_at words (length words - 2)) (codes "at") then Some (read_number (word_at words (length words - 1))) else None
 
--- `  layout at P ..`
+-- the position P in a line `  layout at P ..`
 abbrev pub layout_at : List Text → ℕ
 layout_at words = read_number (word_at words 4)
 
@@ -43,11 +43,11 @@ placed_by words next (Some at) = Stands (standing_by (word_at words 1) (word_at 
 abbrev pub hint_by : List Text → List Text → Hint
 hint_by words next = if is_word (word_at words 1) (codes "no") then Wanting else placed_by words next (at_of words)
 
--- what an answer's first line, and the line behind it, tell
+-- the hint that an answer's first line and the line after it give
 abbrev pub hint_read : List Text → Hint
 hint_read lines = hint_by (cut (get_or lines 0 [])) (cut (get_or lines 1 []))
 
--- ---- what can be read again
+-- ---- what can be read back
 
 -- neither a space nor a line feed
 abbrev pub is_clean : Text → Bool
@@ -59,7 +59,7 @@ IsName name = is_clean name ≡ true
 abbrev pub IsSmall : ℕ → Type 0
 IsSmall n = n < 2 ^ 64
 
--- the names of the first line are clean, and the positions are not too large to be read again
+-- the names of the first line are clean, and the positions are not too large to be read back
 abbrev pub IsReadable : Reply → Type 0
 IsReadable (Loaded name columns members at) = IsName name × IsSmall at
 IsReadable (Dropped name at) = IsName name × IsSmall at
@@ -83,7 +83,7 @@ IsReadable reply = ⊤
 abbrev pub is_first : Text → Bool
 is_first line = not (get_or line 0 0 == 0x20)
 
--- the lines up to the first that begins an answer, and the lines of each answer from there on
+-- the lines before the first that begins an answer, and the lines of each answer from there on
 pub record Groups : Type 0 where
   pub opening : List Text
   pub groups : List (List Text)
@@ -105,6 +105,6 @@ abbrev pub is_nothing : {X : Type 0} → List X → Bool
 is_nothing [] = true
 is_nothing (x ∷ xs) = false
 
--- no line stands in front of the first answer, and none behind the last line feed
+-- there is no line before the first answer, and no byte after the last line feed
 abbrev pub is_cut : Text → Bool
 is_cut trace = is_nothing (lines_of trace).rest && is_nothing (grouped (lines_of trace).ended).opening

@@ -1,4 +1,4 @@
--- The record that the commands of a script and the hints of a text make.
+-- The record that the commands of a script and the hints of a text determine.
 use Rattle.std.specs.Prelude.{ℕ, zero, suc, ◌+◌, ◌==◌, ◌≡◌, Bool, false, List, [], ◌∷◌, ◌++◌, length, map, take, drop, find, Option, Some, None}
 use Rattle.std.specs.List.{AllByRecursion}
 use Rattle.record_model.specs.Rules.{Rules}
@@ -13,7 +13,7 @@ use Rattle.record_model.specs.Right.{pinned_by, IsRecordRight}
 use Rattle.trace_laws.specs.Hints.{Hint, Wanting, Stands, hint_of, reply_by}
 use Rattle.trace_laws.specs.Checks.{dones}
 
--- a command, and what its answer's text tells
+-- a command, and the hint of its answer
 pub record Hinted : Type 0 where
   pub command : Command
   pub hint : Hint
@@ -21,7 +21,7 @@ pub record Hinted : Type 0 where
 abbrev pub hinted_with : Command → Hint → Hinted
 hinted_with command hint = record { command = command; hint = hint }
 
--- whether the answer is that of the update that made the entry at a position
+-- whether the answer is that of the update that made the entry at the position
 abbrev pub stands_at : ℕ → Standing → Bool
 stands_at n Nowhere = false
 stands_at n (Saw at) = false
@@ -37,7 +37,7 @@ abbrev pub pinned_of : Hint → ℕ
 pinned_of Wanting = 0
 pinned_of (Stands s) = pinned_by s
 
--- what the update of a position puts behind a journal
+-- the entry that the update with the next position adds to a journal
 abbrev pub put_by : Rules → List Entry → Option Hinted → List Entry
 put_by rules journal None = []
 put_by rules journal (Some h) = map (entry_with (who_of h.command)) (change_of rules h.command.task (take (pinned_of h.hint) journal))
@@ -60,7 +60,7 @@ hinted_of done = map (λ d. hinted_with d.command (hint_of d.reply)) done
 abbrev pub answer_again : Rules → List Entry → Hinted → Answered
 answer_again rules journal h = answered_with (who_of h.command) (reply_by rules journal h.command h.hint)
 
--- A right record is the one that its commands and the hints of its answers make.
+-- A right record is the one that its commands and the hints of its answers determine.
 abbrev pub HintsTell : Type 0
 HintsTell = (rules : Rules) (lanes : ℕ) (merge : Bool) (batches : List Batch) (made : RunRecord) → AllByRecursion (IsOfLanes lanes) batches → IsRecordRight rules lanes merge batches made
     → let hinted = hinted_of (all_dones merge 1 batches made.answers) in (rebuilt rules hinted (length made.journal) ≡ made.journal) × (map (answer_again rules made.journal) hinted ≡ made.answers)

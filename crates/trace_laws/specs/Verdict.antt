@@ -1,4 +1,4 @@
--- The verdict on a trace: whether a right record has it for its text. There is one record to look at.
+-- The verdict on a trace: whether it is the text of a right record. Only one record has to be considered.
 use Rattle.std.specs.Prelude.{ℕ, ◌+◌, ◌^◌, ◌<◌, ◌≡◌, Bool, true, List, [], ◌∷◌, ◌++◌, length, map, take, drop, zip}
 use Rattle.std.specs.List.{AllByRecursion}
 use Rattle.record_model.specs.Rules.{Rules}
@@ -24,9 +24,9 @@ pub record IsTraceOf (rules : Rules) (options : Options) (batches : List Batch) 
   pub ended : made.ended ≡ true
   pub is : text made ≡ trace
 
--- ---- the record that the hints of a trace make
+-- ---- the record that the hints of a trace determine
 
--- the commands of a run, the merger's last in each batch
+-- the commands of a run, in each batch the merger's last
 abbrev pub all_commands : Bool → ℕ → List Batch → List Command
 all_commands merge next [] = []
 all_commands merge next (batch ∷ batches) = (batch ++ merger_commands merge next batch) ++ all_commands merge (next + updates batch) batches
@@ -42,12 +42,12 @@ puts_one (Stands (Added at)) = 1
 puts_one (Stands (PlannedAndSaw pinned at)) = 0
 puts_one (Stands (PlannedAndAdded pinned at)) = 1
 
--- how many are accepted
+-- the number of accepted updates
 abbrev pub counted : List Hinted → ℕ
 counted [] = 0
 counted (h ∷ hinted) = puts_one h.hint + counted hinted
 
--- the length of the journal behind each batch: how many updates were accepted up to there
+-- the length of the journal after each batch, which is the number of updates accepted so far
 abbrev pub syncs_from : Bool → ℕ → ℕ → List Batch → List Hint → List ℕ
 syncs_from merge next from [] hints = []
 syncs_from merge next from (batch ∷ batches) hints =
@@ -61,20 +61,21 @@ remade_of rules options batches hints =
     let journal = rebuilt rules hinted (counted hinted) in
     record { options = options; journal = journal; answers = map (answer_again rules journal) hinted; syncs = syncs_from options.merge 1 0 batches hints; ended = true }
 
--- the hints of the first answers of a trace, one for each command
+-- the hints of the first answers of a trace, at most one for each command
 abbrev pub hints_of : List Batch → Bool → Text → List Hint
 hints_of batches merge trace = take (length (all_commands merge 1 batches)) (map hint_read (groups_of trace))
 
 abbrev pub remade : Rules → Options → List Batch → Text → RunRecord
 remade rules options batches trace = remade_of rules options batches (hints_of batches options.merge trace)
 
--- Whichever right record has the trace for its text, it is the one that the hints of the trace make.
+-- Any right record that has the trace as its text is the one that the hints of the trace determine.
 abbrev pub OneRecord : Type 0
 OneRecord = (rules : Rules) (options : Options) (batches : List Batch) (trace : Text) (made : RunRecord) → AllByRecursion (IsOfLanes options.lanes) batches
     → options.trace ≡ true → length (all_commands options.merge 1 batches) < 2 ^ 64 → IsRecordNamed made
     → IsTraceOf rules options batches trace made → made ≡ remade rules options batches trace
 
--- The verdict is that of the record that the hints of the trace make: where any right record has the trace for its text, this one does.
+-- The verdict can be taken from the record that the hints of the trace determine: if any right record has the trace as
+-- its text, this one does.
 abbrev pub HintsDecide : Type 0
 HintsDecide = (rules : Rules) (options : Options) (batches : List Batch) (trace : Text) (made : RunRecord) → AllByRecursion (IsOfLanes options.lanes) batches → AllByRecursion IsBatchNamed batches
     → options.trace ≡ true → length (all_commands options.merge 1 batches) < 2 ^ 64

@@ -1,4 +1,4 @@
--- Where entries stand: at one position each, and each position filled.
+-- The positions of entries: no two at one position, and each position filled.
 use Rattle.std.proofs.Common.{◌≡◌, refl, ap, sym, ◌∙◌, subst, ℕ, zero, suc, ◌<◌, List, [], ◌∷◌, map, length, get_or, Bool, true, false, not, cond, Option, Some, None, arith}
 use Rattle.std.specs.Prelude.{◌==◌, ◌||◌, find, is_some, nat_lt, slice_get}
 use Rattle.std.specs.List.{list_any}
@@ -53,7 +53,7 @@ apart_nowhere (Stands (Added p)) hinted e = cc
 apart_nowhere (Stands (PlannedAndSaw q p)) hinted e = refl
 apart_nowhere (Stands (PlannedAndAdded q p)) hinted e = cc
 
--- ---- the index of the one that stands at a position
+-- ---- the index of the answer at a position
 
 pub any_index : (n : ℕ) (hinted : List Hinted) → list_any (λ (h : Hinted). is_at n h.hint) hinted ≡ true → (i : ℕ) × (i < length (told hinted)) × (is_at n (get_or (told hinted) i Wanting) ≡ true)
 any_index n [] h = cc

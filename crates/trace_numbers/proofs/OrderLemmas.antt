@@ -13,7 +13,7 @@ use Rattle.trace_numbers.specs.declared.order.Turn.{Turn}
 use Rattle.trace_numbers.specs.Positions.{own_of}
 use Rattle.trace_numbers.specs.Turns.{IsInTurn, IsPlannedInTurn, made_at, plan_of, planned_at, plans_from, turn_with, turns_from}
 
--- ---- one answer more
+-- ---- one more answer
 
 front_more : (hints : List Declared) (i : ℕ) (d : Declared) → i < length hints → map hint_as (take (i + 1) hints) ≡ map hint_as (take i hints) ++ hint_as (get_or hints i d) ∷ []
 front_more hints i d low = ap (map hint_as) (take_more hints i d low) ∙ map-append hint_as (take i hints) (get_or hints i d ∷ [])

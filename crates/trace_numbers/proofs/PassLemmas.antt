@@ -53,14 +53,14 @@ zip_lanes lanes [] hints h = tt
 zip_lanes lanes (c ∷ commands) [] h = tt
 zip_lanes lanes (c ∷ commands) (x ∷ hints) h = (h.0, zip_lanes lanes commands hints h.1)
 
--- ---- one answer more
+-- ---- one more answer
 
 lows_append : (o : Option (List ℕ)) (before after : List Hinted) → lows_on o (before ++ after) ≡ lows_on (lows_on o before) after
 lows_append None before after = refl
 lows_append (Some lows) [] after = refl
 lows_append (Some lows) (h ∷ before) after = lows_append (with_low lows h.command.lane (climbed (get_or lows h.command.lane 0) (moments_of h.hint))) before after
 
--- the pass over what is left from an index on
+-- the pass over the rest from an index on
 abbrev pub pass_from : List ℕ → List Command → List Declared → ℕ → Option (List ℕ)
 pass_from lows commands hints n = lows_on (Some lows) (hinted_zip (drop n commands) (map hint_as (drop n hints)))
 
@@ -88,7 +88,7 @@ pass_rises lows after commands hints n m c h next low few command hint rises =
     ap (pass_from after commands hints) e
     ∙ sym (step_from lows commands hints n c h low few command hint ∙ ap (λ (o : Option (List ℕ)). lows_on o (hinted_zip (drop (suc n) commands) (map hint_as (drop (suc n) hints)))) rises)
 
--- a merge more, whose lane is 0
+-- one more merge, whose lane is 0
 pub merge_falls : (lows : List ℕ) (merges : List Command) (hints : List Declared) (n : ℕ) (d : Declared) → AllByRecursion (λ (c : Command). c.lane ≡ 0) merges → length hints ≡ length merges → n < length hints
     → climbs lows 0 (get_or hints n d) ≡ None → pass_from lows merges hints n ≡ None
 merge_falls lows merges hints n d lanes size few falls =
@@ -117,7 +117,7 @@ pass_parts lows commands merges hints enough =
     ∙ ap (lows_on (Some lows)) (zip_parts commands merges (map hint_as (take n hints)) (map hint_as (drop n hints)) size)
     ∙ lows_append (Some lows) (hinted_zip commands (map hint_as (take n hints))) (hinted_zip merges (map hint_as (drop n hints)))
 
--- the same from the lows of the sync on, as the code has its parts
+-- the same from the last positions at the sync on, for the parts that the code has
 pub batch_pass : (size from sync : ℕ) (start : List ℕ) (batch commands merges : List Command) (hints given rest : List Declared) → start ≡ replicate size from → commands ≡ batch → length batch ≤ length hints
     → given ≡ take (length commands) hints → rest ≡ drop (length commands) hints
     → all_below sync (lows_on (Some (replicate size from)) (hinted_zip (batch ++ merges) (map hint_as hints)))
@@ -204,7 +204,7 @@ batch_more lanes merge next from sync batch batches now behind rise of size sync
     ∙ ap (λ (b : Bool). (length rest == length later) && b) rising
     ∙ swapped (length rest == length later) rise (batches_rise lanes merge (next + updates batch) sync batches rest)
 
--- ---- what is left, as the code has it
+-- ---- the rest, as the code has it
 
 drop_here : {X : Type 0} (xs : List X) (i : ℕ) (x : X) → i < length xs → x ≡ get_or xs i x → drop i xs ≡ x ∷ drop (i + 1) xs
 drop_here xs i x low is = let e : i + 1 ≡ suc i = omega arith in drop-cons xs i x low ∙ ap (λ y. y ∷ drop (suc i) xs) (sym is) ∙ ap (λ n. x ∷ drop n xs) (sym e)

@@ -18,7 +18,7 @@ use Rattle.trace_numbers.specs.Slots.{ArePut, IsFree}
 use Rattle.trace_numbers.proofs.ApartLemmas.{any_index, apart_by, apart_same, at_own, counted_is, filled_at, filled_by, index_any, own_stands, told}
 use Rattle.trace_numbers.proofs.WithinLemmas.{filled_within}
 
--- ---- one step more
+-- ---- one more step
 
 pub put_none : (hints : List Hint) (n : ℕ) (owners : List ℕ) → ArePut hints n owners → own_of (get_or hints n Wanting) ≡ None → ArePut hints (n + 1) owners
 put_none hints n owners before none = record {
@@ -88,7 +88,7 @@ put_more hints n at owners before below own free = record {
         (omega (arith, positions, some), omega (arith, positions, within, long), ap (λ (m : ℕ). get_or (slice_set owners (at - 1) n) (m - 1) 0) positions ∙ here ∙ sym same)
     put i a low o false e = old i a (grind (arith, nat_tests, e, low)) o
 
--- ---- where one cannot be put
+-- ---- when an answer cannot be stored
 
 abbrev pub is_whole : List Hinted → Bool
 is_whole hinted = are_apart hinted && is_filled hinted (counted hinted)
@@ -136,7 +136,7 @@ low_all (x ∷ owners) n h =
     let first : x < n = h 0 (omega arith) in
     joined (nat_lt x n) (list_all (λ owner. nat_lt owner n) owners) (grind (arith, nat_tests, first)) (low_all owners n (λ p low. h (suc p) (omega (arith, low))))
 
--- a hint that stands somewhere is one of them
+-- the index of a hint with a position of its own is below the number of hints
 stands_below : (hints : List Hint) (p i : ℕ) → is_at p (get_or hints i Wanting) ≡ true → i < length hints
 stands_below [] p i h = cc
 stands_below (x ∷ hints) p zero h = omega arith
@@ -175,7 +175,7 @@ put_whole hinted owners all long taken =
     filled : (l : ℕ) → is_at (l + 1) (get_or (told hinted) (get_or owners l 0) Wanting) ≡ true → list_any (λ (h : Hinted). is_at (suc l) h.hint) hinted ≡ true
     filled l h = let same : l + 1 ≡ suc l = omega arith in index_any (suc l) (get_or owners l 0) hinted (subst (λ (m : ℕ). is_at m (get_or (told hinted) (get_or owners l 0) Wanting) ≡ true) same h)
 
--- a position that nobody has is not filled
+-- a position without an owner is not filled
 pub hole_whole : (hinted : List Hinted) (owners : List ℕ) → ArePut (told hinted) (length (told hinted)) owners → length owners ≡ accepted_of (told hinted) → list_all (λ owner. nat_lt owner (length (told hinted))) owners ≡ false → is_whole hinted ≡ false
 hole_whole hinted owners all long hole = by (is_whole hinted) refl
   where
@@ -194,7 +194,7 @@ hole_whole hinted owners all long hole = by (is_whole hinted) refl
         absurd (not_both ⊥ (list_all (λ owner. nat_lt owner (length (told hinted))) owners) (low_all owners (length (told hinted)) (low parts.1)) hole)
     by false e = e
 
--- ---- the answers as the code has them
+-- ---- the answers in the code
 
 pub whole_of : (hints : List Hint) (owners : List ℕ) → ArePut hints (length hints) owners → length owners ≡ accepted_of hints → (b : Bool) → list_all (λ owner. nat_lt owner (length hints)) owners ≡ b → (hinted : List Hinted) → told hinted ≡ hints → b ≡ is_whole hinted
 whole_of hints owners all long b taken hinted e =
@@ -229,7 +229,7 @@ more_here hints n at d o owners after before below own some put =
     subst (ArePut (map hint_as hints) (n + 1)) (sym put.1)
     (put_more (map hint_as hints) n at owners before (let size = length-map hints hint_as in omega (arith, size, below)) (own_here hints n d o below own ∙ some) (free_here hints owners at put.0))
 
--- what a vector holds again that was lent
+-- what a vector holds again after a loan
 pub lent_back : (xs items : List ℕ) (n : ℕ) → length xs ≡ n → take n (xs ++ drop (length xs) items) ≡ xs
 lent_back xs items n e = ap (λ (m : ℕ). take m (xs ++ drop (length xs) items)) (sym e) ∙ take-append_seam xs (drop (length xs) items)
 

@@ -1,4 +1,4 @@
--- Where as many positions are filled as answers are accepted, each of these answers stands at one of the positions.
+-- If as many positions are filled as answers are accepted, each of these answers is at one of the positions.
 use Rattle.std.proofs.Common.{◌≡◌, refl, ap, ℕ, zero, suc, ◌+◌, ◌<◌, ◌≤◌, List, [], ◌∷◌, get_or, Bool, true, false, Some, arith}
 use Rattle.std.specs.Prelude.{◌==◌, ◌||◌, nat_le}
 use Rattle.std.specs.List.{list_any}
@@ -13,7 +13,7 @@ use Rattle.trace_laws.proofs.TotalLemmas.{none_above, once, one_lane, total, tot
 use Rattle.trace_numbers.specs.Positions.{own_of}
 use Rattle.trace_numbers.proofs.ApartLemmas.{filled_at, own_at, told}
 
--- ---- how often a hint stands at positions 1 to n + 1
+-- ---- how often a hint is at positions 1 to n + 1
 
 abbrev inside : ℕ → Hint → ℕ
 inside n hint = total (λ l. once 1 (is_at (suc l) hint)) n
@@ -78,7 +78,7 @@ own_within n at hint own le =
     let same : inside n hint ≡ total (λ l. once 1 (at == suc l)) n = total_same (λ l. once 1 (is_at (suc l) hint)) (λ l. once 1 (at == suc l)) n (λ l. ap (once 1) (own_at hint at (suc l) own)) in
     inside_within at n (omega (arith, same, le, one_put hint at own))
 
--- where no fewer are counted than are accepted, each stands at one of the positions
+-- if no fewer are counted than are accepted, each is at one of the positions
 all_within : (n : ℕ) (hinted : List Hinted) (i at : ℕ) → counted hinted ≤ all_inside n hinted → own_of (get_or (told hinted) i Wanting) ≡ Some at → (0 < at) × (at ≤ suc n)
 all_within n [] i at many own = cc
 all_within n (h ∷ hinted) zero at many own = own_within n at h.hint own (omega (arith, many, all_few n hinted))
@@ -117,7 +117,7 @@ one_counts [] i at own none = cc
 one_counts (h ∷ hinted) zero at own none = let sum : puts_one h.hint + counted hinted ≡ 0 = none in let one = one_put h.hint at own in omega (arith, sum, one)
 one_counts (h ∷ hinted) (suc i) at own none = let sum : puts_one h.hint + counted hinted ≡ 0 = none in one_counts hinted i at own (omega (arith, sum))
 
--- ---- each accepted answer stands at a position
+-- ---- each accepted answer is at a position
 
 pub filled_within : (hinted : List Hinted) (i at : ℕ) → is_filled hinted (counted hinted) ≡ true → own_of (get_or (told hinted) i Wanting) ≡ Some at → (0 < at) × (at ≤ counted hinted)
 filled_within hinted i at filled own = by (counted hinted) refl

@@ -1,4 +1,4 @@
--- The tests on the positions that hints tell, and which command made the entry at each position.
+-- The tests on the positions in hints, and which command made the entry at each position.
 use Rattle.std.specs.Prelude.{ℕ, ◌+◌, ◌==◌, ◌<◌, ◌≡◌, Bool, true, ◌&&◌, List, length, map, count_by, find, get_or, slice_get, Option, Some, None, is_some}
 use Rattle.std.specs.List.{list_all}
 use Rattle.record_model.specs.Rules.{Rules}
@@ -11,7 +11,7 @@ use Rattle.trace_laws.specs.Rebuilt.{Hinted, is_at, rebuilt}
 use Rattle.trace_laws.specs.Verdict.{all_commands, hinted_zip, counted}
 use Rattle.trace_laws.specs.Passing.{are_apart, batches_rise, is_filled, passes, tells}
 
--- the position of the answer's own entry, where it was accepted
+-- the position of the answer's own entry, if it was accepted
 abbrev pub own_of : Hint → Option ℕ
 own_of Wanting = None
 own_of (Stands Nowhere) = None
@@ -20,11 +20,11 @@ own_of (Stands (Added at)) = Some at
 own_of (Stands (PlannedAndSaw pinned at)) = None
 own_of (Stands (PlannedAndAdded pinned at)) = Some at
 
--- how many are accepted
+-- the number of accepted updates
 abbrev pub accepted_of : List Hint → ℕ
 accepted_of hints = count_by (λ hint. is_some (own_of hint)) hints
 
--- as many hints as commands, and along each lane of each batch the positions rise from sync to sync
+-- there are as many hints as commands, and along each lane of each batch the positions rise from sync to sync
 abbrev pub rises_whole : ℕ → Bool → ℕ → ℕ → List Batch → List Hint → Bool
 rises_whole lanes merge next from batches hints = length hints == length (all_commands merge next batches) && batches_rise lanes merge next from batches hints
 
@@ -34,17 +34,18 @@ numbers_pass lanes merge batches hints =
     let hinted = hinted_zip (all_commands merge 1 batches) hints in
     length hints == length (all_commands merge 1 batches) && (are_apart hinted && (is_filled hinted (counted hinted) && batches_rise lanes merge 1 0 batches hints))
 
--- the answer of this index made the entry at this position, and no other did
+-- the answer with this index made the entry at this position, and no other answer did
 pub record IsOwner (hints : List Hint) (position index : ℕ) : Type 0 where
   pub stands : is_at position (get_or hints index Wanting) ≡ true
   pub only : (i : ℕ) → is_at position (get_or hints i Wanting) ≡ true → i ≡ index
 
--- for each position from 1 on the index of the answer that made the entry there, as many as are accepted
+-- for each position from 1 on the index of the answer that made the entry there; there are as many as accepted updates
 pub record AreOwners (hints : List Hint) (owners : List ℕ) : Type 0 where
   pub many : length owners ≡ accepted_of hints
   pub each : (p : ℕ) → p < length owners → IsOwner hints (p + 1) (get_or owners p 0)
 
--- What passes has passed the tests on numbers, and each reply made again tells its hint, and the rebuilt journal is legal.
+-- What passes has passed the tests on numbers, each reply that is made again has its hint, and the rebuilt journal is
+-- legal.
 abbrev pub PassesNumbers : Type 0
 PassesNumbers = (rules : Rules) (options : Options) (batches : List Batch) (hints : List Hint)
     → let hinted = hinted_zip (all_commands options.merge 1 batches) hints in
@@ -55,6 +56,6 @@ PassesNumbers = (rules : Rules) (options : Options) (batches : List Batch) (hint
 abbrev pub OwnerIsFound : Type 0
 OwnerIsFound = (hinted : List Hinted) (position index : ℕ) → IsOwner (map (λ h. h.hint) hinted) position index → find (λ h. is_at position h.hint) hinted ≡ slice_get hinted index
 
--- As many are accepted as hints say so.
+-- The accepted updates are counted by their hints.
 abbrev pub CountedIsAccepted : Type 0
 CountedIsAccepted = (hinted : List Hinted) → counted hinted ≡ accepted_of (map (λ h. h.hint) hinted)

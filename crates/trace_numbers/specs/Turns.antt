@@ -1,4 +1,4 @@
--- At which positions answers are made, and at which merges are planned.
+-- The positions at which answers are made, and those at which merges are planned.
 use Rattle.std.specs.Prelude.{ℕ, ◌+◌, ◌<◌, ◌≤◌, ◌≡◌, ◌⊎◌, Bool, true, false, List, [], ◌∷◌, ◌++◌, Option, Some, None, is_some}
 use Rattle.record_model.specs.Answered.{Nowhere, Saw, Added, PlannedAndSaw, PlannedAndAdded}
 use Rattle.record_model.specs.Right.{made_by}
@@ -13,12 +13,12 @@ turn_with at adds index = record { at = at; adds = adds; index = index }
 abbrev pub plan_with : ℕ → ℕ → Plan
 plan_with at index = record { at = at; index = index }
 
--- how long the journal is that the answer is made at; 0, where it has no position
+-- the length of the journal at which the answer is made, or 0 if it has no position
 abbrev pub made_at : Hint → ℕ
 made_at Wanting = 0
 made_at (Stands s) = made_by s
 
--- how long the journal is that a merge is planned at
+-- the length of the journal at which a merge is planned
 abbrev pub planned_at : Hint → Option ℕ
 planned_at Wanting = None
 planned_at (Stands Nowhere) = None
@@ -41,7 +41,7 @@ abbrev pub plans_from : ℕ → List Hint → List Plan
 plans_from i [] = []
 plans_from i (h ∷ hints) = plan_of i (planned_at h) ++ plans_from (i + 1) hints
 
--- an answer that only looks comes before one that adds an entry, and else the script says which is first
+-- an answer that only looks comes before one that adds an entry, and otherwise they are in the order of the script
 abbrev pub IsFirst : Turn → Turn → Type 0
 IsFirst a b = ((a.adds ≡ false) × (b.adds ≡ true)) ⊎ ((a.adds ≡ b.adds) × (a.index ≤ b.index))
 

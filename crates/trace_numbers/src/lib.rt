@@ -1,5 +1,5 @@
-//! The tests on the positions that the hints of a trace tell, by which most wrong traces are found out before any reply is made again,
-//! and the order in which the replies of the others are made.
+//! The tests on the positions in the hints of a trace, which find most wrong traces before any reply is made again, and
+//! the order in which the replies of the other traces are made again.
 #![tactic(auto)]
 
 ghost use Rattle.trace_numbers.specs.Positions.{CountedIsAccepted, OwnerIsFound, PassesNumbers};
@@ -16,8 +16,8 @@ pub use owners::Owners;
 #[cfg(test)]
 mod tests;
 
-/// What passes has passed the tests on numbers; the entry at a position is rebuilt from the command of its owner; and there are as many
-/// owners as entries.
+/// What passes has passed the tests on numbers; the entry at a position is rebuilt from the command of its owner; and
+/// there are as many owners as entries.
 pub fn numbers_law()
     ensures passes { PassesNumbers }
     ensures found { OwnerIsFound }

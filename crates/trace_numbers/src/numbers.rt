@@ -12,9 +12,12 @@ use no_memory::NoMemory;
 use std::alloc::Global;
 use trace_hints::Hint;
 
-/// Which command made the entry at each position, for hints in the order of the commands of these batches, each batch's merges last.
-/// `None` where the hints are of no right run: there are not as many as commands, two entries have one position or a position has none,
-/// or the positions along a lane do not rise from the sync before a batch to that behind it.
+/// Finds the command that made the entry at each position.
+///
+/// The hints are in the order of the commands of these batches, with each batch's merges last. The result is `None` if
+/// they are not the hints of a right run: their number is not that of the commands, two entries have one position or a
+/// position has no entry, or the positions along a lane do not rise from the sync before a batch to the one after it.
+/// Returns `Err(NoMemory)` if memory runs out.
 pub fn find_owners(
     alloc: Global,
     lanes: u32,

@@ -1,4 +1,4 @@
-//! The order in which answers are made again, and merges planned.
+//! The order in which answers are made again, and in which merges are planned.
 ghost use Rattle.std.specs.Prelude.{◌≡◌, IfOk, map, is_some, length};
 ghost use Rattle.std.specs.List.{AllAdjacentBelow};
 ghost use Rattle.std.specs.List.Sorted.{IsNonDecreasingBy, IsPermutation};
@@ -13,7 +13,7 @@ use trace_hints::Hint;
 /// An answer that is to be made again.
 #[derive(Clone, Copy, Debug, PartialEq, Eq, PartialOrd, Ord)]
 pub struct Turn {
-    /// How many entries the journal has that the answer is made at; 0 where the answer has no position.
+    /// The length of the journal at which the answer is made, or 0 if the answer has no position.
     pub at: u64,
     /// Whether the answer adds the next entry.
     pub adds: bool,
@@ -24,14 +24,15 @@ pub struct Turn {
 /// A merge that is to be planned.
 #[derive(Clone, Copy, Debug, PartialEq, Eq, PartialOrd, Ord)]
 pub struct Plan {
-    /// How many entries the journal has that the merge is planned at.
+    /// The length of the journal at which the merge is planned.
     pub at: u64,
     /// The index of its answer, counted from 0 in the order of the hints.
     pub index: usize,
 }
 
-/// All answers in the order in which they are to be made again: by position; at one position those that only look before the one that
-/// adds the next entry; and else in the order of the script.
+/// Returns all answers in the order in which they are to be made again: by position, at one position those that only
+/// look before the one that adds the next entry, and otherwise in the order of the script. Returns `Err(NoMemory)` if
+/// memory runs out.
 pub fn turns_of(alloc: Global, hints: &[Hint]) -> Result<Vec<Turn>, NoMemory>
     ensures all { IfOk result (λ turns. IsPermutation (turns_from 0 (map hint_as hints.now)) turns.items) }
     ensures sorted { IfOk result (λ turns. AllAdjacentBelow IsInTurn turns.items (length turns.items)) }
@@ -49,7 +50,8 @@ pub fn turns_of(alloc: Global, hints: &[Hint]) -> Result<Vec<Turn>, NoMemory>
     Ok(turns)
 }
 
-/// All planned merges in the order in which they are to be planned: by position, and at one position in the order of the script.
+/// Returns all planned merges in the order in which they are to be planned: by position, and at one position in the
+/// order of the script. Returns `Err(NoMemory)` if memory runs out.
 pub fn plans_of(alloc: Global, hints: &[Hint]) -> Result<Vec<Plan>, NoMemory>
     ensures all { IfOk result (λ plans. IsPermutation (plans_from 0 (map hint_as hints.now)) plans.items) }
     ensures sorted { IfOk result (λ plans. AllAdjacentBelow IsPlannedInTurn plans.items (length plans.items)) }
@@ -65,7 +67,7 @@ pub fn plans_of(alloc: Global, hints: &[Hint]) -> Result<Vec<Plan>, NoMemory>
     Ok(plans)
 }
 
-// Puts turns in order.
+// Sorts turns.
 fn sort_turns(turns: &mut Vec<Turn>)
     ensures all { IsPermutation turns.old.items turns.new.items }
     ensures sorted { AllAdjacentBelow IsInTurn turns.new.items (length turns.new.items) }
@@ -73,7 +75,7 @@ fn sort_turns(turns: &mut Vec<Turn>)
     turns.sort_unstable();
 }
 
-// Puts plans in order.
+// Sorts plans.
 fn sort_plans(plans: &mut Vec<Plan>)
     ensures all { IsPermutation plans.old.items plans.new.items }
     ensures sorted { AllAdjacentBelow IsPlannedInTurn plans.new.items (length plans.new.items) }
@@ -81,7 +83,7 @@ fn sort_plans(plans: &mut Vec<Plan>)
     plans.sort_unstable();
 }
 
-// How long the journal is that an answer is made at.
+// Returns the length of the journal at which an answer is made.
 fn made_at(hint: Hint) -> u64
     ensures { result ≡ made_at (hint_as hint) }
 {
@@ -92,14 +94,14 @@ fn made_at(hint: Hint) -> u64
     }
 }
 
-// Whether an answer adds an entry.
+// Returns whether an answer adds an entry.
 fn adds(hint: Hint) -> bool
     ensures { result ≡ is_some (own_of (hint_as hint)) }
 {
     matches!(hint, Hint::Added { .. } | Hint::PlannedAndAdded { .. })
 }
 
-/// How long the journal is that a merge is planned at; `None` for what was not planned.
+/// Returns the length of the journal at which a merge is planned, or `None` if nothing was planned.
 pub fn planned_at(hint: Hint) -> Option<u64>
     ensures { result ≡ planned_at (hint_as hint) }
 {

@@ -15,11 +15,12 @@ use trace_hints::Hint;
 /// The commands that made the entries of a journal.
 #[derive(Debug, Drop)]
 pub struct Owners {
-    /// At `p - 1`, the index, counted from 0 in the order of the hints, of the one command that made the entry at position `p`.
+    /// At `p - 1`, the index, counted from 0 in the order of the hints, of the one command that made the entry at
+    /// position `p`.
     pub indices: Vec<usize>,
 }
 
-// The owners of positions 1 to the number of accepted hints; `None` where a position has none or two.
+// Returns the owners of positions 1 to the number of accepted hints, or `None` if a position has no owner or two.
 pub(crate) fn owners_of(alloc: Global, hints: &[Hint]) -> Result<Option<Owners>, NoMemory>
     ensures tests { (hinted : List Hinted) → map (λ h. h.hint) hinted ≡ map hint_as hints.now
         → IfOk result (λ found. is_some found ≡ (are_apart hinted && is_filled hinted (counted hinted))) }
@@ -36,7 +37,7 @@ pub(crate) fn owners_of(alloc: Global, hints: &[Hint]) -> Result<Option<Owners>,
     Ok(Some(Owners { indices }))
 }
 
-/// How many of the hints are of accepted updates.
+/// Counts the hints of accepted updates.
 pub(crate) fn count_accepted(hints: &[Hint]) -> usize
     ensures value { result ≡ accepted_of (map hint_as hints.now) }
     ensures few { result ≤ length hints.now }
@@ -47,7 +48,8 @@ pub(crate) fn count_accepted(hints: &[Hint]) -> usize
         .count()
 }
 
-// Puts the index of each accepted hint at the position of its entry. It says whether none is put where there is no position, or another was.
+// Stores the index of each accepted hint at the position of its entry. Returns false at the first one whose position
+// does not exist or already has an owner.
 fn put_all(owners: &mut [usize], hints: &[Hint]) -> bool
     requires nobody { owners.old ≡ replicate (accepted_of (map hint_as hints.now)) (length hints.now) }
     ensures put { result ≡ true → ArePut (map hint_as hints.now) (length hints.now) owners.new }
@@ -63,7 +65,7 @@ fn put_all(owners: &mut [usize], hints: &[Hint]) -> bool
     true
 }
 
-// Puts an index at a position that has no owner. It says whether there is the position, and nobody's.
+// Stores an index at a position. Returns false if the position does not exist or already has an owner.
 fn put_one(owners: &mut [usize], at: u64, index: usize, nobody: usize) -> bool
     ensures put { result ≡ true → IsFree owners.old at nobody × (owners.new ≡ slice_set owners.old (at - 1) index) }
     ensures refused { result ≡ false → IsFree owners.old at nobody → ⊥ }
@@ -75,14 +77,14 @@ fn put_one(owners: &mut [usize], at: u64, index: usize, nobody: usize) -> bool
     true
 }
 
-// Whether each position has an owner.
+// Returns whether each position has an owner.
 fn are_taken(owners: &[usize], nobody: usize) -> bool
     ensures { result ≡ list_all (λ owner. nat_lt owner nobody) owners.now }
 {
     owners.iter().all(|owner| *owner < nobody)
 }
 
-// The position of the answer's own entry.
+// Returns the position of the answer's own entry.
 fn own_position(hint: Hint) -> Option<u64>
     ensures { result ≡ own_of (hint_as hint) }
 {

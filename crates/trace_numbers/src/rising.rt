@@ -1,4 +1,4 @@
-//! Whether the positions rise along each lane, batch by batch.
+//! The test whether the positions rise along each lane, batch by batch.
 ghost use Rattle.std.specs.Prelude.{◌≡◌, ◌<◌, ◌≤◌, ◌+◌, ◌++◌, List, ℕ, None, Some, IfNone, IfOk, IfSome, false, length, map, nat_le, replicate, true};
 ghost use Rattle.std.specs.List.{AllByRecursion, list_all};
 ghost use Rattle.script_model.specs.Commands.{Command as CommandOf};
@@ -15,7 +15,8 @@ use no_memory::NoMemory;
 use std::alloc::Global;
 use trace_hints::{Hint, one_more};
 
-// Whether there are as many hints as commands, and along each lane the positions rise from the sync before each batch to that behind it.
+// Returns whether there are as many hints as commands, and along each lane the positions rise from the sync before each
+// batch to the one after it.
 pub(crate) fn positions_rise(
     alloc: Global,
     lanes: u32,
@@ -43,7 +44,8 @@ pub(crate) fn positions_rise(
     Ok(rest.is_empty())
 }
 
-// The hints of the commands of a batch and of the merges beside them, and the hints behind these. `None` where there are too few.
+// Splits the hints into those of the commands of a batch and of the merges beside them, and the rest. Returns `None` if
+// there are too few.
 fn split_hints<'a>(
     batch: &Batch,
     merge: bool,
@@ -62,14 +64,15 @@ fn split_hints<'a>(
     Some(hints.split_at(given + merges))
 }
 
-// How many merges the merger makes beside a batch, if there is a merger.
+// Counts the merges that the merger makes beside a batch, which are none if there is no merger.
 fn count_merges(batch: &Batch, merge: bool) -> usize
     ensures { (next : ℕ) → length (merger_commands merge next batch.now) ≡ result }
 {
     if merge { batch.updates() as usize } else { 0 }
 }
 
-// Whether along each lane the positions of a batch rise from one sync to the next. What is left in the lows is of no use.
+// Returns whether along each lane the positions of a batch rise from one sync to the next. The values left in `lows`
+// mean nothing.
 fn batch_rises(lows: &mut [u64], from: u64, sync: u64, batch: &Batch, hints: &[Hint]) -> bool
     requires lanes { AllByRecursion (λ command. command.lane < length lows.old) batch.now }
     requires merger { 0 < length lows.old }
@@ -89,7 +92,7 @@ fn batch_rises(lows: &mut [u64], from: u64, sync: u64, batch: &Batch, hints: &[H
     are_within(lows, sync)
 }
 
-// Whether the positions of these commands rise along each lane, on from its last one, which moves along.
+// Returns whether the positions of these commands rise along each lane from its last position on, which is updated.
 fn given_rise(lows: &mut [u64], commands: &[Command], hints: &[Hint]) -> bool
     requires lanes { AllByRecursion (λ command. command.lane < length lows.old) commands.now }
     requires hints { length hints.now ≡ length commands.now }
@@ -104,7 +107,7 @@ fn given_rise(lows: &mut [u64], commands: &[Command], hints: &[Hint]) -> bool
     true
 }
 
-// The same of the merger's merges, whose lane is 0.
+// Returns the same for the merger's merges, whose lane is 0.
 fn merges_rise(lows: &mut [u64], hints: &[Hint]) -> bool
     requires { 0 < length lows.old }
     ensures rises { result ≡ true → (merges : List CommandOf) → AllByRecursion (λ command. command.lane ≡ 0) merges → length hints.now ≡ length merges
@@ -120,7 +123,7 @@ fn merges_rise(lows: &mut [u64], hints: &[Hint]) -> bool
     true
 }
 
-// Whether no lane's last position is behind the sync.
+// Returns whether no lane's last position is greater than the sync.
 fn are_within(lows: &[u64], sync: u64) -> bool
     ensures { result ≡ list_all (λ low. nat_le low sync) lows.now }
 {

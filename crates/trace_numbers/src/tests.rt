@@ -1,4 +1,4 @@
-//! The positions of small runs, right and wrong, counted by hand; and the order of their answers.
+//! Tests with the positions of small runs, right and wrong, counted by hand, and with the order of their answers.
 ghost use Rattle.std.specs.Prelude.{IfOk};
 ghost use Rattle.script_model.specs.Lanes.{IsOfLanes};
 
@@ -10,7 +10,7 @@ use std::process::Abort;
 use std::test::Fail;
 use trace_hints::Hint;
 
-// A batch in which each of these lanes, which are 1 and 2, drops a table.
+// Makes a batch in which each of these lanes, which are 1 and 2, drops a table.
 fn drops(alloc: Global, lanes: &[u32]) -> Result<Batch, Fail>
     ensures { IfOk result (IsOfLanes 2) }
 {
@@ -26,7 +26,8 @@ fn drops(alloc: Global, lanes: &[u32]) -> Result<Batch, Fail>
     Ok(Batch::new(commands))
 }
 
-// For drops in these lanes, batch by batch, the hints tell that these made the entries; or that they are of no right run.
+// Checks which commands made the entries, for drops in these lanes, batch by batch, with these hints, or that the hints
+// are not those of a right run.
 fn tells(
     rt: &(impl Abort + AllocGlobal),
     merge: bool,
@@ -50,17 +51,17 @@ fn tells(
 
 const NOWHERE: Hint = Hint::Nowhere;
 
-// An answer that was made at a position.
+// Makes the hint of an answer that was made at a position.
 const fn saw(at: u64) -> Hint {
     Hint::Saw { at }
 }
 
-// An answer whose entry has a position.
+// Makes the hint of an answer whose entry has a position.
 const fn added(at: u64) -> Hint {
     Hint::Added { at }
 }
 
-// A merge whose entry has a position.
+// Makes the hint of a merge whose entry has a position.
 const fn merged(pinned: u64, at: u64) -> Hint {
     Hint::PlannedAndAdded { pinned, at }
 }
@@ -104,7 +105,7 @@ fn positions_along_lanes(rt: HostRuntime) -> Result<(), Fail> {
     tells(&rt, false, &[&[1, 1]], &[saw(0), added(1)], Some(&[1]))
 }
 
-// No answer of a batch is made before the sync in front of it, or after the one behind it.
+// No answer of a batch is made before the sync that precedes it, or after the one that ends it.
 #[test]
 fn positions_between_syncs(rt: HostRuntime) -> Result<(), Fail> {
     tells(&rt, false, &[&[1], &[2]], &[added(1), saw(1)], Some(&[0]))?;

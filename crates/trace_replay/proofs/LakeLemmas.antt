@@ -1,4 +1,4 @@
--- The lake in which answers are made again: what is held in it, what is answered, and what it has after an answer.
+-- The lake in which answers are made again: what is held in it, the replies, and what it has after an answer.
 use Rattle.std.proofs.Common.{◌≡◌, refl, ap, sym, ◌∙◌, subst, ℕ, zero, suc, ◌+◌, ◌<◌, ◌≤◌, inl, inr, List, [], ◌∷◌, ◌++◌, map, length, get_or, take, Bool, false, cond, Option, None, arith}
 use Rattle.std.specs.Prelude.{is_some, ◌⊎◌}
 use Rattle.std.specs.List.{Contains, swap_remove}
@@ -41,12 +41,12 @@ held_grow trace journal more all held one there =
     let h = held one there in
     record { early = h.early; position = h.position; holds = held_at_grows journal more (merge_policy (command_at trace one.0).task) one.1 h.holds }
 
--- what is taken out for an answer, where the list is that of the code
+-- what is taken out for an answer, if the list is that of the code
 pub taken_from : (trace : TraceOf) (lake : LakeOf) (all : List (ℕ × Held)) (index : ℕ) (held : Held) → AreHeldFor trace lake.journal lake.held → all ≡ lake.held → Contains all (index, held)
     → IsHeldFor trace lake.journal index held
 taken_from trace lake all index held are same taken = are (index, held) (subst (λ (xs : List (ℕ × Held)). Contains xs (index, held)) same taken)
 
--- what is left where one was taken out
+-- what is left after one was taken out
 pub others_left : (all after : List (ℕ × Held)) (place index : ℕ) (one : ℕ × Held) → place < length all → one ≡ get_or all place one → after ≡ swap_remove all place one → one.0 ≡ index → Keeps (λ i. i ≡ index) all after
 others_left all after place index one low is removed named i differs (held, there) =
     by (Contains-permutation all (one ∷ swap_remove all place one) (i, held) (IsPermutation-swap_remove all place one low is) there)
@@ -55,13 +55,13 @@ others_left all after place index one low is removed named i differs (held, ther
     by (zero, inside, first) = absurd (differs (sym (ap (λ (x : ℕ × Held). x.0) first) ∙ named))
     by (suc k, inside, later) = (held, subst (λ (xs : List (ℕ × Held)). Contains xs (i, held)) (sym removed) (k, omega (arith, inside), later))
 
--- one is held for an answer that was planned before, where the list is that of the code
+-- one is held for an answer that was planned before, if the list is that of the code
 pub held_early : (trace : TraceOf) (lake : LakeOf) (all : List (ℕ × Held)) (index : ℕ) (hint : Hint) → IsReady trace index lake → all ≡ lake.held → hint ≡ hint_at trace index → pinned_of hint < made_at hint
     → IsHeldIn all index
 held_early trace lake all index hint ready same is early =
     subst (λ (xs : List (ℕ × Held)). IsHeldIn xs index) (sym same) (ready (subst (λ (h : Hint). pinned_of h < made_at h) is early))
 
--- what is held from now on
+-- what is held when work begins
 pub begun_for : (trace : TraceOf) (index : ℕ) (command : Command) (journal now : List Entry) (held : Held) → command_at trace index ≡ command → journal ≡ now → IsHeldAt journal (merge_policy command.task) held
     → IsHeldAt now (merge_policy (command_at trace index).task) held
 begun_for trace index command journal now held is same holds =
@@ -73,7 +73,7 @@ pub holds_here : (trace : TraceOf) (index : ℕ) (command : Command) (journal no
 holds_here trace index command journal now held is same holds =
     subst (λ (j : List Entry). IsHeldAt j (merge_policy command.task) held) (sym same) (subst (λ (c : Command). IsHeldAt now (merge_policy c.task) held) is holds)
 
--- its position, where nothing was planned before
+-- its position, if nothing was planned before
 pub plain_position : (trace : TraceOf) (size index : ℕ) (lake : LakeOf) (hint : Hint) {position : ℕ} → IsWithin size (hint_at trace index) → IsAt trace (made_at (hint_at trace index)) lake → position ≡ length lake.journal
     → hint ≡ hint_at trace index → made_at hint ≤ pinned_of hint → position ≡ pinned_of (hint_at trace index)
 plain_position trace size index lake hint inside at here is late =
@@ -117,13 +117,13 @@ planned_more trace plan size hint before limits journal all after room held at p
           (push_held trace before.journal before.held after plan.index held at.held one (pushed ∙ ap (λ (xs : List (ℕ × Held)). xs ++ (plan.index, held) ∷ []) kept));
     }
 
--- what is answered where it is planned has to wait for nothing
+-- an answer that is made where it is planned needs nothing to be held
 pub late_ready : (trace : TraceOf) (index : ℕ) (lake : LakeOf) (hint : Hint) → hint ≡ hint_at trace index → made_at hint ≤ pinned_of hint → IsReady trace index lake
 late_ready trace index lake hint is late early =
     let behind : made_at (hint_at trace index) ≤ pinned_of (hint_at trace index) = subst (λ (h : Hint). made_at h ≤ pinned_of h) is late in
     absurd (omega (arith, early, behind))
 
--- ---- what has no pin does not depend on one
+-- ---- without a pin, the reply does not depend on one
 
 unpinned_answer : (rules : Rules) (task : Task) (pinned other now : List Entry) → has_pin task ≡ false → answer_to rules task pinned now ≡ answer_to rules task other now
 unpinned_answer rules (Load name body) pinned other now kind = refl
@@ -159,7 +159,7 @@ unpinned_entries rules command pinned other reply kind =
 rules_are : (trace : TraceOf) (keys : Keys) (limits : Counts) → keys ≡ trace.rules.keys → limits ≡ trace.rules.limits → rules_with keys limits ≡ trace.rules
 rules_are trace keys limits same_keys same_limits = λ i. rules_with (same_keys i) (same_limits i)
 
--- what the code says of a reply is what is answered now
+-- what the code states of a reply is that it is the answer now,
 pub answers_now : (trace : TraceOf) (i : ℕ) (keys : Keys) (limits : Counts) (command : Command) (pinned now : List Entry) (reply : Reply)
     → keys ≡ trace.rules.keys → limits ≡ trace.rules.limits → command_at trace i ≡ command → pinned ≡ take (pinned_of (hint_at trace i)) now
     → (denied : Bool) × (reply ≡ reply_or_denied denied (answer_to (rules_with keys limits) command.task pinned now)) → AnswersNow trace i now reply
@@ -171,7 +171,7 @@ answers_now trace i keys limits command pinned now reply same_keys same_limits i
       ∙ ap (λ (c : Command). reply_or_denied denied (answer_to trace.rules c.task (take (pinned_of (hint_at trace i)) now) now)) (sym is),
 )
 
--- and of what has no pin
+-- also for work without a pin
 pub answers_unpinned : (trace : TraceOf) (i : ℕ) (keys : Keys) (limits : Counts) (command : Command) (now : List Entry) (reply : Reply)
     → keys ≡ trace.rules.keys → limits ≡ trace.rules.limits → command_at trace i ≡ command → has_pin command.task ≡ false
     → (denied : Bool) × (reply ≡ reply_or_denied denied (answer_to (rules_with keys limits) command.task now now)) → AnswersNow trace i now reply
@@ -205,7 +205,7 @@ journal_unpinned trace i keys limits command reply before after record_before re
     journal_after trace i keys limits command pinned reply before after record_before record_after same_keys same_limits is refl same
     (subst (λ (ws : List What). Adds (who_of command) ws before after record_before record_after) whats added)
 
--- the lake after a reply, of whose held merges some are left
+-- the lake after a reply for which some of the held merges are left
 pub lake_after : (trace : TraceOf) (i : ℕ) (reply : Reply) (before : LakeOf) (limits : Counts) (journal : List Entry) (left : List (ℕ × Held)) (room : ℕ)
     → AreHeldFor trace before.journal before.held → ((held : ℕ × Held) → Contains left held → Contains before.held held) → limits ≡ before.limits
     → journal ≡ before.journal ++ entries_of trace.rules (take (pinned_of (hint_at trace i)) before.journal) (command_at trace i) reply → Keeps (λ j. j ≡ i) before.held left
@@ -230,7 +230,7 @@ left_of i before limits journal held left room is some others = record {
 pub all_left : (i : ℕ) (lake : LakeOf) → IsLeft i lake lake
 all_left i lake = record { is = refl; some = λ one there. there; others = λ j differs there. there }
 
--- a reply to work that has a pin, where some of what was held was taken out for it
+-- a reply to work with a pin, for which some of what was held was taken out
 pub pinned_replied : (trace : TraceOf) (i at room : ℕ) (before mid : LakeOf) (keys : Keys) (command : Command) (held : Held) (reply : Reply) (catalogue catalogue_after : CatalogueOf) (made made_after : RecordOf) (left : List (ℕ × Held))
     → IsAt trace at before → IsLeft i before mid → lake_with catalogue.limits catalogue.journal left room ≡ mid → keys ≡ trace.rules.keys → command_at trace i ≡ command → position_of held ≡ pinned_of (hint_at trace i)
     → made.made.journal ≡ catalogue.journal
@@ -253,7 +253,7 @@ pinned_replied trace i at room before mid keys command held reply catalogue cata
           (λ j differs there. subst (λ (xs : List (ℕ × Held)). IsHeldIn xs j) (sym kept) (leaves.others j differs there)),
     )
 
--- a reply to work that has none
+-- a reply to work without a pin
 pub unpinned_replied : (trace : TraceOf) (i at room : ℕ) (before : LakeOf) (keys : Keys) (command : Command) (reply : Reply) (catalogue catalogue_after : CatalogueOf) (made made_after : RecordOf) (left : List (ℕ × Held))
     → IsAt trace at before → lake_with catalogue.limits catalogue.journal left room ≡ before → keys ≡ trace.rules.keys → command_at trace i ≡ command → has_pin command.task ≡ false → made.made.journal ≡ catalogue.journal
     → (denied : Bool) × (reply ≡ reply_or_denied denied (answer_to (rules_with keys catalogue.limits) command.task catalogue.journal catalogue.journal))
@@ -273,9 +273,9 @@ unpinned_replied trace i at room before keys command reply catalogue catalogue_a
           (λ j differs there. subst (λ (xs : List (ℕ × Held)). IsHeldIn xs j) (sym kept) there),
     )
 
--- ---- the reply as the hint says
+-- ---- the reply that the hint requires
 
--- where memory was wanting
+-- if memory ran out
 pub wanting_reply : (trace : TraceOf) (i : ℕ) (now : List Entry) → hint_at trace i ≡ Wanting → NoMemory ≡ reply_at trace.rules now (command_at trace i) (hint_at trace i)
 wanting_reply trace i now wants = sym (ap (reply_at trace.rules now (command_at trace i)) wants)
 
@@ -286,7 +286,7 @@ stands_now : (rules : Rules) (now : List Entry) (command : Command) (hint : Hint
 stands_now rules now command Wanting some = absurd (some refl)
 stands_now rules now command (Stands s) some = refl
 
--- and where it was not
+-- and if it did not
 pub again_reply : (trace : TraceOf) (i : ℕ) (now : List Entry) → (hint_at trace i ≡ Wanting → ⊥) → answer_now trace i now ≡ reply_at trace.rules now (command_at trace i) (hint_at trace i)
 again_reply trace i now some = stands_now trace.rules now (command_at trace i) (hint_at trace i) some
 
@@ -303,7 +303,7 @@ made_again : ReplyIsMade → (trace : TraceOf) (i : ℕ) (lake : LakeOf) → Are
     → reply_by trace.rules (journal_of trace.rules trace.commands trace.hints) (command_at trace i) (hint_at trace i) ≡ reply_at trace.rules lake.journal (command_at trace i) (hint_at trace i)
 made_again law trace i lake are at = law trace.rules trace.commands trace.hints lake.journal (made_at (hint_at trace i)) i (command_with 0 0 (Merge false)) are at.is at.long refl
 
--- what the code makes of an answer, and what the trace tells of it
+-- the result of the code for an answer, and what the trace has for it
 pub record IsOf (trace : TraceOf) (i : ℕ) (lake : LakeOf) (who : Who) (hint : Hint) (reply : Reply) (text : Text) : Type 0 where
   pub who_is : who ≡ who_of (command_at trace i)
   pub hint_is : hint ≡ hint_at trace i
@@ -322,7 +322,7 @@ told_complete law trace i lake who hint reply text are at of is =
     same_answer (who_of (command_at trace i)) who (hint_at trace i) hint (reply_by trace.rules (journal_of trace.rules trace.commands trace.hints) (command_at trace i) (hint_at trace i)) reply (get_or trace.texts i []) text
     (sym of.who_is) (sym of.hint_is) (made_again law trace i lake are at ∙ sym of.reply_is) (sym of.text_is) is
 
--- ---- the lake behind an answer
+-- ---- the lake after an answer
 
 owns_accepted : (s : Standing) → is_accepted s ≡ is_some (own_of (Stands s))
 owns_accepted Nowhere = refl
@@ -331,12 +331,12 @@ owns_accepted (Added at) = refl
 owns_accepted (PlannedAndSaw pinned at) = refl
 owns_accepted (PlannedAndAdded pinned at) = refl
 
--- a reply is accepted where its hint has an own position
+-- a reply is accepted exactly if its hint has a position of its own
 accepted_owns : (reply : Reply) → is_accepted (standing reply) ≡ is_some (own_of (hint_of reply))
 accepted_owns NoMemory = refl
 accepted_owns reply = owns_accepted (standing reply)
 
--- one that only looks leaves the journal as it is
+-- an answer that only looks leaves the journal unchanged
 pub behind_look : (trace : TraceOf) (i : ℕ) (reply : Reply) (before after : LakeOf) → IsAt trace (made_at (hint_at trace i)) before → IsAfter trace i reply before after → hint_of reply ≡ hint_at trace i
     → own_of (hint_at trace i) ≡ None → IsAt trace (made_at (hint_at trace i)) after
 behind_look trace i reply before after at made tells none =
@@ -347,7 +347,7 @@ behind_look trace i reply before after at made tells none =
     made.adds ∙ ap (λ (b : Bool). before.journal ++ map (entry_with (who_of (command_at trace i))) (cond b whats [])) refused ∙ append-nil before.journal in
     record { limits = made.limits ∙ at.limits; is = same ∙ at.is; long = ap (λ (j : List Entry). length j) same ∙ at.long; held = made.held }
 
--- one that made the next entry has put it there
+-- an answer that made the next entry has added it
 pub behind_owner : NextIsPut → (trace : TraceOf) (i : ℕ) (reply : Reply) (before after : LakeOf) → length trace.hints ≡ length trace.commands → IsAt trace (made_at (hint_at trace i)) before
     → IsAfter trace i reply before after → reply ≡ reply_at trace.rules before.journal (command_at trace i) (hint_at trace i) → hint_of reply ≡ hint_at trace i → IsOwner trace.hints (made_at (hint_at trace i) + 1) i
     → IsAt trace (made_at (hint_at trace i) + 1) after

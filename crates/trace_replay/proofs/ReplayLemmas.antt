@@ -25,28 +25,28 @@ use Rattle.trace_replay.specs.Stretches.{ArePlansOf, AreTurnsOf, IsLookOf, IsPla
 
 -- ---- one position
 
--- a turn that was found at a position
+-- a turn that was found for a position
 pub turn_found : (hints : List Hint) (turns found : List Turn) (at i : ℕ) (d : Turn) → AreTurnsOf hints turns → IsStretchAt (λ (turn : Turn). turn.at) turns at found → i < length found
     → IsTurnOf hints (get_or found i d) × ((get_or found i d).at ≡ at)
 turn_found hints turns found at i d are stretch low =
     let there = stretch.each (get_or found i d) (Contains-get_or found i d low) in
     (are.each (get_or found i d) there.0, there.1)
 
--- a plan that was found at a position
+-- a plan that was found for a position
 pub plan_found : (hints : List Hint) (plans found : List Plan) (at i : ℕ) (d : Plan) → ArePlansOf hints plans → IsStretchAt (λ (plan : Plan). plan.at) plans at found → i < length found
     → IsPlanOf hints (get_or found i d) × ((get_or found i d).at ≡ at)
 plan_found hints plans found at i d are stretch low =
     let there = stretch.each (get_or found i d) (Contains-get_or found i d low) in
     (are.each (get_or found i d) there.0, there.1)
 
--- the turn of an index, if it only looks, is as the trace tells
+-- the turn with an index, if it only looks, is as in the trace
 abbrev pub LookIsTold : TraceOf → List Turn → ℕ → Type 0
 LookIsTold trace turns k = (d : Turn) → (get_or turns k d).adds ≡ false → IsTold trace (get_or turns k d).index
 
 pub look_told : (trace : TraceOf) (turns : List Turn) (k : ℕ) (d : Turn) → k < length turns → ((get_or turns k d).adds ≡ false → IsTold trace (get_or turns k d).index) → LookIsTold trace turns k
 look_told trace turns k d low told e = subst (λ (turn : Turn). turn.adds ≡ false → IsTold trace turn.index) (get_or_default turns k d e low) told
 
--- the answers of a position that only look are in turn at it
+-- the answers that are made at a position and only look have turns there
 pub looks_told : (trace : TraceOf) (turns found : List Turn) (at : ℕ) → length trace.hints ≡ length trace.commands → AreTurnsOf trace.hints turns → IsStretchAt (λ (turn : Turn). turn.at) turns at found
     → ((k : ℕ) → k < length found → LookIsTold trace found k) → LooksAreTold trace at
 looks_told trace turns found at size are stretch told i low made none =
@@ -56,15 +56,15 @@ looks_told trace turns found at size are stretch told i low made none =
 
 -- ---- what is held
 
--- no turn up to a place is of the answer of an index, and only looks
+-- no turn before a place belongs to the answer with an index and only looks
 abbrev pub IsNotAmong : List Turn → ℕ → ℕ → Type 0
 IsNotAmong turns k i = (j : ℕ) (d : Turn) → j < k → IsLookOf (get_or turns j d) i → ⊥
 
--- what is held while the answers of a position are made that only look
+-- what is held while those answers of a position are made that only look
 abbrev pub IsLeftOf : TraceOf → List Turn → ℕ → ℕ → ℕ → Type 0
 IsLeftOf trace turns at k i = IsFrom trace at i × IsNotAmong turns k i
 
--- two turns of one position are of two answers
+-- two turns of one position belong to two answers
 stretch_apart : (hints : List Hint) (turns found : List Turn) (at j k : ℕ) (d : Turn) → AreTurnsOf hints turns → IsStretchAt (λ (turn : Turn). turn.at) turns at found → j < k → k < length found
     → (get_or found j d).index ≡ (get_or found k d).index → ⊥
 stretch_apart hints turns found at j k d are stretch before low e = by stretch.part
@@ -90,13 +90,13 @@ look_ready trace turns found at k d lake size are stretch low held early =
           stretch_apart trace.hints turns found at j k d are stretch before low (sym same ∙ sym look.1),
     )
 
--- one turn more
+-- one more turn
 pub held_more : (trace : TraceOf) (found : List Turn) (at k : ℕ) (d : Turn) (before after : LakeOf) → k < length found → AreHeld trace at (IsLeftOf trace found at k) before
     → Keeps (IsLookOf (get_or found k d)) before.held after.held → AreHeld trace at (IsLeftOf trace found at (k + 1)) after
 held_more trace found at k d before after low held keeps i inside early below left =
     keeps i (λ look. left.1 k d (omega arith) look) (held i inside early below (left.0, λ j e earlier look. left.1 j e (omega (arith, earlier)) look))
 
--- the first turn, and the end of all
+-- before the first turn, and after the last
 pub held_first : (trace : TraceOf) (found : List Turn) (at : ℕ) (lake : LakeOf) → AreHeld trace at (IsFrom trace at) lake → AreHeld trace at (IsLeftOf trace found at 0) lake
 held_first trace found at lake held i inside early below left = held i inside early below left.0
 
@@ -124,7 +124,7 @@ held_last trace turns found at k size lake within are stretch all held i inside 
         by (inl later) = absurd (omega (arith, later, made))
         by (inr adds) = true≢false (sym (ap (λ (o : Option ℕ). is_some o) adds) ∙ none)
 
--- what is pinned at an earlier position than it is made at was planned
+-- a merge that is pinned at an earlier position than its answer's was planned
 planned_early : (size : ℕ) (hint : Hint) (at : Option ℕ) → IsWithin size hint → pinned_of hint < made_at hint → planned_at hint ≡ at → planned_at hint ≡ Some (pinned_of hint)
 planned_early size hint None inside early e = let same = inside.unplanned e in absurd (omega (arith, early, same))
 planned_early size hint (Some at) inside early e = e ∙ ap Some (inside.planned at e).0
@@ -167,7 +167,7 @@ pub owner_ready : (trace : TraceOf) (at owner : ℕ) (lake : LakeOf) → owner <
     → AreHeld trace (at + 1) (IsBehindLooks trace at) lake → IsReady trace owner lake
 owner_ready trace at owner lake inside own made held early = held owner inside early (omega (arith, early, made)) (inr own)
 
--- and what later answers need is held behind it
+-- what later answers need is held after it
 pub held_next : (trace : TraceOf) (at owner : ℕ) (before after : LakeOf) → made_at (hint_at trace owner) ≡ at → AreHeld trace (at + 1) (IsBehindLooks trace at) before
     → Keeps (λ i. i ≡ owner) before.held after.held → AreHeld trace (at + 1) (IsFrom trace (at + 1)) after
 held_next trace at owner before after made held keeps i inside early below from =
@@ -177,7 +177,7 @@ held_next trace at owner before after made held keeps i inside early below from 
 pub held_none : (trace : TraceOf) (IsKind : ℕ → Type 0) (lake : LakeOf) → AreHeld trace 0 IsKind lake
 held_none trace IsKind lake i inside early below kind = absurd (omega (arith, below))
 
--- ---- one position more
+-- ---- one more position
 
 own_or_look : (own : Option ℕ) → (own ≡ None) ⊎ (is_some own ≡ true)
 own_or_look None = inl refl
@@ -223,7 +223,7 @@ whole_journal : (trace : TraceOf) (owners : List ℕ) (lake : LakeOf) → ArePos
     → lake.journal ≡ journal_of trace.rules trace.commands trace.hints
 whole_journal trace owners lake are own at = at.is ∙ ap (front_of trace) (own.many ∙ sym are.size)
 
--- the answer to the command of an index, whatever stands for a command behind the last
+-- the answer to the command with an index, whatever default is used after the last command
 told_any : (trace : TraceOf) (i : ℕ) (c : Command) → i < length trace.commands → IsTold trace i
     → let command = get_or trace.commands i c in IsAnswered (who_of command) (hint_at trace i) (reply_by trace.rules (journal_of trace.rules trace.commands trace.hints) command (hint_at trace i)) (get_or trace.texts i [])
 told_any trace i c low told =
@@ -247,7 +247,7 @@ pub replay_complete : (trace : TraceOf) (owners : List ℕ) (lake : LakeOf) → 
     → IsReplayed trace.rules trace.commands trace.hints trace.texts → get_or trace.texts (length trace.commands) [] ≡ group_text (journal_lines lake.journal)
 replay_complete trace owners lake are own at is = is.last ∙ ap (λ (j : List Entry). group_text (journal_lines j)) (sym (whole_journal trace owners lake are own at))
 
--- what is replayed, where its hints are those of the groups
+-- the input of the replay, if its hints are those of the groups
 pub trace_is : (trace : TraceOf) (rules : Rules) (commands : List Command) (found told hints : List Hint) (texts : List Text) → trace ≡ trace_with rules commands found texts → found ≡ told → told ≡ hints
     → trace ≡ trace_with rules commands hints texts
 trace_is trace rules commands found told hints texts is same read = is ∙ ap (λ (hs : List Hint). trace_with rules commands hs texts) (same ∙ read)

@@ -1,4 +1,4 @@
--- The elements of one number in a list that is sorted by number.
+-- The elements with one number in a list that is sorted by number.
 use Rattle.std.proofs.Common.{◌≡◌, ap, sym, ◌∙◌, subst, ℕ, ◌+◌, ◌-◌, ◌<◌, ◌≤◌, List, length, length-drop, get_or, take, drop, true, false, arith, inl, inr, leb, ltb}
 use Rattle.std.specs.Prelude.{◌⊎◌}
 use Rattle.std.specs.List.{Contains}
@@ -31,11 +31,11 @@ lt_unless k n m h = by (cases_lt k n)
     by (inl low) = low
     by (inr high) = absurd (omega (arith, h high))
 
--- all that is behind an index
+-- everything from an index on
 pub rest_is : {X : Type 0} (xs : List X) (from : ℕ) → take (length xs - from) (drop from xs) ≡ drop from xs
 rest_is xs from = let long = length-drop from xs in take_all (length xs - from) (drop from xs) (omega (arith, long))
 
--- from the first that is not below the number, up to the last that is not above it
+-- from the first element that is not below the number, to the last that is not above it
 pub stretch_found : {X : Type 0} (number : X → ℕ) (xs : List X) (at from to : ℕ) → from ≤ length xs → to ≤ length (drop from xs)
     → IsPartitionPoint (λ (x : X). ltb (number x) at ≡ true) (λ (x : X). ltb (number x) at ≡ false) xs from
     → IsPartitionPoint (λ (x : X). leb (number x) at ≡ true) (λ (x : X). leb (number x) at ≡ false) (drop from xs) to → IsStretchAt number xs at (take to (drop from xs))
@@ -84,7 +84,7 @@ stretch_found {X} number xs at from to low high first second = record { each = e
         let under : j < to = lt_unless j to (number x) (before_end x j within same e) in
         (j, omega (arith, under, size), there j x under ∙ same)
 
--- the same, where what is behind an index is a slice
+-- the same, if what follows an index is a slice
 pub stretch_of : {X : Type 0} (number : X → ℕ) (xs : List X) (at from to : ℕ) → let behind = take (length xs - from) (drop from xs) in from ≤ length xs → to ≤ length behind
     → IsPartitionPoint (λ (x : X). ltb (number x) at ≡ true) (λ (x : X). ltb (number x) at ≡ false) xs from
     → IsPartitionPoint (λ (x : X). leb (number x) at ≡ true) (λ (x : X). leb (number x) at ≡ false) behind to → IsStretchAt number xs at (take to behind)

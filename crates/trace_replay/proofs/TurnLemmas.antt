@@ -16,7 +16,7 @@ use Rattle.trace_numbers.specs.Positions.{own_of}
 use Rattle.trace_numbers.specs.Turns.{made_at, plan_of, plan_with, planned_at, plans_from, turn_with, turns_from}
 use Rattle.trace_replay.specs.Stretches.{ArePlansOf, AreTurnsOf, IsPlanOf, IsTurnOf}
 
--- two facts of an `Ok` give a third
+-- two facts of an `Ok` value give a third
 pub ok_both : {T E : Type 0} (result : Result T E) (P Q R : T → Type 0) → IfOk result P → IfOk result Q → ((value : T) → P value → Q value → R value) → IfOk result R
 ok_both (Ok value) P Q R p q both = both value p q
 ok_both (Err e) P Q R p q both = tt
@@ -44,7 +44,7 @@ turn_there hints i low =
     let long = turns_long 0 hints in
     (i, omega (arith, low, long), turn_at 0 i i hints turn (omega arith) low)
 
--- whether two turns are of one answer
+-- whether two turns belong to one answer
 abbrev is_same_turn : Turn → Turn → Bool
 is_same_turn a b = a.index == b.index
 
@@ -74,7 +74,7 @@ turns_are hints turns same sorted = record {
 
 -- ---- plans
 
--- the plan of one of these
+-- the plan belongs to one of these hints
 abbrev IsPlanFrom : ℕ → List Hint → Plan → Type 0
 IsPlanFrom i hints plan = (k : ℕ) × (k < length hints) × (plan.index ≡ i + k) × (planned_at (get_or hints k Wanting) ≡ Some plan.at)
 
@@ -96,7 +96,7 @@ plan_from hints plan (k, low, index, at) =
     let same : k ≡ plan.index = omega (arith, index) in
     record { inside = omega (arith, low, same); at = ap (λ (n : ℕ). planned_at (get_or hints n Wanting)) (sym same) ∙ at }
 
--- the plan of a hint that tells of one
+-- the plan of a hint that has one
 plan_there : (i n : ℕ) (hints : List Hint) (k at : ℕ) → n ≡ i + k → k < length hints → planned_at (get_or hints k Wanting) ≡ Some at → Contains (plans_from i hints) (plan_with at n)
 plan_there i n [] k at e low told = absurd (omega (arith, low))
 plan_there i n (h ∷ hints) zero at e low told =

@@ -19,7 +19,7 @@ use Rattle.batch_work.specs.Works.{merge_policy}
 use Rattle.command_replies.specs.declared.answering.Held.{Held}
 use Rattle.command_replies.specs.Held.{IsHeldAt, position_of}
 
--- what is replayed: the rules of the run and its commands, and what the trace tells, the hint and the text of each answer
+-- the input of a replay: the rules of the run, its commands, and from the trace the hint and the text of each answer
 pub record TraceOf : Type 0 where
   pub rules : Rules
   pub commands : List Command
@@ -29,7 +29,7 @@ pub record TraceOf : Type 0 where
 abbrev pub trace_with : Rules → List Command → List Hint → List Text → TraceOf
 trace_with rules commands hints texts = record { rules = rules; commands = commands; hints = hints; texts = texts }
 
--- the command of an index, and its hint
+-- the command with an index, and its hint
 abbrev pub command_at : TraceOf → ℕ → Command
 command_at trace i = get_or trace.commands i (command_with 0 0 (Merge false))
 
@@ -40,25 +40,26 @@ hint_at trace i = get_or trace.hints i Wanting
 abbrev pub front_of : TraceOf → ℕ → List Entry
 front_of trace at = rebuilt trace.rules (hinted_zip trace.commands trace.hints) at
 
--- The answer of an index is as the trace tells: made again where its hint says, it tells that hint, and has this text.
+-- The answer with an index is as in the trace: when it is made again at the position of its hint, it has that hint and
+-- this text.
 abbrev pub IsTold : TraceOf → ℕ → Type 0
 IsTold trace i =
     IsAnswered (who_of (command_at trace i)) (hint_at trace i) (reply_by trace.rules (journal_of trace.rules trace.commands trace.hints) (command_at trace i) (hint_at trace i)) (get_or trace.texts i [])
 
--- all answers are
+-- all answers are as in the trace
 abbrev pub AreTold : TraceOf → Type 0
 AreTold trace = (i : ℕ) → i < length trace.commands → IsTold trace i
 
--- those are that are made before a position
+-- the answers that are made before a position are as in the trace
 abbrev pub AreToldBefore : TraceOf → ℕ → Type 0
 AreToldBefore trace at = (i : ℕ) → i < length trace.commands → made_at (hint_at trace i) < at → IsTold trace i
 
--- those are that are made at a position and only look
+-- the answers that are made at a position and only look are as in the trace
 abbrev pub LooksAreTold : TraceOf → ℕ → Type 0
 LooksAreTold trace at = (i : ℕ) → i < length trace.commands → made_at (hint_at trace i) ≡ at → own_of (hint_at trace i) ≡ None → IsTold trace i
 
--- a lake with its limits and its journal, what is held of merges that were planned, each with the index of its answer, and for how many entries
--- there is room
+-- a lake: its limits and its journal, what is held for merges that were planned, each with the index of its answer, and
+-- the number of entries for which there is room
 pub record LakeOf : Type 0 where
   pub limits : Counts
   pub journal : List Entry
@@ -68,11 +69,12 @@ pub record LakeOf : Type 0 where
 abbrev pub lake_with : Counts → List Entry → List (ℕ × Held) → ℕ → LakeOf
 lake_with limits journal held room = record { limits = limits; journal = journal; held = held; room = room }
 
--- the merge of an index is planned at an earlier position than the one that its answer is made at
+-- the merge with an index is planned at an earlier position than the one at which its answer is made
 abbrev pub IsEarly : TraceOf → ℕ → Type 0
 IsEarly trace i = pinned_of (hint_at trace i) < made_at (hint_at trace i)
 
--- What is held is for the merge of an answer, planned where its hint says, and before the answer is made.
+-- What is held is for the merge of an answer, was planned at the position of its hint, and is held before the answer is
+-- made.
 pub record IsHeldFor (trace : TraceOf) (journal : List Entry) (index : ℕ) (held : Held) : Type 0 where
   pub early : IsEarly trace index
   pub position : position_of held ≡ pinned_of (hint_at trace index)
@@ -88,15 +90,15 @@ pub record IsAt (trace : TraceOf) (at : ℕ) (lake : LakeOf) : Type 0 where
   pub long : length lake.journal ≡ at
   pub held : AreHeldFor trace lake.journal lake.held
 
--- something is held for the merge of an index
+-- something is held for the merge with an index
 abbrev pub IsHeldIn : List (ℕ × Held) → ℕ → Type 0
 IsHeldIn all i = (held : Held) × Contains all (i, held)
 
--- what was planned before the answer of an index is held
+-- what was planned before the answer with an index is held
 abbrev pub IsReady : TraceOf → ℕ → LakeOf → Type 0
 IsReady trace i lake = IsEarly trace i → IsHeldIn lake.held i
 
--- What is held is kept, but for what may be taken.
+-- What is held is kept, except what may be taken.
 abbrev pub Keeps : (ℕ → Type 0) → List (ℕ × Held) → List (ℕ × Held) → Type 0
 Keeps IsTaken before after = (i : ℕ) → (IsTaken i → ⊥) → IsHeldIn before i → IsHeldIn after i
 
@@ -104,30 +106,31 @@ Keeps IsTaken before after = (i : ℕ) → (IsTaken i → ⊥) → IsHeldIn befo
 abbrev pub AreHeld : TraceOf → ℕ → (ℕ → Type 0) → LakeOf → Type 0
 AreHeld trace below IsKind lake = (i : ℕ) → i < length trace.commands → IsEarly trace i → pinned_of (hint_at trace i) < below → IsKind i → IsHeldIn lake.held i
 
--- the answer of an index is made at a position or a later one
+-- the answer with an index is made at a position or at a later one
 abbrev pub IsFrom : TraceOf → ℕ → ℕ → Type 0
 IsFrom trace at i = at ≤ made_at (hint_at trace i)
 
--- the answer of an index comes behind those that are made at a position and only look
+-- the answer with an index is made after those that are made at a position and only look
 abbrev pub IsBehindLooks : TraceOf → ℕ → ℕ → Type 0
 IsBehindLooks trace at i = (at < made_at (hint_at trace i)) ⊎ (own_of (hint_at trace i) ≡ Some (at + 1))
 
--- The lake has what this reply to the command of an index adds, and its limits are the same. What is held for others is kept.
+-- The lake has what this reply to the command with an index adds, and its limits are unchanged. What is held for others
+-- is kept.
 pub record IsAfter (trace : TraceOf) (i : ℕ) (reply : Reply) (before after : LakeOf) : Type 0 where
   pub limits : after.limits ≡ before.limits
   pub adds : after.journal ≡ before.journal ++ entries_of trace.rules (take (pinned_of (hint_at trace i)) before.journal) (command_at trace i) reply
   pub held : AreHeldFor trace after.journal after.held
   pub others : Keeps (λ j. j ≡ i) before.held after.held
 
--- what the command of an index is answered now
+-- the reply to the command with an index at this journal
 abbrev pub answer_now : TraceOf → ℕ → List Entry → Reply
 answer_now trace i now = answer_to trace.rules (command_at trace i).task (take (pinned_of (hint_at trace i)) now) now
 
--- the reply is this answer, or want of memory
+-- the reply is this answer, or that memory ran out
 abbrev pub AnswersNow : TraceOf → ℕ → List Entry → Reply → Type 0
 AnswersNow trace i now reply = (denied : Bool) × (reply ≡ reply_or_denied denied (answer_now trace i now))
 
--- Of what was held, all is left but what is held for the merge of an index.
+-- Of what was held, everything is left except what was held for the merge with an index.
 pub record IsLeft (i : ℕ) (before after : LakeOf) : Type 0 where
   pub is : after ≡ lake_with before.limits before.journal after.held before.room
   pub some : (held : ℕ × Held) → Contains after.held held → Contains before.held held

@@ -34,9 +34,10 @@ use std::marker::Model;
 use trace_ends::fronts_law;
 use trace_numbers::{Plan, Turn};
 
-/// A lake that answers the commands of a trace again. It holds the merges that were planned at an earlier position than their answers are
-/// made at, from their plan to their answer. Along a lane the positions that have passed the tests on numbers never fall, and an answer that
-/// only looks is made before what is planned at its position: so at most one merge is held for each lane, the merger's among them.
+/// A lake that answers the commands of a trace again. It holds each merge that is planned at an earlier position than
+/// the one at which its answer is made, from its plan to its answer. Along a lane the positions, which have passed the
+/// tests on numbers, never fall, and an answer that only looks is made before what is planned at its position: so at
+/// most one merge is held for each lane, and one for the merger.
 #[derive(Drop)]
 pub(crate) struct Lake {
     alloc: Global,
@@ -61,7 +62,7 @@ impl Model for Lake {
     ghost invariant = { λ l. IsWithin wide_limits l.catalogue.limits × (l.run.made.journal ≡ l.catalogue.journal) × IsPrefix l.past l.catalogue.journal };
 }
 
-// A reply, where it is not want of memory.
+// Returns a reply that does not say that memory ran out.
 fn known(reply: Reply) -> Result<Reply, NoMemory>
     ensures same { IfOk result (λ known. known ≡ reply) }
     ensures known { (denied : Bool) (wanted : ReplyOf) → reply_of reply ≡ reply_or_denied denied wanted → IfOk result (λ known. reply_of known ≡ wanted) }
@@ -72,7 +73,7 @@ fn known(reply: Reply) -> Result<Reply, NoMemory>
     }
 }
 
-// Takes out what is held for the merge of an index.
+// Takes out what is held for the merge with this index.
 fn take_held(held: &mut Vec<(usize, Held)>, index: usize) -> Held
     requires { IsHeldIn held.old.items index }
     ensures taken { Contains held.old.items (index, result) }
@@ -86,7 +87,7 @@ fn take_held(held: &mut Vec<(usize, Held)>, index: usize) -> Held
 }
 
 impl Lake {
-    /// A lake with an empty journal.
+    /// Makes a lake with an empty journal, or returns `Err(NoMemory)`.
     pub(crate) fn new(alloc: Global, limits: Limits) -> Result<Lake, NoMemory>
         requires { IsWithin wide_limits limits }
         ensures limits { IfOk result (λ lake. lake.limits ≡ limits) }
@@ -103,7 +104,8 @@ impl Lake {
         })
     }
 
-    // What is held for the work of an index: what was planned for it before, or else the newest version, or a plan in that.
+    // Returns what is held for the work with this index: what was planned for it before, or else the newest version, or
+    // a plan in that version.
     fn held_for(&mut self, trace: &Trace<'_>, index: usize) -> Held
         requires index { index < length trace.now.commands }
         requires at { IsAt trace.now (made_at (hint_at trace.now index)) self.old }
@@ -120,7 +122,7 @@ impl Lake {
         }
     }
 
-    // The reply to work that has a pin.
+    // Makes the reply to work that has a pin.
     fn reply_pinned(&mut self, trace: &Trace<'_>, index: usize) -> Reply
         requires index { index < length trace.now.commands }
         requires at { IsAt trace.now (made_at (hint_at trace.now index)) self.old }
@@ -141,7 +143,7 @@ impl Lake {
         )
     }
 
-    // The reply to work that has no pin.
+    // Makes the reply to work that has no pin.
     fn reply_unpinned(&mut self, trace: &Trace<'_>, index: usize) -> Reply
         requires index { index < length trace.now.commands }
         requires at { IsAt trace.now (made_at (hint_at trace.now index)) self.old }
@@ -160,7 +162,7 @@ impl Lake {
         )
     }
 
-    // The reply to work.
+    // Makes the reply to work with this index.
     fn reply(&mut self, trace: &Trace<'_>, index: usize) -> Reply
         requires index { index < length trace.now.commands }
         requires at { IsAt trace.now (made_at (hint_at trace.now index)) self.old }
@@ -184,7 +186,8 @@ impl Lake {
         self.run.room(0, 1)
     }
 
-    // The reply to work as its hint says. Want of memory is a reply only where the hint says so, and is else that of the replay.
+    // Makes the reply to work as its hint requires. That memory ran out is the reply only if the hint says so; if
+    // memory runs out during the replay, the result is `Err(NoMemory)`.
     fn reply_again(&mut self, trace: &Trace<'_>, index: usize) -> Result<Reply, NoMemory>
         requires index { index < length trace.now.commands }
         requires at { IsAt trace.now (made_at (hint_at trace.now index)) self.old }
@@ -199,8 +202,9 @@ impl Lake {
         known(self.reply(trace, index))
     }
 
-    /// Makes the answer of an index again, where its hint says that it was made, and says whether it is as the trace tells: it tells that
-    /// hint, and has those lines. What it adds is then in the lake, and what is held for others is kept.
+    /// Makes the answer with this index again, at the position that its hint gives, and returns whether it is as in the
+    /// trace: it has that hint and those lines. What it adds is then in the lake, and what is held for other answers is
+    /// kept. Returns `Err(NoMemory)` if memory runs out.
     pub(crate) fn answer(&mut self, trace: &Trace<'_>, index: usize) -> Result<bool, NoMemory>
         requires index { index < length trace.now.commands }
         requires at { IsAt trace.now (made_at (hint_at trace.now index)) self.old }
@@ -223,7 +227,8 @@ impl Lake {
         )
     }
 
-    // Makes the answer of a turn again where it only looks, and says whether it is as the trace tells; of one that adds an entry it says nothing.
+    // Makes the answer of a turn again if it only looks, and returns whether it is as in the trace. Returns true for a
+    // turn that adds an entry, without making its answer.
     fn look(&mut self, trace: &Trace<'_>, turn: Turn) -> Result<bool, NoMemory>
         requires at { IsAt trace.now turn.at self.old }
         requires turn { IsTurnOf trace.now.hints turn }
@@ -240,7 +245,8 @@ impl Lake {
         self.answer(trace, turn.index)
     }
 
-    /// Makes those answers again that are made where the journal is so long and only look, and says whether they are as the trace tells.
+    /// Makes those answers again that are made at position `at` and only look, and returns whether they are as in the
+    /// trace, or `Err(NoMemory)` if memory runs out.
     pub(crate) fn look_at(
         &mut self,
         trace: &Trace<'_>,
@@ -264,8 +270,8 @@ impl Lake {
         Ok(true)
     }
 
-    // Plans a merge where the journal is as long as its hint says, and holds it; but not if its answer is made there too, since that plans
-    // it by itself.
+    // Plans a merge at the position that its hint gives, and holds it. If its answer is made at the same position,
+    // nothing is held, since making the answer plans the merge as well.
     fn plan_one(&mut self, trace: &Trace<'_>, plan: Plan) -> Result<(), NoMemory>
         requires at { IsAt trace.now plan.at self.old }
         requires plan { IsPlanOf trace.now.hints plan }
@@ -282,7 +288,8 @@ impl Lake {
         Ok(())
     }
 
-    /// Plans those merges that are planned where the journal is so long, and answered later.
+    /// Plans those merges that are planned at position `at` and answered later. Returns `Err(NoMemory)` if memory runs
+    /// out.
     pub(crate) fn plan_at(
         &mut self,
         trace: &Trace<'_>,
@@ -302,7 +309,7 @@ impl Lake {
         Ok(())
     }
 
-    /// Whether the lines of the journal are these.
+    /// Returns whether the text is that of the journal's lines, or `Err(NoMemory)` if memory runs out.
     pub(crate) fn has_journal(&mut self, text: &[u8]) -> Result<bool, NoMemory>
         ensures sound { IfOk result (λ yes. yes ≡ true → text.now ≡ group_text (journal_lines self.old.journal)) }
         ensures complete { IfOk result (λ yes. text.now ≡ group_text (journal_lines self.old.journal) → yes ≡ true) }

@@ -1,4 +1,5 @@
-//! The replay of a trace: each of its answers made again where its hint says that it was made, and compared with what the trace has.
+//! The replay of a trace: each of its answers is made again at the position that its hint gives, and compared with the
+//! lines of the trace.
 #![tactic(auto)]
 
 mod lake;

@@ -22,7 +22,7 @@ use trace_groups::Group;
 use trace_hints::Hint;
 use trace_numbers::{Owners, Plan, Turn, plans_of, turns_of};
 
-/// The hints of the first `many` groups, in their order. The only error is want of memory.
+/// Returns the hints of the first `many` groups, in their order. The only error is that memory runs out.
 pub fn hints_of(alloc: Global, groups: &[Group<'_>], many: usize) -> Result<Vec<Hint>, NoMemory>
     requires { many ≤ length groups.now }
     ensures { IfOk result (λ hints. map hint_as hints.items ≡ take many (map (λ group. hint_as group.hint) groups.now)) }
@@ -34,22 +34,22 @@ pub fn hints_of(alloc: Global, groups: &[Group<'_>], many: usize) -> Result<Vec<
     Ok(hints)
 }
 
-// The turns of answers.
+// Returns the turns of the answers.
 fn all_turns(alloc: Global, hints: &[Hint]) -> Result<Vec<Turn>, NoMemory>
     ensures { IfOk result (λ turns. AreTurnsOf (map hint_as hints.now) turns.items) }
 {
     turns_of(alloc, hints)
 }
 
-// The plans of merges.
+// Returns the plans of the merges.
 fn all_plans(alloc: Global, hints: &[Hint]) -> Result<Vec<Plan>, NoMemory>
     ensures { IfOk result (λ plans. ArePlansOf (map hint_as hints.now) plans.items) }
 {
     plans_of(alloc, hints)
 }
 
-// Makes the answers of one position, and plans its merges: first the answers that only look, last the one that adds the next entry. It says
-// whether these are as the trace tells.
+// Makes the answers of one position and plans its merges: first the answers that only look, last the one that adds the
+// next entry. Returns whether these answers are as in the trace.
 fn replay_at(
     lake: &mut Lake,
     trace: &Trace<'_>,
@@ -77,7 +77,7 @@ fn replay_at(
     lake.answer(trace, owner)
 }
 
-// All positions, from the first to the last. It says whether all answers are as the trace tells.
+// Replays all positions, from the first to the last, and returns whether all answers are as in the trace.
 fn replay_all(
     lake: &mut Lake,
     trace: &Trace<'_>,
@@ -103,7 +103,7 @@ fn replay_all(
     lake.look_at(trace, turns, owners.len() as u64)
 }
 
-// All positions, and the journal behind them. It says whether the trace is that of what was made.
+// Replays all positions and compares the journal after them. Returns whether the trace is that of what was made.
 fn replay_in(
     lake: &mut Lake,
     trace: &Trace<'_>,
@@ -125,12 +125,16 @@ fn replay_in(
     lake.has_journal(trace.text(trace.last()))
 }
 
-/// Whether each answer of a trace, made again at the position that its hint tells, has the lines of its group, and the journal has those of
-/// the last group. The groups are those of the answers to `works`, in their order, and behind them that of the journal. `owners` has the
-/// answer that made each entry, and the positions of the hints have passed the tests on numbers.
+/// Decides whether a trace is what its commands give when they are answered again.
 ///
-/// The first answer that differs says no, and what comes behind it is not made again. An answer that tells of want of memory is right if it has
-/// those lines; all others are made, each at the cost of its command, and want of memory for that is an error and never a verdict.
+/// Each answer is made again at the position that its hint gives and has to have the lines of its group, and the
+/// journal has to have those of the last group. The groups are those of the answers to `works`, in their order,
+/// followed by that of the journal. `owners` gives the answer that made each entry, and the positions of the hints have
+/// passed the tests on numbers.
+///
+/// The result is false at the first answer that differs, and the answers after it are not made again. An answer whose
+/// hint is that memory ran out is right if it has the lines of that reply. All others are made, each at the cost of its
+/// command; if memory runs out for that, the result is an error and never a verdict.
 pub fn replay(
     alloc: Global,
     keys: Keys,
@@ -139,7 +143,7 @@ pub fn replay(
     groups: &[Group<'_>],
     owners: &Owners,
 ) -> Result<bool, NoMemory>
-    // the limits are at most those of a lake as it is shipped
+    // the limits are at most those of a lake in the program
     requires limits { IsWithin wide_limits limits }
     requires many { length groups.now ≡ length works.now + 1 }
     requires owners { AreOwners (take (length works.now) (map (λ group. hint_as group.hint) groups.now)) owners.now.indices.items }

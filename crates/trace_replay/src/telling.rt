@@ -1,4 +1,4 @@
-//! Whether an answer that was made again is as a trace tells.
+//! Tests whether an answer that was made again is as in a trace.
 ghost use Rattle.std.specs.Prelude.{◌≡◌, IfOk, false, true};
 ghost use Rattle.trace_laws.specs.Hints.{Wanting, hint_of};
 ghost use Rattle.trace_laws.specs.Passing.{same_hint};
@@ -12,7 +12,7 @@ use reply_text::push_traced_answer;
 use run_record::{Answered, By, Reply};
 use trace_hints::Hint;
 
-// What the text of a reply tells of where it was made.
+// Returns the hint that the text of a reply gives.
 fn hint_of(reply: &Reply) -> Hint
     ensures { hint_as result ≡ hint_of (reply_of reply.now) }
 {
@@ -51,7 +51,7 @@ fn hint_of(reply: &Reply) -> Hint
     }
 }
 
-/// Whether an answer tells that memory was wanting.
+/// Returns whether the hint is that memory ran out.
 pub(crate) fn is_wanting(hint: Hint) -> bool
     ensures yes { result ≡ true → hint_as hint ≡ Wanting }
     ensures no { result ≡ false → hint_as hint ≡ Wanting → ⊥ }
@@ -66,14 +66,15 @@ pub(crate) fn is_wanting(hint: Hint) -> bool
     }
 }
 
-// Whether two hints are the same.
+// Returns whether two hints are the same.
 fn is_same(hint: Hint, other: Hint) -> bool
     ensures { result ≡ same_hint (hint_as hint) (hint_as other) }
 {
     hint == other
 }
 
-/// Whether a reply tells this hint, and its answer has these lines. They are written into `scratch`, in the place of what it had.
+/// Returns whether a reply has this hint, and its answer has these lines. The lines of the answer are written to
+/// `scratch`, which is cleared first. Returns `Err(NoMemory)` if memory runs out for that.
 pub(crate) fn is_told(
     by: By,
     reply: Reply,

@@ -1,4 +1,4 @@
-//! Traces of small runs, as the checks of the repository have them, and with one thing changed.
+//! Tests with traces of small runs, like those in the checks of the repository, unchanged and with one thing changed.
 ghost use Rattle.std.specs.Prelude.{◌≡◌, ◌≤◌, IfOk};
 ghost use Rattle.script_model.specs.Lanes.{IsOfLanes};
 ghost use Rattle.commands.specs.Tasks.{IsTaskInRange};
@@ -15,17 +15,17 @@ use trace_ends::within_law;
 use trace_groups::cut_trace;
 use trace_numbers::find_owners;
 
-// The name that a text is.
+// Reads a text as a name.
 fn name(text: &str) -> Result<Name, Fail> {
     Ok(Name::read(text.as_bytes()).ok_or("no name")?)
 }
 
-// A body of these bytes.
+// Makes a body of these bytes.
 fn body(alloc: Global, text: &str) -> Result<Body, Fail> {
     Ok(Body::new(Vec::from_slice(alloc, text.as_bytes())?).ok_or("no body")?)
 }
 
-// A command.
+// Makes a command.
 fn command(number: u64, lane: u32, task: Task) -> Command
     requires lane { 1 ≤ lane }
     requires task { IsTaskInRange task }
@@ -34,7 +34,7 @@ fn command(number: u64, lane: u32, task: Task) -> Command
     Command { number, lane, task }
 }
 
-// The load of a table of one column with the key x, on lane 1.
+// Makes the load of a table of one column with the key x, on lane 1.
 fn load(alloc: Global, number: u64, table: &str) -> Result<Command, Fail>
     ensures { IfOk result (λ command. command.lane ≡ 1) }
 {
@@ -45,7 +45,7 @@ fn load(alloc: Global, number: u64, table: &str) -> Result<Command, Fail>
     Ok(command(number, 1, task))
 }
 
-// A search for that key, on lane 1.
+// Makes a search for that key, on lane 1.
 fn search(alloc: Global, number: u64) -> Result<Command, Fail>
     ensures { IfOk result (λ command. command.lane ≡ 1) }
 {
@@ -56,7 +56,7 @@ fn search(alloc: Global, number: u64) -> Result<Command, Fail>
     Ok(command(number, 1, task))
 }
 
-// Lane 1 loads two tables, searches them and drops the first.
+// Makes a batch in which lane 1 loads two tables, searches them and drops the first.
 fn drops(alloc: Global) -> Result<Batch, Fail>
     ensures { IfOk result (λ batch. IsOfLanes 2 batch) }
 {
@@ -70,7 +70,7 @@ fn drops(alloc: Global) -> Result<Batch, Fail>
     Ok(Batch::new(Vec::from_array(alloc, commands)?))
 }
 
-// Lane 1 loads two tables, merges all and searches; lane 2 replaces the first.
+// Makes a batch in which lane 1 loads two tables, merges all and searches, and lane 2 replaces the first table.
 fn merges(alloc: Global) -> Result<Batch, Fail>
     ensures { IfOk result (λ batch. IsOfLanes 2 batch) }
 {
@@ -88,7 +88,8 @@ fn merges(alloc: Global) -> Result<Batch, Fail>
     Ok(Batch::new(Vec::from_array(alloc, commands)?))
 }
 
-// Whether these groups are a trace of a batch. There are as many as the batch wants, and their positions are those of a run.
+// Returns whether these groups are a trace of a batch. There have to be as many as the batch requires, with the
+// positions of a run.
 fn replays(alloc: Global, batch: &Batch, groups: &[&str]) -> Result<bool, Fail>
     requires { IsOfLanes 2 batch.now }
 {
@@ -139,7 +140,7 @@ fn another_number_in_an_answer(rt: HostRuntime) -> Result<(), Fail> {
     Ok(())
 }
 
-// The tables are listed before the load or behind it.
+// The tables are listed before the load or after it.
 #[test]
 fn an_answer_of_another_position(rt: HostRuntime) -> Result<(), Fail> {
     let alloc = rt.alloc();
@@ -163,7 +164,7 @@ fn a_journal_that_lacks_a_line(rt: HostRuntime) -> Result<(), Fail> {
     Ok(())
 }
 
-// Memory may have been wanting for any command. The drop then adds no entry.
+// Memory may have run out for any command. The drop then adds no entry.
 #[test]
 fn want_of_memory(rt: HostRuntime) -> Result<(), Fail> {
     let alloc = rt.alloc();
@@ -180,7 +181,7 @@ fn want_of_memory(rt: HostRuntime) -> Result<(), Fail> {
 
 const REPLACED: &str = "4 replaced a columns 1 members 1 at 3\n";
 
-// The merge is planned before the replace and swapped in behind it, or planned behind it as well.
+// The merge is planned before the replace and swapped in after it, or also planned after it.
 #[test]
 fn a_merge_that_was_planned_before(rt: HostRuntime) -> Result<(), Fail> {
     let alloc = rt.alloc();

@@ -1,4 +1,4 @@
-//! What is replayed.
+//! The input of a replay.
 ghost use Rattle.std.specs.Prelude.{◌≡◌, ◌+◌, ◌<◌, [], get_or, length, map};
 ghost use Rattle.record_model.specs.Rules.{rules_with};
 ghost use Rattle.script_model.specs.Commands.{Command as CommandOf};
@@ -15,8 +15,8 @@ use std::marker::Model;
 use trace_groups::Group;
 use trace_hints::Hint;
 
-/// The rules of a run and what was to be done in it, and what its trace tells: a hint for each answer, and a group of lines for each, and
-/// one for the journal.
+/// The rules of a run, the work that was done in it, and its trace: a hint and a group of lines for each answer, and a
+/// group for the journal.
 #[derive(Drop)]
 pub(crate) struct Trace<'a> {
     keys: Keys,
@@ -42,7 +42,7 @@ impl<'a> Model for Trace<'a> {
 }
 
 impl<'a> Trace<'a> {
-    /// What is replayed of these.
+    /// Makes the input of a replay from its parts.
     pub(crate) fn new(
         keys: Keys,
         limits: Limits,
@@ -63,21 +63,21 @@ impl<'a> Trace<'a> {
         }
     }
 
-    /// The positions of the hints are those of one run.
+    /// States that the positions of the hints are those of one run.
     pub(crate) fn positions(&self)
         ensures { ArePositions self.now.commands self.now.hints }
     {
         let _works = self.works;
     }
 
-    /// By which match values are the same.
+    /// Returns the kind of keys by which values are compared.
     pub(crate) fn keys(&self) -> Keys
         ensures { result ≡ self.now.rules.keys }
     {
         self.keys
     }
 
-    /// What was to be done of an index.
+    /// Returns the work with this index.
     pub(crate) fn work(&self, index: usize) -> Work<'a>
         requires { index < length self.now.commands }
         ensures { (c : CommandOf) → get_or self.now.commands index c ≡ work_of result }
@@ -86,7 +86,7 @@ impl<'a> Trace<'a> {
         works[index]
     }
 
-    /// The hint of the answer of an index.
+    /// Returns the hint of the answer with this index.
     pub(crate) fn hint(&self, index: usize) -> Hint
         requires { index < length self.now.commands }
         ensures { hint_as result ≡ get_or self.now.hints index Wanting }
@@ -95,7 +95,7 @@ impl<'a> Trace<'a> {
         hints[index]
     }
 
-    /// The lines of the answer of an index, or those of the journal behind the last of them.
+    /// Returns the lines of the answer with this index, or, for the index after the last answer, those of the journal.
     pub(crate) fn text(&self, index: usize) -> &'a [u8]
         requires { index < length self.now.commands + 1 }
         ensures { result.now ≡ get_or self.now.texts index [] }
@@ -104,7 +104,7 @@ impl<'a> Trace<'a> {
         groups[index].text
     }
 
-    /// The index of the journal's lines.
+    /// Returns the index of the journal's lines.
     pub(crate) fn last(&self) -> usize
         ensures { result ≡ length self.now.commands }
     {

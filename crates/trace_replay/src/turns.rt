@@ -9,7 +9,7 @@ ghost use Rattle.trace_replay.specs.Stretches.{IsStretchAt};
 use trace_hints::Hint;
 use trace_numbers::{Plan, Turn};
 
-/// Whether a merge is planned at an earlier position than the one that its answer is made at.
+/// Returns whether a merge is planned at an earlier position than the one at which its answer is made.
 pub(crate) fn is_early(hint: Hint) -> bool
     ensures yes { result ≡ true → pinned_of (hint_as hint) < made_at (hint_as hint) }
     ensures no { result ≡ false → made_at (hint_as hint) ≤ pinned_of (hint_as hint) }
@@ -21,7 +21,7 @@ pub(crate) fn is_early(hint: Hint) -> bool
     }
 }
 
-/// The answers that are made where the journal is so long, of those that are sorted by that.
+/// Returns the turns of the answers that are made at position `at`, from turns that are sorted by position.
 pub(crate) fn turns_at(turns: &[Turn], at: u64) -> &[Turn]
     requires { IsNonDecreasingBy (λ turn. turn.at) turns.now }
     ensures { IsStretchAt (λ turn. turn.at) turns.now at result.now }
@@ -32,7 +32,7 @@ pub(crate) fn turns_at(turns: &[Turn], at: u64) -> &[Turn]
     &behind[..to]
 }
 
-/// The merges that are planned where the journal is so long, of those that are sorted by that.
+/// Returns the merges that are planned at position `at`, from plans that are sorted by position.
 pub(crate) fn plans_at(plans: &[Plan], at: u64) -> &[Plan]
     requires { IsNonDecreasingBy (λ plan. plan.at) plans.now }
     ensures { IsStretchAt (λ plan. plan.at) plans.now at result.now }

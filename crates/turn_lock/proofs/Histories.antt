@@ -1,4 +1,4 @@
--- Laws of histories: lists of entries, and whose they are.
+-- Laws of histories: lists of entries, and the callers they belong to.
 use Rattle.std.proofs.Common.{◌≡◌, ℕ, ◌≤◌, ◌⊎◌, Bool, true, false, List, [], ◌∷◌, ◌++◌, length, cond, ltb, refl, ap, sym, ◌∙◌, subst, arith, inl, inr, ⊎_elim, append_assoc, length-append, ne_eqb}
 use Rattle.std.specs.Prelude.{◌==◌, filter}
 use Rattle.std.proofs.lemmas.List.{append-nil}
@@ -36,7 +36,7 @@ prefix_length xs ys p = omega (arith, sym (ap length p.1) ∙ length-append xs p
 module _ {E : Type 0} (caller_of : E → ℕ) where
   -- ---- entries of others
 
-  -- where each caller is among two others' callers
+  -- if each caller is among the callers of one of two groups
   pub others_of_either : (callers some more : List ℕ) (xs : List E) → ((number : ℕ) → Has callers number → Has some number ⊎ Has more number) → IsOfOthers caller_of some xs → IsOfOthers caller_of more xs → IsOfOthers caller_of callers xs
   others_of_either callers some more [] either o p = tt
   others_of_either callers some more (x ∷ xs) either o p = ((λ h. ⊎_elim o.0 p.0 (either (caller_of x) h)), others_of_either callers some more xs either o.1 p.1)
@@ -85,7 +85,7 @@ module _ {E : Type 0} (caller_of : E → ℕ) where
   pub grows_self : (callers : List ℕ) (xs : List E) → Grows caller_of callers xs xs
   grows_self callers xs = record { rest = []; begins = append-nil xs; others = tt }
 
-  -- what grows twice has grown
+  -- what has grown twice has grown
   pub grows_trans : {callers : List ℕ} {xs ys zs : List E} → Grows caller_of callers xs ys → Grows caller_of callers ys zs → Grows caller_of callers xs zs
   grows_trans {callers} {xs} {ys} {zs} g h = record {
     rest = g.rest ++ h.rest;
@@ -93,23 +93,23 @@ module _ {E : Type 0} (caller_of : E → ℕ) where
     others = others_append callers g.rest h.rest g.others h.others;
   }
 
-  -- what has grown begins with what it was
+  -- what has grown begins with what it was before
   pub grows_prefix : {callers : List ℕ} {xs ys : List E} → Grows caller_of callers xs ys → IsPrefix xs ys
   grows_prefix g = (g.rest, g.begins)
 
-  -- said of fewer callers
+  -- the same for fewer callers
   pub grows_of_fewer : {callers : List ℕ} {xs ys : List E} (fewer : List ℕ) → ((number : ℕ) → Has fewer number → Has callers number) → Grows caller_of callers xs ys → Grows caller_of fewer xs ys
   grows_of_fewer {callers} fewer among g = record { rest = g.rest; begins = g.begins; others = others_of_either fewer callers callers g.rest (λ n h. inl (among n h)) g.others g.others }
 
-  -- what has grown, and has then grown for these callers and maybe more, has grown
+  -- what has grown, and has then grown for at least these callers, has grown
   pub grows_then : {callers later : List ℕ} {xs ys zs : List E} → ((number : ℕ) → Has callers number → Has later number) → Grows caller_of callers xs ys → Grows caller_of later ys zs → Grows caller_of callers xs zs
   grows_then {callers} {later} among g h = grows_trans g (grows_of_fewer callers among h)
 
-  -- said of no callers
+  -- the same for no callers
   pub grows_of_none : {callers : List ℕ} {xs ys : List E} → Grows caller_of callers xs ys → Grows caller_of [] xs ys
   grows_of_none g = record { rest = g.rest; begins = g.begins; others = others_of_none g.rest }
 
-  -- one entry more, of another caller
+  -- one more entry, of another caller
   pub grows_by_entry : {callers : List ℕ} {xs ys : List E} (entry : E) → Grows caller_of callers xs ys → ¬ (Has callers (caller_of entry)) → Grows caller_of callers xs (ys ++ entry ∷ [])
   grows_by_entry {callers} {xs} {ys} entry g other = record {
     rest = g.rest ++ entry ∷ [];
@@ -117,7 +117,7 @@ module _ {E : Type 0} (caller_of : E → ℕ) where
     others = others_append callers g.rest (entry ∷ []) g.others (other, tt);
   }
 
-  -- of two beginnings of one list the longer grows from the shorter,
+  -- of two beginnings of one list, the longer one grows from the shorter one,
   pub grows_between : (callers : List ℕ) (xs ys whole : List E) → Grows caller_of callers xs whole → IsPrefix ys whole → length xs ≤ length ys → Grows caller_of callers xs ys
   grows_between callers [] ys whole g p le = record { rest = ys; begins = refl; others = others_front callers ys p.0 (subst (IsOfOthers caller_of callers) (g.begins ∙ sym p.1) g.others) }
   grows_between callers (x ∷ xs) [] whole g p le = absurd (omega arith)
@@ -127,14 +127,14 @@ module _ {E : Type 0} (caller_of : E → ℕ) where
       let r = grows_between callers xs ys zs record { rest = g.rest; begins = cc (g.begins); others = g.others } (p.0, cc (p.1)) (omega arith) in
       record { rest = r.rest; begins = cc (heads, r.begins); others = r.others }
 
-  -- and what comes behind the longer comes behind the shorter
+  -- and what follows the longer one is a part of what follows the shorter one
   pub others_behind : (callers : List ℕ) (xs ys whole : List E) (p : IsPrefix ys whole) → Grows caller_of callers xs whole → length xs ≤ length ys → IsOfOthers caller_of callers p.0
   others_behind callers [] ys whole p g le = others_back callers ys p.0 (subst (IsOfOthers caller_of callers) (g.begins ∙ sym p.1) g.others)
   others_behind callers (x ∷ xs) [] whole p g le = absurd (omega arith)
   others_behind callers (x ∷ xs) (y ∷ ys) [] p g le = absurd (cc (p.1))
   others_behind callers (x ∷ xs) (y ∷ ys) (z ∷ zs) p g le = others_behind callers xs ys zs (p.0, cc (p.1)) record { rest = g.rest; begins = cc (g.begins); others = g.others } (omega arith)
 
-  -- The longer of two beginnings of one list: the list grows from it, of both groups of callers, and it grows from each.
+  -- The longest of two beginnings of one list: the list grows from it, for both groups of callers, and it grows from each beginning.
   pub record IsLonger (callers some more : List ℕ) (xs ys whole longest : List E) : Type 0 where
     pub begins : Grows caller_of callers longest whole
     pub from_first : Grows caller_of some xs longest
@@ -156,7 +156,7 @@ module _ {E : Type 0} (caller_of : E → ℕ) where
     pub longer_grows : IsLonger callers some more xs ys whole (longer xs ys)
     longer_grows = chosen (ltb (length xs) (length ys)) refl
 
-  -- the entries of each of the callers are those that it had
+  -- the entries of each of the callers are unchanged
   filter_others : (callers : List ℕ) (xs : List E) (number : ℕ) → Has callers number → IsOfOthers caller_of callers xs → filter (λ entry. caller_of entry == number) xs ≡ []
   filter_others callers [] number h o = refl
   filter_others callers (x ∷ xs) number h o =
@@ -167,7 +167,7 @@ module _ {E : Type 0} (caller_of : E → ℕ) where
       let own : E → Bool = λ entry. caller_of entry == number in
       ap (filter own) (sym g.begins) ∙ (filter-append own xs g.rest ∙ (ap (λ l. filter own xs ++ l) (filter_others callers g.rest number h g.others) ∙ append-nil (filter own xs)))
 
-  -- and after an addition, those that it had with the new one
+  -- after an addition they are those from before and the new one
   pub filter_added : {callers : List ℕ} {before after : List E} {entry : E} (number : ℕ) → Has callers number → Adds caller_of callers before entry after
       → filter (λ e. caller_of e == number) after ≡ filter (λ e. caller_of e == number) (before ++ entry ∷ [])
   filter_added {callers} {before} {after} {entry} number h a =

@@ -1,4 +1,4 @@
--- The rule is kept where one seat takes in another, which is spent.
+-- The rule is kept when one seat takes in another, which is then spent.
 use Rattle.std.proofs.Common.{◌≡◌, ◌≢◌, ◌⊎◌, ℕ, eqb, false, true≢false, List, ◌++◌, length, set, None, refl, sym, ap, ◌∙◌, inl, inr, ⊎_elim, arith}
 use mathlib.Core.Option as maybe
 use mathlib.Core.List.{IsPrefix}
@@ -13,7 +13,7 @@ use Rattle.turn_lock.proofs.Histories.{has_append, has_left, has_right, others_o
 use Rattle.turn_lock.proofs.ViewLists.{some_joined, each_set}
 use Rattle.turn_lock.proofs.Looks.{Rule, not_held, not_given}
 
--- ---- the callers of a joined view are those of the one and of the other
+-- ---- the callers of a joined view are those of both views
 
 module _ {E : Type 0} (v w : View E) (number : ℕ) where
   has_either : Has (numbers_of (joined_view v w)) number → Has (numbers_of v) number ⊎ Has (numbers_of w) number
@@ -27,12 +27,12 @@ module _ {E : Type 0} (v w : View E) (number : ℕ) where
   has_theirs : Has (numbers_of w) number → Has (numbers_of (joined_view v w)) number
   has_theirs h = has_right (own_number v.caller) (numbers_of w ++ v.ended) number (has_left (numbers_of w) v.ended number h)
 
--- who begins the whole list behind a list that is the whole is the whole
+-- if a list is the whole, then a list that it begins, and that begins the whole, is the whole as well
 whole_behind : {A : Type 0} (xs ys whole : List A) → IsPrefix xs ys → IsPrefix ys whole → xs ≡ whole → ys ≡ whole
 whole_behind xs ys whole p q e = prefix_whole ys whole q (let a = prefix_length xs ys p in let b : length xs ≡ length whole = ap length e in omega arith)
 
 module _ {V E : Type 0} (list : V → List E) (caller_of : E → ℕ) where
-  -- a spent view fits anywhere
+  -- a spent view always fits
   spent_fits : (account : Account E) (seat : ℕ) → Fits caller_of account seat spent_view
   spent_fits account seat = record {
     seen_begins = record { rest = account.history; begins = refl; others = others_of_none caller_of account.history };
@@ -73,7 +73,7 @@ module _ {V E : Type 0} (list : V → List E) (caller_of : E → ℕ) where
       both_lists : IsLonger caller_of (numbers_of (joined_view v w)) (numbers_of v) (numbers_of w) v.seen w.seen account.history (joined_view v w).seen
       both_lists = longer_grows caller_of (numbers_of (joined_view v w)) (numbers_of v) (numbers_of w) v.seen w.seen account.history (has_either v w) f.seen_begins g.seen_begins
 
-      -- who of the two has seen all has it still
+      -- if one of the two has seen everything, the joined view has too
       sees_mine : v.seen ≡ account.history → (joined_view v w).seen ≡ account.history
       sees_mine e = whole_behind v.seen (joined_view v w).seen account.history (grows_prefix caller_of both_lists.from_first) (grows_prefix caller_of both_lists.begins) e
 

@@ -39,7 +39,7 @@ module _ {V E : Type 0} (list : V → List E) (caller_of : E → ℕ) where
     gives = λ count h. (sym (same_number 1 count h), refl);
   }
 
-  -- and no other is there
+  -- and there is no other
   each_first : (seat : ℕ) (v : View E) → get_elem? (opening_view {E = E} ∷ []) seat ≡ maybe.some v → Fits caller_of first_account seat v
   each_first zero v e = subst (Fits caller_of first_account 0) (maybe.some-injective _ _ e) first_fits
   each_first (suc seat) v e = absurd (maybe.some-ne-none v (sym e))
@@ -60,7 +60,7 @@ module _ {V E : Type 0} (list : V → List E) (caller_of : E → ℕ) where
 
   -- ---- a look
 
-  -- the rule tells a seat what it says of the seat's view
+  -- the rule gives a seat what it says of the seat's view
   tells : (s : State (Option V) (View E)) (r : Rule s) (me : ℕ) (v : View E) → get_elem? s.views me ≡ maybe.some v → IsTold caller_of v
   tells s r me v at = let f = r.each_fits me v at in record {
     earlier = f.earlier_begin;
@@ -73,7 +73,7 @@ module _ {V E : Type 0} (list : V → List E) (caller_of : E → ℕ) where
   holder_counts s r me v at holds = let t = (r.each_fits me v at).holds holds in
       ap (λ (words : List ℕ). get_or words 0 0) r.word_counts ∙ (ap (λ held. 2 * length r.account.history + held_bit held) t.0 ∙ ap (λ seen. 2 * length seen + 1) (sym t.2))
 
-  -- the view without its earlier lists fits too
+  -- the view without its earlier lists fits as well
   settles : (account : Account E) (seat : ℕ) (v : View E) → Fits caller_of account seat v → Fits caller_of account seat (settled_view v)
   settles account seat v f = record { seen_begins = f.seen_begins; earlier_begin = tt; owns = f.owns; holds = f.holds; gives = f.gives }
 

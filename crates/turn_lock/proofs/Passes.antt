@@ -22,7 +22,7 @@ module _ {V E : Type 0} (list : V → List E) (caller_of : E → ℕ) where
   follows_own v caller after is f = ⊎_elim (λ (same : after ≡ v.seen). inl same)
       (λ (one : (entry : E) × (caller_of entry ≡ caller) × (after ≡ v.seen ++ entry ∷ [])). inr (one.0, is ∙ ap (λ (n : ℕ). Some n) (sym one.1), one.2)) f
 
-  -- the list after an entry of a given number has entries of given numbers alone
+  -- the list after adding an entry of a given number has entries of given numbers only
   given_follows : (caller given : ℕ) (before after : List E) → Follows caller_of caller before after → IsOfGiven caller_of given before → caller < given → IsOfGiven caller_of given after
   given_follows caller given before after f b l = ⊎_elim (λ (e : after ≡ before). subst (IsOfGiven caller_of given) (sym e) b)
       (λ (one : (entry : E) × (caller_of entry ≡ caller) × (after ≡ before ++ entry ∷ [])).
@@ -56,7 +56,7 @@ module _ {V E : Type 0} (list : V → List E) (caller_of : E → ℕ) where
 
   -- ---- taking
 
-  -- who won has the slot in hand,
+  -- after a win the slot is in hand,
   pub hand_of : (s : Step (Option V)) (before after : Seated list caller_of) (found : ℕ) → Takes list caller_of s before found after → found ≡ s.first → (content : Option V) × (after.1 ≡ (0, content) ∷ rest after.1)
   hand_of s before after found t is = let w = t.0 is in (Some w.value, ap (λ (z : Seated list caller_of). z.1) w.holds ∙ ap (λ (z : Seated list caller_of). (0, Some w.value) ∷ rest z.1) (sym w.holds))
 
@@ -64,7 +64,7 @@ module _ {V E : Type 0} (list : V → List E) (caller_of : E → ℕ) where
   first_content [] = None
   first_content (first ∷ others) = first.1
 
-  -- and the value, once it is taken out of it
+  -- and so is the value, once it is taken out of the slot
   pub won : (s : Step (Option V)) (before after last : Seated list caller_of) (found : ℕ) (content : Option V) → Takes list caller_of s before found after → found ≡ s.first → before.1 ≡ [] → after.1 ≡ (0, content) ∷ rest after.1
       → last ≡ (after.0, (0, None) ∷ rest after.1) → (value : V) × (content ≡ Some value) × HasWon list caller_of before.0 value last
   won s before after last found content t is empty here out = let w = t.0 is in let value : V = w.value in (
@@ -77,6 +77,6 @@ module _ {V E : Type 0} (list : V → List E) (caller_of : E → ℕ) where
     },
   )
 
-  -- who lost is as before
+  -- after a loss nothing has changed
   pub lost : (s : Step (Option V)) (before after : Seated list caller_of) (found : ℕ) → Takes list caller_of s before found after → found ≢ s.first → before.0.earlier ≡ [] → after ≡ before
   lost s before after found t miss told = t.1 miss ∙ (λ i. (view_of before.0.caller before.0.ended before.0.given before.0.seen (sym told i) before.0.holds, before.1))

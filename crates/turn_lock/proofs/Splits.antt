@@ -1,4 +1,4 @@
--- The rule is kept where a view is cut in two: a note is cut off, or a new pass with its number.
+-- The rule is kept when a view is split in two: a note is split off, or a new pass with its number.
 use Rattle.std.proofs.Common.{◌≡◌, ◌≢◌, ℕ, ◌+◌, ◌<◌, eqb, eq-eqb, ne_eqb, false, List, [], ◌++◌, length, set, Some, None, refl, sym, ap, ◌∙◌, subst, inl, ⊎_elim, arith}
 use Rattle.std.specs.Prelude.{cond}
 use mathlib.Core.Logic.{dite}
@@ -48,12 +48,12 @@ module _ {V E : Type 0} (list : V → List E) (caller_of : E → ℕ) where
   numbered account n last = record { history = account.history; given = n + 1; opener = account.opener; owner = λ number. cond (eqb number n) last (account.owner number); held = account.held; holder = account.holder }
 
   module _ (account : Account E) (n last : ℕ) (now : n ≡ account.given) where
-    -- who owns a number that was given before owns it still
+    -- the owner of a number that was given before still owns it
     owns_still : (seat number : ℕ) → (number < account.given) × (account.owner number ≡ seat) → (number < n + 1) × ((numbered account n last).owner number ≡ seat)
     unfolding numbered
     owns_still seat number o = let l = o.0 in (omega arith, subst (λ b. cond b last (account.owner number) ≡ seat) (sym (ne_eqb number n (λ e. omega arith))) o.1)
 
-    -- the new number is the new seat's
+    -- the new number belongs to the new seat
     owns_new : (number : ℕ) → number ≡ n → (numbered account n last).owner number ≡ last
     unfolding numbered
     owns_new number e = subst (λ b. cond b last (account.owner number) ≡ last) (sym (eq-eqb number n e)) refl

@@ -1,4 +1,4 @@
--- The rule is kept where the lock is won, where the holder's entry is added to the history, and where the lock is freed.
+-- The rule is kept when the lock is won, when the holder's entry is added to the history, and when the lock is freed.
 use Rattle.std.proofs.Common.{◌≡◌, ◌≢◌, ℕ, ◌+◌, ◌*◌, eqb, Bool, true, false, true≢false, List, [], ◌∷◌, ◌++◌, length, set, get_or, Some, None, refl, sym, ap, ◌∙◌, subst, inl, ⊎_elim, arith, length-append}
 use Rattle.std.specs.declared.option.Option.{Option}
 use mathlib.Core.Option as maybe
@@ -43,7 +43,7 @@ module _ {V E : Type 0} (list : V → List E) (caller_of : E → ℕ) where
       gives = f.gives;
     }
 
-    -- nobody else holds it
+    -- no other seat holds it
     losers_fit : (seat : ℕ) (u : View E) → Fits caller_of account seat u → Fits caller_of (with_holder account account.history me) seat u
     unfolding with_holder
     losers_fit seat u f = record {
@@ -123,7 +123,7 @@ module _ {V E : Type 0} (list : V → List E) (caller_of : E → ℕ) where
       gives = f.gives;
     }
 
-    -- to all others the entry is another caller's
+    -- for all other seats the entry is another caller's
     watchers_fit : (seat : ℕ) (u : View E) → seat ≢ me → Fits caller_of account seat u → Fits caller_of (with_holder account (list value) me) seat u
     unfolding with_holder
     watchers_fit seat u far f = record {
@@ -212,7 +212,7 @@ module _ {V E : Type 0} (list : V → List E) (caller_of : E → ℕ) where
 
   -- ---- giving back
 
-  -- the holder has looked, and the word shows that the value in hand has one entry more
+  -- the holder has looked, and the word shows that the value in hand has one more entry
   pub may_commit : (slots me : ℕ) (before after : Seated list caller_of) (count found : ℕ) → Offers list caller_of count before → Looks list caller_of before found after → found ≢ 2 * count + 1
       → Allows (Rule list caller_of) slots me after 0 (λ _. 2 * count + 1) (λ _. Commits list caller_of (step slots 0 (2 * count + 1) 0 maybe.none) after (2 * count + 1))
   may_commit slots me before after count found o looked more =
@@ -228,7 +228,7 @@ module _ {V E : Type 0} (list : V → List E) (caller_of : E → ℕ) where
   has_committed before after last s stored looked tells value h =
       tells value (ap (λ (z : Seated list caller_of). z.1) looked ∙ h) ∙ (λ i. (holding_view (looked i).0 (list value), (ap (λ (z : Seated list caller_of). z.1) looked ∙ h) i))
 
-  -- the holder has looked, and the word shows that the value in hand has no entry more
+  -- the holder has looked, and the word shows that the value in hand has no more entries
   pub has_none_more : (before after : Seated list caller_of) (count found : ℕ) → Offers list caller_of count before → Looks list caller_of before found after → found ≡ 2 * count + 1
       → (value : V) → before.1 ≡ (0, Some value) ∷ [] → after ≡ (holding_view before.0 (list value), (0, Some value) ∷ [])
   has_none_more before after count found o looked none value h =

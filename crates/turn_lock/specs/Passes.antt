@@ -1,4 +1,4 @@
--- What contracts see of a pass and of a note, and what a call makes of them.
+-- What contracts see of a pass and of a note, and the result of each call for them.
 use Rattle.std.specs.Prelude.{ℕ, pred, ◌≡◌, ◌+◌, ◌<◌, ◌^◌, ◌⊎◌, Bool, true, false, List, [], ◌∷◌, ◌++◌, length, Some, None, IfSome}
 use Rattle.std.specs.declared.option.Option.{Option}
 use Rattle.atomic_table.specs.Seated.{TableId}
@@ -20,7 +20,7 @@ pub record Known (E : Type 0) : Type 0 where
   pub seen : List E
   -- whether it holds a turn
   pub holds : Bool
-  -- of the pass that came with the lock: how many caller numbers were given. No other pass gives any
+  -- for the pass that came with the lock: how many caller numbers were given. No other pass gives any
   pub given : Option ℕ
   -- how many are left for it to give
   pub left : ℕ
@@ -37,11 +37,11 @@ module _ {E : Type 0} where
   abbrev pub noted : TableId → List E → Noted E
   noted lock seen = record { lock = lock; seen = seen }
 
-  -- the callers of a pass: its own number, and those that ended into it. All their entries stand in what it has seen
+  -- the callers of a pass: its own number, and those that ended into it. What it has seen contains all their entries
   abbrev pub callers_of : Known E → List ℕ
   callers_of pass = pass.caller ∷ pass.ended
 
-  -- the pass after it has seen this list, with a turn or without
+  -- the pass after it has seen this list, with or without a turn
   abbrev pub after_seeing : Known E → List E → Bool → Known E
   after_seeing pass seen holds = known pass.lock pass.caller pass.ended seen holds pass.given pass.left
 
@@ -57,13 +57,13 @@ module _ {E : Type 0} where
   abbrev pub new_pass_of : Known E → ℕ → Known E
   new_pass_of pass number = known pass.lock number [] pass.seen false None 0
 
--- what a pass has in hand: the slot, which it keeps empty while it has a turn
+-- what a pass has in hand: the slot, which it keeps empty, while it has a turn, and otherwise nothing
 abbrev pub slots_in_hand : {S : Type 0} → Bool → S → List (ℕ × S)
 slots_in_hand true content = (0, content) ∷ []
 slots_in_hand false content = []
 
 module _ {E : Type 0} (caller_of : E → ℕ) where
-  -- what a holder may give back: the list that it has seen, with nothing more or with one entry more of its own
+  -- what a holder may give back: the list that it has seen, unchanged or with one more entry of its own
   abbrev pub FollowsOwn : View E → List E → Type 0
   FollowsOwn v after = (after ≡ v.seen) ⊎ ((entry : E) × (v.caller ≡ Some (caller_of entry)) × (after ≡ v.seen ++ entry ∷ []))
 
@@ -83,17 +83,17 @@ module _ {V E : Type 0} (list : V → List E) (caller_of : E → ℕ) where
     pub counts : count ≡ length (list value)
 
 module _ {V E : Type 0} (caller_of : E → ℕ) where
-  -- what each pass keeps
+  -- what holds of each pass at all times
   pub record IsPass (seat : Seat (Option V) (View E)) (caller : ℕ) (given : Option ℕ) (left : ℕ) : Type 0 where
-    -- its view has its number and its count of numbers given
+    -- its view has its number and its count of the numbers given
     pub caller_is : seat.me.0.caller ≡ Some caller
     pub given_is : seat.me.0.given ≡ given
-    -- nothing is left to tell of earlier lists
+    -- there is nothing left to learn about earlier lists
     pub told : seat.me.0.earlier ≡ []
     -- it has the slot in hand exactly while it holds a turn
     pub hand : seat.me.1 ≡ slots_in_hand seat.me.0.holds None
-    -- the numbers given and those left fit a `u32`
+    -- the sum of the numbers given and those left fits a `u32`
     pub room : IfSome given (λ count. count + left < 2 ^ 32)
-    -- one who gives numbers has seen entries of given numbers alone, its own among them
+    -- a pass that gives numbers has seen only entries of given numbers, and its own number is one of these
     pub seen_given : (count : ℕ) → given ≡ Some count → IsOfGiven caller_of count seat.me.0.seen
     pub caller_given : (count : ℕ) → given ≡ Some count → caller < count

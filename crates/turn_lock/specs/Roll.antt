@@ -1,4 +1,4 @@
--- Whose an entry of a roll is.
+-- Which caller an entry of a roll belongs to.
 use Rattle.std.specs.Prelude.{ℕ}
 
 -- an entry is the number of the caller that signed

@@ -1,19 +1,20 @@
--- The history rule of the lock's table, and what each kind of step on the table does and tells.
--- The table has one word and one slot. The word counts the history: it is twice its length, and one more while the lock is held. The slot has the value.
+-- The history rule of the lock's table, and what each kind of step on the table does and what a seat learns from it.
+-- The table has one word and one slot. The word counts the history: it is twice its length, and one more while the lock
+-- is held. The slot holds the value.
 -- Each pass and each note is a seat of the table. What a seat knows is its view.
 --
--- The kinds of step, n being the length of the history before it:
+-- The kinds of step, where n is the length of the history before the step:
 --
---   kind     the word              what the step changes besides
---   look     stands                the seat is told of its earlier lists, which are forgotten
+--   kind     the word              what else the step changes
+--   look     unchanged             the seat learns of its earlier lists, which are then forgotten
 --   take     2n to 2n + 1          the seat has the slot in hand, holds the lock, and has seen the whole history
 --   commit   2n + 1 to 2n + 3      the history, and what the holder has seen, gets one entry of the holder's own
---   release  2n + 1 to 2n          the slot goes home, and the seat holds the lock no longer
---   note     stands                a new seat has seen as much, and has no caller
---   number   stands                a new seat has the next number and has seen as much; the opener counts it
---   join     stands                a seat has seen the longer of two lists and has the callers of both; the other seat is spent
+--   release  2n + 1 to 2n          the slot goes home, and the seat no longer holds the lock
+--   note     unchanged             a new seat has seen as much, and has no caller
+--   number   unchanged             a new seat has the next number and has seen as much; the opener counts it
+--   join     unchanged             a seat has the longer of two lists and the callers of both; the other seat is spent
 --
--- Between take and release the value goes from the slot in hand to the holder and back, which is no step on the word.
+-- Between take and release the value goes from the slot in hand to the holder and back; this is no step on the word.
 use Rattle.std.specs.Prelude.{ℕ, ◌≡◌, ◌≢◌, ◌+◌, ◌*◌, ◌<◌, Bool, true, false, List, [], ◌∷◌, ◌++◌, length, Some, None}
 use Rattle.std.specs.declared.option.Option.{Option}
 use mathlib.Core.Option as maybe
@@ -28,12 +29,12 @@ abbrev pub held_bit : Bool → ℕ
 held_bit true = 1
 held_bit false = 0
 
--- the number after the one that is there
+-- the successor of the number, if there is one
 abbrev pub next_number : Option ℕ → Option ℕ
 next_number None = None
 next_number (Some number) = Some (number + 1)
 
--- the number that is there, as a list
+-- the number as a list, which is empty if there is none
 abbrev pub own_number : Option ℕ → List ℕ
 own_number None = []
 own_number (Some number) = number ∷ []
@@ -53,11 +54,11 @@ module _ {E : Type 0} where
   abbrev pub opening_view : View E
   opening_view = view_of (Some 0) [] (Some 1) [] [] false
 
-  -- the view of a seat that is spent: it knows nothing
+  -- the view of a spent seat: it knows nothing
   abbrev pub spent_view : View E
   spent_view = view_of None [] None [] [] false
 
-  -- the view of a note of what this one has seen
+  -- the view of a note of what this view has seen
   abbrev pub note_view : View E → View E
   note_view v = view_of None [] None v.seen [] false
 
@@ -69,15 +70,16 @@ module _ {E : Type 0} where
   abbrev pub numbered_view : View E → View E
   numbered_view v = view_of v.given [] None v.seen [] false
 
-  -- the view after it took in another one, whose callers it has from then on. Both lists from before are kept, each with the callers of its view
+  -- the view after it took in another one, whose callers it has from then on. Both lists from before are kept, each
+  -- with the callers of its view
   abbrev pub joined_view : View E → View E → View E
   joined_view v w = view_of v.caller (numbers_of w ++ v.ended) v.given (longer v.seen w.seen) (earlier_of (numbers_of v) v.seen ∷ earlier_of (numbers_of w) w.seen ∷ []) v.holds
 
-  -- the view when nothing is left to tell of earlier lists
+  -- the view when nothing is left to learn about earlier lists
   abbrev pub settled_view : View E → View E
   settled_view v = view_of v.caller v.ended v.given v.seen [] v.holds
 
-  -- the view of the holder, who has seen these entries
+  -- the view of the holder, which has seen these entries
   abbrev pub holding_view : View E → List E → View E
   holding_view v seen = view_of v.caller v.ended v.given seen [] true
 
@@ -85,9 +87,9 @@ module _ {E : Type 0} where
   abbrev pub free_view : View E → View E
   free_view v = view_of v.caller v.ended v.given v.seen [] false
 
--- What the rule says that there is beside the table. It is written nowhere.
+-- What the rule assumes beside the table. It is stored nowhere.
 pub record Account (E : Type 0) : Type 0 where
-  -- the history: the list of the value whenever it is at home
+  -- the history: the list of the value whenever it is in the slot
   pub history : List E
   -- how many caller numbers were given, from 0 on
   pub given : ℕ
@@ -97,11 +99,12 @@ pub record Account (E : Type 0) : Type 0 where
   pub owner : ℕ → ℕ
   -- whether the lock is held
   pub held : Bool
-  -- the seat that holds it then
+  -- the seat that then holds it
   pub holder : ℕ
 
 module _ {E : Type 0} (caller_of : E → ℕ) where
-  -- each earlier list begins the list seen, and what was seen behind it is of other callers than those of its view
+  -- each earlier list begins the list `seen`, and the rest of that list is of callers other than those of the earlier
+  -- view
   abbrev pub EarlierGrow : List E → List (Earlier E) → Type 0
   EarlierGrow seen [] = Unit {0}
   EarlierGrow seen (first ∷ others) = Grows caller_of first.callers first.seen seen × EarlierGrow seen others
@@ -110,21 +113,22 @@ module _ {E : Type 0} (caller_of : E → ℕ) where
   pub record Fits (account : Account E) (seat : ℕ) (v : View E) : Type 0 where
     -- the list seen begins the history, in which what follows is of other callers
     pub seen_begins : Grows caller_of (numbers_of v) v.seen account.history
-    -- each list kept at a join begins the list seen, in which what follows is of other callers than it had
+    -- each list kept at a join begins the list seen, in which what follows is of callers other than those kept with it
     pub earlier_begin : EarlierGrow v.seen v.earlier
-    -- each number of the view was given, and is this seat's alone
+    -- each number of the view was given, and belongs to this seat alone
     pub owns : (number : ℕ) → Has (numbers_of v) number → (number < account.given) × (account.owner number ≡ seat)
-    -- a view that holds is the holder's, of a lock that is held, and has seen the whole history
+    -- a view that holds is the holder's, the lock is then held, and the view has seen the whole history
     pub holds : v.holds ≡ true → (account.held ≡ true) × (account.holder ≡ seat) × (v.seen ≡ account.history)
     -- a view that has a count of numbers given is the opener's, and the count is right
     pub gives : (count : ℕ) → v.given ≡ Some count → (count ≡ account.given) × (account.opener ≡ seat)
 
-  -- what a look tells of a view: what its earlier lists begin, and that the one who gives numbers has seen no other
+  -- what a look shows of a view: that its earlier lists begin what it has seen, and that a view that gives numbers has
+  -- seen only given ones
   pub record IsTold (v : View E) : Type 0 where
     pub earlier : EarlierGrow v.seen v.earlier
     pub given : (count : ℕ) → v.given ≡ Some count → IsOfGiven caller_of count v.seen
 
--- some seat has such a view
+-- some seat has a view with this property
 abbrev pub SomeSeat : {W : Type 0} → (ℕ → W → Type 0) → List W → Type 0
 SomeSeat {W} P views = (seat : ℕ) × (v : W) × (get_elem? views seat ≡ maybe.some v) × P seat v
 
@@ -142,7 +146,7 @@ module _ {E : Type 0} (account : Account E) where
   IsOwner number seat v = (account.owner number ≡ seat) × Has (numbers_of v) number
 
 module _ {V E : Type 0} (list : V → List E) where
-  -- what is at home: nothing while the lock is held, and else a value whose list is the history
+  -- what is in the slot: nothing while the lock is held, and otherwise a value whose list is the history
   abbrev pub HasHome : Bool → List E → List (maybe.Option (Option V)) → Type 0
   HasHome true history homes = homes ≡ maybe.none ∷ []
   HasHome false history homes = (value : V) × (homes ≡ maybe.some (Some value) ∷ []) × (list value ≡ history)
@@ -150,7 +154,8 @@ module _ {V E : Type 0} (list : V → List E) where
 module _ {V E : Type 0} (list : V → List E) (caller_of : E → ℕ) where
   -- The history rule. It holds of the table between any two steps.
   pub record HistoryRule (s : State (Option V) (View E)) : Type 0 where
-    -- There are a history, a count of numbers given, a seat that gives them, an owner of each, and whether the lock is held and by whom, such that:
+    -- There are a history, a count of numbers given, a seat that gives them, an owner of each, and whether the lock is
+    -- held and by whom, such that:
     pub account : Account E
     -- the word is twice the length of the history, and one more while the lock is held;
     pub word_counts : s.words ≡ (2 * length account.history + held_bit account.held) ∷ []
@@ -162,9 +167,9 @@ module _ {V E : Type 0} (list : V → List E) (caller_of : E → ℕ) where
     pub longest_seen : SomeSeat (SeesAll account) s.views
     -- while the lock is held, one seat holds it;
     pub one_holds : account.held ≡ true → SomeSeat (IsHolder account) s.views
-    -- one seat has a count of the numbers given;
+    -- one seat has the count of the numbers given;
     pub one_gives : SomeSeat (IsOpener account) s.views
-    -- each number given is of one seat;
+    -- each given number belongs to one seat;
     pub one_owns : (number : ℕ) → number < account.given → SomeSeat (IsOwner account number) s.views
     -- and each view fits.
     pub each_fits : (seat : ℕ) (v : View E) → get_elem? s.views seat ≡ maybe.some v → Fits caller_of account seat v
@@ -173,7 +178,8 @@ module _ {V E : Type 0} (list : V → List E) (caller_of : E → ℕ) where
   abbrev pub Seated : Type 0
   Seated = Me (Option V) (View E)
 
-  -- A look: the word stands, and so does the view, but that earlier lists are told of once. The holder's word counts what it has seen.
+  -- A look: the word is unchanged, and so is the view, except that its earlier lists are reported once and then
+  -- dropped. The word found by the holder counts what the holder has seen.
   pub record Looks (before : Seated) (found : ℕ) (after : Seated) : Type 0 where
     pub settles : after ≡ (settled_view before.0, before.1)
     pub told : IsTold caller_of before.0
@@ -182,18 +188,20 @@ module _ {V E : Type 0} (list : V → List E) (caller_of : E → ℕ) where
   abbrev pub Peeks : Step (Option V) → Seated → ℕ → Seated → Type 0
   Peeks s before found after = Looks before found after
 
-  -- The lock was won: the word went from even to odd, and the seat has the slot in hand. It has seen the value's whole list, which begins with what it had seen and goes on with other callers' entries.
+  -- The lock was won: the word went from even to odd, and the seat has the slot in hand. It has seen the value's whole
+  -- list, which begins with what it had seen before and goes on with other callers' entries.
   pub record Wins (before after : Seated) : Type 0 where
     pub value : V
     pub holds : after ≡ (holding_view before.0 (list value), (0, Some value) ∷ before.1)
     pub grows : Grows caller_of (numbers_of before.0) before.0.seen (list value)
     pub given : (count : ℕ) → before.0.given ≡ Some count → IsOfGiven caller_of count (list value)
 
-  -- a compare-exchange that takes the lock where the word is the one expected, and else is a look
+  -- a compare-exchange that takes the lock if the word is the expected one, and otherwise is a look
   abbrev pub Takes : Step (Option V) → Seated → ℕ → Seated → Type 0
   Takes s before found after = (found ≡ s.first → Wins before after) × (found ≢ s.first → after ≡ (settled_view before.0, before.1))
 
-  -- the holder's commit: the word grows by 2, and the history is the list of the value in hand, with one entry more of the holder's own
+  -- the holder's commit: the word grows by 2, and the history is the list of the value in hand, which has one more
+  -- entry, of the holder's own
   abbrev pub Commits : Step (Option V) → Seated → ℕ → Seated → Type 0
   Commits s before stored after = (value : V) → before.1 ≡ (0, Some value) ∷ [] → after ≡ (holding_view before.0 (list value), before.1)
 

@@ -1,7 +1,7 @@
-//! A lock that counts the history of the value behind it.
+//! A lock that counts the history of the value that it holds.
 //!
-//! The value stands for a list of entries, each of one caller. A caller has a [`Pass`], which knows a beginning of
-//! that list. It takes a [`Turn`] at the value, adds an entry or none, and gives the turn back.
+//! The model of the value is a list of entries, each belonging to one caller. A caller has a [`Pass`], which knows a
+//! beginning of that list. It takes a [`Turn`] with the value, adds one entry or none, and gives the turn back.
 #![tactic(auto)]
 
 mod kept;

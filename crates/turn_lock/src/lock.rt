@@ -15,10 +15,11 @@ use std::alloc::Global;
 use std::marker::Model;
 use std::sync::Wait;
 
-/// A lock whose word counts the history of the value behind it.
+/// A lock whose word counts the history of the value that it holds.
 ///
-/// Contracts see it as the name of its table, which its passes and notes carry too. Only [`HistoryLock::new`] takes
-/// memory, and only [`HistoryLock::take`] may wait. Nothing is promised of progress: not that anyone ever gets a turn.
+/// Contracts see it as the name of its table, which its passes and notes have as well. Only [`HistoryLock::new`] takes
+/// memory, and only [`HistoryLock::take`] may wait. There is no promise of progress: a caller that waits may never get
+/// a turn.
 #[derive(Drop)]
 pub struct HistoryLock<V: Kept> {
     pub(crate) table: Table<Option<V>, View<V::Entry>, (), KeepsHistory<V>, Global>,
@@ -35,7 +36,7 @@ impl<V: Kept> Model for HistoryLock<V> {
     ghost invariant = { λ l. (l.table.shared.table_id.words ≡ 1) × (l.table.shared.table_id.slots ≡ 1) };
 }
 
-// The content of the table's one slot.
+// Makes the content of the table's one slot.
 fn one_slot<V: Kept>(alloc: Global, value: V) -> Result<Vec<Option<V>>, NoMemory>
     ensures { IfOk result (λ slots. slots.items ≡ Some value ∷ []) }
 {
@@ -45,10 +46,11 @@ fn one_slot<V: Kept>(alloc: Global, value: V) -> Result<Vec<Option<V>>, NoMemory
 }
 
 impl<V: Kept> HistoryLock<V> {
-    /// A lock round a value whose list is empty, for so many callers, at least 1; and the pass of caller 0, which has
-    /// seen nothing, holds no turn, and has the numbers from 1 on to give.
+    /// Makes a lock around a value whose list is empty, for the given number of callers, which is at least 1. Also
+    /// returns the pass of caller 0, which has seen nothing, holds no turn, and has the numbers from 1 on to give.
     ///
-    /// It takes memory for one word and one slot, and is refused only for want of it. The value is dropped then.
+    /// It takes memory for one word and one slot, and returns `Err(NoMemory)` only if that runs out. The value is then
+    /// dropped.
     pub fn new(alloc: Global, value: V, callers: u32) -> Result<(HistoryLock<V>, Pass<V>), NoMemory>
         requires callers { 1 ≤ callers }
         requires empty { V.list value ≡ [] }
@@ -69,10 +71,10 @@ impl<V: Kept> HistoryLock<V> {
         ))
     }
 
-    /// Waits until no pass holds a turn, and takes one.
+    /// Waits until no pass holds a turn, then takes one.
     ///
-    /// The value's list begins with all that the pass had seen, and goes on with entries of other callers. The pass
-    /// has now seen the whole list. Where two wait, either may be first.
+    /// The value's list begins with all that the pass had seen, and goes on with entries of other callers. The pass has
+    /// now seen the whole list. If two callers wait, either may be first.
     pub fn take<R: Wait>(&self, rt: &R, pass: &mut Pass<V>) -> Turn<V>
         requires lock { pass.old.lock ≡ self.now }
         requires free { pass.old.holds ≡ false }
@@ -84,8 +86,8 @@ impl<V: Kept> HistoryLock<V> {
         }
     }
 
-    /// Gives the turn back, with a value whose list is the one that was taken, with nothing more or with one entry
-    /// more of the pass's own. The pass has seen the new list.
+    /// Gives the turn back, with a value whose list is the one that was taken, either unchanged or with one more entry
+    /// of the pass's own. The pass has then seen the new list.
     pub fn give(&self, pass: &mut Pass<V>, turn: Turn<V>)
         requires lock { pass.old.lock ≡ self.now }
         requires holds { pass.old.holds ≡ true }
@@ -99,7 +101,7 @@ impl<V: Kept> HistoryLock<V> {
         self.table.shared.wake_one(0);
     }
 
-    /// A note of what the pass has seen.
+    /// Makes a note of what the pass has seen.
     pub fn note(&self, pass: &mut Pass<V>) -> Note<V>
         requires { pass.old.lock ≡ self.now }
         ensures pass { pass.new ≡ pass.old }
@@ -110,9 +112,9 @@ impl<V: Kept> HistoryLock<V> {
         }
     }
 
-    /// The pass sees what the note has, if that is more.
+    /// Extends what the pass has seen to what the note has, if that is more.
     ///
-    /// One of the two lists begins the other. What the pass sees besides is of other callers.
+    /// One of the two lists begins the other. What the pass sees in addition is of other callers.
     pub fn meet(&self, pass: &mut Pass<V>, note: Note<V>)
         requires { (pass.old.lock ≡ self.now) × (note.lock ≡ self.now) }
         ensures longer { pass.new ≡ after_seeing pass.old (longer pass.old.seen note.seen) pass.old.holds }
@@ -124,9 +126,9 @@ impl<V: Kept> HistoryLock<V> {
         self.join(&mut pass.seat, noted);
     }
 
-    /// How many caller numbers are left to give. Only the pass that came with the lock has any.
+    /// Returns how many caller numbers are left to give. Only the pass that came with the lock has any.
     ///
-    /// It also tells of that pass that all it has seen is of numbers that were given.
+    /// For that pass the contract also states that all entries it has seen are of numbers that were given.
     pub fn left(&self, pass: &Pass<V>) -> u32
         requires { pass.now.lock ≡ self.now }
         ensures left { result ≡ pass.now.left }
@@ -135,8 +137,8 @@ impl<V: Kept> HistoryLock<V> {
         pass.left
     }
 
-    /// A new pass with the next caller number, which has seen as much and holds no turn. The pass that came with the
-    /// lock gives it, while numbers are left.
+    /// Makes a pass with the next caller number, which has seen as much as this one and holds no turn. Only the pass
+    /// that came with the lock can give it, while numbers are left.
     pub fn new_pass(&self, pass: &mut Pass<V>) -> Pass<V>
         requires lock { pass.old.lock ≡ self.now }
         requires left { IsSome pass.old.given × (0 < pass.old.left) }
@@ -156,11 +158,11 @@ impl<V: Kept> HistoryLock<V> {
         }
     }
 
-    /// Another pass ends into this one, which sees what that one has seen, if it is more, and has its callers from
-    /// then on.
+    /// Ends another pass into this one, which has then seen the longer of what the two had seen, and has the other's
+    /// callers from then on.
     ///
-    /// One of the two lists begins the other. What this pass sees besides is of other callers than it had before, and
-    /// what stands behind the other's list is of other callers than the other's.
+    /// One of the two lists begins the other. What this pass sees in addition is of callers other than those it had
+    /// before, and what follows the other's list is of callers other than the other's.
     pub fn end(&self, pass: &mut Pass<V>, other: Pass<V>)
         requires lock { (pass.old.lock ≡ self.now) × (other.lock ≡ self.now) }
         requires free { (other.holds ≡ false) × (other.given ≡ None) }

@@ -5,15 +5,15 @@ use crate::kept::Kept;
 use crate::seats::LockSeat;
 use std::marker::Model;
 
-/// A caller's right to the lock, and what it has seen of the history.
+/// A caller's right to take the lock, and what it has seen of the history.
 ///
 /// Contracts see it as its lock, its caller number, the callers that ended into it, the list that it has seen, and
-/// whether it holds a turn. The list begins the lock's history, and no entry of the pass's callers stands behind it:
+/// whether it holds a turn. The list begins the lock's history, and no entry of the pass's callers follows it there:
 /// until the pass adds one of its own, what it sees later begins with what it has seen now, and goes on with entries of
 /// other callers.
 ///
-/// The pass that comes with the lock is caller 0. It alone gives numbers, from 1 on, and knows besides how many were
-/// given and how many are left.
+/// The pass that comes with the lock is caller 0. It alone gives numbers, from 1 on, and also knows how many were given
+/// and how many are left.
 #[derive(Drop)]
 pub struct Pass<V: Kept> {
     pub(crate) seat: LockSeat<V>,
@@ -33,7 +33,7 @@ impl<V: Kept> Model for Pass<V> {
 }
 
 impl<V: Kept> Pass<V> {
-    /// The pass's own caller number.
+    /// Returns the pass's own caller number.
     pub fn caller(&self) -> u32
         ensures { result ≡ self.now.caller }
     {
@@ -41,7 +41,7 @@ impl<V: Kept> Pass<V> {
     }
 }
 
-/// What a pass had seen when the note was made. It has no caller, takes no turn, and may go to any thread.
+/// What a pass had seen when the note was made. It has no caller, takes no turn, and may be sent to any thread.
 #[derive(Drop)]
 pub struct Note<V: Kept> {
     pub(crate) seat: LockSeat<V>,

@@ -1,4 +1,4 @@
-//! The rule of the lock's table, and the kinds of step on it. Each type here stands for one of them, and has no value.
+//! The rule of the lock's table, and the kinds of step on it. Each type here names one of them, and has no values.
 use crate::kept::Kept;
 use crate::view::View;
 use atomic_table::{Join, Play, Split, TableRule};
@@ -17,7 +17,7 @@ impl<V: Kept> TableRule<Option<V>, View<V::Entry>, ()> for KeepsHistory<V> {
     ghost first = { λ _. opening_view };
 }
 
-/// A look at the word, which tells what the rule says of the seat's own view.
+/// A look at the word, from which the seat learns what the rule says of its own view.
 pub(crate) struct Peek<V> {
     value: PhantomData<V>,
 }
@@ -50,7 +50,7 @@ impl<V: Kept> Play<Option<V>, View<V::Entry>> for Commit<V> {
     ghost then = { Commits V.list V.caller_of };
 }
 
-/// The value goes home, and the lock is free.
+/// The value goes back into the slot, and the lock becomes free.
 pub(crate) struct Release<V> {
     value: PhantomData<V>,
 }
@@ -61,7 +61,7 @@ impl<V: Kept> Play<Option<V>, View<V::Entry>> for Release<V> {
     ghost then = { Releases V.list V.caller_of };
 }
 
-/// A note of what was seen is cut off.
+/// A note of what was seen is split off.
 pub(crate) struct Noting;
 
 impl<E> Split<View<E>> for Noting {
@@ -83,7 +83,7 @@ impl<E> Split<View<E>> for Numbering {
     ghost right = { numbered_view };
 }
 
-/// One seat takes in what another has seen, and its callers.
+/// One seat takes over what another has seen, and its callers.
 pub(crate) struct Meeting;
 
 impl<E> Join<View<E>> for Meeting {

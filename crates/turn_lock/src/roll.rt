@@ -1,5 +1,5 @@
-//! The smallest value that the lock can keep: a roll of the callers that signed it. The crate's tests use the lock over
-//! it, and its must-fail edits break calls over it where no edit of the generic lock could write the fault.
+//! The smallest value that the lock can keep: a roll of the callers that signed it. The crate's tests use the lock with
+//! it, and its must-fail edits break calls here where an edit of the generic lock could not express the fault.
 ghost use Rattle.std.specs.Prelude.{◌≡◌, ◌<◌, ◌^◌, ◌++◌, ◌∷◌, [], length, true, false, OnOk, OnErr, MatchResult};
 ghost use Rattle.turn_lock.specs.History.{Grows, Adds};
 ghost use Rattle.turn_lock.specs.Passes.{after_seeing, callers_of, noted};
@@ -40,14 +40,14 @@ impl Roll {
         }
     }
 
-    /// The callers that signed, in order.
+    /// Returns the callers that signed, in order.
     pub(crate) fn signed(&self) -> &[u32]
         ensures { result.now ≡ self.now.signed.items }
     {
         self.signed.as_slice()
     }
 
-    /// One caller more, or no memory. A roll holds fewer than 2^62.
+    /// Adds one caller, or returns `Err(NoMemory)`. A roll holds fewer than 2^62 callers.
     pub(crate) fn sign(&mut self, caller: u32) -> Result<(), NoMemory>
         requires { length self.old.signed.items < 2 ^ 62 }
         ensures ok { OnOk result (self.new.signed.items ≡ self.old.signed.items ++ caller ∷ []) }
@@ -62,7 +62,7 @@ impl Roll {
     }
 }
 
-/// Signs the roll behind the lock.
+/// Signs the roll that the lock holds.
 pub(crate) fn sign<R: Wait>(
     rt: &R,
     lock: &HistoryLock<Roll>,
@@ -80,7 +80,7 @@ pub(crate) fn sign<R: Wait>(
     done
 }
 
-/// Takes a turn at a roll that begins with all that the pass had seen.
+/// Takes a turn with a roll that begins with all that the pass had seen.
 pub(crate) fn take_roll<R: Wait>(
     rt: &R,
     lock: &HistoryLock<Roll>,
@@ -94,7 +94,7 @@ pub(crate) fn take_roll<R: Wait>(
     lock.take(rt, pass)
 }
 
-/// A note of what the pass had seen before it signs.
+/// Makes a note of what the pass had seen before it signs.
 pub(crate) fn note_and_sign<R: Wait>(
     rt: &R,
     lock: &HistoryLock<Roll>,

@@ -65,7 +65,7 @@ impl<V: Kept> HistoryLock<V> {
         self.table.shared.store::<Release<V>>(seat, 0, 2 * count);
     }
 
-    // The history gets the entry that the value in hand has more, if it has one.
+    // Adds to the history the one entry that the list of the value in hand has beyond it, if there is one.
     fn commit(&self, seat: &mut LockSeat<V>, count: u64)
         requires lock { seat.old.table_id ≡ self.now }
         requires hand { Offers V.list V.caller_of count seat.old.me }
@@ -80,7 +80,8 @@ impl<V: Kept> HistoryLock<V> {
         self.table.shared.store::<Commit<V>>(seat, 0, 2 * count + 1);
     }
 
-    // One seat takes in what another has seen, and its callers. The look behind it tells how the two lists lie.
+    // Lets one seat take over what another has seen, and its callers. The look that follows shows how the two lists
+    // relate.
     pub(crate) fn join(&self, seat: &mut LockSeat<V>, other: LockSeat<V>)
         requires lock { (seat.old.table_id ≡ self.now) × (other.table_id ≡ self.now) }
         requires free { (other.me.1 ≡ []) × (other.me.0.holds ≡ false) × (other.me.0.given ≡ None) }

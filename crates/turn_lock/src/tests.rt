@@ -1,5 +1,6 @@
-//! The lock over a roll, with threads of their own for two callers: what the opening pass finds after they have ended,
-//! and that a taker waits for the holder. No clause says that memory is there, nor that anyone ever gets a turn.
+//! Tests of the lock with a roll and two callers on threads of their own: what the opening pass finds after they have
+//! ended, and that a taker waits for the holder. No clause promises that memory is available, or that anyone ever gets
+//! a turn.
 ghost use Rattle.std.specs.Prelude.{◌≡◌, [], false, true, None, Some, IfOk};
 ghost use Rattle.turn_lock.specs.Passes.{known, after_seeing};
 ghost use Rattle.turn_lock.specs.Roll.{signer_of};
@@ -18,7 +19,7 @@ const SIGNATURES: u32 = 1000;
 
 type Parts = (HistoryLock<Roll>, Pass<Roll>, Pass<Roll>, Pass<Roll>);
 
-// A lock over an empty roll, its opening pass, and the passes of callers 1 and 2.
+// Makes a lock with an empty roll, its opening pass, and the passes of callers 1 and 2.
 fn start(alloc: Global) -> Result<Parts, NoMemory>
     ensures opening { IfOk result (λ r. r.1 ≡ known r.0 0 [] [] false (Some 3) 0) }
     ensures first { IfOk result (λ r. r.2 ≡ known r.0 1 [] [] false None 0) }
@@ -30,7 +31,7 @@ fn start(alloc: Global) -> Result<Parts, NoMemory>
     Ok((lock, opening, first, second))
 }
 
-// Signs so often, in turns.
+// Signs `count` times, taking a turn for each.
 fn sign_often<R: Wait>(
     rt: &R,
     lock: &HistoryLock<Roll>,
@@ -46,7 +47,7 @@ fn sign_often<R: Wait>(
     Ok(pass)
 }
 
-// Callers 1 and 2 have signed a thousand times each, on threads of their own.
+// Lets callers 1 and 2 sign a thousand times each, on threads of their own.
 fn signed_by_two<R: Threads + Wait + Sync>(rt: &R, alloc: Global) -> Result<Parts, NoMemory>
     ensures opening { IfOk result (λ r. r.1 ≡ known r.0 0 [] [] false (Some 3) 0) }
     ensures first { IfOk result (λ r. r.2 ≡ known r.0 1 [] r.2.seen false None 0) }
@@ -70,7 +71,7 @@ fn signed_by_two<R: Threads + Wait + Sync>(rt: &R, alloc: Global) -> Result<Part
     Ok((lock, opening, first, second))
 }
 
-// How many signatures the pass's next turn shows: in all, of caller 1 and of caller 2.
+// Counts the signatures that the pass's next turn shows: all, those of caller 1, and those of caller 2.
 fn counts<R: Wait>(rt: &R, lock: &HistoryLock<Roll>, pass: &mut Pass<Roll>) -> (usize, usize, usize)
     requires { (pass.old.lock ≡ lock.now) × (pass.old.holds ≡ false) }
     ensures { pass.new ≡ after_seeing pass.old pass.new.seen false }
@@ -115,7 +116,7 @@ fn numbers_are_given_in_order(rt: HostRuntime) -> Result<(), Fail> {
     Ok(())
 }
 
-// Lets other threads run until the flag is set, or so many times.
+// Lets other threads run until the flag is set, but at most a million times.
 fn wait_for(flag: &AtomicBool) {
     for _ in 0..1_000_000 {
         if flag.load(Ordering::SeqCst) {
@@ -125,7 +126,7 @@ fn wait_for(flag: &AtomicBool) {
     }
 }
 
-/// What the holder and the taker tell each other.
+/// The signals between the holder and the taker.
 #[derive(Drop)]
 struct Flags {
     held: AtomicBool,
@@ -147,7 +148,7 @@ fn hold<R: Wait>(rt: &R, lock: &HistoryLock<Roll>, mut pass: Pass<Roll>, flags: 
     lock.give(&mut pass, turn);
 }
 
-// Takes a turn while the other holds one, and answers whether that was given back by then.
+// Takes a turn while the other holds one, and returns whether the other had given it back by then.
 fn take_behind<R: Wait>(
     rt: &R,
     lock: &HistoryLock<Roll>,
@@ -226,8 +227,8 @@ impl<'a> Kept for Watched<'a> {
     }
 }
 
-// Nothing makes the allocator refuse in a plain run, which finds a lock. `rt try --test --fail-alloc N` refuses the Nth
-// allocation: `new` then says so, and has dropped the value.
+// In a plain run the allocator does not fail, and the lock is made. `rt try --test --fail-alloc N` makes the Nth
+// allocation fail: `new` then returns `Err(NoMemory)`, and has dropped the value.
 #[test]
 fn a_lock_or_want_of_memory(rt: HostRuntime) -> Result<(), Fail> {
     let dropped = AtomicBool::new(false);

@@ -10,7 +10,7 @@ use Rattle.trace_ends.specs.Within.{ArePositions, PositionsWithin}
 use Rattle.batch_work.specs.Works.{works_of}
 use Rattle.trace_replay.proofs.tests.replays.Goals as goal
 
--- of one batch without a merger
+-- for one batch without a merger
 positions_of : PositionsWithin → (batch : Batch) (batches : List Batch) (commands : List Command) (told hints : List Hint) (passed : Bool) → batches ≡ batch ∷ [] → IsOfLanes 2 batch → commands ≡ batch ++ []
     → passed ≡ true → passed ≡ numbers_pass 2 false batches told → told ≡ hints → ArePositions commands hints
 positions_of law batch batches commands told hints passed one lanes works pass tests same =

@@ -10,7 +10,7 @@ use Rattle.trace_replay.specs.Lakes.{IsAt, Keeps, LakeOf, hint_at}
 use Rattle.trace_replay.proofs.LakeLemmas.{IsOf, behind_look, behind_owner, told_complete, told_sound}
 use Rattle.trace_replay.proofs.lake.Lake.answer.Goals as goal
 
--- what is compared is of the answer of the index
+-- what is compared belongs to the answer with the index
 made : (c : goal.After-is_told) → IsOf c.args.trace.now c.args.index c.args.self.now (who_by c.by.result) (hint_as c.hint.result) (reply_of c.in_ok-reply.reply) c.text.result.now
 made c = record {
   who_is = c.by.ensures ∙ ap who_of (sym (c.work.ensures (command_with 0 0 (Merge false))));
