@@ -1,4 +1,5 @@
-//! CSV bytes as a table, a header and records of its length with each field UTF-8, or the one refusal that the bytes earn.
+//! Reads CSV bytes as a table: a header, and records as long as the header, each field UTF-8. Other bytes are refused with
+//! the first fault.
 #![tactic(auto)]
 
 ghost use Rattle.std.specs.Prelude.{◌≡◌, ◌⊎◌, ◌↔◌, ℕ, List, ◌+◌, ◌<◌, ◌≤◌, ◌++◌, ◌∷◌, [], true, false, length, Some, None, Ok, Err, IfOk, IfErr, OnOk, OnErr};
@@ -13,15 +14,15 @@ use std::alloc::Global;
 use std::marker::Model;
 use std::str;
 
-/// A header of at most 4,096 fields and fewer than 2^64 records of its length, each field UTF-8.
+/// A header of at most 4,096 fields, and fewer than 2^64 records as long as the header, each field UTF-8.
 ///
-/// Rows are counted from 0, and row 0 is the header; places within a row, which are the columns, are counted from 1.
+/// Rows count from 0, and row 0 is the header. Places in a row, which are the columns, count from 1.
 #[derive(Drop)]
 pub struct RawTable {
-    /// The fields of all records, one record after another.
+    /// The fields of all records, record by record.
     store: StringRecord,
     columns: u32,
-    /// How many records there are, the header among them.
+    /// The number of records, including the header.
     records: u64,
 }
 
@@ -38,7 +39,7 @@ impl Model for RawTable {
 }
 
 impl RawTable {
-    /// How many columns there are: the fields of the header, 0 to 4,096.
+    /// Returns the number of columns, 0 to 4,096: the fields of the header.
     pub fn columns(&self) -> u32
         ensures value { result ≡ column_count self.now }
         ensures narrow { result ≤ 4096 }
@@ -46,21 +47,21 @@ impl RawTable {
         self.columns
     }
 
-    /// How many records follow the header.
+    /// Returns the number of records after the header.
     pub fn rows(&self) -> u64
         ensures { result + 1 ≡ length self.now }
     {
         self.records - 1
     }
 
-    /// The field of a row, 0 for the header and up to `rows()`, at a place, 1 to `columns()`.
+    /// Returns the field in a row, from 0 (the header) to `rows()`, at a place, from 1 to `columns()`.
     pub fn field(&self, row: u64, place: u32) -> &str
         requires row { row < length self.now }
         requires low { 0 < place }
         requires high { place ≤ column_count self.now }
         ensures { result.now ≡ field_at self.now row place }
     {
-        // The length of the store bounds the index: it is read for that alone.
+        // The length is read only because it bounds the index.
         let _fields = self.store.len();
         let index = row as usize * self.columns as usize + (place as usize - 1);
         match self.store.get(index) {
@@ -70,16 +71,18 @@ impl RawTable {
     }
 }
 
-/// The table of CSV bytes (RFC 4180) with at most so many columns, 1 to 4,096, or why they are none. Commas separate the fields of a record. A field in double quotes may
-/// hold commas, line breaks and quotes, each quote doubled. A record ends at LF, CR LF or CR, and an empty line is no record. One
-/// byte order mark in front of the bytes is no part of them, nor is a second one, which the crate `csv` drops. No field is trimmed.
+/// Reads CSV bytes (RFC 4180) as a table with at most `most` columns, 1 to 4,096.
+///
+/// Commas separate the fields of a record. A field in double quotes may contain commas, line breaks and quotes, each quote
+/// doubled. A record ends at LF, CR LF or CR, and an empty line is not a record. One byte order mark before the bytes is
+/// dropped, and a second one too, which the crate `csv` drops. Fields are not trimmed.
 ///
 /// # Errors
 ///
-/// The first of these that holds, with records and fields numbered from 1 and the header as record 1: `NoHeader` where there is no
-/// record; `TooManyColumns` where the header has more than `most` fields; `NotUtf8` at the header's first field that is not UTF-8;
-/// and at the first record at fault `Unequal` where its length is not the header's, and else `NotUtf8` at its first field that is
-/// not UTF-8. `NoMemory` may come in place of any answer, and says nothing of the bytes.
+/// The first of these that holds, with records and fields numbered from 1 and the header as record 1: `NoHeader` if there is
+/// no record; `TooManyColumns` if the header has more than `most` fields; `NotUtf8` at the header's first field that is not
+/// UTF-8; and at the first faulty record, `Unequal` if its length is not the header's, or `NotUtf8` at its first field that
+/// is not UTF-8. `NoMemory` may take the place of any result, and says nothing about the bytes.
 pub fn read_table(alloc: Global, bytes: &[u8], most: u32) -> Result<RawTable, CsvRefused>
     requires low { 1 ≤ most }
     requires high { most ≤ 4096 }
@@ -106,11 +109,11 @@ pub fn read_table(alloc: Global, bytes: &[u8], most: u32) -> Result<RawTable, Cs
         }
         add_record(&mut store, &row, records + 1, columns)?;
     }
-    // So many records take more bytes than an address space has.
+    // That many records do not fit into an address space.
     Err(CsvRefused::NoMemory)
 }
 
-// A reader of the records of the bytes.
+// Returns a reader of the records of the bytes.
 fn open_reader(alloc: Global, bytes: &[u8]) -> Reader<&[u8]>
     ensures reading { IsReading result }
     ensures left { records_left result ≡ records_of bytes.now }
@@ -121,7 +124,8 @@ fn open_reader(alloc: Global, bytes: &[u8]) -> Reader<&[u8]>
         .from_reader(alloc, behind_mark(bytes))
 }
 
-// A store with room for the fields of the bytes, so that it never grows: while it grew, it would take half as much memory again.
+// Returns a store with room for the fields of the bytes. It never grows: while it grew, it would take half as much memory
+// again.
 fn empty_store(alloc: Global, bytes: &[u8]) -> Result<StringRecord, CsvRefused>
     ensures empty { IfOk result (λ store. fields_of store ≡ []) }
     ensures refused { IfErr result (λ e. e ≡ CsvRefused.NoMemory) }
@@ -132,7 +136,7 @@ fn empty_store(alloc: Global, bytes: &[u8]) -> Result<StringRecord, CsvRefused>
     Ok(store)
 }
 
-// How many fields the bytes have at most: one more than the commas and line breaks. Some of these may stand in quotes.
+// Returns an upper bound of the number of fields: one more than the commas and line breaks, some of which may be quoted.
 fn most_fields(bytes: &[u8]) -> usize {
     let ends = bytes
         .iter()
@@ -141,7 +145,7 @@ fn most_fields(bytes: &[u8]) -> usize {
     ends.saturating_add(1)
 }
 
-// The bytes behind one byte order mark, or all of them where they do not begin with one.
+// Returns the bytes after one byte order mark, or all of them if they do not begin with one.
 fn behind_mark(bytes: &[u8]) -> &[u8]
     ensures { result.now ≡ strip_bom bytes.now }
 {
@@ -151,8 +155,8 @@ fn behind_mark(bytes: &[u8]) -> &[u8]
     }
 }
 
-// Reads the next record, and tells whether there is one. A flexible reader over a slice refuses nothing but want of memory: the
-// clause `failed` says that no error of the text became that.
+// Reads the next record, and returns whether there is one. A flexible reader over a slice fails only if memory runs out; the
+// clause `failed` says that no fault of the text is reported as that.
 fn read_next(reader: &mut Reader<&[u8]>, row: &mut ByteRecord) -> Result<bool, CsvRefused>
     requires { IsReading reader.old }
     ensures more { IfOk result (λ found. found ≡ true → IsReading reader.new × (records_left reader.old ≡ fields_of row.new ∷ records_left reader.new)) }
@@ -166,7 +170,7 @@ fn read_next(reader: &mut Reader<&[u8]>, row: &mut ByteRecord) -> Result<bool, C
     Ok(found)
 }
 
-// Adds the header's fields to the store, and tells how many there are: at most so many.
+// Adds the header's fields to the store, and returns their number, at most `most`.
 fn add_header(store: &mut StringRecord, header: &ByteRecord, most: u32) -> Result<u32, CsvRefused>
     ensures ok { IfOk result (λ n. (n ≡ length (fields_of header.now)) × (n ≤ most) × (header_fault most (fields_of header.now) ≡ None)) }
     ensures added { OnOk result (fields_of store.new ≡ fields_of store.old ++ fields_of header.now) }
@@ -180,7 +184,7 @@ fn add_header(store: &mut StringRecord, header: &ByteRecord, most: u32) -> Resul
     Ok(got as u32)
 }
 
-// Adds the fields of the record of a number, counted from 1, in a table of so many columns.
+// Adds the fields of the record with this number, counted from 1, to the store of a table with `columns` columns.
 fn add_record(
     store: &mut StringRecord,
     row: &ByteRecord,
@@ -202,7 +206,7 @@ fn add_record(
     add_fields(store, row, number)
 }
 
-// Adds the fields of the record of a number up to the first that is no UTF-8, and refuses that one.
+// Adds the fields of the record with this number, up to the first that is not UTF-8, which is refused.
 fn add_fields(store: &mut StringRecord, row: &ByteRecord, number: u64) -> Result<(), CsvRefused>
     ensures ok { OnOk result (text_fault number 1 (fields_of row.now) ≡ None) }
     ensures added { OnOk result (fields_of store.new ≡ fields_of store.old ++ fields_of row.now) }
@@ -222,8 +226,8 @@ fn add_fields(store: &mut StringRecord, row: &ByteRecord, number: u64) -> Result
     Ok(())
 }
 
-/// The law that joins the refusal to plain words: records have no fault exactly where there is a header of at most so many fields,
-/// every record has its length, and every field is UTF-8.
+/// A law that states the refusals in plain words: records have no fault exactly if there is a header of at most `most`
+/// fields, every record is as long as the header, and every field is UTF-8.
 pub fn table_law()
     ensures { (most : ℕ) (rows : List Record) → (table_fault most rows ≡ None) ↔ IsTable most rows }
 {}

@@ -1,5 +1,5 @@
-//! The key of a value: caseless matching of two values, canonical or by compatibility, made into a text that both have where they
-//! match.
+//! The key of a value: a text that two values have in common exactly if they match caselessly, canonically or by
+//! compatibility.
 #![tactic(auto)]
 
 ghost use Rattle.std.specs.Prelude.{◌≡◌, ◌↔◌, ◌⊎◌, ◌≤◌, ℕ, List, [], chars, encode_utf8_all, if◌then◌else◌, length, IfOk, IsAscii, IsOk, IsTrue, None, OnErr, OnOk, Some, option_map, string_bytes};
@@ -16,17 +16,18 @@ use no_memory::NoMemory;
 use std::alloc::{AllocError, Global};
 use unicode_normalization::{is_nfd, is_nfkd, to_nfd, to_nfkd};
 
-/// The key of a value X without the white space at its ends, and none where nothing is left. Values have equal keys exactly where
-/// they match (The Unicode Standard, section 3.13), with the full case folding of `CaseFolding.txt` and no locale: the dotted
-/// capital İ is i and a combining dot, the dotless ı is no i. White space is the property White_Space.
+/// Returns the key of a value X without the white space at its ends, or `None` if nothing is left. Values have equal keys
+/// exactly if they match (The Unicode Standard, section 3.13), with the full case folding of `CaseFolding.txt` and no
+/// locale: the dotted capital İ is i and a combining dot, and the dotless ı is not i. White space is the property
+/// White_Space.
 ///
 /// - `Canonical`: NFD(toCasefold(NFD(X))), for the canonical caseless match, D145, without regard to case and to the way that
 ///   accents are written.
-/// - `Compatibility`: NFKD(toCasefold(NFKD(toCasefold(NFD(X))))), for the compatibility caseless match, D146, which passes over
-///   compatibility forms as well: ① is 1, ㎒ is mhz.
+/// - `Compatibility`: NFKD(toCasefold(NFKD(toCasefold(NFD(X))))), for the compatibility caseless match, D146, which also
+///   ignores compatibility forms: ① is 1, ㎒ is mhz.
 ///
-/// A key may be longer than its value in bytes. For a value of ASCII it is the value in small letters, of either kind: one pass
-/// over the value, and one allocation of just its length.
+/// A key may have more bytes than its value. For an ASCII value, the key of either kind is the value in lower case, which
+/// takes one pass over the value and one allocation of its length.
 pub fn key_of(alloc: Global, keys: Keys, value: &str) -> Result<Option<String>, NoMemory>
     ensures { IfOk result (λ found. option_map string_bytes found ≡ key keys value.now) }
 {
@@ -37,11 +38,11 @@ pub fn key_of(alloc: Global, keys: Keys, value: &str) -> Result<Option<String>, 
     Ok(Some(trimmed_key(alloc, keys, trimmed)?))
 }
 
-/// Writes the key of a value into a buffer that is used again, and answers whether the value has one. What stood in the buffer is
-/// gone: it holds the key and nothing else, and it is empty where the value has no key and after an error.
+/// Writes the key of a value into a buffer that is reused, and returns whether the value has a key. The old contents of the
+/// buffer are replaced by the key; the buffer is empty if the value has no key, and after an error.
 ///
-/// A value of ASCII takes one pass, and no memory where the buffer has room for as many bytes as the value has. The buffer's
-/// room only grows.
+/// An ASCII value takes one pass, and no memory if the buffer's capacity is at least the length of the value. The capacity
+/// never shrinks.
 pub fn key_into(alloc: Global, keys: Keys, value: &str, into: &mut String) -> Result<bool, NoMemory>
     ensures key { IfOk result (λ found. (if found then Some (string_bytes into.new) else None) ≡ key keys value.now) }
     ensures blank { IfOk result (λ found. IsTrue found ⊎ (string_bytes into.new ≡ [])) }
@@ -58,8 +59,9 @@ pub fn key_into(alloc: Global, keys: Keys, value: &str, into: &mut String) -> Re
     Ok(true)
 }
 
-/// Whether two values are the same: without the white space at their ends they match by the canonical caseless match (D145), or by
-/// the compatibility caseless match (D146), which is so exactly where they have one key, or both have none.
+/// Returns whether two values are the same: without the white space at their ends, they match by the canonical caseless
+/// match (D145) or by the compatibility caseless match (D146). That is so exactly if they have equal keys, or both have
+/// none.
 pub fn same_value(alloc: Global, keys: Keys, a: &str, b: &str) -> Result<bool, NoMemory>
     ensures matched { IfOk result (λ same. IsTrue same ↔ IsSameValue keys a.now b.now) }
     ensures keys { IfOk result (λ same. IsTrue same ↔ (key keys a.now ≡ key keys b.now)) }
@@ -70,7 +72,7 @@ pub fn same_value(alloc: Global, keys: Keys, a: &str, b: &str) -> Result<bool, N
     Ok(is_match(alloc, keys, left, right)?)
 }
 
-// Whether two texts match.
+// Returns whether two texts match.
 fn is_match(alloc: Global, keys: Keys, a: &str, b: &str) -> Result<bool, AllocError>
     ensures value { IfOk result (λ same. IsTrue same ↔ IsMatch keys (chars a.now) (chars b.now)) }
     ensures ascii { IsAscii a.now → IsAscii b.now → IsOk result }
@@ -81,7 +83,7 @@ fn is_match(alloc: Global, keys: Keys, a: &str, b: &str) -> Result<bool, AllocEr
     }
 }
 
-// The key of a text that has no white space at its ends. Most values are ASCII, whose key takes no table.
+// Returns the key of a text that has no white space at its ends. Most values are ASCII, and their keys need no table.
 fn trimmed_key(alloc: Global, keys: Keys, text: &str) -> Result<String, NoMemory>
     ensures { IfOk result (λ found. string_bytes found ≡ key_of_text keys text.now) }
 {
@@ -107,9 +109,9 @@ fn write_key(alloc: Global, keys: Keys, text: &str, into: &mut String) -> Result
     write_folded(alloc, keys, text, into)
 }
 
-// Writes a text of ASCII in small letters into an empty buffer that has room for it, and answers whether the text is of ASCII: then
-// this is its key of either kind, since none of its characters decomposes, and folding makes the letters small. For another text
-// the buffer stays empty.
+// Writes an ASCII text in lower case into an empty buffer that has room for it, and returns whether the text is ASCII. Its
+// key of either kind is then in the buffer, since no ASCII character decomposes, and folding only makes letters lower case.
+// For any other text the buffer stays empty.
 fn push_small(text: &str, into: &mut String) -> bool
     requires empty { string_bytes into.old ≡ [] }
     requires room { length text.now ≤ string_capacity into.old }
@@ -127,7 +129,7 @@ fn push_small(text: &str, into: &mut String) -> bool
     true
 }
 
-// The key of any text, in the steps of its definition.
+// Returns the key of any text, by the steps of its definition.
 fn folded_key(alloc: Global, keys: Keys, text: &str) -> Result<String, NoMemory>
     ensures { IfOk result (λ found. string_bytes found ≡ key_of_text keys text.now) }
 {
@@ -138,8 +140,8 @@ fn folded_key(alloc: Global, keys: Keys, text: &str) -> Result<String, NoMemory>
     }
 }
 
-// What compatibility adds to folded characters: they are decomposed, folded and decomposed once more, since letters come to light
-// only in the first of these steps.
+// Applies what compatibility adds to folded characters: they are decomposed, folded and decomposed again, since the first
+// of these steps may produce letters that are not folded yet.
 fn compatible_key(alloc: Global, text: String) -> Result<String, NoMemory>
     ensures { (cs : List ℕ) → string_bytes text ≡ encode_utf8_all cs → IfOk result (λ found. string_bytes found ≡ encode_utf8_all (nfkd (default_case_fold (nfkd cs)))) }
 {
@@ -147,7 +149,7 @@ fn compatible_key(alloc: Global, text: String) -> Result<String, NoMemory>
     in_form_kd(alloc, folded)
 }
 
-// Characters in normal form D. A text that has this form already is handed back.
+// Returns the characters in normal form D. A text that is already in this form is returned as it is.
 fn in_form_d(alloc: Global, text: String) -> Result<String, NoMemory>
     ensures { (cs : List ℕ) → string_bytes text ≡ encode_utf8_all cs → IfOk result (λ found. string_bytes found ≡ encode_utf8_all (nfd cs)) }
 {
@@ -157,7 +159,7 @@ fn in_form_d(alloc: Global, text: String) -> Result<String, NoMemory>
     Ok(to_nfd(alloc, text.as_str())?)
 }
 
-// Characters in normal form KD. A text that has this form already is handed back.
+// Returns the characters in normal form KD. A text that is already in this form is returned as it is.
 fn in_form_kd(alloc: Global, text: String) -> Result<String, NoMemory>
     ensures { (cs : List ℕ) → string_bytes text ≡ encode_utf8_all cs → IfOk result (λ found. string_bytes found ≡ encode_utf8_all (nfkd cs)) }
 {
@@ -167,7 +169,7 @@ fn in_form_kd(alloc: Global, text: String) -> Result<String, NoMemory>
     Ok(to_nfkd(alloc, text.as_str())?)
 }
 
-// A text in normal form D and then with its case folded. A text that has this form already is not copied into it.
+// Returns a text brought into normal form D and then case-folded. A text that is already in this form is not copied first.
 fn folded_text(alloc: Global, text: &str) -> Result<String, NoMemory>
     ensures { IfOk result (λ folded. string_bytes folded ≡ encode_utf8_all (default_case_fold (nfd (chars text.now)))) }
 {
@@ -178,8 +180,8 @@ fn folded_text(alloc: Global, text: &str) -> Result<String, NoMemory>
     Ok(default_case_fold_str(alloc, decomposed.as_str())?)
 }
 
-// Folded characters in normal form KD, and then with their case folded again. A text that has this form already is not copied into
-// it.
+// Returns folded characters brought into normal form KD and then case-folded again. A text that is already in this form is
+// not copied first.
 fn folded_compatible(alloc: Global, folded: &str) -> Result<String, NoMemory>
     ensures { (cs : List ℕ) → folded.now ≡ encode_utf8_all cs → IfOk result (λ again. string_bytes again ≡ encode_utf8_all (default_case_fold (nfkd cs))) }
 {
@@ -190,7 +192,7 @@ fn folded_compatible(alloc: Global, folded: &str) -> Result<String, NoMemory>
     Ok(default_case_fold_str(alloc, compatible.as_str())?)
 }
 
-// Writes the key of any text into a buffer, in place of what stands there.
+// Writes the key of any text into a buffer, in place of its contents.
 fn write_folded(alloc: Global, keys: Keys, text: &str, buffer: &mut String) -> Result<(), NoMemory>
     ensures key { OnOk result (string_bytes buffer.new ≡ key_of_text keys text.now) }
     ensures error { OnErr result (string_bytes buffer.new ≡ []) }
