@@ -29,7 +29,7 @@ added_differ seen (text ∷ texts) d =
 pub distinct_differ : (texts : List Text) → IsDistinct bytes_eq (distinct texts)
 distinct_differ texts = added_differ [] texts no_repeat
 
--- c is looked up where a holds already
+-- b adds nothing if it implies a
 or_again : (a b c : Bool) → (b ≡ true → a ≡ true) → (a || c) ≡ (a || (b || c))
 or_again true b c h = refl
 or_again false true c h = cc (h refl)

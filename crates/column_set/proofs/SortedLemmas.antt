@@ -298,7 +298,7 @@ module _ (texts : List Text) (from : ℕ) (places : List ℕ) (s : AreSortedPlac
   abbrev repeats : ℕ → Bool
   repeats p = repeats_from texts from p
 
-  -- an index that the text at a sorted index repeats comes before it in the sorted order
+  -- an earlier index with the same text comes before it in the sorted order
   earlier : (i : ℕ) → i < length places → (p : ℕ) → from ≤ p → p < get_or places i 0 → get_or texts p [] ≡ get_or texts (get_or places i 0) [] → (j : ℕ) × (j < i) × (get_or places j 0 ≡ p)
   earlier i h p low lower same =
       let here = get_or places i 0 in
