@@ -1,5 +1,4 @@
-//! A region is made when there is enough memory, and lends what was put into it. No clause says that there is memory,
-//! so these are tests.
+//! A region is made if there is enough memory, and lends what was put into it. No clause says that there is enough.
 use crate::{Region, Span};
 use std::mem::size_of;
 use std::test::Fail;
