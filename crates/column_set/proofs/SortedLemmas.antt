@@ -161,7 +161,7 @@ length-repeats : (seen texts : List Text) → length (repeats_behind seen texts)
 length-repeats seen [] = refl
 length-repeats seen (text ∷ texts) = omega (arith, length-repeats (seen ++ text ∷ []) texts)
 
--- there is a mark for each text from the place on
+-- there is a mark for each text from the index on
 pub each_marked : (texts : List Text) (from : ℕ) (marks : List Bool) → marks ≡ repeats_of (drop from texts) → from ≤ length texts → from + length marks ≡ length texts
 each_marked texts from marks is within = omega (arith, ap length is, length-repeats [] (drop from texts), length-drop from texts)
 
@@ -179,7 +179,7 @@ repeats_are seen (text ∷ texts) (mark ∷ marks) long right =
     let rest = repeats_are (seen ++ text ∷ []) texts marks (omega (arith, long)) (λ k less. right (suc k) (omega (arith, less)) ∙ ap (λ (ts : List Text). has_key ts (get_or texts k [])) (sym (append_assoc seen (text ∷ []) (take k texts)))) in
     λ j. first j ∷ rest j
 
--- ---- the order of places
+-- ---- the order of indices
 
 place_cmp_total : (texts : List Text) → IsTotalOrder (place_cmp texts)
 place_cmp_total texts = then_total (on_total (λ (p : ℕ). get_or texts p []) nat_list_cmp_total) nat_cmp_total

@@ -55,7 +55,7 @@ pub record IsSlotted (size : ℕ) (slots : List ℕ) (keys : List Text) (count :
   pub numbers : (at : ℕ) → slice_index slots at ≤ count
   pub held : (i : ℕ) → i < count → Holds size slots (home_of size (hash_of (get_or keys i []))) (i + 1)
 
--- if the key that is looked up is among the keys, its slot is still to come
+-- a slot with this number is still ahead: it is reached from a slot within the steps that are left
 pub record IsAhead (size : ℕ) (slots : List ℕ) (from step number : ℕ) : Type 0 where
   pub at : ℕ
   pub there : slice_index slots at ≡ number

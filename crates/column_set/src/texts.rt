@@ -77,7 +77,7 @@ impl Texts {
     }
 
     /// Appends a text, and takes more memory if the room made so far does not suffice. Returns `Err(NoMemory)` if
-    /// memory runs out, and from 2^32 - 1 texts or bytes on; the texts are then unchanged.
+    /// memory runs out, and also if there would be more than 2^32 - 1 texts or bytes; the texts are then unchanged.
     pub fn push(&mut self, text: &str) -> Result<(), NoMemory>
         ensures added { OnOk result (self.new ≡ self.old ++ text.now ∷ []) }
         ensures refused { OnErr result (self.new ≡ self.old) }
