@@ -131,7 +131,7 @@ none_begun parts n count h b e = none_behind parts n h (λ k l. b.behind k (omeg
 pub last_lacks : (parts : List Part) (n count last : ℕ) → Rises parts → AreFull parts → Begun parts n count → count ≡ last + 1 → Lacks (loads_of (part_at parts last)) n → Lacks (positions_of parts) n
 last_lacks parts n count last h full b e lacks = none_else parts last n h full (omega (arith, b.within)) (b.before last (omega arith)) (λ k m w. b.behind k (omega arith) w) lacks
 
--- a fact about no value is one about each value
+-- what holds in any case holds if there is no value
 pub if_none : {X : Type 0} (value : Option X) (P : Type 0) → P → IfNone value P
 if_none None P p = p
 if_none (Some x) P p = tt

@@ -1,4 +1,4 @@
--- Names that have to be distinct.
+-- The names that are distinct in a version.
 use Rattle.std.specs.Prelude.{List, map}
 use Rattle.lake_model.specs.Texts.{Text}
 use Rattle.lake_model.specs.Layout.{Part, unmarked_of}

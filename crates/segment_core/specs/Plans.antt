@@ -46,6 +46,6 @@ loads_without (n ∷ ns) (t ∷ ts) (m ∷ ms) = if m then loads_without ns ts m
 abbrev pub plan_run : ℕ → List Part → PlanOf
 plan_run at run = plan_with (named run) (kept_loads run) at
 
--- the parts from an index on, as many as are counted, replaced by one part or by none
+-- the parts, with `count` of them, from index `first` on, replaced by one part or by none
 abbrev pub replaced : ℕ → ℕ → Option Part → List Part → List Part
 replaced first count part parts = take first parts ++ (option_to_list part ++ drop (first + count) parts)

@@ -334,7 +334,7 @@ impl Segment {
     }
 
     // Returns, for each key of the query whose hash some token has, the first such token. No key of a token is read
-    // yet. The look-ups are cache misses, which can overlap because nothing else happens between them.
+    // yet: these reads are cache misses, which overlap as long as nothing else happens between them.
     fn hits(&self, alloc: Global, query: &HashedQuery<'_>) -> Result<Vec<Hit>, NoMemory>
         ensures hits { IfOk result (λ hits. All (IsHit self.now query.now) hits.items) }
         ensures all { IfOk result (λ hits. IsPermutation (tokens_in (segment self.now).tokens query.now) (found_by (segment self.now).tokens (hit_keys query.now hits.items))) }
