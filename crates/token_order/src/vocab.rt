@@ -56,8 +56,8 @@ impl<'a> Vocab<'a> {
     ghost use Rattle.token_order.specs.Places.{keys_of};
     ghost use Rattle.token_order.specs.Vocabulary.{frequencies_of, frequency_of};
 
-    /// Builds the vocabulary of the tables. It sorts all keys of all columns once, by their first 15 bytes; a key is
-    /// read again only if these bytes equal another key's.
+    /// Builds the vocabulary of the tables. It sorts all keys of all columns once, by their bytes. While it sorts, it
+    /// reads a key again only to compare it with one that has the same first 15 bytes.
     ///
     /// While the keys are sorted and counted, it takes 28 bytes for each key of each column and at most 32 for each
     /// distinct key; while the distinct keys are put in order, it takes 4 for each key of each column and at most 48
