@@ -1,4 +1,4 @@
--- The keys of a column among the keys of all columns: they begin after as many members as tokens were added before.
+-- The keys of a column, in the list of the keys of all columns, begin at the number of tokens that were added before.
 use Rattle.std.proofs.Common.{◌≡◌, refl, ap, sym, ◌∙◌, subst, ℕ, zero, suc, ◌+◌, ◌-◌, ◌<◌, List, [], ◌∷◌, ◌++◌, map, length, get_or, take, drop, arith, append-nil, append_assoc, length-append}
 use Rattle.std.specs.List.{flat_map, enumerate_from}
 use Rattle.std.proofs.lemmas.List.{get_or-append_right, get_or_append_left, length-map, take-append-drop, take_more}

@@ -1,5 +1,5 @@
 //! The segment of a worked table, from arrays that were made by hand: its look-ups, its looks with their log and its
-//! meter, and its columns' sets; marks, and pins of versions with marks.
+//! meter, and its columns' sets. Also marks, with pins that were made before and after them.
 ghost use Rattle.std.specs.Prelude.{◌≡◌, ◌∷◌, [], codes, get_or, length, IfOk, OnOk};
 ghost use Rattle.lake_model.specs.Tables.{column_name, keys_at, titles_of};
 ghost use Rattle.segment_core.specs.Versions.{tables_of};
