@@ -46,7 +46,7 @@ half_by_marks part = λ i. nat_le (length-map part.places (λ (p : Place). p.mar
 pub none_marked : (part : Part) → count_by (λ mark. mark) (marks_of part) ≡ marks part
 none_marked part = marks_counted part
 
--- half or more of n: the rest is no greater
+-- m is half or more of n exactly if the rest is at most m
 pub half_test : (n m : ℕ) → nat_le (n - m) m ≡ nat_le n (2 * m)
 half_test n m = by (cases_lt (2 * m) n)
   where
