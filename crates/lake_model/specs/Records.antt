@@ -1,4 +1,4 @@
--- The table that bytes stand for: the records that the crate `csv` reads from them, and what keeps these from being a
+-- The table read from bytes: the records that the crate `csv` reads from them, and what keeps these from being a
 -- table.
 use Rattle.std.specs.Prelude.{ℕ, ◌+◌, ◌-◌, ◌==◌, ◌≡◌, ◌≤◌, if◌then◌else◌, nat_lt, List, [], ◌∷◌, length, map, drop, find, filter_map, get_or, Option, Some, None, option_map, sum_by}
 use Rattle.std.specs.List.{AllByRecursion, range_with_len}

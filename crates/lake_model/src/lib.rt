@@ -1,6 +1,6 @@
-//! The definitions that every contract uses: texts and their keys, tables and their columns, the table that bytes stand
-//! for, the overlap and the answer to a query, the journal of a lake, its live tables and its layout. The only code
-//! here is the plain types that both the code and the definitions use. The laws of the definitions are here, too.
+//! The definitions that every contract uses: texts and their keys, tables and their columns, the table that is read
+//! from bytes, the overlap and the answer to a query, the journal of a lake, its live tables and its layout. The only
+//! code here is the plain types that both the code and the definitions use. The laws of the definitions are here, too.
 #![tactic(auto)]
 
 ghost use Rattle.std.specs.Prelude.{◌≡◌};
