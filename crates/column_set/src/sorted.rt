@@ -1,5 +1,5 @@
 //! Sorted texts, for sets whose keys were chosen to collide in the hasher: repeats are found by a sort, and a key by a
-//! binary search. The number of comparisons is bounded by the number of texts, whatever the texts are.
+//! binary search. The bound on their comparisons depends on the number of texts alone, not on the choice of texts.
 ghost use Rattle.std.specs.Prelude.{◌≡◌, ◌≤◌, ◌++◌, drop, length, take, IfOk, OnErr, OnOk};
 ghost use Rattle.lake_model.specs.Tables.{distinct, has_key};
 ghost use Rattle.column_set.specs.Sorted.{repeats_of, AreSortedPlaces};

@@ -51,8 +51,8 @@ fn from_a_place_on(rt: HostRuntime) -> Result<(), Fail> {
     Ok(())
 }
 
-// The indices are in the order of the bytes, those of equal texts rising, and a search finds what is there and nothing
-// else.
+// The indices are in the order of the bytes, those of equal texts increasing, and a search finds what is there and
+// nothing else.
 #[test]
 fn sorted_and_found(rt: HostRuntime) -> Result<(), Fail> {
     let alloc = rt.alloc();
