@@ -81,8 +81,8 @@ fn first_of(entries: &[HashedToken], hash: u32) -> Option<HashedToken>
 }
 
 /// Returns the tokens in the order of the hashes of their keys. It reads each key once and sorts one number for each
-/// token. It takes 22 to 24 bytes for each token, of which 18 to 20 are kept. Keys are compared only if their hashes are
-/// equal.
+/// token. It takes 22 to 24 bytes for each token, of which 18 to 20 are kept. Keys are compared only if their hashes
+/// are equal.
 pub fn order_by_hash(
     alloc: Global,
     tables: &[SharedTable],
