@@ -1,8 +1,8 @@
 -- The key of a value: two values are the same if both have the same key, or neither has one. Values are compared in one
 -- of two ways (The Unicode Standard, section 3.13). Canonical caseless matching is D145: X matches Y if and only if
--- NFD(toCasefold(NFD(X))) = NFD(toCasefold(NFD(Y))). Compatibility caseless matching is D146: X matches Y if and only if
--- NFKD(toCasefold(NFKD(toCasefold(NFD(X))))) = NFKD(toCasefold(NFKD(toCasefold(NFD(Y))))). White space is the property
--- White_Space of the Unicode Character Database.
+-- NFD(toCasefold(NFD(X))) = NFD(toCasefold(NFD(Y))). Compatibility caseless matching is D146: X matches Y if and only
+-- if NFKD(toCasefold(NFKD(toCasefold(NFD(X))))) = NFKD(toCasefold(NFKD(toCasefold(NFD(Y))))). White space is the
+-- property White_Space of the Unicode Character Database.
 use Rattle.std.specs.Prelude.{ℕ, List, Option, Some, None, chars, encode_utf8_all, length, if◌then◌else◌, ◌==◌}
 use Rattle.std.specs.Str.{trim}
 use Rattle.caseless.specs.Caseless.{canonical_key, compatibility_key, IsCanonicalMatch, IsCompatibilityMatch}

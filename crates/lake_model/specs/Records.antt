@@ -19,8 +19,8 @@ use Rattle.lake_model.specs.Tables.{Column, column_with, Table, table_with, dist
 abbrev pub Record : Type 0
 Record = List Text
 
--- The records that the crate reads from a text, with a comma, double quotes, doubled quotes, no trimming, flexible lengths and no
--- header of its own. It drops one byte order mark itself.
+-- The records that the crate reads from a text, with a comma, double quotes, doubled quotes, no trimming, flexible
+-- lengths and no header of its own. The crate itself drops one byte order mark.
 abbrev pub crate_records : Text → List Record
 crate_records text = records default_config (strip_bom text)
 
