@@ -34,7 +34,7 @@ sum_by-columns_with f (name ∷ names) [] h = refl
 sum_by-columns_with f (name ∷ names) (keys ∷ sets) h =
     omega (arith, sum_by-cons (λ (c : Column). f c.keys) (column_with name keys) (columns_with names sets), sum_by-cons f keys sets, sum_by-columns_with f names sets (omega arith))
 
--- names and sets that were made of the same places
+-- names and sets made from the same places
 pub columns_with-map : (f : ℕ → Text) (g : ℕ → List Text) (places : List ℕ) → columns_with (map f places) (map g places) ≡ map (λ place. column_with (f place) (g place)) places
 columns_with-map f g [] = refl
 columns_with-map f g (place ∷ places) = ap (λ columns. column_with (f place) (g place) ∷ columns) (columns_with-map f g places)
@@ -59,7 +59,7 @@ members-table_from titles sets as_many = sum_by-columns_with (λ keys. length ke
 key_bytes-table_from : (titles : Titles) (sets : List (List Text)) → length titles.columns ≡ length sets → key_bytes (table_from titles sets) ≡ sum_by (λ keys. sum_by (λ key. length key) keys) sets
 key_bytes-table_from titles sets as_many = sum_by-columns_with (λ keys. sum_by (λ key. length key) keys) titles.columns sets as_many
 
--- a table that is held as its titles and sets
+-- a table that is stored as its titles and sets
 module _ {titles : Titles} {sets : List (List Text)} {members key_bytes : ℕ} (held : IsHeld titles sets members key_bytes) (table : Table) (is : table_from titles sets ≡ table) where
   pub columns_held : length table.columns ≡ length sets
   columns_held = ap (λ t. length t.columns) (sym is) ∙ length-columns_with titles.columns sets held.as_many

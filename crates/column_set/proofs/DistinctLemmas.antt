@@ -1,4 +1,4 @@
--- Texts made distinct: none stands twice, and each that was there stands there.
+-- Texts made distinct: none occurs twice, and each that was there is still there.
 use Rattle.std.proofs.Common.{◌≡◌, refl, ap, sym, ◌∙◌, ℕ, ◌+◌, ◌<◌, List, [], ◌∷◌, ◌++◌, get_or, length, take, Bool, true, false, ◌||◌, inl, inr}
 use Rattle.std.specs.Prelude.{bytes_eq, fold}
 use Rattle.std.specs.List.{IsDistinct}
@@ -29,7 +29,7 @@ added_differ seen (text ∷ texts) d =
 pub distinct_differ : (texts : List Text) → IsDistinct bytes_eq (distinct texts)
 distinct_differ texts = added_differ [] texts no_repeat
 
--- c is asked for where a holds already
+-- b adds nothing if it implies a
 or_again : (a b c : Bool) → (b ≡ true → a ≡ true) → (a || c) ≡ (a || (b || c))
 or_again true b c h = refl
 or_again false true c h = cc (h refl)

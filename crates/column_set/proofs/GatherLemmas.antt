@@ -1,4 +1,4 @@
--- Lists of keys as they are gathered, one behind another: a key more, the end of a list, and what is taken out.
+-- Lists of keys as they are gathered, one after another: one more key, the end of a list, and what is taken out.
 use Rattle.std.proofs.Common.{◌≡◌, refl, ap, sym, ◌∙◌, subst, ℕ, zero, suc, ◌≤◌, List, [], ◌∷◌, ◌++◌, ◌||◌, append-nil, append_assoc, arith, drop, length, take, true, false}
 use Rattle.std.specs.Prelude.{◌-◌, bytes_eq, fold, slice_set}
 use Rattle.std.specs.List.{AllByRecursion, IsDistinct}
@@ -44,7 +44,7 @@ distinct_none (text ∷ texts) none =
     let gone : false ≡ true = ap (λ (ks : List Text). has_key ks text) (sym none) ∙ distinct_keeps (text ∷ texts) text ∙ there in
     cc
 
--- ---- the front of the finished lists
+-- ---- the start of the finished lists
 
 pub front_kept : (from : ℕ) (keys more : List Text) → from ≤ length keys → take from (take from keys ++ more) ≡ take from keys
 front_kept zero keys more h = refl
@@ -56,16 +56,16 @@ back_new zero keys more h = refl
 back_new (suc from) [] more h = absurd (omega arith)
 back_new (suc from) (key ∷ keys) more h = back_new from keys more (omega arith)
 
--- ---- one key more
+-- ---- one more key
 
--- where repeats are left out later
+-- if repeats are removed later
 pub pushed_finished : (from : ℕ) (keys : List Text) (key : Text) (new : List Text) → from ≤ length keys → new ≡ keys ++ key ∷ [] → take from new ≡ take from keys
 pushed_finished from keys key new h is = ap (take from) is ∙ take-append-le from keys (key ∷ []) h
 
 pub pushed_current : (from : ℕ) (keys : List Text) (key : Text) (new : List Text) → from ≤ length keys → new ≡ keys ++ key ∷ [] → distinct (drop from new) ≡ add_key (distinct (drop from keys)) key
 pushed_current from keys key new h is = ap (λ ks. distinct (drop from ks)) is ∙ ap distinct (drop-append-le from keys (key ∷ []) h) ∙ distinct_more (drop from keys) key
 
--- where the key was looked for
+-- if the key was looked up
 pub entered_old : (from : ℕ) (keys : List Text) (key : Text) → has_key (drop from keys) key ≡ true → keys ≡ take from keys ++ add_key (drop from keys) key
 entered_old from keys key there = rw there (sym (take-append-drop from keys))
 

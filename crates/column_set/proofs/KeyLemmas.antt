@@ -1,4 +1,4 @@
--- What a sort by keys leaves.
+-- The result of a sort by keys.
 use Rattle.std.proofs.Common.{◌≡◌, ap, Bool, List}
 use Rattle.std.specs.Cmp.{IsTotalOrder}
 use Rattle.std.specs.Fn.{Called, ComparesAs}
@@ -10,7 +10,7 @@ use Rattle.std.proofs.lemmas.List.Sorted.{ranks_by}
 use denote.Ref.{Bor}
 use denote.Param.Members.{Mut}
 
--- what `sort_unstable_by` leaves, where each call of its closure compares two keys
+-- the result of `sort_unstable_by` if each call of its closure compares two keys
 pub sorted_by_key : {X K : Type 0} {R : K → K → Ordering} → IsTotalOrder R → (key : X → K) → {F : Type 0} {g : Mut F (Bor X × (Bor X × Unit {0})) Ordering} {f : F} (xs : List X)
     → IsSortedByClosure g f xs
     → ((a : Bor X × (Bor X × Unit {0})) (r : Ordering) (f' : F) → Called g f a r f' → (r ≡ R (key a.0.now) (key a.1.0.now)) × (f' ≡ f)) → IsSortedByKey key R xs

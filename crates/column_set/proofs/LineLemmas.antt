@@ -1,4 +1,4 @@
--- The lines of a body, the first one cut off, and what the query is and is refused for, line by line.
+-- The lines of a body with the first one cut off, and, line by line, the query and the error for which it is refused.
 use Rattle.std.proofs.Common.{◌≡◌, ◌<◌, ◌≤◌, ◌+◌, ℕ, suc, List, [], ◌∷◌, ◌++◌, length, Some, None, true, false, refl, ap, arith, inl, inr, drop, take, suc-add, subst}
 use Rattle.std.specs.Prelude.{◌==◌, nat_lt, position}
 use Rattle.std.specs.List.{position_or_len}
@@ -13,14 +13,14 @@ pub no_lines : all_lines [] ≡ []
 unfolding lines_of
 no_lines = refl
 
--- where the first line feed is, or how long the text is
+-- the index of the first line feed, or the length of the text
 abbrev first_feed : Text → ℕ
 first_feed text = position_or_len (λ byte. byte == 0x0A) text
 
 abbrev lines_behind : ℕ → Text → Lines
 lines_behind at text = lines_of (drop (at + 1) text)
 
--- what is before the first line feed is a line, and the other lines are those of what is behind it
+-- the bytes before the first line feed are a line, and the other lines are those of the bytes after it
 first_line : (text : Text) → first_feed text < length text → lines_of text ≡ lines_with (take (first_feed text) text ∷ (lines_behind (first_feed text) text).ended) (lines_behind (first_feed text) text).rest
 unfolding lines_of
 first_line [] h = absurd (omega arith)

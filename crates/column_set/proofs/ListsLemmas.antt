@@ -1,4 +1,4 @@
--- Lists of texts one behind another in one list: where each begins and ends, and one list more.
+-- Lists of texts one after another in one list: where each begins and ends, and one more list.
 use Rattle.std.proofs.Common.{◌≡◌, refl, ap, sym, ◌∙◌, subst, ℕ, zero, suc, ◌+◌, ◌-◌, ◌<◌, ◌≤◌, List, [], ◌∷◌, ◌++◌, length, get_or, take, drop, arith, add-one, length-append, length-drop}
 use Rattle.std.specs.List.{slice_index, slice_range}
 use Rattle.std.specs.Prelude.{sum_by}
@@ -33,7 +33,7 @@ pub length-lists : (starts : List ℕ) (texts : List Text) → AreLists starts t
 length-lists [] texts held lists is = absurd held
 length-lists (from ∷ ends) texts held lists is = omega (arith, length-parts_from from ends texts, ap length is)
 
--- the list at i, where the starts were read under another name
+-- the list at i, if the starts were read under another name
 pub bounds_at : (starts : List ℕ) (texts : List Text) → AreLists starts texts → (lists : List (List Text)) → parts_of starts texts ≡ lists → (i : ℕ) → i < length lists
     → (read : List ℕ) → read ≡ starts → (low high : ℕ) → low ≡ slice_index read i → high ≡ slice_index read (i + 1) → Bounds texts (get_or lists i []) low high
 bounds_at [] texts held lists is i inside read same low high e f = absurd held
@@ -46,7 +46,7 @@ bounds_at (from ∷ ends) texts held lists is i inside read same low high e f =
     let C : ℕ → Type 0 = λ (n : ℕ). Bounds texts (get_or lists i []) low n in
     subst C (sym stops) (subst B (sym starts) (subst A is core))
 
--- ---- one list more
+-- ---- one more list
 
 slice_front : {X : Type 0} (xs ys : List X) (a b : ℕ) → a ≤ b → b ≤ length xs → slice_range (xs ++ ys) a b ≡ slice_range xs a b
 slice_front xs ys a b h k =
@@ -78,7 +78,7 @@ lists_more (from ∷ ends) texts keys end held e = let more = parts_more from en
 lists_at : (starts read : List ℕ) (texts held : List Text) → read ≡ starts → held ≡ texts → AreLists starts texts → AreLists read held
 lists_at starts read texts held e f h = subst (λ (s : List ℕ). AreLists s held) (sym e) (subst (AreLists starts) (sym f) h)
 
--- the same, where the new texts and places have names of their own
+-- the same, if the new texts and starts have names of their own
 pub lists_step : (starts : List ℕ) (texts keys : List Text) → AreLists starts texts → (new_texts : List Text) → new_texts ≡ texts ++ keys → (end : ℕ) → end ≡ length new_texts
     → (new_starts : List ℕ) → new_starts ≡ starts ++ end ∷ [] → AreLists new_starts new_texts × (parts_of new_starts new_texts ≡ parts_of starts texts ++ keys ∷ [])
 lists_step starts texts keys held new_texts texts_are end end_is new_starts starts_are =

@@ -1,4 +1,4 @@
--- Of two lists without repetition, as many members of the one stand in the other as of the other in the one.
+-- Of two lists of distinct texts, as many of the first are in the second as of the second in the first.
 use Rattle.std.proofs.Common.{◌≡◌, refl, ap, sym, ◌∙◌, ℕ, ◌+◌, List, [], ◌∷◌, Bool, true, false, ◌||◌, arith, cond}
 use Rattle.std.specs.Prelude.{bytes_eq, count_by}
 use Rattle.std.specs.List.{AllByRecursion, IsDistinct}
@@ -13,7 +13,7 @@ once b = cond b 1 0
 count_by-cons : {X : Type 0} (p : X → Bool) (x : X) (xs : List X) → count_by p (x ∷ xs) ≡ once (p x) + count_by p xs
 count_by-cons p x xs = sum_by-cons (λ y. once (p y)) x xs
 
--- the test of two texts, the other way round
+-- the test of two texts, with its arguments swapped
 pub flipped : (a b : Text) (r : Bool) → bytes_eq a b ≡ r → bytes_eq b a ≡ r
 flipped a b true e = (bytes_eq-Decides b a).1 (sym ((bytes_eq-Decides a b).0 e))
 flipped a b false e = other (bytes_eq b a) refl
@@ -26,7 +26,7 @@ pub absent : (a : Text) (xs : List Text) → AllByRecursion (λ x. bytes_eq a x 
 absent a [] h = refl
 absent a (x ∷ xs) h = ap (λ b. b || has_key xs a) h.0 ∙ absent a xs h.1
 
--- how often a text stands in a list without repetition
+-- how often a text occurs in a list of distinct texts
 count_once : (a : Text) (xs : List Text) → IsDistinct bytes_eq xs → count_by (λ x. bytes_eq x a) xs ≡ once (has_key xs a)
 unfolding IsDistinct
 count_once a [] d = refl

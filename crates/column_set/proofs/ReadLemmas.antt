@@ -8,7 +8,7 @@ use Rattle.lake_model.specs.declared.SetRefused.TheVariants as sets
 use Rattle.lake_model.specs.Texts.{Text}
 use Rattle.lake_model.specs.Tables.{add_key}
 
--- one more key, where the value has one
+-- one more key, if the value has one
 pub fold-next : {X : Type 0} (f : X → Option Text) (x : X) (xs : List X) (seen : List Text) → fold add_key seen (filter_map f (x ∷ xs)) ≡ fold add_key (option_map_or (add_key seen) (f x) seen) (filter_map f xs)
 fold-next f x xs seen = by (f x)
   where
@@ -16,7 +16,7 @@ fold-next f x xs seen = by (f x)
     by None = refl
     by (Some found) = refl
 
--- the places from the one behind i up to n
+-- the places after i, up to n
 abbrev pub places_behind : ℕ → ℕ → List ℕ
 places_behind i n = range_with_len (i + 1) (n - i)
 

@@ -14,7 +14,7 @@ pub same_texts : (old new : Written) (spans : List Span) → KeepsSpans old new 
 same_texts old new [] kept h = refl
 same_texts old new (span ∷ spans) kept h = (λ j. (kept span h.0).1 j ∷ same_texts old new spans kept h.1 j)
 
--- one more of the elements of a list, behind others
+-- one more element of a list, after others
 pub mapped_more : {X Y : Type 0} (f : X → Y) (front : List Y) (xs : List X) (i : ℕ) (x : X) → i < length xs → x ≡ get_or xs i x → (front ++ map f (take i xs)) ++ f x ∷ [] ≡ front ++ map f (take (i + 1) xs)
 mapped_more f front xs i x h e =
     append_assoc front (map f (take i xs)) (f x ∷ [])

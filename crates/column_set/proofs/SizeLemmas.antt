@@ -35,7 +35,7 @@ at_most_one : (found : Option Text) (keys : List Text) (n : ℕ) → length keys
 at_most_one None keys n h = omega arith
 at_most_one (Some text) keys n h = omega arith
 
--- a key comes only of a field with a byte
+-- only a field with at least one byte gives a key
 key-size : (kind : Keys) (field : Text) (keys : List Text) (n : ℕ) → length keys ≤ n → length (cons_option (key kind field) keys) ≤ length field + n
 key-size kind [] keys n h = rw (no_key kind) (omega arith)
 key-size kind (byte ∷ field) keys n h = let most = at_most_one (key kind (byte ∷ field)) keys (length field + n) (omega arith) in omega arith

@@ -1,4 +1,4 @@
--- Slots: one number more, one key more, and the look for a key.
+-- Slots: one more number, one more key, and the look-up of a key.
 use Rattle.std.proofs.Common.{◌≡◌, ◌≢◌, refl, ap, sym, ◌∙◌, subst, inl, inr, ℕ, zero, suc, ◌+◌, ◌-◌, ◌<◌, ◌≤◌, List, [], ◌∷◌, ◌++◌, length, get_or, true, false, arith, Bool, ◌⊎◌}
 use Rattle.std.specs.Prelude.{bytes_eq, slice_index, slice_set, Err, IfOk, IfSome, None, Ok, Option, Result, Some}
 use Rattle.std.specs.List.{All, AllByRecursion, IsDistinct}
@@ -26,7 +26,7 @@ other_slot slots at to free taken e = absurd (omega (arith, ap (slice_index slot
 still_there : (slots : List ℕ) (at to x : ℕ) → slice_index slots at ≡ 0 → 0 < slice_index slots to → slice_index (slice_set slots at x) to ≡ slice_index slots to
 still_there slots at to x free taken = get_or-set_other slots at to x 0 (other_slot slots at to free taken)
 
--- a way over taken slots stays one when a free slot is taken
+-- a path over taken slots stays one when a free slot is taken
 passes_kept : (size : ℕ) (slots : List ℕ) (at x from to steps : ℕ) → slice_index slots at ≡ 0 → Passes size slots from to steps → Passes size (slice_set slots at x) from to steps
 passes_kept size slots at x from to zero free p = p
 passes_kept size slots at x from to (suc steps) free p =
@@ -90,7 +90,7 @@ slotted_more slots keys count at hash s is read read_is free new same =
     let B : List ℕ → Type 0 = λ (xs : List ℕ). IsSlotted (length xs) xs keys (count + 1) in
     subst B (sym same) (subst A size next)
 
--- keys put behind the others stand in no slot yet
+-- keys that were just appended are in no slot yet
 pub slotted_behind : (size : ℕ) (slots : List ℕ) (keys : List Text) (key : Text) → IsSlotted size slots keys (length keys) → IsSlotted size slots (keys ++ key ∷ []) (length keys)
 slotted_behind size slots keys key s = record {
   numbers = s.numbers;
@@ -101,7 +101,7 @@ last_key : (keys : List Text) (key : Text) → get_or (keys ++ key ∷ []) (leng
 last_key [] key = refl
 last_key (first ∷ keys) key = last_key keys key
 
--- one key more, behind the others and in a free slot
+-- one more key, appended and put into a free slot
 pub slotted_push : (slots : List ℕ) (keys : List Text) (key : Text) (at hash : ℕ) → IsSlotted (length slots) slots keys (length keys) → hash ≡ hash_of key → IsFree slots (home_of (length slots) hash) at
     → (new : List ℕ) → new ≡ slice_set slots at (length keys + 1) → IsSlotted (length new) new (keys ++ key ∷ []) (length (keys ++ key ∷ []))
 slotted_push slots keys key at hash s is free new same =
@@ -121,7 +121,7 @@ if_slotted keys (Ok (Some slots)) items d s = record { different = d; slotted = 
 if_slotted keys (Ok None) items d s = tt
 if_slotted keys (Err e) items d s = tt
 
--- where there are slots
+-- if there are slots
 pub differ_where_slotted : {V : Type 0} (keys : List Text) (o : Option V) (items : V → List ℕ) → is_some o ≡ true → IfSome o (λ v. IsSlottedSet (items v) keys) → IsDistinct bytes_eq keys
 differ_where_slotted keys (Some v) items e s = s.different
 differ_where_slotted keys None items e s = cc e
@@ -129,7 +129,7 @@ differ_where_slotted keys None items e s = cc e
 pub set_where_slotted : {V : Type 0} (keys : List Text) (o : Option V) (v : V) (items : V → List ℕ) → o ≡ Some v → IfSome o (λ w. IsSlottedSet (items w) keys) → IsSlottedSet (items v) keys
 set_where_slotted {V = V} keys o v items e s = let P : Option V → Type 0 = λ q. IfSome q (λ w. IsSlottedSet (items w) keys) in subst P e s
 
--- ---- the look for a key: where it is one of the keys, its slot is ahead
+-- ---- the look-up of a key: if it is one of the keys, its slot is ahead
 
 abbrev pub AllAhead : ℕ → List ℕ → List Text → Text → ℕ → ℕ → Type 0
 AllAhead size slots keys key from step = (i : ℕ) → i < length keys → get_or keys i [] ≡ key → IsAhead size slots from step (i + 1)
@@ -153,7 +153,7 @@ ahead_step size slots from step number other a = by a.steps a.few a.passes
     by zero few p = absurd (other (ap (slice_index slots) p ∙ a.there))
     by (suc steps) few p = record { at = a.at; there = a.there; steps = steps; few = omega arith; passes = p.1 }
 
--- behind a slot whose key is another
+-- after a slot whose key is another
 pub ahead_more : (size : ℕ) (slots : List ℕ) (keys : List Text) (key : Text) (from step number : ℕ) → AllAhead size slots keys key from step → number ≡ slice_index slots from → bytes_eq (get_or keys (number - 1) []) key ≡ false
     → AllAhead size slots keys key (next_of size from) (step + 1)
 ahead_more size slots keys key from step number all is differs = λ i less same.
@@ -190,11 +190,11 @@ none_ahead size slots keys key from step all free = not_ahead keys key (λ i les
         by zero p = absurd (omega (arith, free, ap (slice_index slots) p, a.there))
         by (suc steps) p = absurd (omega (arith, free, p.0))
 
--- nor behind the last step
+-- nor after the last step
 pub none_left : (size : ℕ) (slots : List ℕ) (keys : List Text) (key : Text) (from step : ℕ) → AllAhead size slots keys key from step → most_probes ≤ step → has_key keys key ≡ false
 none_left size slots keys key from step all end = not_ahead keys key (λ i less same. absurd (omega (arith, (all i less same).few)))
 
--- nor where there are no slots
+-- nor if there are no slots
 empty_slot : (slots : List ℕ) (at : ℕ) → length slots ≡ 0 → slice_index slots at ≡ 0
 empty_slot [] at none = refl
 empty_slot (number ∷ slots) at none = absurd (omega (arith, none))
@@ -202,7 +202,7 @@ empty_slot (number ∷ slots) at none = absurd (omega (arith, none))
 pub none_slotted : (slots : List ℕ) (keys : List Text) (key : Text) (size : ℕ) → IsSlotted size slots keys (length keys) → length slots ≡ 0 → has_key keys key ≡ false
 none_slotted slots keys key size s none = not_ahead keys key (λ i less same. let h = s.held i less in absurd (omega (arith, h.there, empty_slot slots h.at none)))
 
--- and a slot whose key it is shows it
+-- and a slot that holds the key's number shows that it is there
 pub found_ahead : (keys : List Text) (key : Text) (number : ℕ) → 0 < number → number ≤ length keys → bytes_eq (get_or keys (number - 1) []) key ≡ true → has_key keys key ≡ true
 found_ahead keys key number some few e =
     list_any_at (bytes_eq key) keys (number - 1) [] (omega arith) ((bytes_eq-Decides key (get_or keys (number - 1) [])).1 (sym ((bytes_eq-Decides (get_or keys (number - 1) []) key).0 e)))

@@ -1,4 +1,4 @@
--- Texts in order by their places, and those among them that repeat one before them.
+-- The indices of texts in sorted order, and the texts that repeat an earlier one.
 use Rattle.std.proofs.Common.{◌≡◌, refl, ap, sym, ◌∙◌, subst, ℕ, suc, ◌+◌, ◌-◌, ◌<◌, ◌≤◌, inl, inr, List, [], ◌∷◌, ◌++◌, map, take, drop, get_or, length, Bool, true, false, ◌||◌, ◌&&◌, arith, append_assoc, append-nil, length-append, length-drop, length-set, get_or-set_same, get_or-set_other, replicate, set}
 use Rattle.std.specs.Prelude.{bytes_eq, fold, not, slice_range}
 use Rattle.std.proofs.Math.Dec.{eqb}
@@ -59,7 +59,7 @@ all-unmarked P [] (x ∷ xs) h = tt
 all-unmarked P (true ∷ marks) (x ∷ xs) h = all-unmarked P marks xs h.1
 all-unmarked P (false ∷ marks) (x ∷ xs) h = (h.0, all-unmarked P marks xs h.1)
 
--- a list of which the marked elements are left out in place, from a place on: so many marks are read, and so many elements are kept
+-- a list whose marked elements are removed in place, from an index on: this many marks are read and this many elements are kept
 pub record IsKept {X : Type 0} (old : List X) (marks : List Bool) (from i kept : ℕ) (now : List X) : Type 0 where
   pub done : take kept now ≡ take from old ++ unmarked (take i marks) (take i (drop from old))
   pub rest : (k : ℕ) (d : X) → from + i ≤ k → get_or now k d ≡ get_or old k d
@@ -75,7 +75,7 @@ kept_none old marks from = record {
 }
 
 module _ {X : Type 0} (old now : List X) (marks : List Bool) (from i kept : ℕ) (k : IsKept old marks from i kept now) (all : from + length marks ≡ length old) (within : i < length marks) where
-  -- one mark and its element more
+  -- one more mark with its element
   seen_more : (x : X) → x ≡ get_or old (from + i) x → unmarked (take (i + 1) marks) (take (i + 1) (drop from old)) ≡ unmarked (take i marks) (take i (drop from old)) ++ unmarked (get_or marks i false ∷ []) (x ∷ [])
   seen_more x is =
       let inside : i < length (drop from old) = omega (arith, length-drop from old) in
@@ -88,7 +88,7 @@ module _ {X : Type 0} (old now : List X) (marks : List Bool) (from i kept : ℕ)
   first_of [] h = absurd (omega arith)
   first_of (x ∷ xs) h = x
 
-  -- past an element that is left out
+  -- past an element that is removed
   pub kept_past : get_or marks i false ≡ true → IsKept old marks from (i + 1) kept now
   kept_past marked =
       let first = first_of old (omega arith) in
@@ -101,7 +101,7 @@ module _ {X : Type 0} (old now : List X) (marks : List Bool) (from i kept : ℕ)
         few = omega (arith, k.few);
       }
 
-  -- past one that moves to the front
+  -- past one that moves forward
   pub kept_next : get_or marks i false ≡ false → (x : X) → x ≡ get_or now (from + i) x → (new : List X) → new ≡ set now kept x → IsKept old marks from (i + 1) (kept + 1) new
   kept_next plain x is new same =
       let here : x ≡ get_or old (from + i) x = is ∙ k.rest (from + i) x (omega arith) in
@@ -135,14 +135,14 @@ left_map f xs left ys marks from is same =
     ap (map f) is ∙ map-append f (take from xs) (unmarked marks (drop from xs))
     ∙ (λ j. (sym (take-map f from xs) ∙ ap (take from) same) j ++ (map-unmarked f marks (drop from xs) ∙ ap (unmarked marks) (sym (drop-map f from xs) ∙ ap (drop from) same)) j)
 
--- ---- texts that repeat one before them
+-- ---- texts that repeat an earlier one
 
 kept_again : (a b : Bool) → (b ≡ true → a ≡ true) → a ≡ (a || (b || false))
 kept_again true b h = refl
 kept_again false true h = h refl
 kept_again false false h = refl
 
--- where those kept are the same as those seen, a text is added where it has no mark
+-- if those kept are the same as those seen, a text is added exactly if it is not marked
 stays : (seen kept texts : List Text) → ((text : Text) → has_key kept text ≡ has_key seen text) → fold add_key kept texts ≡ kept ++ unmarked (repeats_behind seen texts) texts
 stays seen kept [] same = sym (append-nil kept)
 stays seen kept (first ∷ texts) same =
@@ -161,11 +161,11 @@ length-repeats : (seen texts : List Text) → length (repeats_behind seen texts)
 length-repeats seen [] = refl
 length-repeats seen (text ∷ texts) = omega (arith, length-repeats (seen ++ text ∷ []) texts)
 
--- there is a mark for each text from the place on
+-- there is a mark for each text from the index on
 pub each_marked : (texts : List Text) (from : ℕ) (marks : List Bool) → marks ≡ repeats_of (drop from texts) → from ≤ length texts → from + length marks ≡ length texts
 each_marked texts from marks is within = omega (arith, ap length is, length-repeats [] (drop from texts), length-drop from texts)
 
--- and what has none is distinct
+-- and what is not marked is distinct
 pub left_distinct : (texts left : List Text) (from : ℕ) (marks : List Bool) → marks ≡ repeats_of (drop from texts) → left ≡ take from texts ++ unmarked marks (drop from texts) → left ≡ take from texts ++ distinct (drop from texts)
 left_distinct texts left from marks is same = same ∙ ap (λ (ts : List Text). take from texts ++ ts) (ap (λ (ms : List Bool). unmarked ms (drop from texts)) is ∙ distinct_is (drop from texts))
 
@@ -179,7 +179,7 @@ repeats_are seen (text ∷ texts) (mark ∷ marks) long right =
     let rest = repeats_are (seen ++ text ∷ []) texts marks (omega (arith, long)) (λ k less. right (suc k) (omega (arith, less)) ∙ ap (λ (ts : List Text). has_key ts (get_or texts k [])) (sym (append_assoc seen (text ∷ []) (take k texts)))) in
     λ j. first j ∷ rest j
 
--- ---- the order of places
+-- ---- the order of indices
 
 place_cmp_total : (texts : List Text) → IsTotalOrder (place_cmp texts)
 place_cmp_total texts = then_total (on_total (λ (p : ℕ). get_or texts p []) nat_list_cmp_total) nat_cmp_total
@@ -215,7 +215,7 @@ same_text x y n m = exact_bytes x y (level (slice_cmp nat_cmp x y) n (ap is_lt (
     level Equal n m = refl
     level Greater n m = absurd (let e : true ≡ false = m in cc)
 
--- ---- what a stable sort by the texts makes of the places in order
+-- ---- a stable sort by the texts, applied to the indices in order
 
 not_less_from_ge : (a b : ℕ) → b ≤ a → is_lt (nat_cmp a b) ≡ false
 not_less_from_ge a b le = elim (cases_lt b a) [
@@ -249,16 +249,16 @@ stably_sorted texts from made places is moved up stable = record {
         ties_stay_sorted (λ x y. is_lt (nat_cmp x y)) (λ x y. is_lt (slice_cmp nat_cmp (get_or texts x []) (get_or texts y []))) (ranks_by nat_cmp_total (λ (p : ℕ). p)) (ranks_by nat_list_cmp_total (λ (p : ℕ). get_or texts p [])) made places
         (subst (IsSorted nat_cmp) (sym is) (range_rises from (length texts - from))) stable k d h (tie (get_or places k d) (get_or places (k + 1) d) e)
 
--- the test by which `sort_by` sorts, where each call of its closure compares two keys
+-- the test by which `sort_by` sorts, if each call of its closure compares two keys
 pub compares_keys : {X K : Type 0} (R : K → K → Ordering) (key : X → K) → {F : Type 0} {g : Mut F (Bor X × (Bor X × Unit {0})) Ordering} {f : F}
     → ((a : Bor X × (Bor X × Unit {0})) (r : Ordering) (f' : F) → Called g f a r f' → (r ≡ R (key a.0.now) (key a.1.0.now)) × (f' ≡ f)) → ComparesAs g (λ x y. is_lt (R (key x) (key y))) f
 compares_keys R key {g = g} {f = f} h = always_returns_same g (λ a r. is_lt r ≡ is_lt (R (key a.0.now) (key a.1.0.now))) f (λ a r f' called. (ap is_lt (h a r f' called).0, (h a r f' called).1))
 
--- whether a text is that of a place before it, from one on
+-- whether a text equals one at a smaller index, from an index on
 abbrev repeats_from : List Text → ℕ → ℕ → Bool
 repeats_from texts from p = has_key (slice_range texts from p) (get_or texts p [])
 
--- there is a mark for each place, and those of the sorted places walked so far are right
+-- there is a mark for each index, and those of the sorted indices walked so far are right
 pub record AreMarked (texts : List Text) (from : ℕ) (places : List ℕ) (i : ℕ) (marks : List Bool) : Type 0 where
   pub some : 0 < i
   pub long : length marks ≡ length places
@@ -293,12 +293,12 @@ module _ (texts : List Text) (from : ℕ) (places : List ℕ) (s : AreSortedPlac
   far : (i j : ℕ) → i ≤ j → j < length places → less texts (get_or places j 0) (get_or places i 0) ≡ false
   far i j le h = sorted_far (less texts) (order texts) places s.sorted i j 0 le h
 
-  -- ---- a text repeats one before it just where it is that of the sorted place before its own
+  -- ---- a text repeats an earlier one exactly if it equals the text just before it in sorted order
 
   abbrev repeats : ℕ → Bool
   repeats p = repeats_from texts from p
 
-  -- a place from which the text at a sorted place is repeated stands before that among the sorted places
+  -- an earlier index with the same text comes before it in the sorted order
   earlier : (i : ℕ) → i < length places → (p : ℕ) → from ≤ p → p < get_or places i 0 → get_or texts p [] ≡ get_or texts (get_or places i 0) [] → (j : ℕ) × (j < i) × (get_or places j 0 ≡ p)
   earlier i h p low lower same =
       let here = get_or places i 0 in

@@ -21,7 +21,8 @@ HasDistinctKeys table = AllByRecursion (λ column. IsDistinct bytes_eq column.ke
 abbrev pub IsSmall : List Text → Type 0
 IsSmall keys = length keys ≤ 4194304
 
--- what is held of a table is one set for each column, none too large and none with a key twice, with the numbers of all keys and of their bytes
+-- what is stored of a table: one set for each column, none too large and none with a key twice, with the number of all
+-- keys and the number of their bytes
 pub record IsHeld (titles : Titles) (sets : List (List Text)) (members key_bytes : ℕ) : Type 0 where
   pub as_many : length titles.columns ≡ length sets
   pub narrow : length sets ≤ 4096

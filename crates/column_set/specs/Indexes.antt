@@ -1,4 +1,4 @@
--- By what keys are found.
+-- The indexes that find keys.
 use Rattle.std.specs.Prelude.{List, length}
 use Rattle.lake_model.specs.Texts.{Text}
 use Rattle.column_set.specs.declared.index.KeyIndex.{KeyIndex}
@@ -6,7 +6,7 @@ use Rattle.column_set.specs.declared.index.KeyIndex.TheVariants.{Places, Slots}
 use Rattle.column_set.specs.Slots.{IsSlotted}
 use Rattle.column_set.specs.Sorted.{AreSortedPlaces}
 
--- each key stands in a slot, or the places of all keys are in the order of the keys
+-- each key is in a slot, or the indices of all keys are sorted by the keys
 abbrev pub IsIndexOf : KeyIndex → List Text → Type 0
 IsIndexOf (Slots slots) keys = IsSlotted (length slots.items) slots.items keys (length keys)
 IsIndexOf (Places places) keys = AreSortedPlaces keys 0 places.items

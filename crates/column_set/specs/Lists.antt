@@ -1,4 +1,4 @@
--- Texts in a region, and lists of texts one behind another in one list.
+-- Texts in a region, and lists of texts one after another in one list.
 use Rattle.std.specs.Prelude.{◌≡◌, ◌<◌, ◌≤◌, ◌^◌, ℕ, List, [], ◌∷◌, bytes_eq, length, slice_range}
 use Rattle.std.specs.List.{AllByRecursion, IsDistinct}
 use Rattle.lake_model.specs.Texts.{Text}
@@ -6,7 +6,7 @@ use Rattle.text_region.specs.Spans.{IsSpan}
 use Rattle.text_region.specs.Written.{Written}
 use Rattle.text_region.specs.declared.region.Span.{Span}
 
--- each text stands in the region, and 32 bits number them
+-- each text is in the region, and 32 bits suffice to number them
 pub record AreTexts (region : Written) (spans : List Span) : Type 0 where
   pub stand : AllByRecursion (IsSpan region) spans
   pub few : length spans < 2 ^ 32
@@ -16,7 +16,7 @@ abbrev pub parts_from : {X : Type 0} → ℕ → List ℕ → List X → List (L
 parts_from from [] flat = []
 parts_from from (to ∷ ends) flat = slice_range flat from to ∷ parts_from to ends flat
 
--- the parts of a list, from each of the places to the next
+-- the parts of a list, from each of the given indices to the next
 abbrev pub parts_of : {X : Type 0} → List ℕ → List X → List (List X)
 parts_of [] flat = []
 parts_of (from ∷ ends) flat = parts_from from ends flat
@@ -26,12 +26,12 @@ abbrev pub AreParts : ℕ → List ℕ → List Text → Type 0
 AreParts from [] texts = from ≡ length texts
 AreParts from (to ∷ ends) texts = (from ≤ to) × AreParts to ends texts
 
--- and begin at its front
+-- and begin at its start
 abbrev pub AreLists : List ℕ → List Text → Type 0
 AreLists [] texts = ⊥
 AreLists (from ∷ ends) texts = (from ≡ 0) × AreParts from ends texts
 
--- the keys are a query: not too many, and none stands there twice
+-- the keys are those of a query: not too many, and distinct
 pub record IsQuery (keys : List Text) : Type 0 where
   pub small : length keys ≤ 4194304
   pub different : IsDistinct bytes_eq keys

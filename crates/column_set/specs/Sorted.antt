@@ -1,4 +1,4 @@
--- The places of texts in the order of the texts, and the texts that repeat one before them.
+-- The indices of texts in the order of the texts, and the texts that repeat an earlier one.
 use Rattle.std.specs.Prelude.{ℕ, ◌-◌, Bool, List, [], ◌∷◌, ◌++◌, get_or, length, if◌then◌else◌}
 use Rattle.std.specs.Cmp.Lexicographic.{slice_cmp}
 use Rattle.std.specs.List.{range_with_len}
@@ -8,16 +8,16 @@ use Rattle.std.specs.declared.cmp.Ordering.{Ordering}
 use Rattle.lake_model.specs.Texts.{Text}
 use Rattle.lake_model.specs.Tables.{has_key}
 
--- places by the bytes of their texts, and those of equal texts by their numbers
+-- indices by the bytes of their texts, and those of equal texts by number
 abbrev pub place_cmp : List Text → ℕ → ℕ → Ordering
 place_cmp texts a b = ordering_then (slice_cmp nat_cmp (get_or texts a []) (get_or texts b [])) (nat_cmp a b)
 
--- the places of all texts from one on, each once, in that order
+-- the indices of all texts from index `from` on, each once, in that order
 pub record AreSortedPlaces (texts : List Text) (from : ℕ) (places : List ℕ) : Type 0 where
   pub all : IsPermutation (range_with_len from (length texts - from)) places
   pub sorted : IsSorted (place_cmp texts) places
 
--- of each text, whether it is one of those seen or of those in front of it
+-- of each text, whether it is one of those seen or of those before it
 abbrev pub repeats_behind : List Text → List Text → List Bool
 repeats_behind seen [] = []
 repeats_behind seen (text ∷ texts) = has_key seen text ∷ repeats_behind (seen ++ text ∷ []) texts
@@ -25,7 +25,7 @@ repeats_behind seen (text ∷ texts) = has_key seen text ∷ repeats_behind (see
 abbrev pub repeats_of : List Text → List Bool
 repeats_of texts = repeats_behind [] texts
 
--- the elements that have no mark
+-- the elements that are not marked
 abbrev pub unmarked : {X : Type 0} → List Bool → List X → List X
 unmarked marks [] = []
 unmarked [] (x ∷ xs) = []

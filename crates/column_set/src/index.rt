@@ -1,4 +1,4 @@
-//! By what a key is found among texts.
+//! An index that finds keys among texts.
 ghost use Rattle.std.specs.Prelude.{◌≡◌, length, IfOk};
 ghost use Rattle.lake_model.specs.Tables.{has_key};
 ghost use Rattle.column_set.specs.Indexes.{IsIndexOf};
@@ -10,17 +10,17 @@ use crate::texts::Texts;
 use no_memory::NoMemory;
 use std::alloc::Global;
 
-/// By what a key is found among texts of which none stands twice.
+/// An index that finds keys among distinct texts.
 #[derive(Drop)]
 pub enum KeyIndex {
     /// The numbers of the texts, in slots that their hashes lead to.
     Slots(Vec<u32>),
-    /// The places of the texts, in the order of the texts. So a key is found where too many of them share a hash.
+    /// The indices of the texts, sorted by the texts. This finds a key even if too many texts share a hash.
     Places(Vec<u32>),
 }
 
 impl KeyIndex {
-    /// An index of these texts: slots, and where too many of them share a hash, their places in order.
+    /// Returns an index of these texts: slots, or, if too many texts share a hash, their indices in sorted order.
     pub fn of(alloc: Global, keys: &Texts) -> Result<KeyIndex, NoMemory>
         ensures { IfOk result (λ index. IsIndexOf index keys.now) }
     {
@@ -30,8 +30,8 @@ impl KeyIndex {
         Ok(KeyIndex::Places(sorted_places(alloc, keys, 0)?))
     }
 
-    /// Whether the key is one of the texts of which this is an index. It takes the time to hash it and to compare it with a few, or
-    /// to compare it with as many as the number of the texts has bits.
+    /// Returns whether the key is one of the indexed texts. It hashes the key and compares it with a few texts, or,
+    /// with sorted indices, compares it with as many texts as their number has bits.
     pub fn has(&self, keys: &Texts, key: &str) -> bool
         requires { IsIndexOf self.now keys.now }
         ensures { result ≡ has_key keys.now key.now }
@@ -43,7 +43,7 @@ impl KeyIndex {
     }
 }
 
-// Whether the key is one of the texts, whose numbers stand in the slots.
+// Returns whether the key is one of the texts, whose numbers are in the slots.
 fn is_slotted(slots: &[u32], keys: &Texts, key: &str) -> bool
     requires { IsSlotted (length slots.now) slots.now keys.now (length keys.now) }
     ensures { result ≡ has_key keys.now key.now }

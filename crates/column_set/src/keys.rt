@@ -1,4 +1,4 @@
-//! The gatherer of lists of keys, in which the keys of a list are each once and in order of first sight.
+//! The gatherer of lists of keys. Each list holds its distinct keys in order of first occurrence.
 ghost use Rattle.std.specs.Prelude.{◌≡◌, ◌≤◌, ◌++◌, List, [], bytes_eq, drop, length, take, IfOk, IfSome, OnErr, OnOk};
 ghost use Rattle.std.specs.List.{IsDistinct};
 ghost use Rattle.std.specs.Option.{option_map_or};
@@ -17,14 +17,15 @@ use std::alloc::Global;
 use std::marker::Model;
 use value_key::{Keys, key_into};
 
-/// How many keys a column or a query has at most.
+/// The most keys that a column or a query may have.
 pub const MOST_KEYS: usize = 4_194_304;
 
-/// Lists of keys in one region, one behind another: those that are finished, and the one that is gathered, whose keys are found by
-/// their slots. A contract sees the keys of the finished lists, and those of the other, each once and in order of first sight.
+/// Lists of keys in one region, one after another: the finished lists, and the current one, whose keys are found by
+/// their slots. Its model is the keys of the finished lists, and the distinct keys of the current one in order of first
+/// occurrence.
 ///
-/// Where too many keys share a hash there are no slots. From then on a key is put behind the others unseen, and those that are
-/// repeated are left out when the list is closed.
+/// If too many keys share a hash, there are no slots. From then on keys are appended without a look-up, and repeats are
+/// removed when the list is closed.
 #[derive(Drop)]
 pub struct KeyGatherer {
     keys: Texts,
@@ -46,7 +47,8 @@ impl Model for KeyGatherer {
 }
 
 impl KeyGatherer {
-    /// No keys, with room for lists of so many keys and for so many keys of about eight bytes in all of them.
+    /// Returns a gatherer without keys. It has slots for `list` keys in each list, and room for `all` keys of about
+    /// eight bytes each in all lists together.
     pub fn with_room(alloc: Global, list: u32, all: u32) -> Result<KeyGatherer, NoMemory>
         ensures { IfOk result (λ lists. (lists.finished ≡ []) × (lists.current ≡ [])) }
     {
@@ -60,8 +62,8 @@ impl KeyGatherer {
         })
     }
 
-    /// Adds the key of a value, of this kind, to the list that is gathered, where it has one and that is not there. The key is written
-    /// into the buffer, in place of what stands there.
+    /// Adds the key of a value, of kind `keys`, to the current list, if the value has a key that is not in the list.
+    /// The key is written into the buffer, whose contents are replaced.
     pub fn add(
         &mut self,
         alloc: Global,
@@ -78,7 +80,7 @@ impl KeyGatherer {
         self.insert(alloc, buffer.as_str())
     }
 
-    // Adds a key to the list that is gathered, where it is not there.
+    // Adds a key to the current list if it is not there.
     fn insert(&mut self, alloc: Global, key: &str) -> Result<(), NoMemory>
         ensures finished { OnOk result (self.new.finished ≡ self.old.finished) }
         ensures added { OnOk result (self.new.current ≡ add_key self.old.current key.now) }
@@ -90,7 +92,7 @@ impl KeyGatherer {
         Ok(())
     }
 
-    /// Finishes the list that is gathered, begins another, and answers how many keys the finished one has.
+    /// Finishes the current list, begins another, and returns the number of keys in the finished one.
     pub fn close(&mut self, alloc: Global) -> Result<u32, NoMemory>
         ensures finished { OnOk result (self.new.finished ≡ self.old.finished ++ self.old.current) }
         ensures none { OnOk result (self.new.current ≡ []) }
@@ -101,19 +103,19 @@ impl KeyGatherer {
         let end = self.keys.len();
         let size = end - self.from;
         self.from = end;
-        // To clear the slots of a long list would cost a short one behind it the same time.
+        // Clearing the slots of a long list would make a short list after it cost the same.
         self.slots = Some(free_slots(alloc, self.room)?);
         Ok(size)
     }
 
-    /// How many keys the finished lists have.
+    /// Returns the number of keys in the finished lists.
     pub fn finished(&self) -> u32
         ensures { result ≡ length self.now.finished }
     {
         self.from
     }
 
-    /// The keys of the finished lists, in the room that they take.
+    /// Returns the keys of the finished lists, with no spare capacity.
     pub fn into_texts(self) -> Texts
         requires { self.current ≡ [] }
         ensures { result ≡ self.finished }
@@ -123,7 +125,8 @@ impl KeyGatherer {
         keys
     }
 
-    /// The keys of the list that is gathered, where none is finished, in the room that they take, and by what they are found.
+    /// Returns the keys of the current list, with no spare capacity, and an index that finds them. No list may be
+    /// finished.
     pub fn into_indexed(self, alloc: Global) -> Result<(Texts, KeyIndex), NoMemory>
         requires { self.finished ≡ [] }
         ensures keys { IfOk result (λ indexed. indexed.0 ≡ self.current) }
@@ -145,7 +148,7 @@ impl KeyGatherer {
     }
 }
 
-// Puts a key behind the others, where it is not among those from a place on. It answers the slots of these, and `None` where too
+// Appends a key if it is not among the keys from index `from` on. Returns the slots of these keys, or `None` if too
 // many of them share a hash.
 fn entered(
     alloc: Global,
@@ -174,7 +177,7 @@ fn entered(
     }
 }
 
-// Leaves out the repeats of the keys from a place on, of which there are none where these have slots.
+// Removes the repeats among the keys from index `from` on. If these keys have slots, there are none.
 fn settle(
     alloc: Global,
     keys: &mut Texts,
@@ -192,13 +195,13 @@ fn settle(
     leave_out_repeats(alloc, keys, from)
 }
 
-/// Making texts distinct leaves none of them twice, and leaves out none.
+/// `distinct` leaves each text exactly once: the result has no repeats and loses no text.
 pub fn distinct_law()
     ensures different { (texts : List Text) → IsDistinct bytes_eq (distinct texts) }
     ensures same { (texts : List Text) (text : Text) → has_key (distinct texts) text ≡ has_key texts text }
 {}
 
-/// Of two lists in which no text stands twice, as many texts of the one stand in the other as of the other in the one. So the
+/// Of two lists of distinct texts, as many texts of the first are in the second as of the second in the first. So the
 /// overlap of a query and a column may be counted over either.
 pub fn overlap_law()
     ensures { (xs ys : List Text) → IsDistinct bytes_eq xs → IsDistinct bytes_eq ys → overlap xs ys ≡ overlap ys xs }

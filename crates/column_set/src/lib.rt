@@ -1,6 +1,7 @@
-//! The sets of keys of a table's columns and of a query, how many keys two of them share, and the rows of an answer, which
-//! borrow the titles of a table or own a share of them. The keys of a table stand in one region of bytes, those of a query in
-//! another, and a key of a query is found by its hash, or, where too many of them share one, by their order.
+//! The sets of keys of a table's columns and of a query, the number of keys that two of them share, and the rows of an
+//! answer, which borrow the titles of a table or own a share of them. The keys of a table are stored in one region of
+//! bytes, those of a query in another. A query's key is found by its hash, or, if too many keys share a hash, by a
+//! binary search in their order.
 #![tactic(auto)]
 
 mod index;

@@ -10,8 +10,8 @@ use no_memory::NoMemory;
 use std::alloc::Global;
 use std::marker::Model;
 
-/// Lists of keys: the keys of all, one list behind another, and where each list begins and one place more for the end. A contract
-/// sees the list of the lists.
+/// Lists of keys: the keys of all lists, one list after another, and the index at which each list begins, followed by
+/// the total number of keys. Its model is the list of the lists.
 #[derive(Drop)]
 pub struct KeyLists {
     keys: Texts,
@@ -31,7 +31,7 @@ impl Model for KeyLists {
 }
 
 impl KeyLists {
-    /// The lists of these keys, of which each begins where the one before it ends.
+    /// Makes lists of these keys. Each list begins where the one before it ends.
     pub fn of(keys: Texts, starts: Vec<u32>) -> KeyLists
         requires { AreLists starts.items keys }
         ensures { result ≡ parts_of starts.items keys }
@@ -39,7 +39,7 @@ impl KeyLists {
         KeyLists { keys, starts }
     }
 
-    /// The keys of the list at an index, in the room that they take.
+    /// Returns a copy of the keys of one list, with no spare capacity.
     pub fn copied(&self, alloc: Global, list: u32) -> Result<Texts, NoMemory>
         requires { list < length self.now }
         ensures { IfOk result (λ keys. keys ≡ get_or self.now list []) }
@@ -52,28 +52,28 @@ impl KeyLists {
         Ok(keys)
     }
 
-    /// How many lists there are.
+    /// Returns the number of lists.
     pub fn len(&self) -> usize
         ensures { result ≡ length self.now }
     {
         self.starts.len() - 1
     }
 
-    /// How many keys all lists have together.
+    /// Returns the number of keys in all lists together.
     pub fn key_count(&self) -> u64
         ensures { result ≡ sum_by length self.now }
     {
         self.keys.len() as u64
     }
 
-    /// How many bytes the keys of all lists have together, and `None` only where these are 2^64 or more.
+    /// Returns the number of bytes in the keys of all lists together, or `None` only if it is 2^64 or more.
     pub fn byte_count(&self) -> Option<u64>
         ensures { IfSome result (λ count. count ≡ sum_by (λ keys. sum_by length keys) self.now) }
     {
         self.keys.byte_count()
     }
 
-    /// How many keys a list has.
+    /// Returns the number of keys in a list.
     pub fn size(&self, list: u32) -> u32
         requires { list < length self.now }
         ensures { result ≡ length (get_or self.now list []) }
@@ -82,7 +82,7 @@ impl KeyLists {
         to - from
     }
 
-    /// A key of a list, by its index, from 0, and an empty text past the last.
+    /// Returns a key of a list by its index, from 0, or an empty text past the last key.
     pub fn key(&self, list: u32, i: u32) -> &str
         requires { list < length self.now }
         ensures { result.now ≡ get_or (get_or self.now list []) i [] }
@@ -94,7 +94,7 @@ impl KeyLists {
         self.keys.text(from + i)
     }
 
-    /// Whether a list has the key. It takes a walk over the list.
+    /// Returns whether a list has the key. It walks over the list.
     pub fn has(&self, list: u32, key: &str) -> bool
         requires { list < length self.now }
         ensures { result ≡ has_key (get_or self.now list []) key.now }
@@ -107,7 +107,7 @@ impl KeyLists {
         false
     }
 
-    /// How many keys of a list are among other keys, which are found by their index.
+    /// Returns how many keys of a list are among the keys of `keys`, which are found by their index.
     pub fn overlap(&self, list: u32, keys: &Texts, index: &KeyIndex) -> u32
         requires there { list < length self.now }
         requires indexed { IsIndexOf index.now keys.now }
@@ -123,7 +123,7 @@ impl KeyLists {
     }
 }
 
-// Where a list begins among all keys, and where it ends.
+// Returns where a list begins among all keys, and where it ends.
 fn bounds(starts: &[u32], list: u32) -> (u32, u32)
     requires { list + 1 < length starts.now }
     ensures from { result.0 ≡ slice_index starts.now list }

@@ -1,4 +1,4 @@
-//! The name of a table, held in place.
+//! The name of a table, stored inline.
 ghost use Rattle.std.specs.Prelude.{◌≡◌, ◌&&◌, ◌↔◌, IfSome, IsSome, IsTrue, nat_le, true};
 ghost use Rattle.std.specs.List.{list_all};
 ghost use Rattle.lake_model.specs.Tables.{is_name};
@@ -6,11 +6,11 @@ ghost use Rattle.lake_model.specs.Tables.{is_name};
 use std::marker::Model;
 use std::str;
 
-/// How many bytes a name has at most.
+/// The most bytes that a name may have.
 const MOST_BYTES: usize = 255;
 
-/// The name of a table: 1 to 255 bytes, each from `!` (0x21) to `~` (0x7E), so printable ASCII with no space. A contract sees
-/// its bytes. It takes no memory but its own.
+/// The name of a table: 1 to 255 bytes, each from `!` (0x21) to `~` (0x7E), that is, printable ASCII without the space.
+/// Its model is the list of its bytes. It is stored inline and never allocates.
 #[derive(Drop)]
 pub struct Name {
     bytes: [u8; 255],
@@ -29,7 +29,7 @@ impl Model for Name {
 }
 
 impl Name {
-    /// The name that the bytes are, and `None` where they are none.
+    /// Returns the name that consists of these bytes, or `None` if they are not a name.
     pub fn read(bytes: &[u8]) -> Option<Name>
         ensures name { IfSome result (λ name. name ≡ bytes.now) }
         ensures exact { IsSome result ↔ IsTrue (is_name bytes.now) }
@@ -45,7 +45,7 @@ impl Name {
         })
     }
 
-    /// The bytes of the name.
+    /// Returns the bytes of the name.
     pub fn bytes(&self) -> &[u8]
         ensures same { result.now ≡ self.now }
         ensures name { is_name self.now ≡ true }
@@ -53,7 +53,7 @@ impl Name {
         &self.bytes[..self.len as usize]
     }
 
-    /// The name as a text.
+    /// Returns the name as a text.
     pub fn text(&self) -> &str
         ensures { result.now ≡ self.now }
     {
@@ -63,7 +63,7 @@ impl Name {
         }
     }
 
-    /// The same name. It takes no memory.
+    /// Returns a copy of the name. It does not allocate.
     pub fn copy(&self) -> Name
         ensures { result ≡ self.now }
     {
@@ -74,7 +74,7 @@ impl Name {
     }
 }
 
-// Whether each byte is a printable one of ASCII, and no space.
+// Returns whether every byte is printable ASCII other than the space.
 fn are_printable(bytes: &[u8]) -> bool
     ensures { result ≡ list_all (λ byte. nat_le 0x21 byte && nat_le byte 0x7E) bytes.now }
 {

@@ -16,7 +16,7 @@ use std::alloc::Global;
 use std::marker::Model;
 use std::str;
 
-/// The keys of a query, none twice and at most 4,194,304. A contract sees the list of them, in order of first sight.
+/// The distinct keys of a query, at most 4,194,304. Its model is the list of the keys, in order of first occurrence.
 #[derive(Drop)]
 pub struct QuerySet {
     keys: Texts,
@@ -36,11 +36,11 @@ impl Model for QuerySet {
 }
 
 impl QuerySet {
-    /// The query of a body with one value a line: the distinct keys of its lines, each of this kind, of which a value with nothing but white space
-    /// gives none. A line feed ends a line, and what stands behind the last one is a line where it has a byte.
+    /// Returns the query of a body with one value a line: the distinct keys, of kind `keys`, of its lines. A line with
+    /// nothing but white space has no key. A line feed ends a line; bytes after the last line feed are a line, too.
     ///
-    /// It is refused at the first line that is not UTF-8, then where there are more than 4,194,304 distinct keys, and where
-    /// memory is wanting.
+    /// Returns `Err(NotUtf8)` for the first line that is not UTF-8, otherwise `Err(TooManyValues)` if there are more
+    /// than 4,194,304 distinct keys, and `Err(NoMemory)` if memory runs out.
     pub fn read(alloc: Global, keys: Keys, body: &[u8]) -> Result<QuerySet, QueryRefused>
         ensures keys { IfOk result (λ q. q ≡ query_of keys body.now) }
         ensures sound { OnOk result (query_fault keys body.now ≡ None) }
@@ -56,7 +56,7 @@ impl QuerySet {
         Ok(QuerySet { keys, index })
     }
 
-    /// The keys of the column of a table at a place, counted from 1, as a query.
+    /// Returns the keys of the table's column at a place, counted from 1, as a query.
     pub fn of_column(alloc: Global, table: &TableSets, place: u32) -> Result<QuerySet, NoMemory>
         requires low { 0 < place }
         requires high { place ≤ length table.now.columns }
@@ -67,7 +67,7 @@ impl QuerySet {
         Ok(QuerySet { keys, index })
     }
 
-    /// How many keys there are. They differ from each other.
+    /// Returns the number of keys. They are distinct.
     pub fn len(&self) -> u32
         ensures value { result ≡ length self.now }
         ensures small { result ≤ 4194304 }
@@ -76,7 +76,7 @@ impl QuerySet {
         self.keys.len()
     }
 
-    /// A key, by its index in order of first sight, from 0.
+    /// Returns a key by its index in order of first occurrence, from 0.
     pub fn key(&self, i: u32) -> &str
         requires { i < length self.now }
         ensures { result.now ≡ get_or self.now i [] }
@@ -84,7 +84,7 @@ impl QuerySet {
         self.keys.text(i)
     }
 
-    /// How many keys of the query are in a list of keys.
+    /// Returns how many keys of the query are in a list of keys.
     pub(crate) fn shared_with(&self, lists: &KeyLists, list: u32) -> u32
         requires there { list < length lists.now }
         requires different { IsDistinct bytes_eq (get_or lists.now list []) }
@@ -93,7 +93,7 @@ impl QuerySet {
         lists.overlap(list, &self.keys, &self.index)
     }
 
-    /// Whether the key is one of the query's.
+    /// Returns whether the key is one of the query's.
     pub fn has(&self, key: &str) -> bool
         ensures { result ≡ has_key self.now key.now }
     {
@@ -101,7 +101,7 @@ impl QuerySet {
     }
 }
 
-// The distinct keys of the lines of a body, gathered as one list.
+// Gathers the distinct keys of the lines of a body as one list.
 fn gather_lines(alloc: Global, keys: Keys, body: &[u8]) -> Result<KeyGatherer, QueryRefused>
     ensures none { IfOk result (λ lists. lists.finished ≡ []) }
     ensures keys { IfOk result (λ lists. lists.current ≡ query_of keys body.now) }
@@ -127,7 +127,7 @@ fn gather_lines(alloc: Global, keys: Keys, body: &[u8]) -> Result<KeyGatherer, Q
     Err(QueryRefused::NoMemory)
 }
 
-// No keys, with room for those of a body whose lines have about sixteen bytes.
+// Returns an empty gatherer with room for the keys of a body whose lines have about sixteen bytes.
 fn no_keys(alloc: Global, body: &[u8]) -> Result<KeyGatherer, QueryRefused>
     ensures none { IfOk result (λ lists. (lists.finished ≡ []) × (lists.current ≡ [])) }
     ensures refused { IfErr result (λ e. e ≡ QueryRefused.NoMemory) }
@@ -139,14 +139,14 @@ fn no_keys(alloc: Global, body: &[u8]) -> Result<KeyGatherer, QueryRefused>
     }
 }
 
-// Where the first line feed is.
+// Returns the index of the first line feed.
 fn line_end(body: &[u8]) -> Option<usize>
     ensures { result ≡ position (λ byte. byte == 0x0A) body.now }
 {
     body.iter().position(|byte| *byte == b'\n')
 }
 
-// The first line of a body that has a byte, and what comes behind it.
+// Splits a body of at least one byte into its first line, without the line feed, and the bytes after it.
 fn next_line(body: &[u8]) -> (&[u8], &[u8])
     requires { 0 < length body.now }
     ensures { all_lines body.now ≡ result.0.now ∷ all_lines result.1.now }

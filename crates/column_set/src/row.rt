@@ -1,4 +1,4 @@
-//! The rows of an answer, which borrow the titles of a table, and the same rows with a share of the titles of their own.
+//! The rows of an answer, which borrow the titles of a table, and kept rows, which own a share of the titles.
 ghost use Rattle.std.specs.Prelude.{◌≡◌, IfOk};
 ghost use Rattle.std.specs.Cmp.{po, partial_equiv_from_equiv};
 ghost use Rattle.std.specs.Ordering.{as_partial_cmp, eq_by_cmp};
@@ -15,8 +15,8 @@ use std::cmp::Ordering;
 use std::marker::Model;
 use std::sync::Arc;
 
-/// A row of an answer: how many keys of the query the column shares, whose titles it has, and at which place, counted from 1,
-/// its column stands. It borrows the titles.
+/// A row of an answer: the number of keys that the column shares with the query, the titles of the column's table, and
+/// the column's place in it, counted from 1. It borrows the titles.
 #[derive(Drop)]
 pub struct Row<'a> {
     pub overlap: u32,
@@ -36,8 +36,8 @@ impl<'a> Model for Row<'a> {
 }
 
 impl<'a> Row<'a> {
-    /// The order of an answer: the greater overlap first, and then by the bytes of the table's name, those of the column's name,
-    /// and the place. It reads names only where the overlaps are equal.
+    /// Compares two rows in the order of an answer: the greater overlap first, then by the bytes of the table's name,
+    /// then by those of the column's name, then by place. The names are read only if the overlaps are equal.
     pub fn order(&self, other: &Row<'_>) -> Ordering
         ensures { result ≡ row_cmp self.now other.now }
     {
@@ -52,21 +52,21 @@ impl<'a> Row<'a> {
         }
     }
 
-    /// The table's name.
+    /// Returns the table's name.
     pub fn table(&self) -> &Name
         ensures { result.now ≡ self.now.table }
     {
         self.titles.table()
     }
 
-    /// The column's name.
+    /// Returns the column's name.
     pub fn column(&self) -> &str
         ensures { result.now ≡ self.now.column }
     {
         self.titles.column(self.place)
     }
 
-    /// The same row, with a share of the titles of its own.
+    /// Returns the same row with its own share of the titles.
     pub fn keep(&self) -> Result<KeptRow, NoMemory>
         ensures { IfOk result (λ kept. kept ≡ self.now) }
     {
@@ -137,28 +137,28 @@ impl Model for KeptRow {
 }
 
 impl KeptRow {
-    /// How many keys of the query the column shares.
+    /// Returns the number of keys that the column shares with the query.
     pub fn overlap(&self) -> u32
         ensures { result ≡ self.now.overlap }
     {
         self.overlap
     }
 
-    /// The table's name.
+    /// Returns the table's name.
     pub fn table(&self) -> &Name
         ensures { result.now ≡ self.now.table }
     {
         self.titles.table()
     }
 
-    /// The column's name.
+    /// Returns the column's name.
     pub fn column(&self) -> &str
         ensures { result.now ≡ self.now.column }
     {
         self.titles.column(self.place)
     }
 
-    /// The place of the column in its table, counted from 1.
+    /// Returns the place of the column in its table, counted from 1.
     pub fn place(&self) -> u32
         ensures { result ≡ self.now.place }
     {
@@ -166,7 +166,7 @@ impl KeptRow {
     }
 }
 
-/// Rows of an answer, in their order. A contract sees the list of the rows.
+/// The rows of an answer, in order. Its model is the list of the rows.
 #[derive(Drop)]
 pub struct Rows<'a> {
     rows: Vec<Row<'a>>,
@@ -182,21 +182,21 @@ impl<'a> Model for Rows<'a> {
 }
 
 impl<'a> Rows<'a> {
-    /// These rows.
+    /// Makes `Rows` of these rows.
     pub fn new(rows: Vec<Row<'a>>) -> Rows<'a>
         ensures { result ≡ rows.entry.items }
     {
         Rows { rows }
     }
 
-    /// The rows, in their order.
+    /// Returns the rows, in order.
     pub fn list(&self) -> &[Row<'a>]
         ensures { result.now ≡ self.now }
     {
         &self.rows
     }
 
-    /// The same rows, each with a share of its titles.
+    /// Returns the same rows, each with its own share of the titles.
     pub fn keep_all(&self, alloc: Global) -> Result<KeptRows, NoMemory>
         ensures { IfOk result (λ kept. kept ≡ self.now) }
     {
@@ -204,7 +204,7 @@ impl<'a> Rows<'a> {
     }
 }
 
-// The same rows, each with a share of its titles.
+// Returns the same rows, each with its own share of the titles.
 fn keep_rows(alloc: Global, rows: &[Row<'_>]) -> Result<Vec<KeptRow>, NoMemory>
     ensures { IfOk result (λ kept. kept.items ≡ rows.now) }
 {
@@ -215,7 +215,7 @@ fn keep_rows(alloc: Global, rows: &[Row<'_>]) -> Result<Vec<KeptRow>, NoMemory>
     Ok(kept)
 }
 
-/// Rows of an answer that own shares of their titles, in their order. A contract sees the list of the rows.
+/// The rows of an answer, in order, which own shares of their titles. Its model is the list of the rows.
 #[derive(Drop)]
 pub struct KeptRows {
     rows: Vec<KeptRow>,
@@ -231,14 +231,14 @@ impl Model for KeptRows {
 }
 
 impl KeptRows {
-    /// These rows.
+    /// Makes `KeptRows` of these rows.
     pub fn new(rows: Vec<KeptRow>) -> KeptRows
         ensures { result ≡ rows.items }
     {
         KeptRows { rows }
     }
 
-    /// The rows, in their order.
+    /// Returns the rows, in order.
     pub fn list(&self) -> &[KeptRow]
         ensures { result.now ≡ self.now }
     {

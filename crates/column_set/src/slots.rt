@@ -1,7 +1,9 @@
-//! Slots by which a key is found among texts: the number of each key, from 1, in a slot that the hash of the key leads to.
+//! A hash table of keys that are stored as texts: each slot is free (0) or holds the number of a key, counted from 1,
+//! and the hash of a key leads to its slot.
 //!
-//! The hash has a fixed seed, so a stranger may choose keys that share one. A key is therefore put only where a look of
-//! [`MOST_PROBES`] slots finds it, and who keeps keys for which there is no such slot finds them in another way.
+//! The hash has a fixed seed, so an adversary may choose keys that share a hash. A key is therefore put only into a
+//! slot that a look-up finds within [`MOST_PROBES`] slots. If there is no such slot for a key, the caller has to find
+//! its keys in another way.
 ghost use Rattle.std.specs.Prelude.{◌≡◌, ◌<◌, ◌≤◌, drop, length, IfOk, IfSome};
 ghost use Rattle.column_set.specs.Slots.{hash_of, home_of, next_of, AreFree, IsFree, IsSeat, IsSlotted};
 
@@ -10,20 +12,21 @@ use no_memory::NoMemory;
 use std::alloc::Global;
 use std::hash::{FoldHasher, Hasher};
 
-/// How many slots are looked at for a key. With half of the slots free, keys that nobody chose to collide take fewer.
+/// The number of slots that a look-up visits at most. While half of the slots are free, keys that were not chosen to
+/// collide take fewer.
 const MOST_PROBES: usize = 128;
 
-/// What a look for a key comes to.
+/// The result of a look-up of a key.
 pub enum Seat {
     /// The key is there.
     Taken,
     /// The key is not there, and this slot is free for it.
     Free(usize),
-    /// The key is not there, and none of the slots that are looked at is free.
+    /// The key is not there, and none of the slots visited is free.
     Crowded,
 }
 
-/// The hash of a key. Nothing but speed rests on how few keys share one.
+/// Returns the hash of a key. How few keys share a hash matters only for speed.
 #[tactic(auto, unfolding(crate::specs::Slots::hash_of))]
 pub fn hash_key(key: &str) -> u64
     ensures { result ≡ hash_of key.now }
@@ -33,7 +36,7 @@ pub fn hash_key(key: &str) -> u64
     hasher.finish()
 }
 
-/// The slot, of so many, at which the look for a hash begins.
+/// Returns the slot, of `size` slots, at which the look-up of a hash begins.
 pub fn home(size: usize, hash: u64) -> usize
     requires { 0 < size }
     ensures value { result ≡ home_of size hash }
@@ -42,7 +45,7 @@ pub fn home(size: usize, hash: u64) -> usize
     hash as usize & (size - 1)
 }
 
-/// The slot, of so many, behind another.
+/// Returns the slot that follows another, of `size` slots.
 pub fn behind(size: usize, at: usize) -> usize
     requires { at < size }
     ensures value { result ≡ next_of size at }
@@ -51,7 +54,8 @@ pub fn behind(size: usize, at: usize) -> usize
     (at + 1) & (size - 1)
 }
 
-/// Where the key of a hash stands among the keys from a place on, whose numbers stand in the slots, or where there is room for it.
+/// Looks up a key among the keys from index `from` on, whose numbers are in the slots. Returns that it is there, or the
+/// free slot for it, or that there is none.
 pub fn seat_of(slots: &[u32], keys: &Texts, from: u32, key: &str, hash: u64) -> Seat
     requires slotted { IsSlotted (length slots.now) slots.now (drop from keys.now) (length (drop from keys.now)) }
     requires hashed { hash ≡ hash_of key.now }
@@ -75,7 +79,7 @@ pub fn seat_of(slots: &[u32], keys: &Texts, from: u32, key: &str, hash: u64) -> 
     Seat::Crowded
 }
 
-/// The first slot that is free, of those that are looked at for a hash, and `None` where none is.
+/// Returns the first free slot among those visited for a hash, or `None` if none is free.
 pub fn free_slot(slots: &[u32], hash: u64) -> Option<usize>
     ensures { IfSome result (λ at. IsFree slots.now (home_of (length slots.now) hash) at) }
 {
@@ -93,7 +97,8 @@ pub fn free_slot(slots: &[u32], hash: u64) -> Option<usize>
     None
 }
 
-/// Slots with the numbers of the keys from a place on, as many as [`size_for`] says, and `None` where too many keys share a hash.
+/// Returns slots that hold the numbers of the keys from index `from` on. There are as many slots as [`size_for`] says.
+/// The result is `None` if too many keys share a hash.
 pub fn slots_of(alloc: Global, keys: &Texts, from: u32) -> Result<Option<Vec<u32>>, NoMemory>
     requires { from ≤ length keys.now }
     ensures { IfOk result (λ made. IfSome made (λ slots. IsSlotted (length slots.items) slots.items (drop from keys.now) (length (drop from keys.now)))) }
@@ -109,20 +114,20 @@ pub fn slots_of(alloc: Global, keys: &Texts, from: u32) -> Result<Option<Vec<u32
     Ok(Some(slots))
 }
 
-/// Slots for so many keys, all of them free.
+/// Returns free slots for `count` keys.
 pub fn free_slots(alloc: Global, count: u32) -> Result<Vec<u32>, NoMemory>
     ensures { IfOk result (λ slots. AreFree slots.items) }
 {
     Ok(vec![in alloc; 0u32; size_for(count)]?)
 }
 
-/// How many slots so many keys have: the least power of two above twice their number, and no fewer than eight.
+/// Returns the number of slots for `count` keys: the least power of two above twice `count`, and at least eight.
 fn size_for(count: u32) -> usize {
     (2 * count as usize + 1).next_power_of_two().max(8)
 }
 
-/// The slots of the keys from a place on, as they are where more than half are free, and otherwise more of them. It answers `None`
-/// where too many keys share a hash.
+/// Returns the given slots of the keys from index `from` on if more than half of them are free, and otherwise a larger
+/// table. The result is `None` if too many keys share a hash.
 pub fn widened(
     alloc: Global,
     slots: Vec<u32>,
@@ -136,7 +141,7 @@ pub fn widened(
     if slots.len() / 2 > (keys.len() - from) as usize {
         return Ok(Some(slots));
     }
-    // The old slots say nothing that the keys do not say, so their memory is given back first.
+    // The keys alone determine the slots, so the old slots can be freed before the new ones are allocated.
     drop(slots);
     slots_of(alloc, keys, from)
 }

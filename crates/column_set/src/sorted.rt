@@ -1,5 +1,5 @@
-//! Texts in order, for sets whose keys were chosen to collide in the hasher: repeats are found by a sort, and a key by a binary search. No
-//! choice of texts makes either take more comparisons than their number allows.
+//! Sorted texts, for sets whose keys were chosen to collide in the hasher: repeats are found by a sort, and a key by a
+//! binary search. The bound on their comparisons depends on the number of texts alone, not on the choice of texts.
 ghost use Rattle.std.specs.Prelude.{◌≡◌, ◌≤◌, ◌++◌, drop, length, take, IfOk, OnErr, OnOk};
 ghost use Rattle.lake_model.specs.Tables.{distinct, has_key};
 ghost use Rattle.column_set.specs.Sorted.{repeats_of, AreSortedPlaces};
@@ -8,18 +8,19 @@ use crate::texts::Texts;
 use no_memory::NoMemory;
 use std::alloc::Global;
 
-/// The places of the texts from one on, by their bytes, and of equal texts by the places.
+/// Returns the indices of the texts from index `from` on, sorted by the bytes of the texts, and those of equal texts by
+/// index.
 pub fn sorted_places(alloc: Global, texts: &Texts, from: u32) -> Result<Vec<u32>, NoMemory>
     requires { from ≤ length texts.now }
     ensures { IfOk result (λ places. AreSortedPlaces texts.now from places.items) }
 {
     let mut places: Vec<u32> = (from..texts.len()).collect(alloc)?;
-    // The sort is stable, which leaves the places of equal texts in order.
+    // The sort is stable, so the indices of equal texts stay in order.
     places.sort_by(|a, b| texts.text(*a).cmp(texts.text(*b)))?;
     Ok(places)
 }
 
-/// Leaves out each text, from a place on, that stands before it from that place on. It sorts them.
+/// Removes each text, from index `from` on, that equals an earlier one from that index on. It sorts the texts' indices.
 pub fn leave_out_repeats(alloc: Global, texts: &mut Texts, from: u32) -> Result<(), NoMemory>
     requires { from ≤ length texts.old }
     ensures left { OnOk result (texts.new ≡ take from texts.old ++ distinct (drop from texts.old)) }
@@ -31,7 +32,7 @@ pub fn leave_out_repeats(alloc: Global, texts: &mut Texts, from: u32) -> Result<
     Ok(())
 }
 
-/// Whether a text is among sorted ones, by a binary search.
+/// Returns whether the key is among the texts, by a binary search in their sorted order.
 pub fn is_among_sorted(texts: &Texts, places: &[u32], key: &str) -> bool
     requires { AreSortedPlaces texts.now 0 places.now }
     ensures { result ≡ has_key texts.now key.now }
@@ -41,8 +42,8 @@ pub fn is_among_sorted(texts: &Texts, places: &[u32], key: &str) -> bool
         .is_ok()
 }
 
-// For each text from a place on, whether an equal one stands before it from that place on. Equal texts are neighbours in the order of the
-// sorted places, the first of them in front, so a look at the neighbour in front is enough.
+// Returns, for each text from index `from` on, whether it equals an earlier one from that index on. In the sorted order
+// equal texts are neighbours, the first of them first, so it suffices to compare each text with the one before it.
 fn repeats_at(
     alloc: Global,
     texts: &Texts,

@@ -3,7 +3,7 @@ use crate::texts::Texts;
 use std::alloc::Global;
 use std::test::Fail;
 
-// These texts.
+// Makes `Texts` of these words.
 fn texts(alloc: Global, words: &[&str]) -> Result<Texts, Fail> {
     let mut texts = Texts::with_room(alloc, words.len(), 64)?;
     for word in words {
@@ -12,7 +12,7 @@ fn texts(alloc: Global, words: &[&str]) -> Result<Texts, Fail> {
     Ok(texts)
 }
 
-// Whether the repeats among these words, from a place on, are left out so that the words of the second list are left.
+// Returns whether removing the repeats among the words, from index `from` on, leaves exactly the second list.
 fn are_left(alloc: Global, words: &[&str], from: u32, left: &[&str]) -> Result<bool, Fail> {
     let mut texts = texts(alloc, words)?;
     if from > texts.len() {
@@ -28,7 +28,7 @@ fn are_left(alloc: Global, words: &[&str], from: u32, left: &[&str]) -> Result<b
     )
 }
 
-// Of equal texts the first stays, wherever they stand. The empty text is one too, and is less than any other.
+// Of equal texts the first stays, wherever it is. The empty text is an ordinary text, less than any other.
 #[test]
 fn repeats_left_out(rt: HostRuntime) -> Result<(), Fail> {
     let alloc = rt.alloc();
@@ -40,7 +40,7 @@ fn repeats_left_out(rt: HostRuntime) -> Result<(), Fail> {
     Ok(())
 }
 
-// The texts in front of the place stay, and none behind it is left out for one of them.
+// The texts before the index stay, and a later text is not removed for equalling one of them.
 #[test]
 fn from_a_place_on(rt: HostRuntime) -> Result<(), Fail> {
     let alloc = rt.alloc();
@@ -51,7 +51,8 @@ fn from_a_place_on(rt: HostRuntime) -> Result<(), Fail> {
     Ok(())
 }
 
-// The places are in the order of the bytes, those of equal texts in their own, and a search finds what is there and nothing else.
+// The indices are in the order of the bytes, those of equal texts increasing, and a search finds what is there and
+// nothing else.
 #[test]
 fn sorted_and_found(rt: HostRuntime) -> Result<(), Fail> {
     let alloc = rt.alloc();

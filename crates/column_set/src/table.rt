@@ -1,4 +1,4 @@
-//! A table as its titles and the sets of keys of its columns, and the same table shared.
+//! A table as its titles and the sets of keys of its columns, and a shared table.
 ghost use Rattle.std.specs.Prelude.{◌≡◌, ◌⊎◌, ◌<◌, ◌≤◌, ◌++◌, ◌∷◌, [], bytes_eq, get_or, length, map, string_bytes, IfErr, IfOk, None, OnOk, Some};
 ghost use Rattle.std.specs.List.{AllByRecursion, IsDistinct};
 ghost use Rattle.lake_model.specs.Records.{column_at, column_count, field_at, places_of, sets_fault, table_of, text_size};
@@ -18,11 +18,11 @@ use std::alloc::Global;
 use std::marker::Model;
 use std::sync::Arc;
 
-/// For how many keys of a column there is room at first.
+/// The number of keys of a column for which room is made at first.
 const FIRST_ROOM: u64 = 64;
 
-/// A table: its name, and for each of its columns, at most 4,096, the name and the set of its keys, at most 4,194,304 and none
-/// twice. Columns are found by their place, counted from 1; two of them may have one name.
+/// A table: its name, and for each of its columns (at most 4,096) the column's name and the set of its keys (at most
+/// 4,194,304, all distinct). Columns are found by their place, counted from 1; two columns may have the same name.
 #[derive(Drop)]
 pub struct TableSets {
     titles: Arc<Titles>,
@@ -45,10 +45,11 @@ impl Model for TableSets {
 impl TableSets {
     ghost use Rattle.lake_model.specs.Tables.{members as members_of, key_bytes as key_bytes_of};
 
-    /// The table of the name, with a column for each column of the fields: the field of the header is its name, and the keys of
-    /// the fields below it, each of this kind, in the order of the records, are its set.
+    /// Returns the table with the given name and a column for each column of `raw`. The header's field is the column's
+    /// name, and its set holds the keys, of kind `keys`, of the fields below the header, in the order of the records.
     ///
-    /// It is refused at the first column of more than 4,194,304 distinct keys, and where memory is wanting.
+    /// Returns `Err(TooManyValues)` with the place of the first column that has more than 4,194,304 distinct keys, and
+    /// `Err(NoMemory)` if memory runs out.
     pub fn build(
         alloc: Global,
         keys: Keys,
@@ -78,21 +79,21 @@ impl TableSets {
         })
     }
 
-    /// The table's name and its columns' names, to be shared.
+    /// Returns the names of the table and of its columns, to be shared.
     pub fn titles(&self) -> &Arc<Titles>
         ensures { result.now.value ≡ titles_of self.now }
     {
         &self.titles
     }
 
-    /// The table's name.
+    /// Returns the table's name.
     pub fn name(&self) -> &Name
         ensures { result.now ≡ self.now.name }
     {
         self.titles.table()
     }
 
-    /// How many columns there are, at most 4,096. The keys of each differ from each other.
+    /// Returns the number of columns, at most 4,096. The keys of each column are distinct.
     pub fn columns(&self) -> u32
         ensures value { result ≡ length self.now.columns }
         ensures narrow { result ≤ 4096 }
@@ -101,14 +102,14 @@ impl TableSets {
         self.sets.len() as u32
     }
 
-    /// How many keys the sets of all columns have together.
+    /// Returns the number of keys in the sets of all columns together.
     pub fn members(&self) -> u64
         ensures { result ≡ members_of self.now }
     {
         self.members
     }
 
-    /// How many bytes the keys of all columns have together.
+    /// Returns the number of bytes in the keys of all columns together.
     pub fn key_bytes(&self) -> u64
         ensures { result ≡ key_bytes_of self.now }
     {
@@ -119,7 +120,7 @@ impl TableSets {
 impl TableSets {
     ghost use Rattle.lake_model.specs.Tables.{overlap as overlap_of};
 
-    /// The name of the column at a place, counted from 1.
+    /// Returns the name of the column at a place, counted from 1.
     pub fn column_name(&self, place: u32) -> &str
         requires low { 0 < place }
         requires high { place ≤ length self.now.columns }
@@ -128,7 +129,7 @@ impl TableSets {
         self.titles.column(place)
     }
 
-    /// How many keys the column at a place, counted from 1, has. They differ from each other.
+    /// Returns the number of keys of the column at a place, counted from 1. These keys are distinct.
     pub fn size(&self, place: u32) -> u32
         requires low { 0 < place }
         requires high { place ≤ length self.now.columns }
@@ -139,8 +140,8 @@ impl TableSets {
         self.sets.size(place - 1)
     }
 
-    /// A key of the column at a place, counted from 1, by its index in order of first sight, from 0, and an empty text past the
-    /// last.
+    /// Returns a key of the column at a place, counted from 1. The index `i` counts the keys in order of first
+    /// occurrence, from 0; past the last key the result is an empty text.
     pub fn key(&self, place: u32, i: u32) -> &str
         requires low { 0 < place }
         requires high { place ≤ length self.now.columns }
@@ -149,7 +150,7 @@ impl TableSets {
         self.sets.key(place - 1, i)
     }
 
-    /// Whether the column at a place, counted from 1, has the key. It takes a walk over the column's keys.
+    /// Returns whether the column at a place, counted from 1, has the key. It walks over the column's keys.
     pub fn has(&self, place: u32, key: &str) -> bool
         requires low { 0 < place }
         requires high { place ≤ length self.now.columns }
@@ -158,7 +159,8 @@ impl TableSets {
         self.sets.has(place - 1, key)
     }
 
-    /// How many keys of the query the column at a place, counted from 1, has. It takes a walk over the column's keys.
+    /// Returns how many keys of the query are in the column at a place, counted from 1. It walks over the column's
+    /// keys.
     pub fn overlap(&self, place: u32, query: &QuerySet) -> u32
         requires low { 0 < place }
         requires high { place ≤ length self.now.columns }
@@ -167,7 +169,7 @@ impl TableSets {
         query.shared_with(&self.sets, place - 1)
     }
 
-    /// The keys of the column at a place, counted from 1, in the room that they take.
+    /// Returns a copy of the keys of the column at a place, counted from 1, with no spare capacity.
     pub(crate) fn copied_keys(&self, alloc: Global, place: u32) -> Result<Texts, NoMemory>
         requires low { 0 < place }
         requires high { place ≤ length self.now.columns }
@@ -179,7 +181,7 @@ impl TableSets {
     }
 }
 
-// The titles of a table of this name, with columns of these names, to be shared.
+// Returns the titles of a table of this name, with columns of these names, to be shared.
 fn shared_titles(alloc: Global, name: Name, names: &[String]) -> Result<Arc<Titles>, NoMemory>
     requires { length names.now ≤ 4096 }
     ensures { IfOk result (λ titles. titles.value ≡ titles_with name (map string_bytes names.now)) }
@@ -188,7 +190,7 @@ fn shared_titles(alloc: Global, name: Name, names: &[String]) -> Result<Arc<Titl
     Ok(Arc::new(alloc, titles)?)
 }
 
-// The names of the columns: the fields of the header.
+// Returns the names of the columns: the fields of the header.
 fn read_names(alloc: Global, raw: &RawTable) -> Result<Vec<String>, NoMemory>
     ensures { IfOk result (λ names. map string_bytes names.items ≡ map (field_at raw.now 0) (places_of raw.now)) }
 {
@@ -199,7 +201,7 @@ fn read_names(alloc: Global, raw: &RawTable) -> Result<Vec<String>, NoMemory>
     Ok(names)
 }
 
-// The sets of the columns, none too large.
+// Returns the sets of the columns, each of at most 4,194,304 keys.
 fn read_sets(alloc: Global, keys: Keys, raw: &RawTable) -> Result<KeyLists, SetRefused>
     ensures sets { IfOk result (λ sets. sets ≡ map (λ place. (column_at keys raw.now place).keys) (places_of raw.now)) }
     ensures narrow { IfOk result (λ sets. length sets ≤ 4096) }
@@ -226,7 +228,7 @@ fn read_sets(alloc: Global, keys: Keys, raw: &RawTable) -> Result<KeyLists, SetR
     Ok(KeyLists::of(lists.into_texts(), starts))
 }
 
-// No keys, with room for those of a table whose columns have few.
+// Returns an empty gatherer with room for `FIRST_ROOM` keys in each column, or fewer if the table has fewer records.
 fn no_keys(alloc: Global, raw: &RawTable) -> Result<KeyGatherer, NoMemory>
     ensures { IfOk result (λ lists. (lists.finished ≡ []) × (lists.current ≡ [])) }
 {
@@ -234,7 +236,7 @@ fn no_keys(alloc: Global, raw: &RawTable) -> Result<KeyGatherer, NoMemory>
     KeyGatherer::with_room(alloc, column, column.saturating_mul(raw.columns()))
 }
 
-// Where the first of the columns begins among all keys, with room for where the others do.
+// Returns the start of the first column's keys, which is 0, with room for the starts of the others.
 fn first_start(alloc: Global, raw: &RawTable) -> Result<Vec<u32>, NoMemory>
     ensures { IfOk result (λ starts. starts.items ≡ 0 ∷ []) }
 {
@@ -243,7 +245,8 @@ fn first_start(alloc: Global, raw: &RawTable) -> Result<Vec<u32>, NoMemory>
     Ok(starts)
 }
 
-// The keys of the column at a place, as one more list. Each is written into the buffer, which all columns share.
+// Gathers the keys of the column at a place as one more list, and returns their number. Each key is written into the
+// buffer, which all columns share.
 fn read_keys(
     alloc: Global,
     keys: Keys,
@@ -265,7 +268,7 @@ fn read_keys(
     lists.close(alloc)
 }
 
-/// A table that is shared. A contract sees the table.
+/// A shared table. Its model is the table.
 #[derive(Drop)]
 pub struct SharedTable {
     table: Arc<TableSets>,
@@ -280,7 +283,7 @@ impl Model for SharedTable {
 }
 
 impl SharedTable {
-    /// The table, to be shared.
+    /// Makes a table shared.
     pub fn new(alloc: Global, table: TableSets) -> Result<SharedTable, NoMemory>
         ensures { IfOk result (λ shared. shared ≡ table) }
     {
@@ -289,14 +292,14 @@ impl SharedTable {
         })
     }
 
-    /// The table.
+    /// Returns the table.
     pub fn table(&self) -> &TableSets
         ensures { result.now ≡ self.now }
     {
         &self.table
     }
 
-    /// One more share of the table.
+    /// Returns one more share of the table.
     pub fn share(&self) -> Result<SharedTable, NoMemory>
         ensures { IfOk result (λ other. other ≡ self.now) }
     {

@@ -4,7 +4,7 @@ use csv_table::read_table;
 use std::alloc::Global;
 use std::test::Fail;
 
-// The table of a name and of CSV bytes.
+// Returns the table with this name and these CSV bytes.
 fn table(alloc: Global, name: &[u8], bytes: &[u8]) -> Result<TableSets, Fail> {
     let name = Name::read(name).ok_or("no name")?;
     let Ok(raw) = read_table(alloc, bytes, 1_024) else {
@@ -16,7 +16,7 @@ fn table(alloc: Global, name: &[u8], bytes: &[u8]) -> Result<TableSets, Fail> {
     Ok(table)
 }
 
-// A name has a byte, and no space, control character or letter beyond ASCII.
+// A name is not empty, and has no space, no control character and no byte beyond ASCII.
 #[test]
 fn names(rt: HostRuntime) {
     for other in ["", "a b", "a\n", "caf\u{e9}", "\u{7f}"] {
@@ -25,7 +25,7 @@ fn names(rt: HostRuntime) {
     assert!(rt; Name::read(b"t1").is_some());
 }
 
-// The query of a body.
+// Returns the query of a body.
 fn query(alloc: Global, body: &[u8]) -> Result<QuerySet, Fail> {
     let Ok(query) = QuerySet::read(alloc, Keys::Canonical, body) else {
         return Err(Fail::from("no query"));
@@ -33,7 +33,7 @@ fn query(alloc: Global, body: &[u8]) -> Result<QuerySet, Fail> {
     Ok(query)
 }
 
-// A table of two columns fits into the room made for it, and a query of three values, two of which the second column has.
+// A table of two columns, and a query of three values, two of which are in the second column.
 #[test]
 fn shared_values(rt: HostRuntime) -> Result<(), Fail> {
     let alloc = rt.alloc();
@@ -52,7 +52,7 @@ fn shared_values(rt: HostRuntime) -> Result<(), Fail> {
     Ok(())
 }
 
-// A column asks for itself: all of its keys, in order of first sight.
+// A column as a query has all of its keys, in order of first occurrence.
 #[test]
 fn column_asked(rt: HostRuntime) -> Result<(), Fail> {
     let alloc = rt.alloc();
@@ -74,7 +74,7 @@ fn shares(rt: HostRuntime) -> Result<(), Fail> {
     Ok(())
 }
 
-// A column of blank values has no key, and columns may have one name, or none.
+// A column of blank values has no key, and columns may have the same name, or an empty one.
 #[test]
 fn odd_columns(rt: HostRuntime) -> Result<(), Fail> {
     let odd = table(rt.alloc(), b"odd", b"a,a,\n,x,1\n  ,X,\n")?;
@@ -82,7 +82,8 @@ fn odd_columns(rt: HostRuntime) -> Result<(), Fail> {
     Ok(())
 }
 
-// A table's fields are read in turn, and nothing of a longer one, of a blank one or of one beyond ASCII is left in the next key.
+// The fields of a table share one buffer: nothing of a longer field, a blank one or one beyond ASCII is left in the
+// next key.
 #[test]
 fn keys_in_turn(rt: HostRuntime) -> Result<(), Fail> {
     let body = "a,b\nA long value,E\u{301}x\nOx,\u{C9}x\n \u{A0},oX\noX,a LONG value\n";
@@ -95,12 +96,12 @@ fn keys_in_turn(rt: HostRuntime) -> Result<(), Fail> {
     Ok(())
 }
 
-// How many keys the query of a body has, and what the body is refused for.
+// Returns the number of keys in the query of a body, or the error for which the body is refused.
 fn read(alloc: Global, body: &[u8]) -> Result<u32, QueryRefused> {
     Ok(QuerySet::read(alloc, Keys::Canonical, body)?.len())
 }
 
-// Blank lines have no key, the last line needs no line feed, and the first line that is no text is named.
+// Blank lines have no key, the last line needs no line feed, and the error names the first line that is not UTF-8.
 #[test]
 fn lines(rt: HostRuntime) {
     let alloc = rt.alloc();
@@ -138,7 +139,7 @@ fn rows(rt: HostRuntime) -> Result<(), Fail> {
     Ok(())
 }
 
-// How many of the keys of a query, 1 and a, a column of a circled digit and a wide letter has.
+// Returns how many keys of a query, `1` and `a`, are in a column of a circled digit and a wide letter.
 fn shared_by(alloc: Global, keys: Keys) -> Result<u32, Fail> {
     let Ok(raw) = read_table(alloc, "c\n\u{2460}\n\u{FF21}\n".as_bytes(), 1) else {
         return Err(Fail::from("no table"));
@@ -156,7 +157,7 @@ fn shared_by(alloc: Global, keys: Keys) -> Result<u32, Fail> {
     Ok(table.overlap(1, &asked))
 }
 
-// Values that are the same by compatibility alone are one key where keys are of that kind.
+// Values that only compatibility matching makes equal share a key only with keys of that kind.
 #[test]
 fn kinds_of_keys(rt: HostRuntime) -> Result<(), Fail> {
     assert_eq!(rt; shared_by(rt.alloc(), Keys::Canonical)?, 0);
@@ -164,12 +165,12 @@ fn kinds_of_keys(rt: HostRuntime) -> Result<(), Fail> {
     Ok(())
 }
 
-// The front of keys of 32 bytes whose hash is 0. The hasher takes sixteen bytes at a time, and its state after the first sixteen of
-// these keys is the number that the next eight are the bytes of, the lowest first. The xor of the two is then a factor of the hash,
-// whatever the last eight bytes are.
+// The first 24 bytes of keys of 32 bytes whose hash is 0. The hasher takes sixteen bytes at a time, and its state after
+// the first sixteen bytes of these keys equals the next eight bytes, read as a little-endian number. The xor of the two
+// is a factor of the hash, so the hash is 0 whatever the last eight bytes are.
 const COLLIDING: &str = "joinablekewcbluzeevfwjbx";
 
-// A line for each of so many keys of one hash, each with this end, and then the same lines again.
+// Returns one line for each of `count` keys that share a hash, each with this end, and then the same lines again.
 fn colliding_lines(alloc: Global, count: u32, end: &str) -> Result<String, Fail> {
     let mut lines = String::new(alloc);
     for _ in 0..2 {
@@ -180,7 +181,7 @@ fn colliding_lines(alloc: Global, count: u32, end: &str) -> Result<String, Fail>
     Ok(lines)
 }
 
-// Keys that collide are each once in a query, and are found.
+// Keys that collide are each in a query once, and are found.
 #[test]
 fn colliding_query(rt: HostRuntime) -> Result<(), Fail> {
     let alloc = rt.alloc();
@@ -200,7 +201,7 @@ fn colliding_query(rt: HostRuntime) -> Result<(), Fail> {
     Ok(())
 }
 
-// Keys that collide are each once in a column, beside a column of other keys, and the column asks for itself.
+// Keys that collide are each in a column once, beside a column of other keys, and the column is used as a query.
 #[test]
 fn colliding_column(rt: HostRuntime) -> Result<(), Fail> {
     let alloc = rt.alloc();

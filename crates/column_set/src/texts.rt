@@ -1,4 +1,4 @@
-//! Texts in one region, which the keys of columns and queries and the names of columns are kept in.
+//! Texts in one region. They hold the keys of columns and queries, and the names of columns.
 ghost use Rattle.std.specs.Prelude.{◌≡◌, ◌<◌, ◌≤◌, ◌+◌, ◌^◌, ◌++◌, ◌∷◌, [], drop, get_or, length, map, string_bytes, sum_by, take, IfNone, IfOk, IfSome, OnErr, OnOk};
 ghost use Rattle.column_set.specs.Sorted.{unmarked};
 
@@ -7,7 +7,7 @@ use std::alloc::Global;
 use std::marker::Model;
 use text_region::{Region, Span};
 
-/// Texts one behind the other in one region, fewer than 2^32. A contract sees the list of them.
+/// Fewer than 2^32 texts, one after another in one region. Its model is the list of the texts.
 #[derive(Drop)]
 pub struct Texts {
     region: Region,
@@ -27,7 +27,7 @@ impl Model for Texts {
 }
 
 impl Texts {
-    /// No texts, and the room for so many texts with so many bytes together.
+    /// Returns no texts, with room for the given number of texts and for the given number of bytes in all of them.
     pub fn with_room(alloc: Global, texts: usize, bytes: usize) -> Result<Texts, NoMemory>
         ensures { IfOk result (λ texts. texts ≡ []) }
     {
@@ -36,7 +36,7 @@ impl Texts {
         Ok(Texts { region, spans })
     }
 
-    /// These texts, in the room that they take.
+    /// Returns these texts, with no spare capacity.
     pub fn of_strings(alloc: Global, strings: &[String]) -> Result<Texts, NoMemory>
         ensures { IfOk result (λ texts. texts ≡ map string_bytes strings.now) }
     {
@@ -48,7 +48,7 @@ impl Texts {
         Ok(texts)
     }
 
-    /// How many texts there are.
+    /// Returns the number of texts.
     pub fn len(&self) -> u32
         ensures value { result ≡ length self.now }
         ensures few { length self.now < 2 ^ 32 }
@@ -56,7 +56,7 @@ impl Texts {
         self.spans.len() as u32
     }
 
-    /// A text by its index, from 0, and an empty text past the last.
+    /// Returns a text by its index, from 0, or an empty text past the last.
     pub fn text(&self, i: u32) -> &str
         ensures { result.now ≡ get_or self.now i [] }
     {
@@ -66,7 +66,7 @@ impl Texts {
         }
     }
 
-    /// A text by its index, from 0, among those from a place on, and an empty text past the last.
+    /// Returns a text by its index, from 0, among the texts from index `from` on, or an empty text past the last.
     pub fn text_behind(&self, from: u32, i: u32) -> &str
         ensures { result.now ≡ get_or (drop from self.now) i [] }
     {
@@ -76,8 +76,8 @@ impl Texts {
         }
     }
 
-    /// Puts a text behind the others, and takes more memory where the bytes that room was made for do not hold it. It is refused
-    /// where memory is wanting, and from 2^32 - 1 texts or bytes on; the texts are then as they were.
+    /// Appends a text, and takes more memory if the room made so far does not suffice. Returns `Err(NoMemory)` if
+    /// memory runs out, and also if there would be more than 2^32 - 1 texts or bytes; the texts are then unchanged.
     pub fn push(&mut self, text: &str) -> Result<(), NoMemory>
         ensures added { OnOk result (self.new ≡ self.old ++ text.now ∷ []) }
         ensures refused { OnErr result (self.new ≡ self.old) }
@@ -91,7 +91,7 @@ impl Texts {
         Ok(())
     }
 
-    /// Puts these texts behind the others.
+    /// Appends these texts.
     pub fn push_all(&mut self, strings: &[String]) -> Result<(), NoMemory>
         ensures { OnOk result (self.new ≡ self.old ++ map string_bytes strings.now) }
     {
@@ -101,7 +101,7 @@ impl Texts {
         Ok(())
     }
 
-    /// Gives back the memory that the texts do not take.
+    /// Releases the spare capacity.
     pub fn shrink_to_fit(&mut self)
         ensures { self.new ≡ self.old }
     {
@@ -109,7 +109,8 @@ impl Texts {
         self.spans.shrink_to_fit();
     }
 
-    /// Leaves out the marked ones of the texts from a place on, of which each has a mark. The bytes of what is left out stay in the region.
+    /// Removes the marked texts among those from index `from` on; there is one mark for each of these. The bytes of the
+    /// removed texts stay in the region.
     pub fn leave_out(&mut self, from: u32, marks: &[bool])
         requires { from + length marks.now ≡ length self.old }
         ensures { self.new ≡ take from self.old ++ unmarked marks.now (drop from self.old) }
@@ -117,7 +118,7 @@ impl Texts {
         keep_unmarked(&mut self.spans, from as usize, marks);
     }
 
-    /// How many bytes the texts have together, and `None` only where these are 2^64 or more.
+    /// Returns the number of bytes in all texts together, or `None` only if it is 2^64 or more.
     pub fn byte_count(&self) -> Option<u64>
         ensures count { IfSome result (λ count. count ≡ sum_by length self.now) }
         ensures too_many { IfNone result (2 ^ 64 ≤ sum_by length self.now) }
@@ -130,7 +131,7 @@ impl Texts {
     }
 }
 
-/// How many bytes the texts have together, and `None` only where these are 2^64 or more.
+/// Returns the number of bytes in all strings together, or `None` only if it is 2^64 or more.
 pub fn byte_count(strings: &[String]) -> Option<u64>
     ensures count { IfSome result (λ count. count ≡ sum_by (λ string. length (string_bytes string)) strings.now) }
     ensures too_many { IfNone result (2 ^ 64 ≤ sum_by (λ string. length (string_bytes string)) strings.now) }
@@ -142,7 +143,7 @@ pub fn byte_count(strings: &[String]) -> Option<u64>
     Some(count)
 }
 
-// Leaves out the marked ones of the spans from a place on, of which each has a mark.
+// Removes the marked spans among those from index `from` on; there is one mark for each of these.
 fn keep_unmarked(spans: &mut Vec<Span>, from: usize, marks: &[bool])
     requires { from + length marks.now ≡ length spans.old.items }
     ensures { spans.new.items ≡ take from spans.old.items ++ unmarked marks.now (drop from spans.old.items) }

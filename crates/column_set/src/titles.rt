@@ -8,7 +8,7 @@ use no_memory::NoMemory;
 use std::alloc::Global;
 use std::marker::Model;
 
-/// A table's name and its columns' names, at most 4,096 of them, each a text that may be empty or that of another column.
+/// A table's name and its columns' names, at most 4,096. A column's name may be empty or equal another's.
 #[derive(Drop)]
 pub struct Titles {
     table: Name,
@@ -27,7 +27,8 @@ impl Model for Titles {
 }
 
 impl Titles {
-    /// The titles of a table of this name, with columns of these names from the first place on, in the room that they take.
+    /// Returns the titles of a table with this name and with columns of these names, the first at place 1. They have no
+    /// spare capacity.
     pub fn new(alloc: Global, table: Name, columns: &[String]) -> Result<Titles, NoMemory>
         requires { length columns.now ≤ 4096 }
         ensures { IfOk result (λ titles. titles ≡ titles_with table (map string_bytes columns.now)) }
@@ -38,14 +39,14 @@ impl Titles {
         })
     }
 
-    /// The table's name.
+    /// Returns the table's name.
     pub fn table(&self) -> &Name
         ensures { result.now ≡ self.now.table }
     {
         &self.table
     }
 
-    /// How many columns there are, at most 4,096.
+    /// Returns the number of columns, at most 4,096.
     pub fn columns(&self) -> u32
         ensures value { result ≡ length self.now.columns }
         ensures narrow { result ≤ 4096 }
@@ -53,7 +54,7 @@ impl Titles {
         self.columns.len()
     }
 
-    /// The name of the column at a place, counted from 1.
+    /// Returns the name of the column at a place, counted from 1.
     pub fn column(&self, place: u32) -> &str
         requires low { 0 < place }
         requires high { place ≤ length self.now.columns }

@@ -1,4 +1,4 @@
--- The bits of buckets: those outside the words are set, and a bit that is set leaves the others.
+-- The bits of buckets: those outside the words count as set, and setting a bit leaves the others.
 use Rattle.std.proofs.Common.{◌≡◌, ℕ, ◌-◌, ◌*◌, ◌/◌, ◌%◌, ◌^◌, ◌<◌, ◌≤◌, List, true, length, get_or, nat_eq, arith, bit_or, w64, slice_set}
 use Rattle.std.specs.Int.{bit_at}
 use Rattle.std.proofs.lemmas.Grind.{get_or-set_at}
@@ -16,7 +16,7 @@ with_bit word bucket = bit_or word (1 * 2 ^ (bucket % 64) % 2 ^ 64)
 pub set_same : (words : List ℕ) (bucket word : ℕ) → bucket / 64 < length words → is_set (slice_set words (bucket / 64) (with_bit word bucket)) bucket ≡ true
 set_same words bucket word h = grind (arith, get_or-set_same words (bucket / 64) (with_bit word bucket) (2 ^ 64 - 1) h, bit_at_set_same w64 word (bucket % 64))
 
--- a bit of a word stays
+-- a bit of a word stays set
 bit_kept : (word bucket k : ℕ) → nat_eq (bit_at word k) 1 ≡ true → nat_eq (bit_at (with_bit word bucket) k) 1 ≡ true
 bit_kept word bucket k was = grind (arith, bit_at_set_same w64 word (bucket % 64), bit_at_set_other w64 word (bucket % 64))
 

@@ -1,4 +1,4 @@
--- The buckets of hashes that rise, and the places near which a hash stands.
+-- The buckets of sorted hashes, and the indices near which a hash is.
 use Rattle.std.proofs.Common.{◌≡◌, ℕ, ◌+◌, ◌/◌, ◌*◌, ◌^◌, ◌<◌, ◌≤◌, List, true, false, length, get_or, arith, ltb}
 use Rattle.std.specs.List.Sorted.{IsNonDecreasingBy, IsPartitionPoint, IsPartitionedBy}
 use Rattle.std.proofs.Math.Nat.{div-mul-le_self}
@@ -8,7 +8,7 @@ use Rattle.std.proofs.lemmas.List.{get_or_default, get_or_past}
 use Rattle.std.proofs.lemmas.Nat.{le-div, pow_pos}
 use Rattle.hash_directory.specs.Buckets.{AreStarts, IsNear, IsStart, bucket_of}
 
--- a bucket does not lie before that of a lower hash
+-- a bucket does not come before that of a lower hash
 buckets_rise : (shift a b : ℕ) → a ≤ b → bucket_of shift a ≤ bucket_of shift b
 buckets_rise shift a b h = let low : a / 2 ^ shift * 2 ^ shift ≤ a = div-mul-le_self a (2 ^ shift) in le-div (a / 2 ^ shift) b (2 ^ shift) (pow_pos shift) (omega (arith, low, h))
 
@@ -22,7 +22,7 @@ start_is shift bucket hashes start within point = record {
   behind = λ k d l h. ltb-false (bucket_of shift (get_or hashes k d)) bucket (point.1 k d l h);
 }
 
--- ---- the places of a bucket
+-- ---- the indices of a bucket
 
 module _ (shift hash : ℕ) (hashes starts : List ℕ) (are : AreStarts shift hashes starts) (from to : ℕ) (first : from ≡ get_or starts (bucket_of shift hash) 0) (last : to ≡ get_or starts (bucket_of shift hash + 1) (length hashes)) where
   abbrev here : ℕ

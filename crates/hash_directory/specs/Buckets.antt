@@ -1,9 +1,9 @@
--- Hashes in buckets: a bucket has the hashes that differ in their last bits alone.
+-- Hashes in buckets: the hashes of a bucket differ only in their last bits.
 use Rattle.std.specs.Prelude.{◌≡◌, ◌-◌, ◌/◌, ◌%◌, ◌^◌, ◌<◌, ◌≤◌, ℕ, Bool, true, List, get_or, length, nat_eq}
 use Rattle.std.specs.Int.{bit_at}
 use Rattle.std.specs.List.{AllByRecursion, AllWithin}
 
--- the bucket of a hash, where so many of the last bits are left out
+-- the bucket of a hash, without its last `shift` bits
 abbrev pub bucket_of : ℕ → ℕ → ℕ
 bucket_of shift hash = hash / 2 ^ shift
 
@@ -15,25 +15,25 @@ pub record FilterOf : Type 0 where
 abbrev pub filter_with : ℕ → List ℕ → FilterOf
 filter_with shift words = record { shift = shift; words = words }
 
--- whether the bit of a bucket is set; that of a bucket outside the words is
+-- whether the bit of a bucket is set; a bucket outside the words counts as set
 abbrev pub is_set : List ℕ → ℕ → Bool
 is_set words bucket = nat_eq (bit_at (get_or words (bucket / 64) (2 ^ 64 - 1)) (bucket % 64)) 1
 
--- whether a hash of this bucket may be among those that were put in
+-- whether the hash may be one of those in the filter
 abbrev pub may_have : FilterOf → ℕ → Bool
 may_have filter hash = is_set filter.words (bucket_of filter.shift hash)
 
--- none of these hashes is denied
+-- the filter denies none of these hashes
 abbrev pub AreIn : FilterOf → List ℕ → Type 0
 AreIn filter hashes = AllByRecursion (λ hash. may_have filter hash ≡ true) hashes
 
--- the first of the hashes that are not of a bucket before this one
+-- the index of the first hash that is not in a bucket before this one
 pub record IsStart (shift : ℕ) (hashes : List ℕ) (bucket start : ℕ) : Type 0 where
   pub within : start ≤ length hashes
   pub before : AllWithin (λ hash. bucket_of shift hash < bucket) hashes 0 start
   pub behind : AllWithin (λ hash. bucket ≤ bucket_of shift hash) hashes start (length hashes)
 
--- that of each bucket
+-- the same for each bucket
 abbrev pub AreStarts : ℕ → List ℕ → List ℕ → Type 0
 AreStarts shift hashes starts = (bucket : ℕ) → bucket < length starts → IsStart shift hashes bucket (get_or starts bucket 0)
 
@@ -52,7 +52,7 @@ pub record IsDirectoryOf (hashes : List ℕ) (directory : DirectoryOf) : Type 0 
   pub filter : AreIn directory.filter hashes
   pub starts : AreStarts directory.shift hashes directory.starts
 
--- outside these places the hash does not stand
+-- the hash is nowhere outside this range of indices
 pub record IsNear (hashes : List ℕ) (hash from to : ℕ) : Type 0 where
   pub rising : from ≤ to
   pub within : to ≤ length hashes

@@ -1,4 +1,4 @@
-//! A directory of hashes that rise.
+//! A directory of sorted hashes.
 ghost use Rattle.std.specs.Prelude.{◌≡◌, ◌<◌, ◌^◌, ℕ, List, IfOk, get_or, length};
 ghost use Rattle.std.specs.List.Sorted.{IsNonDecreasingBy};
 ghost use Rattle.hash_directory.specs.Buckets.{AreStarts, IsDirectoryOf, IsNear, IsStart};
@@ -8,18 +8,19 @@ use no_memory::NoMemory;
 use std::alloc::Global;
 use std::marker::Model;
 
-/// Places of a list, from 0: from the first to the one before `to`.
+/// A range of indices of a list, from 0: from `from` to the one before `to`.
 #[derive(Clone, Copy, Debug, PartialEq, Eq)]
 pub struct Near {
     pub from: usize,
     pub to: usize,
 }
 
-/// Tells near which places of a list of hashes that rise a hash stands, if it does: mostly that it does not, by a filter, and else the
-/// places of a bucket of the range of all hashes, of which there are a quarter to half as many as hashes. A contract sees its arrays.
+/// Narrows the search for a hash in a sorted list of hashes. Usually a filter shows that the hash is not there;
+/// otherwise the directory gives the indices of the hashes in the same bucket. The buckets cut the range of all hashes
+/// into equal parts, and there are a quarter to half as many of them as hashes. Its model is its arrays.
 ///
-/// It takes 2 to 4 bytes for each hash, and at least 16. Whichever the hashes are, it answers rightly; where many are of one bucket, the
-/// places are many.
+/// It takes 2 to 4 bytes for each hash, and at least 16. Its answers are right whatever the hashes are, but if many are
+/// in one bucket, the indices are many.
 #[derive(Drop)]
 pub struct HashDirectory {
     filter: HashFilter,
@@ -40,7 +41,7 @@ impl Model for HashDirectory {
 }
 
 impl HashDirectory {
-    /// The directory of these hashes. It takes a binary search for each bucket.
+    /// Returns the directory of these hashes. It takes a binary search for each bucket.
     pub fn of(alloc: Global, hashes: &[u32]) -> Result<HashDirectory, NoMemory>
         requires rising { IsNonDecreasingBy (λ n. n) hashes.now }
         requires few { length hashes.now < 2 ^ 32 }
@@ -57,7 +58,7 @@ impl HashDirectory {
         })
     }
 
-    /// The places near which the hash stands, if it stands in the list at all.
+    /// Returns the range of indices outside of which the hash is not in the list.
     pub fn near(&self, hash: u32) -> Near
         ensures { (hashes : List ℕ) → IsDirectoryOf hashes self.now → IsNear hashes hash result.from result.to }
     {
@@ -71,7 +72,7 @@ impl HashDirectory {
     }
 }
 
-// For each bucket the first of the hashes that are not of a bucket before it.
+// Returns, for each bucket, the index of the first hash that is not in an earlier bucket.
 fn starts_of(alloc: Global, hashes: &[u32], shift: u32) -> Result<Vec<u32>, NoMemory>
     requires narrow { shift < 32 }
     requires few { length hashes.now < 2 ^ 32 }
@@ -86,7 +87,7 @@ fn starts_of(alloc: Global, hashes: &[u32], shift: u32) -> Result<Vec<u32>, NoMe
     Ok(starts)
 }
 
-// The first of the hashes that are not of a bucket before this one.
+// Returns the index of the first hash that is not in a bucket before this one.
 fn start_of(hashes: &[u32], shift: u32, bucket: u64) -> u32
     requires narrow { shift < 32 }
     requires few { length hashes.now < 2 ^ 32 }
@@ -96,7 +97,7 @@ fn start_of(hashes: &[u32], shift: u32, bucket: u64) -> u32
     hashes.partition_point(|hash| u64::from(*hash >> shift) < bucket) as u32
 }
 
-// Where a bucket begins, and another place where there is no such bucket.
+// Returns where a bucket begins, or `other` if there is no such bucket.
 fn start_at(starts: &[u32], bucket: usize, other: usize) -> usize
     ensures { result ≡ get_or starts.now bucket other }
 {

@@ -6,8 +6,9 @@ use no_memory::NoMemory;
 use std::alloc::Global;
 use std::marker::Model;
 
-/// Tells of most hashes that were not put in that they were not, and of none that was. The range of all hashes is cut into equal buckets,
-/// 8 to 16 for each hash and at least 64, each with one bit. A contract sees the bits.
+/// A filter that shows of most hashes that are not in a list that they are not, and never denies one that is. The range
+/// of all hashes is cut into equal buckets with one bit each: 8 to 16 buckets for each hash, but at least 64 and at
+/// most 2^32. Its model is the bits.
 #[derive(Drop)]
 pub struct HashFilter {
     shift: u32,
@@ -26,7 +27,7 @@ impl Model for HashFilter {
 }
 
 impl HashFilter {
-    /// The filter of these hashes. It takes 1 to 2 bytes for each, and at least 8.
+    /// Returns the filter of these hashes. It takes 1 to 2 bytes for each hash, and at least 8.
     pub fn of(alloc: Global, hashes: &[u32]) -> Result<HashFilter, NoMemory>
         requires { length hashes.now < 2 ^ 32 }
         ensures { IfOk result (λ filter. AreIn filter hashes.now) }
@@ -38,7 +39,7 @@ impl HashFilter {
         Ok(filter)
     }
 
-    /// Whether the hash may be one of those that were put in.
+    /// Returns whether the hash may be one of those in the filter.
     pub fn may_have(&self, hash: u32) -> bool
         ensures { result ≡ may_have self.now hash }
     {
@@ -49,14 +50,14 @@ impl HashFilter {
         }
     }
 
-    // An empty filter, with room for so many hashes.
+    // Returns an empty filter with room for `count` hashes.
     fn with_room(alloc: Global, count: u32) -> Result<HashFilter, NoMemory> {
         let shift = count.leading_zeros().saturating_sub(3).min(26);
         let words = vec![in alloc; 0; 1usize << (26 - shift)]?;
         Ok(HashFilter { shift, words })
     }
 
-    // Puts a hash in.
+    // Adds a hash.
     fn add(&mut self, hash: u32)
         ensures added { may_have self.new hash ≡ true }
         ensures kept { (other : ℕ) → may_have self.old other ≡ true → may_have self.new other ≡ true }

@@ -1,4 +1,5 @@
-//! Where a hash stands in a list of hashes that rise: a filter that mostly tells that it is not there, and a directory of its neighbours.
+//! Where a hash is in a sorted list of hashes: a filter that usually shows that it is not there, and a directory that
+//! narrows the search to a few neighbours.
 #![tactic(auto)]
 
 mod directory;

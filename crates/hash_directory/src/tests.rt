@@ -1,10 +1,10 @@
-//! Directories and filters of small lists, whose buckets are worked out by hand.
+//! Directories and filters of small lists, whose buckets were worked out by hand.
 use crate::{HashDirectory, HashFilter, Near};
 use std::alloc::Global;
 use std::test::Fail;
 
-// The directory of eight hashes has four buckets of 2^30 hashes, and their filter 128 of 2^25, of which these are of the numbers 0, 32,
-// 63, 64 and 127.
+// The directory of these eight hashes has four buckets of 2^30 hashes. Their filter has 128 buckets of 2^25, and the
+// hashes are in those with the numbers 0, 32, 63, 64 and 127.
 const EIGHT: [u32; 8] = [
     0,
     5,
@@ -16,7 +16,8 @@ const EIGHT: [u32; 8] = [
     0xffff_ffff,
 ];
 
-// Hashes that are none of the eight, but of a bucket of the filter that one of them is of, with the places of the directory's bucket.
+// Hashes that are not among the eight, but are in a filter bucket of one of them, with the range of the directory's
+// bucket.
 const NEIGHBOURS: [(u32, usize, usize); 6] = [
     (6, 0, 2),
     (0x01ff_ffff, 0, 2),
@@ -26,7 +27,7 @@ const NEIGHBOURS: [(u32, usize, usize); 6] = [
     (0xfe00_0000, 6, 8),
 ];
 
-// The first and the last hash of each row of the filter's buckets that none of the eight is of.
+// The first and the last hash of each run of filter buckets that hold none of the eight.
 const DENIED: [u32; 6] = [
     0x0200_0000,
     0x3fff_ffff,
@@ -36,7 +37,7 @@ const DENIED: [u32; 6] = [
     0xfdff_ffff,
 ];
 
-// The directory of a list of the tests.
+// Returns the directory of a list of the tests.
 fn directory_of(alloc: Global, hashes: &[u32]) -> Result<HashDirectory, Fail> {
     if hashes.len() > 1024 || !hashes.is_sorted() {
         return Err(Fail::from("a list that is long or does not rise"));
@@ -44,7 +45,7 @@ fn directory_of(alloc: Global, hashes: &[u32]) -> Result<HashDirectory, Fail> {
     Ok(HashDirectory::of(alloc, hashes)?)
 }
 
-// The hashes 0, 2^22, 2 * 2^22 and so on.
+// Returns the hashes 0, 2^22, 2 * 2^22, and so on.
 fn spread_out(alloc: Global) -> Result<Vec<u32>, Fail> {
     let mut hashes = Vec::new(alloc);
     for i in 0..1024u32 {
@@ -53,7 +54,7 @@ fn spread_out(alloc: Global) -> Result<Vec<u32>, Fail> {
     Ok(hashes)
 }
 
-// Whether a hash stands at some of these places, and at no other.
+// Returns whether the hash is within this range, and nowhere else.
 fn is_only_there(hashes: &[u32], near: Near, hash: u32) -> bool {
     let Some(there) = hashes.get(near.from..near.to) else {
         return false;
@@ -132,7 +133,7 @@ fn filter_of_eight(rt: HostRuntime) -> Result<(), Fail> {
     Ok(())
 }
 
-// Where no hash is, none may be there.
+// If there are no hashes, none may be there.
 #[test]
 fn nothing_is_near(rt: HostRuntime) -> Result<(), Fail> {
     let filter = HashFilter::of(rt.alloc(), &[])?;
@@ -144,8 +145,8 @@ fn nothing_is_near(rt: HostRuntime) -> Result<(), Fail> {
     Ok(())
 }
 
-// The directory of 1,024 hashes has 512 buckets, and their filter 16 for each hash. So where they are spread out evenly, a hash that may be
-// there is near two of them, and that is one of 16.
+// The directory of 1,024 hashes has 512 buckets, and their filter has 16 for each hash. So if the hashes are spread
+// evenly, one hash in 16 may be there, and it is near two of them.
 #[test]
 fn most_are_denied(rt: HostRuntime) -> Result<(), Fail> {
     let hashes = spread_out(rt.alloc())?;

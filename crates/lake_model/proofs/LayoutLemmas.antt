@@ -1,4 +1,4 @@
--- One more entry, and the tables that a layout has unmarked.
+-- One more entry, and the unmarked tables of a layout.
 use Rattle.std.proofs.Common.{◌≡◌, refl, ap, sym, ◌∙◌, ℕ, ◌+◌, List, [], ◌∷◌, ◌++◌, map, Bool, true, false, not, ◌||◌, length, arith, cond}
 use Rattle.std.specs.List.{filter, flat_map}
 use Rattle.std.proofs.lemmas.List.{map-append}

@@ -26,7 +26,7 @@ wide_letter : key Compatibility (0x20 ∷ 0xEF ∷ 0xBC ∷ 0xA1 ∷ 0x20 ∷ []
 unfolding caseless trim_start trim_end chars encode
 wide_letter = refl
 
--- U+3392, square MHz, whose letters only show once it is decomposed: they are folded after that
+-- U+3392, square MHz, whose letters appear only once it is decomposed: they are folded after that
 square_megahertz : key Compatibility (0xE3 ∷ 0x8E ∷ 0x92 ∷ []) ≡ Some (codes "mhz")
 unfolding caseless trim_start trim_end chars encode
 square_megahertz = refl

@@ -181,7 +181,7 @@ replaced_is_legal = refl
 replaced_live : live replaced_between ≡ table_with (codes "b") (column (codes "x" ∷ [])) ∷ table_with (codes "a") (column (codes "y" ∷ [])) ∷ []
 replaced_live = refl
 
--- a replace counts as an update and with its members, and not as a live table more
+-- a replace counts as an update and with its members, but not as one more live table
 replaced_counts : counts replaced_between ≡ counts_with 2 3 3 3
 replaced_counts = refl
 

@@ -1,4 +1,4 @@
--- The answer to a query: the columns that share most with it.
+-- The answer to a query: the columns that share the most keys with it.
 use Rattle.std.specs.Prelude.{ℕ, Bool, List, map, take, filter, flat_map, bytes_eq, nat_lt, not, false, Option, Some, None}
 use Rattle.std.specs.List.{enumerate_from}
 use Rattle.std.specs.Ordering.{ordering_then, nat_cmp}
@@ -28,7 +28,7 @@ is_excepted (Some excepted) name = bytes_eq excepted name
 abbrev pub row_of : List Text → Text → ℕ → Column → Row
 row_of query table place column = record { overlap = overlap query column.keys; table = table; column = column.name; place = place }
 
--- a row for each of the columns that shares a key with the query, their places counted from n
+-- a row for each column that shares a key with the query; the columns' places are counted from n
 abbrev pub rows_from : List Text → Text → ℕ → List Column → List Row
 rows_from query table n columns = filter (λ row. nat_lt 0 row.overlap) (map (λ c. row_of query table c.0 c.1) (enumerate_from n columns))
 
@@ -46,7 +46,7 @@ answer tables query k except = take k (in_order row_cmp (all_rows tables query e
 abbrev pub row_at : ℕ → Titles → ℕ → Row
 row_at overlap titles place = record { overlap = overlap; table = titles.table; column = column_name titles place; place = place }
 
--- what is asked: the keys, how many rows, and the name of a table that is left out
+-- what is asked: the keys, the number of rows, and the name of a table that is left out
 pub record Query : Type 0 where
   pub keys : List Text
   pub k : ℕ

@@ -23,14 +23,14 @@ has_name name table = bytes_eq table.name name
 abbrev pub without : Text → List Table → List Table
 without name tables = filter (λ table. not (has_name name table)) tables
 
--- the live tables behind an entry, from those before it
+-- the live tables after an entry, from those before it
 abbrev pub live_after : List Table → What → List Table
 live_after tables (Loaded table) = tables ++ table ∷ []
 live_after tables (Dropped name) = without name tables
 live_after tables (Replaced table) = without table.name tables ++ table ∷ []
 live_after tables (Swapped planned kept) = tables
 
--- the tables put by a load or a replace, and neither dropped nor replaced afterwards, in the order of their entries
+-- the tables added by a load or a replace and neither dropped nor replaced afterwards, in the order of their entries
 abbrev pub live : List Entry → List Table
 live journal = fold (λ tables entry. live_after tables entry.what) [] journal
 
@@ -70,6 +70,6 @@ who_with caller command = record { caller = caller; command = command }
 abbrev pub entry_with : Who → What → Entry
 entry_with who what = record { who = who; what = what }
 
--- the limits of a lake as it is shipped
+-- the standard limits of a lake
 abbrev pub standard_limits : Counts
 standard_limits = record { live = 65536; updates = 1048576; members = 16777216; key_bytes = 1073741824 }

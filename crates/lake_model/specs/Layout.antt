@@ -1,11 +1,12 @@
--- The layout of a journal: the parts in which its tables are searched, entry by entry; and which entry may follow a journal.
+-- The layout of a journal: the parts in which its tables are searched, entry by entry; and which entries may follow a
+-- journal.
 use Rattle.std.specs.Prelude.{ℕ, ◌+◌, Bool, true, false, ◌||◌, ◌&&◌, List, [], ◌∷◌, ◌++◌, length, map, take, drop, filter, flat_map, take_while, not, bytes_eq, nat_eq}
 use Rattle.std.specs.List.{list_any, list_all, position_or_len}
 use Rattle.lake_model.specs.Texts.{Text}
 use Rattle.lake_model.specs.Tables.{Table}
 use Rattle.lake_model.specs.Journal.{What, Loaded, Dropped, Replaced, Swapped, Entry, has_name, is_live}
 
--- where a load or a replace stands in a part: its position in the journal, its table, and whether that was dropped or replaced
+-- a load or a replace in a part: its position in the journal, its table, and whether that was dropped or replaced
 pub record Place : Type 0 where
   pub position : ℕ
   pub table : Table
@@ -18,14 +19,14 @@ pub record Part : Type 0 where
 abbrev pub is_among : List ℕ → ℕ → Bool
 is_among numbers n = list_any (nat_eq n) numbers
 
--- a place, and a part, with the places of the name marked
+-- a place, or a part, with the places of this name marked
 abbrev pub mark_place : Text → Place → Place
 mark_place name place = record place { marked = place.marked || has_name name place.table }
 
 abbrev pub mark : Text → Part → Part
 mark name part = record part { places = map (mark_place name) part.places }
 
--- the part of the kept places, and no part where nothing is kept
+-- the part of the places that are kept, or no part if none is kept
 abbrev pub merged : ℕ → List ℕ → List Part → List Part
 merged number kept parts = made (filter (λ place. is_among kept place.position) (flat_map (λ part. part.places) parts))
   where
@@ -33,11 +34,11 @@ merged number kept parts = made (filter (λ place. is_among kept place.position)
     made [] = []
     made (place ∷ places) = record { number = number; places = place ∷ places } ∷ []
 
--- the part that a load or a replace at a position puts
+-- the part that a load or a replace at a position adds
 abbrev pub part_with : ℕ → Table → Part
 part_with position table = record { number = position; places = record { position = position; table = table; marked = false } ∷ [] }
 
--- the parts behind an entry at a position, from those before it
+-- the parts after an entry at a position, from those before it
 abbrev pub parts_after : ℕ → List Part → What → List Part
 parts_after position parts (Loaded table) = parts ++ part_with position table ∷ []
 parts_after position parts (Dropped name) = map (mark name) parts
@@ -47,7 +48,7 @@ parts_after position parts (Swapped planned kept) =
     ++ merged position kept (filter (λ part. is_among planned part.number) parts)
     ++ filter (λ part. not (is_among planned part.number)) (drop (position_or_len (λ part. is_among planned part.number) parts) parts)
 
--- the same, entry by entry, where the first entry has this position
+-- the same, entry by entry, if the first entry has this position
 abbrev pub parts_from : ℕ → List Part → List Entry → List Part
 parts_from position parts [] = parts
 parts_from position parts (entry ∷ entries) = parts_from (position + 1) (parts_after position parts entry.what) entries
@@ -80,8 +81,8 @@ unmarked_of parts = filter (λ place. not place.marked) (flat_map (λ part. part
 abbrev pub run_of : List ℕ → List Part → List Part
 run_of planned parts = take (length planned) (drop (position_or_len (λ part. is_among planned part.number) parts) parts)
 
--- A swap may stand behind a layout where the planned parts stand next to each other in this order, and at least one, where the
--- kept positions are taken from theirs in layout order, and where each position that is not kept is marked.
+-- A swap may follow a layout if at least one part is planned, the planned parts are adjacent and in this order, the
+-- kept positions are taken from theirs in layout order, and each position that is not kept is marked.
 abbrev pub may_swap : List Part → List ℕ → List ℕ → Bool
 may_swap parts planned kept =
     let run = run_of planned parts in

@@ -6,11 +6,11 @@ use Rattle.lake_model.specs.declared.Policy.TheVariants.{Tier, All}
 use Rattle.lake_model.specs.Journal.{Entry}
 use Rattle.lake_model.specs.Layout.{Part, layout, unmarked_of}
 
--- the number of binary digits: how many powers of two, from 2 ^ 0 to 2 ^ 31, are at most n
+-- the number of binary digits, that is, of the powers of two from 2 ^ 0 to 2 ^ 31 that are at most n
 abbrev pub binary_digits : ℕ → ℕ
 binary_digits n = count_by (λ power. nat_le (2 ^ power) n) (range_with_len 0 32)
 
--- by how many columns a part has, those of marked tables among them
+-- the number of binary digits of the part's number of columns, those of marked tables included
 abbrev pub tier : Part → ℕ
 tier part = binary_digits (sum_by (λ place. length place.table.columns) part.places)
 

@@ -8,14 +8,14 @@ use Rattle.lake_model.specs.Texts.{Text, all_lines}
 use Rattle.lake_model.specs.Keys.{key}
 use Rattle.lake_model.specs.Tables.{distinct}
 
--- the distinct keys of the lines, in order of first sight
+-- the distinct keys of the lines, in order of first occurrence
 abbrev pub keys_of_lines : Keys → List Text → List Text
 keys_of_lines keys lines = distinct (filter_map (key keys) lines)
 
 abbrev pub query_of : Keys → List ℕ → List Text
 query_of keys body = keys_of_lines keys (all_lines body)
 
--- the first line that is no text, of the lines from the one numbered n on
+-- the first line that is not UTF-8, among the lines from the one numbered n on
 unfoldable pub line_fault : ℕ → List Text → Option QueryRefused
 line_fault n [] = None
 line_fault n (line ∷ lines) = if is_utf8 line then line_fault (n + 1) lines else Some (query.NotUtf8 n)

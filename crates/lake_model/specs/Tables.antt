@@ -3,7 +3,7 @@ use Rattle.std.specs.Prelude.{ℕ, ◌-◌, Bool, ◌&&◌, List, [], ◌∷◌,
 use Rattle.std.specs.List.{list_any, list_all}
 use Rattle.lake_model.specs.Texts.{Text}
 
--- a column's set is the list of its keys in order of first sight, none twice
+-- a column's set is the list of its distinct keys in order of first occurrence
 pub record Column : Type 0 where
   pub name : Text
   pub keys : List Text
@@ -19,15 +19,16 @@ has_key keys key = list_any (bytes_eq key) keys
 abbrev pub add_key : List Text → Text → List Text
 add_key keys key = if has_key keys key then keys else keys ++ key ∷ []
 
--- each text once, in order of first sight
+-- each text once, in order of first occurrence
 abbrev pub distinct : List Text → List Text
 distinct texts = fold add_key [] texts
 
--- How many members of the query are in the set (Zhu, Deng, Nargesian and Miller, JOSIE, SIGMOD 2019, problem statement).
+-- The number of keys of the query that are in the set (Zhu, Deng, Nargesian and Miller, JOSIE, SIGMOD 2019, problem
+-- statement).
 abbrev pub overlap : List Text → List Text → ℕ
 overlap query keys = count_by (has_key keys) query
 
--- the sizes of a table's sets, summed; and the bytes of all their keys
+-- the sum of the sizes of a table's sets, and the number of bytes of all their keys
 abbrev pub members : Table → ℕ
 members table = sum_by (λ column. length column.keys) table.columns
 
@@ -49,7 +50,7 @@ titles_of table = titles_with table.name (map (λ column. column.name) table.col
 abbrev pub column_name : Titles → ℕ → Text
 column_name titles place = get_or titles.columns (place - 1) []
 
--- a line of a list of tables: name, columns, members
+-- a line of a list of tables: the name, the number of columns, and the number of members
 pub record Line : Type 0 where
   pub name : Text
   pub columns : ℕ
@@ -74,6 +75,6 @@ sets_of table = map (λ column. column.keys) table.columns
 abbrev pub keys_at : Table → ℕ → List Text
 keys_at table place = get_or (sets_of table) (place - 1) []
 
--- a table's name: 1 to 255 bytes, each a printable one of ASCII and no space
+-- a table's name: 1 to 255 bytes, each of them printable ASCII other than the space
 abbrev pub is_name : Text → Bool
 is_name text = nat_le 1 (length text) && nat_le (length text) 255 && list_all (λ byte. nat_le 0x21 byte && nat_le byte 0x7E) text

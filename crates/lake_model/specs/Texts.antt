@@ -4,7 +4,7 @@ use Rattle.std.specs.Prelude.{ℕ, ◌==◌, if◌then◌else◌, List, [], ◌�
 abbrev pub Text : Type 0
 Text = List ℕ
 
--- a text as the lines that a line feed ended, without it, and what stands behind the last of these
+-- a text as the lines that a line feed ends, without it, and the bytes after the last line feed
 pub record Lines : Type 0 where
   pub ended : List Text
   pub rest : Text
@@ -12,7 +12,7 @@ pub record Lines : Type 0 where
 abbrev pub lines_with : List Text → Text → Lines
 lines_with ended rest = record { ended = ended; rest = rest }
 
--- one more byte in front of the first line
+-- one more byte at the start of the first line
 abbrev pub onto_first : ℕ → List Text → Text → Lines
 onto_first byte [] rest = lines_with [] (byte ∷ rest)
 onto_first byte (line ∷ lines) rest = lines_with ((byte ∷ line) ∷ lines) rest
@@ -24,7 +24,7 @@ unfoldable pub lines_of : Text → Lines
 lines_of [] = lines_with [] []
 lines_of (byte ∷ bytes) = onto_lines byte (lines_of bytes)
 
--- what stands behind the last line feed is a line where it has a byte
+-- the bytes after the last line feed are a line if there are any
 abbrev pub last_line : Text → List Text
 last_line [] = []
 last_line (byte ∷ bytes) = (byte ∷ bytes) ∷ []

@@ -1,4 +1,4 @@
--- What holds of each element, filters, lists in which nothing stands twice, numbers that rise, and what a search finds.
+-- What holds of each element, filters, lists of distinct elements, strictly increasing numbers, and the results of searches.
 use Rattle.std.proofs.Common.{◌≡◌, refl, ap, sym, ◌∙◌, ℕ, zero, suc, ◌+◌, ◌<◌, ◌≤◌, List, [], ◌∷◌, ◌++◌, Bool, true, false, ◌||◌, ◌&&◌, cond, map, length, get_or, drop, Some, None, inl, inr, arith, eqb as nat_eq}
 use Rattle.std.specs.Prelude.{find, bytes_eq}
 use Rattle.std.specs.List.{AllByRecursion, filter, list_any, list_all}
@@ -80,7 +80,7 @@ passed_cond : {X : Type 0} (P : X → Type 0) (b : Bool) (x : X) (xs : List X) �
 passed_cond P true x xs h k = (h refl, k)
 passed_cond P false x xs h k = k
 
--- what a filter keeps has passed
+-- what a filter keeps has passed its test
 pub all_passed : {X : Type 0} (p : X → Bool) (xs : List X) → AllByRecursion (λ x. p x ≡ true) (filter p xs)
 all_passed p [] = tt
 all_passed p (x ∷ xs) = passed_cond (λ x. p x ≡ true) (p x) x (filter p xs) (λ h. h) (all_passed p xs)
@@ -115,12 +115,12 @@ map_cond : {X Y : Type 0} (f : X → Y) (b : Bool) (x : X) (xs : List X) → map
 map_cond f true x xs = refl
 map_cond f false x xs = refl
 
--- a filter that looks only at what a map makes
+-- a filter that looks only at the results of a map
 pub map_filter : {X Y : Type 0} (f : X → Y) (p : Y → Bool) (xs : List X) → map f (filter (λ x. p (f x)) xs) ≡ filter p (map f xs)
 map_filter f p [] = refl
 map_filter f p (x ∷ xs) = map_cond f (p (f x)) x (filter (λ y. p (f y)) xs) ∙ ap (λ us. cond (p (f x)) (f x ∷ us) us) (map_filter f p xs)
 
--- a filter that lets all through that a stricter one does
+-- filtering first by a weaker test changes nothing
 pub filter_filter : {X : Type 0} (p q : X → Bool) (xs : List X) → AllByRecursion (λ x. p x ≡ true → q x ≡ true) xs → filter p (filter q xs) ≡ filter p xs
 filter_filter p q [] h = refl
 filter_filter p q (x ∷ xs) h = by (p x) (q x) refl refl ∙ ap (λ us. cond (p x) (x ∷ us) us) (filter_filter p q xs h.1)
@@ -143,7 +143,7 @@ length_filter_le p (x ∷ xs) = by (p x) (length_filter_le p xs)
     by true rest = omega arith
     by false rest = omega arith
 
--- ---- lists in which nothing stands twice
+-- ---- lists of distinct elements
 
 pub distinct_push : {X : Type 0} (xs : List X) (x : X) → AreDistinct xs → Lacks xs x → AreDistinct (xs ++ x ∷ [])
 distinct_push [] x h k = (tt, tt)
@@ -174,7 +174,7 @@ pub distinct_append : {X : Type 0} (xs ys : List X) → AreDistinct xs → AreDi
 distinct_append [] ys h k apart = k
 distinct_append {X} (x ∷ xs) ys h k apart = (all_append (λ (z : X). z ≡ x → ⊥) xs ys h.0 apart.0, distinct_append xs ys h.1 k apart.1)
 
--- ---- numbers that rise
+-- ---- numbers that strictly increase
 
 pub rises_left : (ms ns : List ℕ) → Rises (ms ++ ns) → Rises ms
 rises_left [] ns h = tt
@@ -184,7 +184,7 @@ above_none : (x : ℕ) (ns : List ℕ) → AllByRecursion (λ later. x < later) 
 above_none x [] h = refl
 above_none x (n ∷ ns) h = let lt = h.0 in let e : nat_eq x n ≡ false = grind (arith, nat_tests) in ap (λ b. b || list_any (nat_eq x) ns) e ∙ above_none x ns h.1
 
--- lists that rise are the same where they have the same numbers
+-- increasing lists are equal if they have the same numbers
 pub rises_same : (ms ns : List ℕ) → Rises ms → Rises ns → ((x : ℕ) → list_any (nat_eq x) ms ≡ list_any (nat_eq x) ns) → ms ≡ ns
 rises_same [] [] h k same = refl
 rises_same [] (n ∷ ns) h k same = absurd (let e : nat_eq n n ≡ true = grind (arith, nat_tests) in let f : false ≡ true = same n ∙ ap (λ b. b || list_any (nat_eq n) ns) e in cc)
@@ -194,7 +194,7 @@ rises_same (m ∷ ms) (n ∷ ns) h k same = (λ i. head i ∷ rises_same ms ns h
     itself : (x : ℕ) → nat_eq x x ≡ true
     itself x = grind (arith, nat_tests)
 
-    -- the lesser head would not stand in the other list
+    -- the lesser head would be missing from the other list
     missing : (x y : ℕ) (ys : List ℕ) → AllByRecursion (λ later. y < later) ys → x < y → list_any (nat_eq x) (y ∷ ys) ≡ false
     missing x y ys up lt = above_none x (y ∷ ys) (lt, all_weaker (λ later. y < later) (λ later. x < later) ys (λ later l. omega arith) up)
 
@@ -235,7 +235,7 @@ pub rises_filter : (p : ℕ → Bool) (ns : List ℕ) → Rises ns → Rises (fi
 rises_filter p [] h = tt
 rises_filter p (n ∷ ns) h = rises_cond (p n) n (filter p ns) (all_filter (λ later. n < later) p ns h.0) (rises_filter p ns h.1)
 
--- a stretch may be thinned out
+-- a filter may be applied to a stretch in the middle
 pub rises_thinner : (p : ℕ → Bool) (front run back : List ℕ) → Rises (front ++ (run ++ back)) → Rises (front ++ (filter p run ++ back))
 rises_thinner p (n ∷ front) run back h = (
   all_append (λ later. n < later) front (filter p run ++ back) (all_left (λ later. n < later) front (run ++ back) h.0)
@@ -253,7 +253,7 @@ rises_thinner p [] (n ∷ run) back h = by (p n) (rises_thinner p [] run back h.
     by true rest = (here, rest)
     by false rest = rest
 
--- ---- what a search finds
+-- ---- the result of a search
 
 pub find_none : {X : Type 0} (p : X → Bool) (xs : List X) → find p xs ≡ None → AllByRecursion (λ x. p x ≡ false) xs
 find_none p [] h = tt
@@ -263,9 +263,9 @@ find_none p (x ∷ xs) h = let o = open_by (p x) h in (o.0, find_none p xs o.1)
     open_by true h = cc
     open_by false h = (refl, h)
 
--- ---- what is left
+-- ---- what is left after a prefix is dropped
 
--- what stands behind the first part
+-- the second part of a list follows its first part
 pub drop_seam : {X : Type 0} (xs ys : List X) → drop (length xs) (xs ++ ys) ≡ ys
 drop_seam [] ys = refl
 drop_seam (x ∷ xs) ys = drop_seam xs ys

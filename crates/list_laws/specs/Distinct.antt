@@ -1,4 +1,4 @@
--- Lists in which no element stands twice, and lists of numbers that rise.
+-- Lists of distinct elements, and strictly increasing lists of numbers.
 use Rattle.std.specs.Prelude.{◌≡◌, ◌<◌, ℕ, List, [], ◌∷◌}
 use Rattle.std.specs.List.{AllByRecursion}
 
@@ -9,7 +9,7 @@ abbrev pub AreDistinct : {X : Type 0} → List X → Type 0
 AreDistinct [] = Unit {0}
 AreDistinct (x ∷ xs) = Lacks xs x × AreDistinct xs
 
--- each number is below all behind it
+-- each number is below all that follow it
 abbrev pub Rises : List ℕ → Type 0
 Rises [] = Unit {0}
 Rises (n ∷ ns) = AllByRecursion (λ later. n < later) ns × Rises ns

@@ -1,3 +1,3 @@
-//! The laws of lists: what holds of each element, lists in which nothing stands twice, numbers that rise, and what a search finds. There is
-//! no code here.
+//! The laws of lists: what holds of each element, lists of distinct elements, strictly increasing numbers, and the
+//! results of searches. There is no code here.
 #![tactic(auto)]

@@ -17,7 +17,7 @@ abbrev pub Distinct : List ℕ → Type 0
 Distinct [] = Unit {0}
 Distinct (x ∷ xs) = (is_among xs x ≡ false) × Distinct xs
 
--- what is among a list counts at least once there
+-- what is in a list is counted at least once there
 pub among_counts : (d : ℕ) (set : List ℕ) → is_among set d ≡ true → 1 ≤ count_by (nat_eq d) set
 among_counts d [] h = absurd (let f : false ≡ true = h in cc)
 among_counts d (s ∷ set) h = elim (nat_eq d s) as (λ b. nat_eq d s ≡ b → (b || is_among set d) ≡ true → 1 ≤ count_by (nat_eq d) (s ∷ set)) [
@@ -42,7 +42,7 @@ count_apart d ds (s ∷ set) h =
         let back : nat_eq s d ≡ false = grind (arith, nat_tests) in
         ap (λ b. one (b || is_among ds s)) back ∙ sym (ap (λ b. one b + one (is_among ds s)) e ∙ (let z : 0 + one (is_among ds s) ≡ one (is_among ds s) = omega arith in z))
 
--- of a list of distinct tokens no more are in the set than members of the set are in the list
+-- of a list of distinct tokens, no more are in the set than members of the set are in the list
 hits_le_count : (ds set : List ℕ) → Distinct ds → count_by (is_among set) ds ≤ count_by (is_among ds) set
 hits_le_count [] set h = omega arith
 hits_le_count (d ∷ ds) set h = by (hits_le_count ds set h.1) (is_among set d) refl
@@ -74,7 +74,7 @@ among_above l (d ∷ ds) h s e = elim (nat_eq s d) as (λ b. nat_eq s d ≡ b �
   | false ↦ λ f k. among_above l ds h.1 s k
 ] refl e
 
--- the position filter: behind the last token that is shared, a set has no more tokens than those that follow it
+-- the position filter: after the last shared token, a set has no more tokens than those that follow it
 pub position_filter : (set left : List ℕ) (l : ℕ) → is_among set l ≡ true → Distinct left → AllByRecursion (λ t. l < t) left → length (hits set left) ≤ length set - 1 - rank set l
 position_filter set left l in_set distinct above =
     omega (arith, length-filter (is_among set) left, hits_le_count left set distinct, count_weaker (is_among left) (nat_lt l) (among_above l left above) set, three_parts l set, among_counts l set in_set)

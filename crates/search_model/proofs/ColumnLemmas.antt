@@ -1,4 +1,4 @@
--- The columns of a list of tables, one at a time and one table at a time, and where each stands.
+-- The columns of a list of tables, one at a time and one table at a time, and where each is.
 use Rattle.std.proofs.Common.{◌≡◌, ap, sym, ◌∙◌, ℕ, zero, suc, ◌+◌, ◌-◌, ◌<◌, ◌≤◌, List, [], ◌∷◌, ◌++◌, map, length, get_or, take, arith, append-nil, append_assoc}
 use Rattle.std.specs.List.{AllByRecursion, flat_map, enumerate_from}
 use Rattle.std.proofs.lemmas.List.{get_or-map, length-map, take_all, take_more}
@@ -23,7 +23,7 @@ column_in number table i h =
     ∙ ap of (get_or-enumerate_from 1 table.columns i (1, no) h)
     ∙ (λ j. titled number table.name (one j) (get_or table.columns (back j) no))
 
--- the columns of a table, one more
+-- the columns of a table, with one more
 pub columns_in_more : (number : ℕ) (table : Table) (i : ℕ) → i < length table.columns → take (i + 1) (columns_in number table) ≡ take i (columns_in number table) ++ titled_in number table (i + 1) ∷ []
 columns_in_more number table i h =
     take_more (columns_in number table) i no_titled (omega (arith, length-columns_in number table)) ∙ ap (λ (c : Titled). take i (columns_in number table) ++ c ∷ []) (column_in number table i h)
@@ -42,23 +42,23 @@ tables_from n (t ∷ tables) (suc i) h =
     ap (λ (cs : List Titled). columns_in n t ++ cs) (tables_from (n + 1) tables i (omega arith) ∙ ap (λ (k : ℕ). columns_from (n + 1) (take i tables) ++ columns_in k (table_at tables i)) e)
     ∙ sym (append_assoc (columns_in n t) (columns_from (n + 1) (take i tables)) (columns_in (n + suc i) (table_at tables i)))
 
--- the columns of the tables, those of one more table
+-- the columns of the tables, with those of one more table
 pub columns_of_more : (tables : List Table) (i : ℕ) → i < length tables → columns_of (take (i + 1) tables) ≡ columns_of (take i tables) ++ columns_in i (table_at tables i)
 columns_of_more tables i h =
     let one : i + 1 ≡ suc i = omega arith in
     let z : 0 + i ≡ i = omega arith in
     ap (λ (n : ℕ). columns_of (take n tables)) one ∙ tables_from 0 tables i h ∙ ap (λ (k : ℕ). columns_of (take i tables) ++ columns_in k (table_at tables i)) z
 
--- ---- where a column stands
+-- ---- where a column is
 
--- a column is the one at its place of the table of its index
+-- a column is the one at its place in the table with its index
 pub record Stands (tables : List Table) (c : Titled) : Type 0 where
   pub table : c.from < length tables
   pub low : 0 < c.place
   pub high : c.place ≤ length (table_at tables c.from).columns
   pub keys : keys_at (table_at tables c.from) c.place ≡ c.column.keys
 
--- the columns of a table from the one behind so many on
+-- the columns of a table from a given one on
 stand_in : (tables : List Table) (number : ℕ) (name : Text) (before : ℕ) (columns : List Column) → number < length tables → before + length columns ≤ length (table_at tables number).columns
     → ((i : ℕ) → i < length columns → get_or (table_at tables number).columns (before + i) (column_with [] []) ≡ get_or columns i (column_with [] []))
     → AllByRecursion (Stands tables) (map (λ c. titled number name c.0 c.1) (enumerate_from (before + 1) columns))
@@ -73,7 +73,7 @@ stand_in tables number name before (c ∷ columns) h room same =
       stand_in tables number name (before + 1) columns h (omega arith) (λ i b. (let e : before + 1 + i ≡ before + suc i = omega arith in ap (λ (n : ℕ). get_or all n no) e) ∙ same (suc i) (omega arith)),
     )
 
--- the columns of the tables from the one behind so many on
+-- the columns of the tables from a given one on
 stand_from : (tables : List Table) (before : ℕ) (rest : List Table) → before + length rest ≤ length tables → ((i : ℕ) → i < length rest → table_at tables (before + i) ≡ table_at rest i) → AllByRecursion (Stands tables) (columns_from before rest)
 stand_from tables before [] room same = tt
 stand_from tables before (t ∷ rest) room same =

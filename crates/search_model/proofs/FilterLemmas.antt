@@ -49,7 +49,7 @@ pub rising_right : (xs ys : List ℕ) → Rising (xs ++ ys) → Rising ys
 rising_right [] ys h = h
 rising_right (x ∷ xs) ys h = rising_right xs ys h.1
 
--- what is among the first part is below all of the second
+-- what is in the first part is below all of the second
 pub after_all : (xs ys : List ℕ) (l : ℕ) → Rising (xs ++ ys) → is_among xs l ≡ true → AllByRecursion (λ t. l < t) ys
 after_all [] ys l h e = absurd (let f : false ≡ true = e in cc)
 after_all (x ∷ xs) ys l h e = elim (nat_eq l x) as (λ b. nat_eq l x ≡ b → (b || is_among xs l) ≡ true → AllByRecursion (λ t. l < t) ys) [
@@ -95,7 +95,7 @@ hits-append set (x ∷ xs) ys = ap (λ us. cond (is_among set x) (x ∷ us) us) 
     by true = refl
     by false = refl
 
--- The overlap of a column that stands in one of the first i lists is at most its bound.
+-- The overlap of a column that is in one of the first i lists is at most its bound.
 pub overlap_bounded : (tokens : List Token) (query : List Text) (c : Titled) (column i : ℕ) → texts.Distinct query → texts.Distinct (map (λ t. t.key) tokens)
     → ((x : Text) → has_key c.column.keys x ≡ true → has_key (map (λ t. t.key) tokens) x ≡ true)
     → 1 ≤ length (hits (tokens_in tokens c.column.keys) (take i (tokens_in tokens query)))
@@ -112,7 +112,7 @@ overlap_bounded tokens query c column i dq dt w some =
     let whole : length (hits set qs) ≡ length found + length (hits set (drop i qs)) = ap (λ xs. length (hits set xs)) (sym parts) ∙ ap length (hits-append set (take i qs) (drop i qs)) ∙ length-append found (hits set (drop i qs)) in
     omega (arith, overlap_is_hits tokens query c.column.keys dq dt w, whole, behind, prefix_filter set (drop i qs), length-drop i qs)
 
--- The overlap of a column that stands in none of the first i lists is at most the number of lists left.
+-- The overlap of a column that is in none of the first i lists is at most the number of lists left.
 pub overlap_unseen : (tokens : List Token) (query keys : List Text) (i : ℕ) → texts.Distinct query → texts.Distinct (map (λ t. t.key) tokens) → ((x : Text) → has_key keys x ≡ true → has_key (map (λ t. t.key) tokens) x ≡ true)
     → length (hits (tokens_in tokens keys) (take i (tokens_in tokens query))) ≡ 0 → overlap query keys ≤ length (tokens_in tokens query) - i
 overlap_unseen tokens query keys i dq dt w none =

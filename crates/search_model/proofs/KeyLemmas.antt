@@ -67,7 +67,7 @@ module _ (tokens : List Token) (numbers : List ℕ) (sorted : IsByKey tokens num
   searched (Ok at) bound is = λ n e. found at n bound e (ap compare e ∙ is n)
   searched (Err at) bound is = let p = is rising in none at (λ k d l. p.0 k d (omega arith) l) (λ k d g h. p.1 k d g h)
 
--- the key of a token, where these places have the keys of the tokens
+-- the key of a token, if these entries have the keys of the tokens
 pub key_here : {X : Type 0} (key : X → Text) (places : List X) (tokens : List Token) (n : ℕ) (at : X) → map key places ≡ token_keys tokens → n < length places → at ≡ get_or places n at → key at ≡ key_of tokens n
 key_here {X = X} key places tokens n at is h e =
     ap key e ∙ sym (get_or-map key places n at [] h) ∙ ap (λ (ks : List Text). get_or ks n []) is

@@ -1,4 +1,4 @@
--- The relation and the function say the same looks.
+-- The relation and the function give the same looks.
 use Rattle.std.proofs.Common.{◌≡◌, refl, ap, sym, ◌∙◌, subst, ℕ, zero, suc, ◌+◌, ◌<◌, ◌≤◌, List, [], ◌∷◌, ◌++◌, map, Bool, true, false, not, ◌&&◌, ◌||◌, length, arith, cond, Option, Some, None, eqb as nat_eq, leb as nat_le}
 use Rattle.std.specs.Prelude.{slice_index}
 use Rattle.std.specs.List.{filter, AllByRecursion, enumerate_from, count_by}
@@ -67,7 +67,7 @@ unprobed_falls probed j n (c ∷ cs) a b h = elim (nat_eq n j) as (λ t. nat_eq 
       omega (arith, left, right, unprobed_falls probed j (n + 1) cs lt (omega arith) h)
 ] refl
 
--- ---- the looks of a part, where these rows are known before it
+-- ---- the looks of a part, if these rows are known before it
 
 module _ (chooser : Summary → Bool) (query : Query) (before : List Row) (part : Searched) where
   module _ (progress : Progress) where
@@ -138,7 +138,7 @@ module _ (chooser : Summary → Bool) (query : Query) (before : List Row) (part 
         let last = worst query (before ++ known_rows query part progress) in
         choice_falls last (open_columns query part progress last) (all_open last) look e
 
-  -- the looks within so many are those of any log, where these suffice
+  -- the looks within a given number are those of any log, if the number suffices
   within_is : (fuel : ℕ) (looks : List Look) (progress final : Progress) → work_left part progress ≤ fuel → Leads chooser query before part progress looks final → next_look chooser query before part final ≡ None
       → run_within chooser query before part fuel progress ≡ (looks, final)
   unfolding run_within
@@ -180,7 +180,7 @@ module _ (chooser : Summary → Bool) (query : Query) (before : List Row) (part 
   leads_more [] progress mid look h e = (ap (next_look chooser query before part) h ∙ e, ap (λ q. progress_after q look) h)
   leads_more (first ∷ looks) progress mid look h e = (h.0, leads_more looks (progress_after progress first) mid look h.1 e)
 
-  -- the function, with no count of looks
+  -- the function, without a bound on the number of looks
   pub run-none : (progress : Progress) → next_look chooser query before part progress ≡ None → run chooser query before part progress ≡ ([], progress)
   run-none progress e = run_is [] progress progress (record { leads = refl; done = e })
 

@@ -25,7 +25,7 @@ abbrev pub Distinct : List Text → Type 0
 Distinct [] = Unit {0}
 Distinct (x ∷ xs) = (has_key xs x ≡ false) × Distinct xs
 
--- how often a text stands in a list without repetition
+-- how often a text occurs in a list of distinct texts
 count_once : (a : Text) (xs : List Text) → Distinct xs → count_by (λ x. bytes_eq x a) xs ≡ once (has_key xs a)
 count_once a [] d = refl
 count_once a (x ∷ xs) d = by (count_once a xs d.1) (bytes_eq x a) refl
@@ -59,7 +59,7 @@ count_or a es (x ∷ xs) h = by (count_or a es xs h) (bytes_eq x a) refl
         omega (arith, count-cons (has_key (a ∷ es)) x xs, count-cons (λ x. bytes_eq x a) x xs, count-cons (has_key es) x xs, ap (λ b. once (b || has_key es x)) e, ap once e, ap once gone, ih)
     by ih false e = omega (arith, count-cons (has_key (a ∷ es)) x xs, count-cons (λ x. bytes_eq x a) x xs, count-cons (has_key es) x xs, ap (λ b. once (b || has_key es x)) e, ap once e, ih)
 
--- the members of one list in another are as many as those of the other in the one
+-- as many members of one list are in the other as of the other in the one
 shared_both_ways : (es bs : List Text) → Distinct es → Distinct bs → count_by (has_key bs) es ≡ count_by (has_key es) bs
 shared_both_ways [] bs da db = sym (count_none bs)
 shared_both_ways (a ∷ es) bs da db = omega (arith, count-cons (has_key bs) a es, count_or a es bs da.0, count_once a bs db, shared_both_ways es bs da.1 db)
@@ -94,7 +94,7 @@ count_all p q w (x ∷ xs) = by (count_all p q w xs) (p x) refl
     by ih true e = ap (λ b. count_by q (cond b (x ∷ filter p xs) (filter p xs))) e ∙ count-cons q x (filter p xs) ∙ (let s : once (q x) + count_by q (filter p xs) ≡ count_by p (x ∷ xs) = omega (arith, count-cons p x xs, ap once e, ap once (w x e), ih) in s)
     by ih false e = ap (λ b. count_by q (cond b (x ∷ filter p xs) (filter p xs))) e ∙ (let s : count_by q (filter p xs) ≡ count_by p (x ∷ xs) = omega (arith, count-cons p x xs, ap once e, ih) in s)
 
--- the overlap, counted over a list without repetition that has all keys of the set
+-- the overlap, counted over a list of distinct keys that has all keys of the set
 pub overlap_over : (query keys all : List Text) → Distinct query → Distinct all → ((x : Text) → has_key keys x ≡ true → has_key all x ≡ true) → overlap query keys ≡ count_by (λ t. has_key query t && has_key keys t) all
 overlap_over query keys all dq da w =
     sym (count_all (has_key keys) (has_key all) w query)
@@ -166,7 +166,7 @@ hits_from n (token ∷ tokens) query keys =
     beyond true j h = ap (λ b. b || is_among (tokens_from (n + 1) tokens keys) j) (differ j n (λ e. omega arith))
     beyond false j h = refl
 
--- a column shares as many keys with the query as it stands in lists of the query's tokens
+-- a column shares as many keys with the query as there are lists of the query's tokens that hold it
 pub overlap_is_hits : (tokens : List Token) (query keys : List Text) → Distinct query → Distinct (map (λ t. t.key) tokens) → ((x : Text) → has_key keys x ≡ true → has_key (map (λ t. t.key) tokens) x ≡ true)
     → overlap query keys ≡ length (hits (tokens_in tokens keys) (tokens_in tokens query))
 overlap_is_hits tokens query keys dq dt w =

@@ -1,4 +1,4 @@
--- Ranks, from the columns' numbers in order.
+-- The ranks, made from the columns' numbers in order.
 use Rattle.std.proofs.Common.{◌≡◌, refl, ap, sym, ◌∙◌, ℕ, ◌<◌, List, true, false, length, get_or, arith}
 use Rattle.std.specs.Cmp.{IsTotalOrder, nat_cmp_is}
 use Rattle.std.specs.List.Sorted.{IsSorted}
@@ -36,7 +36,7 @@ module _ (columns : List Titled) (ranks by_rank : List ℕ) (size : length ranks
   back : (x : ℕ) → x < length columns → get_or by_rank (get_or ranks x 0) 0 ≡ x
   back x h = inverse.back x (omega (arith, h, size))
 
-  -- the column of the higher rank is not the first of the two
+  -- the column with the higher rank is not the first of the two
   late : (x y : ℕ) → x < length columns → y < length columns → get_or ranks x 0 < get_or ranks y 0 → is_lt (number_cmp columns y x) ≡ false
   late x y b c l =
       ap (λ (n : ℕ). is_lt (number_cmp columns n x)) (sym (back y c))

@@ -93,7 +93,7 @@ distinct_insert : (seen texts : List Text) → IsDistinct bytes_eq seen → IsDi
 distinct_insert seen [] h = h
 distinct_insert seen (t ∷ texts) h = distinct_insert (add_key seen t) texts (insert_one seen t (list_any (bytes_eq t) seen) refl h)
 
--- the keys of a set differ
+-- the keys of a set are distinct
 pub distinct_differs : (texts : List Text) → IsDistinct bytes_eq (distinct texts)
 unfolding IsDistinct
 distinct_differs texts = distinct_insert [] texts tt
@@ -125,11 +125,11 @@ members_insert q seen (t ∷ texts) =
     ∙ ap (λ b. b || list_any (bytes_eq q) texts) (seen_one q t seen (list_any (bytes_eq t) seen) refl)
     ∙ or_more (list_any (bytes_eq q) seen) (bytes_eq q t) (list_any (bytes_eq q) texts)
 
--- and a key is in the set where it is among the texts
+-- and a key is in the set if it is among the texts
 pub distinct_has : (q : Text) (texts : List Text) → list_any (bytes_eq q) (distinct texts) ≡ list_any (bytes_eq q) texts
 distinct_has q texts = members_insert q [] texts
 
--- the tokens of some columns, from their keys, each once, in whatever order
+-- the tokens of some columns, from their distinct keys in any order
 pub tokens_from : (columns : List Titled) (keys : List Text) → IsDistinct bytes_eq keys → ((q : Text) → list_any (bytes_eq q) (flat_map (λ c. c.column.keys) columns) ≡ list_any (bytes_eq q) keys)
     → in_order token_cmp (map (token_of columns) keys) ≡ tokens_of columns
 unfolding tokens_of
@@ -137,7 +137,7 @@ tokens_from columns keys d h =
     let all = flat_map (λ (c : Titled). c.column.keys) columns in
     in_order-IsPermutation token_cmp_total token_cmp_exact _ _ (IsPermutation-map (token_of columns) _ _ (permutation (distinct all) keys (distinct_differs all) d (λ q. distinct_has q all ∙ h q)))
 
--- from sorted keys: what `sort` and a walk that skips equal neighbours leave
+-- from sorted keys: the result of `sort` and of a walk that skips equal neighbours
 pub tokens_from_sorted : (columns : List Titled) (keys : List Text) → IsDistinct bytes_eq keys → ((q : Text) → list_any (bytes_eq q) (flat_map (λ c. c.column.keys) columns) ≡ list_any (bytes_eq q) keys)
     → (tokens : List Token) → IsSortedBy (λ a b. is_lt (token_cmp a b)) tokens → IsPermutation (map (token_of columns) keys) tokens → tokens ≡ tokens_of columns
 tokens_from_sorted columns keys d h tokens up same =
@@ -150,14 +150,14 @@ one_more : (b l : Bool) (n rest : ℕ) → n ≡ once b + rest → rest ≡ once
 one_more true l n rest e f g = let z : once l ≡ 0 = ap once (g refl) in omega arith
 one_more false l n rest e f g = omega arith
 
--- a key stands in a set at most once
+-- a key occurs in a set at most once
 count_one : (key : Text) (keys : List Text) → IsDistinct bytes_eq keys → count_by (bytes_eq key) keys ≡ once (list_any (bytes_eq key) keys)
 unfolding IsDistinct
 count_one key [] d = refl
 count_one key (k ∷ keys) d =
     one_more (bytes_eq key k) (list_any (bytes_eq key) keys) _ (count_by (bytes_eq key) keys) (sum_by-cons (λ (y : Text). once (bytes_eq key y)) k keys) (count_one key keys d.1) (lacked k key keys d.0)
 
--- so the columns that hold a key are as many as its copies in all columns' sets
+-- so as many columns hold a key as there are copies of it in all columns' sets
 pub frequency_flat : (key : Text) (columns : List Titled) → AllByRecursion (λ c. IsDistinct bytes_eq c.column.keys) columns
     → count_by (bytes_eq key) (flat_map (λ c. c.column.keys) columns) ≡ count_by (λ c. has_key c.column.keys key) columns
 frequency_flat key [] d = refl

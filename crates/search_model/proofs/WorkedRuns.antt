@@ -53,7 +53,7 @@ a_b_c_d = codes "a" ∷ codes "b" ∷ codes "c" ∷ codes "d" ∷ []
 abbrev work : List Look → List ℕ
 work looks = length (filter is_read looks) ∷ length (filter (λ look. not (is_read look)) looks) ∷ []
 
--- One list gives t1 at position 0 of 4, so its bound is 4; a probe is cheaper than the next list, and closes everything.
+-- One list gives t1 at position 0 of 4, so its bound is 4; a probe is cheaper than the next list, and closes every column.
 abbrev three : List Entry
 three = map entry (Loaded (table (codes "t1") a_b_c_d) ∷ Loaded (table (codes "t2") (codes "d" ∷ [])) ∷ Loaded (table (codes "t3") (codes "c" ∷ codes "d" ∷ []))
     ∷ Swapped (1 ∷ 2 ∷ 3 ∷ []) (1 ∷ 2 ∷ 3 ∷ []) ∷ [])
@@ -74,7 +74,7 @@ equal_bound : log profile (ask a_b_c_d 1) (layout zz_and_aa) ≡ Read 3 0 ∷ Pr
 unfolding in_order put_in_order tokens_of segment run_within run looks_of log
 equal_bound = refl
 
--- a part whose lists left are fewer than the threshold is not read
+-- a part with fewer lists left than the threshold is not read
 abbrev a_and_z : List Entry
 a_and_z = map entry (Loaded (table (codes "a") (codes "a" ∷ codes "b" ∷ [])) ∷ Loaded (table (codes "z") (codes "c" ∷ [])) ∷ [])
 
@@ -82,7 +82,7 @@ part_passed_over : log (λ _. false) (ask (codes "a" ∷ codes "b" ∷ codes "c"
 unfolding in_order put_in_order tokens_of segment run_within run looks_of log
 part_passed_over = refl
 
--- and one whose lists left are as many is
+-- and one with as many lists left as the threshold is read
 abbrev b_and_a : List Entry
 b_and_a = map entry (Loaded (table (codes "b") (codes "a" ∷ [])) ∷ Loaded (table (codes "a") (codes "c" ∷ [])) ∷ [])
 

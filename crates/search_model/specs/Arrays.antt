@@ -12,7 +12,7 @@ use Rattle.search_model.specs.declared.TokenAt.{TokenAt}
 use Rattle.search_model.specs.declared.Owner.{Owner}
 use Rattle.search_model.specs.Segment.{Titled, Token, columns_of, segment}
 
--- where each of these lists begins in the list of all, from n on, and the end
+-- the index at which each of these lists begins in the list of all, from n on, and the end
 abbrev pub starts_of : {X : Type 0} → ℕ → List (List X) → List ℕ
 starts_of n [] = n ∷ []
 starts_of n (l ∷ ls) = n ∷ starts_of (n + length l) ls
@@ -41,7 +41,7 @@ keys_held tables column = (titled_at (columns_of tables) column).column.keys
 abbrev pub pointed : List Table → TokenAt → Text
 pointed tables at = get_or (keys_held tables at.column) at.index []
 
--- it points at a key of a column
+-- the key that it points at exists
 pub record IsAt (tables : List Table) (at : TokenAt) : Type 0 where
   pub column : at.column < length (columns_of tables)
   pub index : at.index < length (keys_held tables at.column)
@@ -64,16 +64,17 @@ pub record IsByKey (tokens : List Token) (numbers : List ℕ) : Type 0 where
   pub rising : IsSortedBy (λ a b. is_lt (slice_cmp nat_cmp (key_of tokens a) (key_of tokens b))) numbers
   pub same : IsPermutation (numbers_of tokens) numbers
 
--- which token a key is
+-- the token of a key, or none
 abbrev pub IsToken : List Token → Text → Option ℕ → Type 0
 IsToken tokens key found = MatchOption found (list_any (λ t. bytes_eq t.key key) tokens ≡ false) (λ n. (n < length tokens) × (key_of tokens n ≡ key))
 
--- where a column stands: its table's index in the segment, and its place there
+-- where a column is: its table's index in the segment, and its place there
 abbrev pub owner_of : Titled → Owner
 owner_of c = record { table = c.from; place = c.place }
 
--- Each array is an equation with the segment of the tables: the columns, the keys of the tokens in their order, the tokens' numbers by key,
--- the posting lists (each as long as its token is frequent) and the sets, each list of lists flat with where each begins and one more for the end.
+-- Each array is an equation with the segment of the tables: the columns, the keys of the tokens in their order, the
+-- tokens' numbers by key, the posting lists (each as long as its token is frequent) and the sets. A list of lists is
+-- stored flat, with the index at which each list begins, and the end.
 pub record AreArrays (tables : List Table) (owners : List Owner) (tokens : List TokenAt) (by_key list_starts : List ℕ) (postings : List Posting) (set_starts set_tokens : List ℕ) : Type 0 where
   pub owned : owners ≡ map owner_of (segment tables).columns
   pub named : map (pointed tables) tokens ≡ token_keys (segment tables).tokens

@@ -12,28 +12,29 @@ use Rattle.lake_model.specs.Tables.{Table}
 use Rattle.lake_model.specs.Answer.{Query, Row, row_cmp, all_rows}
 use Rattle.lake_model.specs.Layout.{Part}
 
--- how many of n keys a column has to hold: the least whole number that is at least 1 and at least a of b parts of n
+-- how many of n keys a column has to hold: the least whole number that is at least 1 and at least n * a / b
 abbrev pub need : ℕ → ℕ → ℕ → ℕ
 need a b n = max 1 (div_ceil (a * n) b)
 
--- a row for each column of the tables that holds so many of the keys, in the order of an answer
+-- a row for each column of the tables that holds at least this many of the keys, in the order of an answer
 abbrev pub contain : List Table → List Text → ℕ → ℕ → List Row
 contain tables keys a b = in_order row_cmp (filter (λ row. nat_le (need a b (length keys)) row.overlap) (all_rows tables keys None))
 
--- the keys asked of all tables
+-- the keys as a query over all tables
 abbrev pub of_all_tables : List Text → Query
 of_all_tables keys = record { keys = keys; k = 0; except = None }
 
--- ---- the looks of a part, where so many keys are needed
+-- ---- the looks of a part, for the number of keys that are needed
 
--- So many lists are read that fewer are left than keys are needed; a part that has fewer tokens of the query than are needed is not looked at.
+-- Lists are read until fewer are left than keys are needed. A part with fewer of the query's tokens than keys are
+-- needed is not looked at.
 abbrev pub lists_needed : ℕ → Searched → ℕ
 lists_needed least part = length part.query + 1 - least
 
 abbrev pub reads_needed : ℕ → Searched → List Look
 reads_needed least part = map (λ token. Read part.number token) (take (lists_needed least part) part.query)
 
--- a column behind these lists
+-- the progress after these lists, and a column as it is seen there
 abbrev pub behind_reads : ℕ → Searched → Progress
 behind_reads least part = record { read = lists_needed least part; probed = [] }
 
@@ -49,13 +50,13 @@ may_hold least part column c =
     let x = seen_behind least part column c in
     is_unmarked part c && nat_lt 0 x.count && nat_le least x.bound.overlap
 
--- it may, and may also hold more keys than these lists say
+-- the same, and it may also hold more keys than these lists show
 abbrev pub is_probed : ℕ → Searched → ℕ → Titled → Bool
 is_probed least part column c =
     let x = seen_behind least part column c in
     may_hold least part column c && nat_lt x.count x.bound.overlap
 
--- by rising column, each behind its position in the last list that holds it
+-- by increasing column number, each after its position in the last list that holds it
 abbrev pub probes_needed : ℕ → Searched → List Look
 probes_needed least part =
     map (λ c. Probe part.number c.0 (seen_behind least part c.0 c.1).position)
@@ -64,6 +65,6 @@ probes_needed least part =
 abbrev pub contain_looks : ℕ → Searched → List Look
 contain_looks least part = reads_needed least part ++ probes_needed least part
 
--- the looks of the parts in turn
+-- the looks of the parts, one part after another
 unfoldable pub contain_log : List Text → ℕ → ℕ → List Part → List Look
 contain_log keys a b parts = flat_map (λ part. contain_looks (need a b (length keys)) (searched (of_all_tables keys) part)) parts

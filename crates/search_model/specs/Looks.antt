@@ -12,7 +12,7 @@ use Rattle.lake_model.specs.Tables.{overlap}
 use Rattle.lake_model.specs.Answer.{Query, Row, row_cmp, is_excepted}
 use Rattle.lake_model.specs.Layout.{Part, is_among}
 
--- a part as a search meets it: its number, its segment, the marks of its tables, and the query's tokens, rising
+-- a part as a search sees it: its number, its segment, the marks of its tables, and the query's tokens, increasing
 pub record Searched : Type 0 where
   pub number : ℕ
   pub segment : Segment
@@ -25,13 +25,13 @@ searched_with query number marks segment = record { number = number; segment = s
 abbrev pub searched : Query → Part → Searched
 searched query part = searched_with query part.number (map (λ place. place.marked) part.places) (segment (map (λ place. place.table) part.places))
 
--- how far a search has come in a part: how many lists it has read, and which columns it has probed
+-- the progress of a search in a part: how many lists it has read, and which columns it has probed
 pub record Progress : Type 0 where
   pub read : ℕ
   pub probed : List ℕ
 
--- a column that was seen in the lists read so far: its number, how many of these hold it, its position in the last of them, how
--- many of its tokens come behind, and its row with the upper bound in the place of the overlap
+-- a column that was seen in the lists read so far: its number, how many of these lists hold it, its position in the
+-- last of them, how many of its tokens follow, and its row with the upper bound in place of the overlap
 pub record Seen : Type 0 where
   pub column : ℕ
   pub count : ℕ
@@ -46,7 +46,7 @@ row_with overlap c = record { overlap = overlap; table = c.table; column = c.col
 abbrev pub is_eligible : Query → Searched → Titled → Bool
 is_eligible query part c = not (get_or part.marks c.from false) && not (is_excepted query.except c.table)
 
--- the read tokens that the set has
+-- the tokens read that are in the set
 abbrev pub hits : List ℕ → List ℕ → List ℕ
 hits set tokens = filter (is_among set) tokens
 
@@ -65,7 +65,8 @@ seen part progress column c =
     let set = get_or part.segment.sets column [] in
     seen_by c set (left_of part progress) column (hits set (take progress.read part.query))
 
--- Known are the probed columns and, once all lists of the part were read, all eligible ones that share a key with the query.
+-- The known columns are the probed ones and, once all lists of the part were read, all eligible ones that share a key
+-- with the query.
 abbrev pub is_known : Searched → Progress → ℕ → Bool
 is_known part progress column = nat_le (length part.query) progress.read || is_among progress.probed column
 
@@ -108,7 +109,7 @@ list_lengths part = map (λ token. get_or (map (λ t. t.frequency) part.segment.
 abbrev pub estimate : ℕ → ℕ → ℕ → ℕ → ℕ
 estimate c u m i = max c (min u (c * m / i))
 
--- the cost of the lists that a threshold of est would spare
+-- the cost of the lists that would be saved if the threshold were est
 abbrev pub spared : List ℕ → ℕ → ℕ → ℕ → ℕ
 spared lengths i t est =
     let m = length lengths in
@@ -129,7 +130,7 @@ summary_with worst progress lengths x = record {
   gain = gain worst lengths progress.read (estimate x.count x.bound.overlap (length lengths) progress.read);
 }
 
--- the next look in a part, and none where the part is done
+-- the next look in a part, or none if the part is done
 abbrev pub read_next : Searched → Progress → Look
 read_next part progress = Read part.number (slice_index part.query progress.read)
 
@@ -145,7 +146,7 @@ next_look chooser query before part progress =
     let last = worst query (before ++ known_rows query part progress) in
     choice chooser part progress last (open_columns query part progress last)
 
--- the progress behind a look
+-- the progress after a look
 abbrev pub progress_after : Progress → Look → Progress
 progress_after progress (Read part token) = record progress { read = progress.read + 1 }
 progress_after progress (Probe part column after) = record progress { probed = column ∷ progress.probed }
@@ -153,13 +154,13 @@ progress_after progress (Probe part column after) = record progress { probed = c
 abbrev pub start : Progress
 start = record { read = 0; probed = [] }
 
--- These looks lead from one progress to another.
+-- these looks lead from one progress to another
 abbrev pub Leads : (Summary → Bool) → Query → List Row → Searched → Progress → List Look → Progress → Type 0
 Leads chooser query before part progress [] final = progress ≡ final
 Leads chooser query before part progress (look ∷ looks) final =
     (next_look chooser query before part progress ≡ Some look) × Leads chooser query before part (progress_after progress look) looks final
 
--- They are all the looks of the part.
+-- these are all the looks of the part
 pub record IsLog (chooser : Summary → Bool) (query : Query) (before : List Row) (part : Searched) (progress : Progress) (looks : List Look) (final : Progress) : Type 0 where
   pub leads : Leads chooser query before part progress looks final
   pub done : next_look chooser query before part final ≡ None
@@ -168,7 +169,7 @@ pub record IsLog (chooser : Summary → Bool) (query : Query) (before : List Row
 abbrev pub work_left : Searched → Progress → ℕ
 work_left part progress = left_of part progress + count_by (λ c. not (is_among progress.probed c.0)) (enumerate_from 0 part.segment.columns)
 
--- the looks from one progress on, and the progress behind them, within so many looks
+-- the looks from one progress on, at most a given number of them, and the progress after them
 unfoldable pub run_within : (Summary → Bool) → Query → List Row → Searched → ℕ → Progress → List Look × Progress
 run_within chooser query before part zero progress = ([], progress)
 run_within chooser query before part (suc fuel) progress = elim (next_look chooser query before part progress) [
@@ -179,7 +180,7 @@ run_within chooser query before part (suc fuel) progress = elim (next_look choos
 unfoldable pub run : (Summary → Bool) → Query → List Row → Searched → Progress → List Look × Progress
 run chooser query before part progress = run_within chooser query before part (work_left part progress) progress
 
--- the looks of the parts in turn, where these rows are known before them
+-- the looks of the parts, one part after another, if these rows are known before them
 unfoldable pub looks_of : (Summary → Bool) → Query → List Row → List Searched → List Look
 looks_of chooser query before [] = []
 looks_of chooser query before (part ∷ parts) =

@@ -1,4 +1,4 @@
--- The ranks of columns: which of two columns of one bound comes first, told by two numbers.
+-- The ranks of columns: two numbers say which of two columns with the same bound comes first.
 use Rattle.std.specs.Prelude.{◌≡◌, ℕ, ◌<◌, true, false, List, length, get_or}
 use Rattle.std.specs.Ordering.{is_lt, nat_cmp, ordering_then}
 use Rattle.std.specs.declared.cmp.Ordering.{Ordering}
@@ -8,20 +8,20 @@ use Rattle.search_model.specs.Arrays.{no_titled, titled_at}
 use Rattle.search_model.specs.Looks.{row_with}
 use Rattle.search_model.specs.Segment.{Titled}
 
--- by table name, column name and place: the order of rows of one overlap
+-- by table name, column name and place: the order of rows with the same overlap
 abbrev pub title_cmp : Titled → Titled → Ordering
 title_cmp a b = ordering_then (slice_cmp nat_cmp a.table b.table) (ordering_then (slice_cmp nat_cmp a.column.name b.column.name) (nat_cmp a.place b.place))
 
--- the columns of two numbers by their titles, and then by the numbers
+-- two columns, given by their numbers, compared by their titles, and then by the numbers
 abbrev pub number_cmp : List Titled → ℕ → ℕ → Ordering
 number_cmp columns x y = ordering_then (title_cmp (titled_at columns x) (titled_at columns y)) (nat_cmp x y)
 
--- the columns' places in the order of names, which of two columns of one bound comes first
+-- the ranks of the columns in the order of names: of two columns with the same bound, the lower rank comes first
 pub record AreRanks (columns : List Titled) (ranks : List ℕ) : Type 0 where
   pub size : length ranks ≡ length columns
   pub below : (x : ℕ) → x < length columns → get_or ranks x 0 < length columns
   pub apart : (x y : ℕ) → x < length columns → y < length columns → get_or ranks x 0 ≡ get_or ranks y 0 → x ≡ y
-  -- the lower rank comes no later, and where it comes no sooner either, stands first
+  -- a column of lower rank comes no later, and if the two tie, it has the lower number
   pub order : (x y u : ℕ) → x < length columns → y < length columns → get_or ranks x 0 < get_or ranks y 0 → is_lt (row_cmp (row_with u (get_or columns y no_titled)) (row_with u (get_or columns x no_titled))) ≡ false
   pub level : (x y u : ℕ) → x < length columns → y < length columns → get_or ranks x 0 < get_or ranks y 0 → y < x → is_lt (row_cmp (row_with u (get_or columns x no_titled)) (row_with u (get_or columns y no_titled))) ≡ true
 

@@ -1,4 +1,5 @@
--- The inverted index of a list of tables: its columns, its tokens in their order, each column's tokens, each token's postings.
+-- The inverted index of a list of tables: its columns, its tokens in token order, each column's tokens, and each
+-- token's postings.
 use Rattle.std.specs.Prelude.{ℕ, ◌-◌, List, [], length, map, filter, flat_map, get_or, count_by, nat_eq, nat_lt}
 use Rattle.std.specs.List.{list_any, enumerate_from}
 use Rattle.std.specs.Ordering.{ordering_then, nat_cmp}
@@ -9,7 +10,7 @@ use Rattle.lake_model.specs.Sorting.{in_order}
 use Rattle.lake_model.specs.Texts.{Text}
 use Rattle.lake_model.specs.Tables.{Column, Table, column_with, has_key, distinct}
 
--- a column of the list: the index of its table, its place there from 1, and the two names
+-- a column of the list: the index of its table, the table's name, its place there from 1, and the column itself
 pub record Titled : Type 0 where
   pub from : ℕ
   pub table : Text
@@ -23,7 +24,7 @@ titled from table place column = record { from = from; table = table; place = pl
 abbrev pub columns_of : List Table → List Titled
 columns_of tables = flat_map (λ t. map (λ c. titled t.0 t.1.name c.0 c.1) (enumerate_from 1 t.1.columns)) (enumerate_from 0 tables)
 
--- the columns of the table of an index
+-- the columns of the table with an index
 abbrev pub columns_in : ℕ → Table → List Titled
 columns_in from table = map (λ c. titled from table.name c.0 c.1) (enumerate_from 1 table.columns)
 
@@ -31,7 +32,7 @@ columns_in from table = map (λ c. titled from table.name c.0 c.1) (enumerate_fr
 abbrev pub titled_in : ℕ → Table → ℕ → Titled
 titled_in from table place = titled from table.name place (get_or table.columns (place - 1) (column_with [] []))
 
--- a key, and how many columns hold it
+-- a key, and the number of columns that hold it
 pub record Token : Type 0 where
   pub key : Text
   pub frequency : ℕ
@@ -43,22 +44,22 @@ token_cmp a b = ordering_then (nat_cmp a.frequency b.frequency) (slice_cmp nat_c
 abbrev pub token_of : List Titled → Text → Token
 token_of columns key = record { key = key; frequency = count_by (λ c. has_key c.column.keys key) columns }
 
--- the distinct keys in the order of tokens; a token is its place in this list, from 0
+-- the distinct keys in token order; a token is a key's index in this list, from 0
 unfoldable pub tokens_of : List Titled → List Token
 tokens_of columns = in_order token_cmp (map (token_of columns) (distinct (flat_map (λ c. c.column.keys) columns)))
 
--- the tokens of which the keys are in the set, rising
+-- the tokens whose keys are in the set, increasing
 abbrev pub tokens_in : List Token → List Text → List ℕ
 tokens_in tokens keys = map (λ t. t.0) (filter (λ t. has_key keys t.1.key) (enumerate_from 0 tokens))
 
--- how many tokens of the set stand before this one
+-- the number of tokens of the set that come before this one
 abbrev pub rank : List ℕ → ℕ → ℕ
 rank set token = count_by (λ other. nat_lt other token) set
 
 abbrev pub posting : ℕ → ℕ → List ℕ → Posting
 posting token column set = record { column = column; position = rank set token; size = length set }
 
--- the columns that hold the token, rising
+-- the columns that hold the token, by increasing number
 abbrev pub postings_of : List (List ℕ) → ℕ → List Posting
 postings_of sets token = map (λ s. posting token s.0 s.1) (filter (λ s. list_any (nat_eq token) s.1) (enumerate_from 0 sets))
 

@@ -1,11 +1,12 @@
-//! The definitions of the inverted index and of the search over it: the token order, posting lists and sets of a list of tables,
-//! the bounds of a column while a part is searched, the known and the open columns, the costs, the choosers, and the look log of a
-//! search; and the laws of the bounds. There is no code here but the plain types that both the code and the definitions use.
-//! The index and the bounds are those of Zhu, Deng, Nargesian and Miller, "JOSIE: Overlap Set Similarity Search for Finding Joinable
-//! Tables in Data Lakes", SIGMOD 2019.
+//! The definitions of the inverted index and of the search over it: the token order, posting lists and sets of a list
+//! of tables, the bounds of a column while a part is searched, the known and the open columns, the costs, the choosers,
+//! and the look log of a search; and the laws of the bounds. The only code here is the plain types that both the code
+//! and the definitions use. The index and the bounds are those of Zhu, Deng, Nargesian and Miller, "JOSIE: Overlap Set
+//! Similarity Search for Finding Joinable Tables in Data Lakes", SIGMOD 2019.
 #![tactic(auto)]
 
-/// A column that holds a token: the token's position in the column's list of tokens, from 0, and the length of that list.
+/// A column that holds a token, with the token's position in the column's list of tokens, from 0, and the length of
+/// that list.
 #[derive(Clone, Copy, Debug, PartialEq, Eq)]
 pub struct Posting {
     pub column: u32,
@@ -13,16 +14,17 @@ pub struct Posting {
     pub size: u32,
 }
 
-/// What a search read: the posting list of a token, or the tokens of a set behind a position. A part is named by its number.
+/// A look of a search: it reads the posting list of a token, or probes the tokens of a set after a position. A part is
+/// named by its number.
 #[derive(Clone, Copy, Debug, PartialEq, Eq)]
 pub enum Look {
     Read { part: u64, token: u32 },
     Probe { part: u64, set: u32, after: u32 },
 }
 
-/// What a chooser sees before each step: the length of the next list, how many lists are left, of the best open column how many lists
-/// so far hold it, its upper bound and how many of its tokens are still to come, the threshold, and what the lists cost that the
-/// estimated overlap would spare.
+/// What a chooser sees before each step: the length of the next list; how many lists are left; for the best open
+/// column, how many of the lists read so far hold it, its upper bound, and how many of its tokens are still to come;
+/// the threshold; and the cost of the lists that would be saved if the threshold rose to the estimated overlap.
 #[derive(Clone, Copy, Debug, PartialEq, Eq)]
 pub struct Summary {
     pub next_len: u32,
@@ -34,16 +36,16 @@ pub struct Summary {
     pub gain: u64,
 }
 
-/// Where a key stands: the number of its column among all columns of a list of tables, by table and then by place, from 0, and its index
-/// among the column's keys, from 0. There is one for each distinct key, so it is kept small: the table and the place are the column's
-/// [`Owner`].
+/// Where a key is: the number of its column among all columns of a list of tables, by table and then by place, from 0,
+/// and the key's index among the column's keys, from 0. There is one for each distinct key, so it is kept small: the
+/// table and the place are in the column's [`Owner`].
 #[derive(Clone, Copy, Debug, PartialEq, Eq)]
 pub struct TokenAt {
     pub column: u32,
     pub index: u32,
 }
 
-/// Where a column stands: the index of its table in a list of tables, from 0, and its place there, from 1.
+/// Where a column is: the index of its table in a list of tables, from 0, and the column's place there, from 1.
 #[derive(Clone, Copy, Debug, PartialEq, Eq)]
 pub struct Owner {
     pub table: u32,

@@ -45,7 +45,7 @@ pub sums_more : (sizes : List ℕ) (i : ℕ) → i < length sizes → sums_from 
 sums_more sizes i h =
     ap (sums_from 0) (take_more sizes i 0 h) ∙ sums_push 0 (get_or sizes i 0) (take i sizes) ∙ ap (λ (k : ℕ). sums_from 0 (take i sizes) ++ (k + get_or sizes i 0) ∷ []) (sum-plain (take i sizes))
 
--- ---- a token stands in the sets of the columns that hold its key
+-- ---- a token is in the sets of the columns that hold its key
 
 differ : (a b : ℕ) → b < a → nat_eq a b ≡ false
 differ a b h = grind (arith, nat_tests)
@@ -126,7 +126,7 @@ lengths_from sets n (t ∷ tokens) h =
     let rest = lengths_from sets (n + 1) tokens (λ m d l. (let e : n + 1 + m ≡ n + suc m = omega arith in ap (λ (k : ℕ). length (postings_of sets k)) e) ∙ h (suc m) d (omega arith)) in
     λ i. first i ∷ rest i
 
--- ---- the sets are sets
+-- ---- the sets are sorted and within bounds
 
 lower : (n : ℕ) (m : ℕ) (set : List ℕ) → n ≤ m → AllByRecursion (λ t. t < n) set → AllByRecursion (λ t. t < m) set
 lower n m [] h a = tt
@@ -164,7 +164,7 @@ length-columns_from n (t ∷ tables) =
       sum_by-cons (λ (t : Table). length t.columns) t tables,
     )
 
--- what the columns, the tokens and the starts of the lists are, where all are of the tables
+-- what the columns, the tokens and the starts of the lists are, if all belong to the tables
 pub record IsMade (tables : List Table) (owners : List Owner) (tokens : List TokenAt) (list_starts set_starts set_tokens : List ℕ) : Type 0 where
   pub more : HasMore (all_tokens tables) (held_with [] (0 ∷ []) []) (held_with owners set_starts set_tokens) (columns_of tables)
   pub named : map (pointed tables) tokens ≡ token_keys (all_tokens tables)

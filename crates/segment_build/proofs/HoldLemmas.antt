@@ -1,4 +1,4 @@
--- Columns that are added behind others, one at a time and one table at a time.
+-- Columns that are appended to others, one at a time and one table at a time.
 use Rattle.std.proofs.Common.{◌≡◌, refl, ap, sym, ◌∙◌, ℕ, ◌+◌, ◌-◌, ◌<◌, ◌≤◌, List, [], ◌∷◌, ◌++◌, map, length, get_or, take, arith, append-nil, append_assoc, length-append}
 use Rattle.std.specs.Prelude.{bytes_eq, sum_by}
 use Rattle.std.specs.List.{enumerate_from, IsDistinct}
@@ -13,7 +13,7 @@ use Rattle.search_model.proofs.ColumnLemmas.{columns_from, column_in, length-col
 use Rattle.segment_core.proofs.FoundLemmas.{tokens_differ}
 use Rattle.segment_build.specs.Holding.{all_tokens, ends_of, held_with, key_count, sets_for, Held, HasMore}
 
--- ---- lists behind one another
+-- ---- lists after one another
 
 ends_append : {X : Type 0} (n : ℕ) (ls ms : List (List X)) → ends_of n (ls ++ ms) ≡ ends_of n ls ++ ends_of (n + length (all_of ls)) ms
 ends_append n [] ms = let z : n ≡ n + 0 = omega arith in ap (λ (k : ℕ). ends_of k ms) z
@@ -94,7 +94,7 @@ count_from n (t ∷ tables) =
 pub count_columns_of : (tables : List Table) → key_count (columns_of tables) ≡ sum_by members tables
 count_columns_of tables = count_from 0 tables
 
--- there is room for one more column of a table, where there is for all
+-- there is room for one more column of a table if there is room for the table
 pub room_in : (number : ℕ) (table : Table) (i : ℕ) → i < length table.columns → key_count (take i (columns_in number table)) + length (keys_at table (i + 1)) ≤ members table
 room_in number table i h =
     let size : Titled → ℕ = λ c. length c.column.keys in
@@ -113,7 +113,7 @@ room_in number table i h =
 pub room_of : (tables : List Table) (i : ℕ) → i < length tables → key_count (columns_of (take i tables)) + members (table_at tables i) ≤ sum_by members tables
 room_of tables i h = omega (arith, count_columns_of (take i tables), sum_by_more members tables i no_table h, sum_by-take-le members tables (i + 1))
 
--- no two tokens have one key
+-- no two tokens have the same key
 pub tokens_apart : (tables : List Table) → IsDistinct bytes_eq (map (λ t. t.key) (all_tokens tables))
 unfolding segment
 tokens_apart tables = tokens_differ tables

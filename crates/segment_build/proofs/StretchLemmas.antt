@@ -1,4 +1,4 @@
--- The keys of a column stand among the keys of all columns where as many members are before them as keys were added.
+-- The keys of a column, in the list of the keys of all columns, begin at the number of tokens that were added before.
 use Rattle.std.proofs.Common.{◌≡◌, refl, ap, sym, ◌∙◌, subst, ℕ, zero, suc, ◌+◌, ◌-◌, ◌<◌, List, [], ◌∷◌, ◌++◌, map, length, get_or, take, drop, arith, append-nil, append_assoc, length-append}
 use Rattle.std.specs.List.{flat_map, enumerate_from}
 use Rattle.std.proofs.lemmas.List.{get_or-append_right, get_or_append_left, length-map, take-append-drop, take_more}
@@ -55,7 +55,7 @@ count_take number name n (c ∷ columns) (suc i) =
       sum_by-cons (λ (c : Titled). length c.column.keys) (titled number name n c) (take i (map (λ (c : ℕ × Column). titled number name c.0 c.1) (enumerate_from (n + 1) columns))),
     )
 
--- the keys of one more column of a table, where so many tokens were added
+-- the keys of one more column of a table, if this many tokens were added before
 pub column_stretch : (all : List Text) (number : ℕ) (table : Table) (from i now : ℕ) → i < length table.columns → IsStretch all (keys_in table) from → now ≡ from + key_count (take i (columns_in number table)) → IsStretch all (keys_at table (i + 1)) now
 column_stretch all number table from i now h outer e =
     let back : i ≡ i + 1 - 1 = omega arith in

@@ -1,5 +1,5 @@
--- One table, of which column p has the keys z and a, and column q has a: what is read of it tells that it is that table, and the
--- arrays of its segment, by hand.
+-- One table, whose column p has the keys z and a, and whose column q has a: what is read of it shows that it is that table; and the arrays
+-- of its segment, by hand.
 use Rattle.std.proofs.Common.{◌≡◌, refl, ap, ℕ, zero, suc, ◌+◌, ◌<◌, ◌≤◌, false, List, [], ◌∷◌, map, length, get_or, arith, lit<}
 use Rattle.std.specs.Prelude.{codes}
 use Rattle.std.specs.Cmp.Lexicographic.{slice_cmp}
@@ -79,7 +79,7 @@ worked_keys = keys_kept _ _ _ _ _ _ _ _ worked_arrays
 pub worked_kept : (order : List HashedToken) → IsByHash (worked_table ∷ []) order → AreKept (worked_table ∷ []) worked_owners worked_tokens order (0 ∷ 1 ∷ 3 ∷ []) worked_postings (0 ∷ 2 ∷ 3 ∷ []) (0 ∷ 1 ∷ 1 ∷ [])
 worked_kept order is = record { by_key = 1 ∷ 0 ∷ []; arrays = worked_arrays; order = is }
 
--- each column has its number for its rank
+-- each column's rank is its number
 pub worked_inverse : AreInverse (0 ∷ 1 ∷ []) (0 ∷ 1 ∷ [])
 worked_inverse = record { size = refl; back = back_two; within = within_two; forth = back_two }
   where

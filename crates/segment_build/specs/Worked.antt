@@ -1,5 +1,5 @@
--- One table, worked out by hand: its column p has the keys z and a, and its column q has a. So the token 0 is z, which one column holds,
--- and the token 1 is a, which both hold.
+-- One table, worked out by hand: its column p has the keys z and a, and its column q has a. So token 0 is z, which one
+-- column holds, and token 1 is a, which both hold.
 use Rattle.std.specs.Prelude.{ℕ, List, [], ◌∷◌, codes, false}
 use Rattle.lake_model.specs.Tables.{Table, column_with, table_with}
 use Rattle.search_model.specs.declared.Owner.{Owner}
@@ -19,7 +19,7 @@ token_at column index = record { column = column; index = index }
 abbrev pub posting : ℕ → ℕ → ℕ → Posting
 posting column position size = record { column = column; position = position; size = size }
 
--- where the columns stand, where the tokens' keys stand, and which column holds which token
+-- where the columns are, where the tokens' keys are, and which column holds which token
 abbrev pub worked_owners : List Owner
 worked_owners = owner 0 1 ∷ owner 0 2 ∷ []
 
@@ -29,6 +29,6 @@ worked_tokens = token_at 0 0 ∷ token_at 0 1 ∷ []
 abbrev pub worked_postings : List Posting
 worked_postings = posting 0 0 2 ∷ posting 0 1 2 ∷ posting 1 0 1 ∷ []
 
--- the version behind the load of that table at position 7
+-- the version after the load of that table at position 7
 abbrev pub worked_version : VersionOf
 worked_version = version_with 7 (part_with 7 (place_with 7 worked_table false ∷ []) ∷ [])

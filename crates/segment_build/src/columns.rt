@@ -13,7 +13,8 @@ use search_model::Owner;
 use std::alloc::Global;
 use token_order::{Vocab, member_count};
 
-/// Where columns stand, and their sets of tokens, one behind another, with where each begins and the end.
+/// Where the columns are, and their sets of tokens, one after another, with the index at which each begins, and the
+/// end.
 #[derive(Drop)]
 pub struct ColumnSets {
     pub owners: Vec<Owner>,
@@ -21,9 +22,10 @@ pub struct ColumnSets {
     pub tokens: Vec<u32>,
 }
 
-/// The columns of the tables, with the tokens of each, rising. It takes the time to read the token of each key of each column, by the
-/// key's number among all of them, and to sort the tokens of each column, and compares no key; and 4 bytes for each key of each column,
-/// and 12 for each column. It is refused for want of memory where there are 2^32 tables or more.
+/// Returns the columns of the tables, with the tokens of each in increasing order. It reads the token of each key of
+/// each column, by the key's number among all keys, and sorts the tokens of each column; it compares no keys. It takes
+/// 4 bytes for each key of each column, and 12 for each column. Returns `Err(NoMemory)` if memory runs out, and also if
+/// there are 2^32 tables or more.
 pub fn column_sets(
     alloc: Global,
     tables: &[SharedTable],
@@ -47,7 +49,7 @@ pub fn column_sets(
     Ok(sets)
 }
 
-// The table of a number.
+// Returns the table with this number.
 fn table_of(tables: &[SharedTable], number: u32) -> &TableSets
     requires { number < length tables.now }
     ensures { result.now ≡ table_at tables.now number }
@@ -55,7 +57,7 @@ fn table_of(tables: &[SharedTable], number: u32) -> &TableSets
     tables[number as usize].table()
 }
 
-// Adds the columns of the table of a number.
+// Appends the columns of the table with this number.
 fn push_table(
     alloc: Global,
     sets: &mut ColumnSets,
@@ -73,8 +75,8 @@ fn push_table(
     Ok(())
 }
 
-// Adds the column at a place of the table of a number. Each member has one token, so that as many members are before the column as
-// tokens were added.
+// Appends the column at a place of the table with this number. Each member has one token, so the number of tokens
+// appended so far is the number of the column's first member.
 fn push_column(
     alloc: Global,
     sets: &mut ColumnSets,
@@ -100,7 +102,8 @@ fn push_column(
     Ok(())
 }
 
-// The tokens of the column at a place of a table, rising. Its first member has a number among the members of all columns.
+// Returns the tokens of the column at a place of a table, in increasing order. `first` is the number of its first
+// member among the members of all columns.
 fn tokens_of_column(
     alloc: Global,
     table: &TableSets,
@@ -120,7 +123,7 @@ fn tokens_of_column(
     Ok(tokens)
 }
 
-// The tokens of the column at a place of a table, in the order of its keys.
+// Returns the tokens of the column at a place of a table, in the order of its keys.
 fn found_tokens(
     alloc: Global,
     table: &TableSets,

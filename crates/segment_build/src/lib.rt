@@ -1,4 +1,5 @@
-//! The segment of a list of tables: the inverted index, built from the tables by one sort of their keys and one pass that counts.
+//! The segment of a list of tables: the inverted index, built from the tables by one sort of their keys and one
+//! counting pass.
 #![tactic(auto)]
 
 mod columns;

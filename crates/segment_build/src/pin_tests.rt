@@ -1,5 +1,5 @@
-//! The segment of a worked table, from arrays that were made by hand: its look-ups, its looks with their log and its meter, its columns'
-//! sets; marks and their pins.
+//! The segment of a worked table, from arrays that were made by hand: its look-ups, its looks with their log and its
+//! meter, and its columns' sets. Also marks, with pins that were made before and after them.
 ghost use Rattle.std.specs.Prelude.{◌≡◌, ◌∷◌, [], codes, get_or, length, IfOk, OnOk};
 ghost use Rattle.lake_model.specs.Tables.{column_name, keys_at, titles_of};
 ghost use Rattle.segment_core.specs.Versions.{tables_of};
@@ -17,7 +17,7 @@ use std::process::Abort;
 use std::sync::Arc;
 use std::test::Fail;
 
-// That the table is named t, and its two columns p and q.
+// Expects that the table is named t, and its two columns p and q.
 fn expect_names(table: &TableSets) -> Result<(), Fail>
     ensures table { OnOk result (table.now.name ≡ codes "t") }
     ensures columns { OnOk result (length table.now.columns ≡ 2) }
@@ -33,7 +33,7 @@ fn expect_names(table: &TableSets) -> Result<(), Fail>
     Ok(())
 }
 
-// That the first column has the keys z and a.
+// Expects that the first column has the keys z and a.
 fn expect_first(table: &TableSets) -> Result<(), Fail>
     requires { length table.now.columns ≡ 2 }
     ensures { OnOk result (keys_at table.now 1 ≡ codes "z" ∷ codes "a" ∷ []) }
@@ -44,7 +44,7 @@ fn expect_first(table: &TableSets) -> Result<(), Fail>
     Ok(())
 }
 
-// That the second column has the key a.
+// Expects that the second column has the key a.
 fn expect_second(table: &TableSets) -> Result<(), Fail>
     requires { length table.now.columns ≡ 2 }
     ensures { OnOk result (keys_at table.now 2 ≡ codes "a" ∷ []) }
@@ -55,7 +55,7 @@ fn expect_second(table: &TableSets) -> Result<(), Fail>
     Ok(())
 }
 
-// The worked table, from CSV bytes.
+// Returns the worked table, read from CSV bytes.
 fn table(alloc: Global) -> Result<SharedTable, Fail>
     ensures { IfOk result (λ table. table ≡ worked_table) }
 {
@@ -111,7 +111,7 @@ fn postings(alloc: Global) -> Result<Vec<Posting>, NoMemory>
     Ok(Vec::from_array(alloc, held)?)
 }
 
-// The segment of the worked table.
+// Returns the segment of the worked table.
 fn segment(alloc: Global) -> Result<Segment, Fail>
     ensures { IfOk result (λ segment. segment ≡ worked_table ∷ []) }
 {
@@ -139,7 +139,7 @@ fn segment(alloc: Global) -> Result<Segment, Fail>
     ))
 }
 
-// The version behind the load of the worked table at position 7.
+// Returns the version after the load of the worked table at position 7.
 fn version(alloc: Global) -> Result<Arc<Version>, Fail>
     ensures { IfOk result (λ version. version.value ≡ worked_version) }
 {
@@ -152,14 +152,15 @@ fn version(alloc: Global) -> Result<Arc<Version>, Fail>
     Ok(version)
 }
 
-// A pin of that version.
+// Returns a pin of that version.
 fn pin(alloc: Global) -> Result<Pin, Fail>
     ensures { IfOk result (λ pin. length pin.parts ≡ 1) }
 {
     Ok(Pin::new(version(alloc)?))
 }
 
-// The size of a column of the first part, whether its table is live, whether that is named t, and the column's place there.
+// Returns the size of a column of the first part, whether its table is live, whether that is named t, and the column's
+// place there.
 fn column(looks: &Looks<'_>, set: u32) -> Option<(u32, bool, bool, u32)> {
     if looks.parts() == 0 || set >= looks.sets(0) {
         return None;
@@ -169,7 +170,7 @@ fn column(looks: &Looks<'_>, set: u32) -> Option<(u32, bool, bool, u32)> {
     Some((looks.size(0, set), looks.live(0, set), named, place))
 }
 
-// How many columns of the first part hold a key.
+// Returns how many columns of the first part hold a key.
 fn held_by(looks: &Looks<'_>, key: &str) -> Option<u32> {
     if looks.parts() == 0 {
         return None;
@@ -178,7 +179,7 @@ fn held_by(looks: &Looks<'_>, key: &str) -> Option<u32> {
     Some(looks.list_len(0, token))
 }
 
-// The tokens of the first part that a query has.
+// Returns the tokens of the first part that a query has.
 fn asked(alloc: Global, looks: &Looks<'_>, body: &[u8]) -> Result<Vec<u32>, Fail> {
     if looks.parts() == 0 {
         return Err(Fail::from("no part"));
@@ -188,7 +189,7 @@ fn asked(alloc: Global, looks: &Looks<'_>, body: &[u8]) -> Result<Vec<u32>, Fail
     Ok(looks.query_tokens(alloc, 0, &hashed)?)
 }
 
-// The list of a key in the first part.
+// Returns the posting list of a key in the first part.
 fn list<'a>(looks: &mut Looks<'a>, key: &str) -> Option<&'a [Posting]> {
     if looks.parts() == 0 || looks.log_spare() == 0 {
         return None;
@@ -197,7 +198,7 @@ fn list<'a>(looks: &mut Looks<'a>, key: &str) -> Option<&'a [Posting]> {
     Some(looks.list(0, token))
 }
 
-// The tokens of a column of the first part behind a position.
+// Returns the tokens of a column of the first part after a position.
 fn tail<'a>(looks: &mut Looks<'a>, set: u32, after: u32) -> Option<&'a [u32]> {
     if looks.parts() == 0 || looks.log_spare() == 0 || set >= looks.sets(0) {
         return None;
@@ -241,8 +242,8 @@ fn keys(rt: HostRuntime) -> Result<(), Fail> {
     Ok(())
 }
 
-// The tokens of queries: of one key, and of two that come in another order, which are looked up; and of three, which are asked for
-// the two tokens.
+// The tokens of queries. The keys of a query of one key, and of one of two keys in another order, are looked up in the
+// part; with a query of three keys, the part's two tokens are looked up in the query.
 #[test]
 fn queries(rt: HostRuntime) -> Result<(), Fail> {
     let alloc = rt.alloc();
@@ -260,7 +261,7 @@ fn queries(rt: HostRuntime) -> Result<(), Fail> {
     Ok(())
 }
 
-// A read and a probe: what they give, what they log, and what they count. The log's room falls by one a look.
+// A read and a probe: what they return, what they log, and what they count. The log's room falls by one for each look.
 #[test]
 fn logged(rt: HostRuntime) -> Result<(), Fail> {
     let alloc = rt.alloc();
@@ -299,14 +300,14 @@ fn logged(rt: HostRuntime) -> Result<(), Fail> {
     Ok(())
 }
 
-// Where the load of a position stands in the worked version.
+// Returns where the load at a position is in the worked version.
 fn found(version: &Version, position: u64) -> Option<(u32, u32)>
     requires { version.now ≡ worked_version }
 {
     version.find(position)
 }
 
-// The load at position 7 is found, and none before or behind it.
+// The load at position 7 is found, and none before or after it.
 #[test]
 fn positions(rt: HostRuntime) -> Result<(), Fail> {
     let version = version(rt.alloc())?;
@@ -316,7 +317,7 @@ fn positions(rt: HostRuntime) -> Result<(), Fail> {
     Ok(())
 }
 
-// What a pin shows: its position, and the layout of the one part, in which the table is marked or not.
+// Expects that a pin shows this position, and a layout of one part, in which the table is marked or not.
 fn expect_layout(
     rt: &impl Abort,
     alloc: Global,
@@ -332,7 +333,7 @@ fn expect_layout(
     Ok(())
 }
 
-// That a pin shows so many tables, each of them the worked one.
+// Expects that a pin shows this many tables, each of them the worked one.
 fn expect_tables(rt: &impl Abort, alloc: Global, pin: &Pin, many: usize) -> Result<(), NoMemory> {
     let lines = pin.tables(alloc)?;
     assert_eq!(rt; lines.list().len(), many);
@@ -342,7 +343,7 @@ fn expect_tables(rt: &impl Abort, alloc: Global, pin: &Pin, many: usize) -> Resu
     Ok(())
 }
 
-// The layout and the lines of live tables that pins show. A mark that comes later does not reach a pin.
+// The layout and the lines of live tables that pins show. A later mark does not affect a pin.
 #[test]
 fn pinned(rt: HostRuntime) -> Result<(), Fail> {
     let alloc = rt.alloc();
@@ -357,7 +358,7 @@ fn pinned(rt: HostRuntime) -> Result<(), Fail> {
     Ok(())
 }
 
-// Whether a pin gives these keys as the set of a column.
+// Returns whether a pin gives exactly these keys as the set of a column.
 fn has_keys(
     alloc: Global,
     pin: &Pin,
@@ -377,7 +378,7 @@ fn has_keys(
     Ok(query.len() as usize == keys.len())
 }
 
-// Why a pin gives no set of a column, and nothing where it gives one.
+// Returns why a pin gives no set of a column, or `None` if it gives one.
 fn refused(
     alloc: Global,
     pin: &Pin,
@@ -391,7 +392,7 @@ fn refused(
     }
 }
 
-// The sets of columns, by their place from 1. Each that is given is a reading of the segment, and none that is refused.
+// The sets of columns, by their place from 1. The meter counts each set that is given, and none that is refused.
 #[test]
 fn column_sets(rt: HostRuntime) -> Result<(), Fail> {
     let alloc = rt.alloc();
@@ -408,7 +409,7 @@ fn column_sets(rt: HostRuntime) -> Result<(), Fail> {
     Ok(())
 }
 
-// A marked table has no column, but in a pin that was made before.
+// A marked table has no column, except in a pin that was made before.
 #[test]
 fn marked_column(rt: HostRuntime) -> Result<(), Fail> {
     let alloc = rt.alloc();

@@ -11,14 +11,15 @@ use std::alloc::Global;
 use title_order::{TitleOrder, order_columns};
 use token_order::{TokenLists, Vocab};
 
-/// The segment of these tables. Its index is that of Zhu, Deng, Nargesian and Miller, "JOSIE: Overlap Set Similarity Search for Finding
-/// Joinable Tables in Data Lakes", SIGMOD 2019.
+/// Builds the segment of these tables. Its index is that of Zhu, Deng, Nargesian and Miller, "JOSIE: Overlap Set
+/// Similarity Search for Finding Joinable Tables in Data Lakes", SIGMOD 2019.
 ///
-/// It takes the time to sort all keys of all columns by their bytes, once. That gives the token of each key of each column; the distinct
-/// keys and the sets are then sorted as numbers, and the posting lists written in one pass, and keys are compared again only where their
-/// hashes are equal, while the tokens are sorted by these. The columns are sorted once too, by their names. The segment keeps 16 bytes for
-/// each key of each column, 20 for each distinct key, and 20 for each column. The most memory is taken while the keys are sorted and
-/// counted: 28 bytes for each key of each column, and at most 32 for each distinct key. It is refused only for want of memory.
+/// It sorts all keys of all columns by their bytes, once, which gives the token of each key of each column. The
+/// distinct keys and the sets are then sorted as numbers, and the posting lists are written in one pass. Keys are
+/// compared again only if their hashes are equal, while the tokens are sorted by these. The columns are also sorted
+/// once, by their names. The segment keeps 16 bytes for each key of each column, 30 to 32 for each distinct key, and 20
+/// for each column. The most memory is taken while the keys are sorted and counted: 28 bytes for each key of each
+/// column, and at most 32 for each distinct key. It fails only if memory runs out.
 pub fn build(alloc: Global, tables: Vec<SharedTable>) -> Result<Segment, NoMemory>
     requires columns { sum_by (λ t. length t.columns) tables.items < 2 ^ 32 }
     requires members { sum_by members tables.items < 2 ^ 32 }
@@ -33,7 +34,8 @@ pub fn build(alloc: Global, tables: Vec<SharedTable>) -> Result<Segment, NoMemor
         ..
     } = vocab.into_lists();
     let list_starts = list_starts(alloc, &frequencies)?;
-    // The starts say the same, and the most memory is taken behind here.
+    // The starts hold the same information, so the frequencies are freed before the steps that follow take their
+    // memory.
     drop(frequencies);
     let by_hash = order_by_hash(alloc, &tables, &sets.owners, &tokens)?;
     let PostingLists { starts, postings } = posting_lists(

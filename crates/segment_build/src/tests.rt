@@ -1,6 +1,7 @@
-//! Two worked segments. The first is of the table `t`, of which the column `p` has the keys z and a, and the column `q` has a: its token
-//! 0 is z, which one column holds, and its token 1 is a, which both hold. The second is of 300 tables of one column, each with the key x
-//! and with a number of its own, so that its list of x is longer than a byte counts.
+//! Two worked segments. The first is that of the table `t`, whose column `p` has the keys z and a, and whose column `q`
+//! has a: its token 0 is z, which one column holds, and its token 1 is a, which both hold. The second is that of 300
+//! tables of one column, each with the key x and with its own number, so that its list of x is too long for a one-byte
+//! count.
 ghost use Rattle.std.specs.Prelude.{◌<◌, ◌≤◌, ◌^◌, length, sum_by, IfOk};
 ghost use Rattle.lake_model.specs.Tables.{members};
 
@@ -14,7 +15,7 @@ use std::alloc::Global;
 use std::test::Fail;
 use token_order::Vocab;
 
-// The table of a name and of CSV bytes, which has few columns and members.
+// Returns the table with this name and these CSV bytes. It has few columns and members.
 fn small_table(alloc: Global, name: &[u8], bytes: &[u8]) -> Result<SharedTable, Fail>
     ensures columns { IfOk result (λ table. length table.columns ≤ 3) }
     ensures members { IfOk result (λ table. members table ≤ 3) }
@@ -28,7 +29,7 @@ fn small_table(alloc: Global, name: &[u8], bytes: &[u8]) -> Result<SharedTable, 
     Ok(SharedTable::new(alloc, table)?)
 }
 
-// The table of CSV bytes, alone in a list.
+// Returns a list that holds only the table of these CSV bytes.
 fn one_table(alloc: Global, bytes: &[u8]) -> Result<Vec<SharedTable>, Fail>
     ensures columns { IfOk result (λ tables. sum_by (λ t. length t.columns) tables.items < 2 ^ 32) }
     ensures members { IfOk result (λ tables. sum_by members tables.items < 2 ^ 32) }
@@ -37,7 +38,7 @@ fn one_table(alloc: Global, bytes: &[u8]) -> Result<Vec<SharedTable>, Fail>
     Ok(vec![in alloc; table]?)
 }
 
-// The table of a number, of which the one column has the key x and the three digits of the number.
+// Returns the table with this number. Its one column has the key x and the three digits of the number.
 fn numbered_table(alloc: Global, number: u32) -> Result<SharedTable, Fail>
     ensures columns { IfOk result (λ table. length table.columns ≤ 3) }
     ensures members { IfOk result (λ table. members table ≤ 3) }
@@ -47,7 +48,7 @@ fn numbered_table(alloc: Global, number: u32) -> Result<SharedTable, Fail>
     small_table(alloc, name.as_bytes(), bytes.as_bytes())
 }
 
-// The tables of the numbers below 300.
+// Returns the tables with the numbers below 300.
 fn numbered_tables(alloc: Global) -> Result<Vec<SharedTable>, Fail>
     ensures columns { IfOk result (λ tables. sum_by (λ t. length t.columns) tables.items < 2 ^ 32) }
     ensures members { IfOk result (λ tables. sum_by members tables.items < 2 ^ 32) }
@@ -59,13 +60,13 @@ fn numbered_tables(alloc: Global) -> Result<Vec<SharedTable>, Fail>
     Ok(tables)
 }
 
-// The token of a key, and how many columns hold it.
+// Returns the token of a key, and how many columns hold it.
 fn held(segment: &Segment, key: &str) -> Option<(u32, u32)> {
     let token = segment.lookup(key)?;
     Some((token, segment.list_len(token)))
 }
 
-// The columns, in their order, with their tokens.
+// The columns, in order, with their tokens.
 #[test]
 fn columns(rt: HostRuntime) -> Result<(), Fail> {
     let alloc = rt.alloc();
@@ -95,7 +96,7 @@ fn tokens(rt: HostRuntime) -> Result<(), Fail> {
     Ok(())
 }
 
-// Two pairs of keys of one hash: each key that the column has is found, and the other is not.
+// Two pairs of keys with the same hash: each key that the column has is found, and the other one is not.
 #[test]
 fn colliding_keys(rt: HostRuntime) -> Result<(), Fail> {
     let alloc = rt.alloc();

@@ -1,4 +1,4 @@
--- A walk over the tokens, by their hashes, that takes those of which the keys are in a set.
+-- A walk over the tokens, by their hashes, that takes those whose keys are in a set.
 use Rattle.std.proofs.Common.{◌≡◌, refl, ap, sym, ◌∙◌, subst, ℕ, suc, ◌+◌, ◌<◌, List, [], ◌∷◌, ◌++◌, Bool, true, false, ◌&&◌, ◌||◌, cond, map, length, get_or, take, Some, arith, append-nil}
 use Rattle.std.specs.Prelude.{bytes_eq}
 use Rattle.std.specs.List.{filter, enumerate_from, list_any, AllByRecursion, IsDistinct}
@@ -39,7 +39,7 @@ distinct_passed p (k ∷ ks) d = by (p k) (all_filter (λ y. bytes_eq k y ≡ fa
     by true apart rest = (apart, rest)
     by false apart rest = rest
 
--- a set has no key of which the filter of its hashes denies the hash
+-- a set has no key whose hash is not in the filter of its hashes
 pub not_asked : (filter : FilterOf) (keys : List Text) (key : Text) → AreIn filter (map hash_of keys) → may_have filter (hash_of key) ≡ false → has_key keys key ≡ false
 not_asked filter [] key all denied = refl
 not_asked filter (k ∷ keys) key all denied = by (bytes_eq key k) refl (not_asked filter keys key all.1 denied)
@@ -52,7 +52,7 @@ module _ (tables : List Table) (keys : List Text) where
   abbrev tokens : List Token
   tokens = (segment tables).tokens
 
-  -- one token more
+  -- one more token
   pub asked_more : (order : List HashedToken) (i : ℕ) (d : HashedToken) → i < length order
       → asked_keys tokens keys (take (i + 1) order) ≡ asked_keys tokens keys (take i order) ++ filter (has_key keys) (key_of tokens (get_or order i d).token ∷ [])
   asked_more order i d h =
@@ -98,7 +98,7 @@ module _ (tables : List Table) (keys : List Text) where
     distinct_asked : IsDistinct bytes_eq (asked_keys tokens keys order)
     distinct_asked = distinct_passed (has_key keys) (keys_by tokens order) (IsDistinct-IsPermutation bytes_eq flips _ _ same_keys (tokens_differ tables))
 
-    -- the set has the key of a token exactly where those that were asked for have it
+    -- the set has the key of a token exactly if the walk took it
     asked_has : (key : Text) → list_any (bytes_eq key) (token_keys tokens) ≡ true → has_key (asked_keys tokens keys order) key ≡ has_key keys key
     asked_has key there =
         any-filter_same (bytes_eq key) (has_key keys) (has_key keys key) (λ k e. ap (has_key keys) (sym ((bytes_eq-Decides key k).0 e))) (keys_by tokens order)

@@ -1,4 +1,4 @@
--- The first unmarked table of a name, as a walk over the parts and over the tables of each finds it.
+-- The first unmarked table with a name, as a walk over the parts and over the tables of each finds it.
 use Rattle.std.proofs.Common.{◌≡◌, refl, ap, ◌∙◌, ℕ, zero, suc, ◌+◌, ◌<◌, List, [], ◌∷◌, Bool, true, false, not, cond, map, length, get_or, drop, Option, Some, arith}
 use Rattle.std.specs.Prelude.{find}
 use Rattle.std.specs.List.{filter, flat_map}
@@ -24,7 +24,7 @@ live_first name part parts =
     ∙ ap (find (has_name name)) (map-append (λ (p : Place). p.table) here later)
     ∙ find-append (has_name name) (map (λ (p : Place). p.table) here) (map (λ (p : Place). p.table) later)
 
--- one part more
+-- one more part
 pub part_more : (name : Text) (parts : List Part) (i : ℕ) (d : Part) → i < length parts → live_named (drop i parts) name ≡ option_or (find (has_name name) (unmarked_in (get_or parts i d))) (live_named (drop (i + 1) parts) name)
 part_more name parts i d h =
     let e : suc i ≡ i + 1 = omega arith in
@@ -32,7 +32,7 @@ part_more name parts i d h =
     ∙ live_first name (get_or parts i d) (drop (suc i) parts)
     ∙ ap (λ (n : ℕ). option_or (find (has_name name) (unmarked_in (get_or parts i d))) (live_named (drop n parts) name)) e
 
--- a table, marked or not, before the others
+-- a table, marked or not, that precedes the others
 abbrev pub found_here : Text → Bool → Table → Option Table → Option Table
 found_here name m t later = cond m later (cond (has_name name t) (Some t) later)
 
@@ -47,7 +47,7 @@ table_from name (t ∷ ts) [] i h k = absurd (omega arith)
 table_from name (t ∷ ts) (m ∷ ms) zero h k = table_first name t m ts ms
 table_from name (t ∷ ts) (m ∷ ms) (suc i) h k = table_from name ts ms i (omega arith) (omega arith)
 
--- one table more
+-- one more table
 pub table_more : (name : Text) (ts : List Table) (ms : List Bool) (i : ℕ) → i < length ts → length ms ≡ length ts
     → find (has_name name) (tables_without (drop i ts) (drop i ms)) ≡ found_here name (get_or ms i false) (table_at ts i) (find (has_name name) (tables_without (drop (i + 1) ts) (drop (i + 1) ms)))
 table_more name ts ms i h k =

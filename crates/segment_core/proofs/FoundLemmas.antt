@@ -1,4 +1,4 @@
--- The tokens of which the keys are in a set, found key by key, and then sorted.
+-- The tokens whose keys are in a set, found key by key, and then sorted.
 use Rattle.std.proofs.Common.{◌≡◌, refl, ap, sym, ◌∙◌, subst, ℕ, zero, suc, ◌+◌, ◌<◌, List, [], ◌∷◌, ◌++◌, Bool, true, false, ◌||◌, cond, map, length, get_or, take, Option, Some, None, arith, append-nil}
 use Rattle.std.specs.Prelude.{bytes_eq}
 use Rattle.std.specs.Option.{option_to_list}
@@ -29,7 +29,7 @@ use Rattle.search_model.proofs.TokenLemmas.{distinct_differs, flips}
 
 -- ---- one key at a time
 
--- what passes either of two tests that nothing passes both
+-- what passes either of two tests, if nothing passes both
 filter_either : {X : Type 0} (p q : X → Bool) (xs : List X) → ((x : X) → p x ≡ true → q x ≡ false) → IsPermutation (filter p xs ++ filter q xs) (filter (λ x. p x || q x) xs)
 filter_either p q [] apart = IsPermutation-refl []
 filter_either p q (x ∷ xs) apart = by (p x) (q x) (apart x) (filter_either p q xs apart)
@@ -108,7 +108,7 @@ one_from key n (t ∷ tokens) (suc m) d h e =
     ∙ one_from key (n + 1) tokens m d.1 (omega arith) e
     ∙ ap (λ (k : ℕ). k ∷ []) more
 
--- what a look-up answers is the tokens of the set of the one key
+-- the result of a look-up is the tokens of the set of that one key
 pub looked_up : (tokens : List Token) (key : Text) (found : Option ℕ) → IsDistinct bytes_eq (map (λ t. t.key) tokens) → IsToken tokens key found → tokens_in tokens (key ∷ []) ≡ option_to_list found
 looked_up tokens key None d h = none_from key 0 tokens h
 looked_up tokens key (Some n) d h = let z : 0 + n ≡ n = omega arith in one_from key 0 tokens n d h.0 h.1 ∙ ap (λ (k : ℕ). k ∷ []) z
@@ -122,7 +122,7 @@ one_more tokens keys i found h d is =
     ∙ flat_map-append of (take i keys) (get_or keys i [] ∷ [])
     ∙ ap (λ (ns : List ℕ). flat_map of (take i keys) ++ ns) (append-nil (of (get_or keys i [])) ∙ looked_up tokens (get_or keys i []) found d is)
 
--- a key is put behind others, or no token has it
+-- a key's token is appended, or no token has the key
 pub found_more : (tokens : List Token) (keys before : List Text) (i : ℕ) → i < length keys → found_by tokens before ≡ found_by tokens (take i keys) → found_by tokens (before ++ get_or keys i [] ∷ []) ≡ found_by tokens (take (i + 1) keys)
 found_more tokens keys before i h e =
     let of : Text → List ℕ = λ key. tokens_in tokens (key ∷ []) in
@@ -135,7 +135,7 @@ pub found_none : (tokens : List Token) (keys before : List Text) (i : ℕ) → i
 found_none tokens keys before i h d is e =
     e ∙ sym (append-nil (found_by tokens (take i keys))) ∙ sym (one_more tokens keys i None h d is)
 
--- one more hit, of which the key is looked up
+-- one more hit, whose key is looked up
 pub hit_more : (tokens : List Token) (keys : List Text) (hits : List Hit) (i : ℕ) (d : Hit) (found : Option ℕ) → i < length hits → IsDistinct bytes_eq (map (λ t. t.key) tokens) → IsToken tokens (get_or keys (get_or hits i d).index []) found
     → found_by tokens (take (i + 1) (hit_keys keys hits)) ≡ found_by tokens (take i (hit_keys keys hits)) ++ option_to_list found
 hit_more tokens keys hits i d found h apart is =
@@ -143,7 +143,7 @@ hit_more tokens keys hits i d found h apart is =
     let within : i < length (hit_keys keys hits) = omega (arith, length-map hits key) in
     one_more tokens (hit_keys keys hits) i found within apart (subst (λ (k : Text). IsToken tokens k found) (sym (get_or-map key hits i d [] h)) is)
 
--- ---- the keys of the tokens differ
+-- ---- the keys of the tokens are distinct
 
 keys_back : (columns : List Titled) (keys : List Text) → map (λ t. t.key) (map (token_of columns) keys) ≡ keys
 keys_back columns [] = refl
@@ -176,7 +176,7 @@ not_less a b h = grind (arith, nat_tests)
 sorted_rising : (xs : List ℕ) → Rising xs → IsSorted nat_cmp xs
 sorted_rising xs r k d low h = not_less _ _ (below xs r k d h)
 
--- the tokens of a set, sorted, are what it has
+-- the tokens of a set, sorted
 pub sorted_tokens : (tokens : List Token) (keys : List Text) (found sorted : List ℕ) → IsPermutation (tokens_in tokens keys) found → IsPermutation found sorted → IsSorted nat_cmp sorted → sorted ≡ tokens_in tokens keys
 sorted_tokens tokens keys found sorted p q up =
     sorted_is nat_cmp_total exact_unsigned sorted up

@@ -1,4 +1,4 @@
--- The tokens in the order of the hashes of their keys: how they are put in that order, and what a search there finds.
+-- The tokens in the order of the hashes of their keys: how they are sorted, and what a search among them finds.
 use Rattle.std.proofs.Common.{◌≡◌, refl, ap, sym, ◌∙◌, subst, inl, inr, ℕ, ◌+◌, ◌-◌, ◌<◌, ◌≤◌, List, [], ◌∷◌, ◌++◌, Bool, true, false, map, length, get_or, take, drop, ltb, Option, Some, None, arith}
 use Rattle.std.specs.Prelude.{IfNone, IfSome, bytes_eq}
 use Rattle.std.specs.Cmp.{nat_cmp_is}
@@ -52,12 +52,12 @@ none_of tokens key apart = list_any_none (λ t. bytes_eq t.key key) tokens (λ k
     by k d h false e = refl
     by k d h true e = absurd (apart k h (get_or-map (λ (t : Token). t.key) tokens k d [] h ∙ (bytes_eq-Decides (get_or tokens k d).key key).0 e))
 
--- ---- put in order
+-- ---- sorting
 
 pub hashed_more : (tables : List Table) (before after : List HashedToken) (entry : HashedToken) → All (IsHashed tables) before → IsHashed tables entry → after ≡ before ++ entry ∷ [] → All (IsHashed tables) after
 hashed_more tables before after entry all one e = subst (All (IsHashed tables)) (sym e) (All-append (IsHashed tables) before (entry ∷ []) all (All-from_recursion (IsHashed tables) (entry ∷ []) (one, tt)))
 
--- the numbers of one token more
+-- the numbers with one more token
 pub numbers_more : (tokens : List Token) (before after : List HashedToken) (i : ℕ) (entry : HashedToken) → i < length tokens → entry.token ≡ i → map token_number before ≡ take i (numbers_of tokens) → after ≡ before ++ entry ∷ []
     → map token_number after ≡ take (i + 1) (numbers_of tokens)
 numbers_more tokens before after i entry h is so_far e =
@@ -83,7 +83,7 @@ pub ordered_few : (tables : List Table) (hashed sorted : List HashedToken) → m
 ordered_few tables hashed sorted numbers same =
     omega (arith, length_permutation hashed sorted same, length-map hashed token_number, ap length numbers, length-numbers (segment tables).tokens)
 
--- ---- searched by hash
+-- ---- a search by hash
 
 pub order_of : (held tables : List Table) (order : List HashedToken) → held ≡ tables → IsByHash held order → IsByHash tables order
 order_of held tables order e is = subst (λ (ts : List Table). IsByHash ts order) e is
@@ -106,7 +106,7 @@ not_more a b e = elim (cases_lt b a) [
 abbrev pub blank : HashedToken
 blank = hashed_from 0 0 no_token
 
--- one of these is as all of them are
+-- what holds of all of these holds of one of them
 pub one_of : (tables : List Table) (order : List HashedToken) (entry : HashedToken) → All (IsHashed tables) order → IsOneOf order entry → IsHashed tables entry
 one_of tables order entry all (i, h, e) = subst (IsHashed tables) e (all i entry h)
 
@@ -131,11 +131,11 @@ module _ (tables : List Table) (order : List HashedToken) (is : IsByHash tables 
   each_hashed P all = each_token tokens (map token_number order) P is.same (λ k d h.
       (let b : k < length order = omega (arith, h, length-map order token_number) in subst P (sym (get_or-map token_number order k blank d b)) (all k blank b)))
 
-  -- no hash is that which is looked for, so no token has it
+  -- none of the hashes is the given one, so no token has it
   pub lacks_hash : (hash : ℕ) → All (λ entry. entry.hash ≡ hash → ⊥) order → (n : ℕ) → n < length tokens → hash_at tokens n ≡ hash → ⊥
   lacks_hash hash apart = each_hashed (λ n. hash_at tokens n ≡ hash → ⊥) (λ k d h e. apart k d h ((is.hashed k d h).hash ∙ e))
 
-  -- ---- searched by hash and key
+  -- ---- a search by hash and key
 
   module _ (hash : ℕ) (key : Text) (same_hash : hash ≡ hash_of key) where
     abbrev compare : HashedToken → Ordering
@@ -165,7 +165,7 @@ module _ (tables : List Table) (order : List HashedToken) (is : IsByHash tables 
           | inr g ↦ differs (get_or order k d) (is.hashed k d h) (ap is_eq (greater k d g h))
         ]))
 
--- what follows for what is found, and where nothing is
+-- what follows if something is found, and if nothing is
 pub none_then : {X P Q : Type 0} (found : Option X) → (P → Q) → IfNone found P → IfNone found Q
 none_then None f p = f p
 none_then (Some x) f p = tt
@@ -179,7 +179,7 @@ some_then (Some x) f p = f x p
 pub rise_in : (order : List HashedToken) (from to : ℕ) → IsNonDecreasingBy token_hash order → IsNonDecreasingBy token_hash (slice_range order from to)
 rise_in order from to up = IsNonDecreasingBy-take token_hash (to - from) (drop from order) (IsNonDecreasingBy-drop token_hash from order up)
 
--- nothing has a hash that is not at the place where it would stand
+-- nothing has a hash that is not at the index where it would have to be
 pub none_from : (order : List HashedToken) (hash at : ℕ) → IsNonDecreasingBy token_hash order → IsPartitionPoint (λ entry. ltb entry.hash hash ≡ true) (λ entry. ltb entry.hash hash ≡ false) order at
     → ((d : HashedToken) → at < length order → (get_or order at d).hash ≡ hash → ⊥) → All (λ entry. entry.hash ≡ hash → ⊥) order
 none_from order hash at up point apart k d h e = elim (cases_lt k at) [
@@ -190,9 +190,9 @@ none_from order hash at up point apart k d h e = elim (cases_lt k at) [
       apart d there (omega (arith, high, up at k d g h, e))
 ]
 
--- ---- the places of a directory
+-- ---- the range that a directory gives
 
--- none of the tokens has the hash, where none of those near it has
+-- none of the tokens has the hash if none of those near it has
 pub none_near : (order : List HashedToken) (hash from to : ℕ) → IsNear (map token_hash order) hash from to → All (λ entry. entry.hash ≡ hash → ⊥) (slice_range order from to) → All (λ entry. entry.hash ≡ hash → ⊥) order
 none_near order hash from to near apart k d h e =
     let long = length-map order token_hash in
@@ -210,7 +210,7 @@ none_near order hash from to near apart k d h e =
       ]
     ]
 
--- one of those near a hash is one of all
+-- one of the tokens near a hash is one of all tokens
 pub one_near : (order : List HashedToken) (from to : ℕ) (entry : HashedToken) → to ≤ length order → IsOneOf (slice_range order from to) entry → IsOneOf order entry
 one_near order from to entry within (i, h, e) =
     let short = length-take (to - from) (drop from order) in

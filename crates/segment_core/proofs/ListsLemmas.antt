@@ -1,4 +1,4 @@
--- Lists in one list, with where each begins.
+-- Lists stored in one list, with the index at which each begins.
 use Rattle.std.proofs.Common.{◌≡◌, refl, ap, sym, ◌∙◌, ℕ, zero, suc, ◌+◌, ◌-◌, ◌<◌, ◌≤◌, List, [], ◌∷◌, ◌++◌, length, get_or, take, drop, arith, length-append}
 use Rattle.std.specs.List.{slice_index, slice_range}
 use Rattle.std.proofs.lemmas.List.{drop-take, drop-drop}
@@ -13,7 +13,7 @@ first-start : {X : Type 0} (n : ℕ) (lists : List (List X)) → slice_index (st
 first-start n [] = refl
 first-start n (l ∷ lists) = refl
 
--- the list at i, in the list of all, from its start to the next one
+-- the list at i within the list of all, from its start to the start of the next
 pub record Bounds {X : Type 0} (n : ℕ) (starts : List ℕ) (flat : List X) (i : ℕ) (list : List X) : Type 0 where
   pub there : i + 1 < length starts
   pub low : n ≤ slice_index starts i

@@ -1,4 +1,4 @@
--- The tables and the marks of a part's places, and the table that a column is of.
+-- The tables and the marks of a part's places, and the table to which a column belongs.
 use Rattle.std.proofs.Common.{◌≡◌, refl, ap, ℕ, zero, suc, ◌+◌, ◌<◌, ◌≤◌, List, [], ◌∷◌, Bool, true, map, length, arith}
 use Rattle.std.specs.List.{AllByRecursion, flat_map, enumerate_from, slice_set}
 use Rattle.list_laws.proofs.ListLemmas.{all_at, all_append}

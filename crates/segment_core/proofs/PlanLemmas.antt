@@ -48,14 +48,14 @@ kept_push parts part =
 
 -- ---- one more step of each loop
 
--- one more part that is named
+-- one more named part
 pub named_more : (run : List Part) (i : ℕ) (item : Part) (n : ℕ) (ps : List ℕ) (all new : List (ℕ × List ℕ)) → i < length run → item ≡ get_or run i item → n ≡ item.number → ps ≡ loads_of item → all ≡ named (take i run)
     → new ≡ all ++ (n, ps) ∷ [] → new ≡ named (take (i + 1) run)
 named_more run i item n ps all new lt at number loads done more =
     let pair : ℕ → List ℕ → ℕ × List ℕ = λ m ms. (m, ms) in
     more ∙ (λ j. done j ++ pair (number j) (loads j) ∷ []) ∙ ap (λ (p : Part). named (take i run) ++ pair p.number (loads_of p) ∷ []) at ∙ sym (map_more (λ (p : Part). pair p.number (loads_of p)) run i item lt)
 
--- one more load that is unmarked, and one that is marked
+-- one more unmarked load, and one more marked one
 pub load_kept : (ns : List ℕ) (ts : List Table) (ms : List Bool) (i : ℕ) (t : Table) (first done new : List (ℕ × Table)) → i < length ts → length ns ≡ length ts → length ms ≡ length ts → get_or ms i false ≡ false → t ≡ table_at ts i
     → done ≡ first ++ loads_without (take i ns) (take i ts) (take i ms) → new ≡ done ++ (get_or ns i 0, t) ∷ [] → new ≡ first ++ loads_without (take (i + 1) ns) (take (i + 1) ts) (take (i + 1) ms)
 load_kept ns ts ms i t first done new lt h k mark table before more =
@@ -71,14 +71,14 @@ load_left ns ts ms i first done new lt h k mark before more =
     let here = loads_without (take i ns) (take i ts) (take i ms) in
     more ∙ before ∙ ap (λ ls. first ++ ls) (sym (without_more ns ts ms i lt h k ∙ ap (λ (b : Bool). here ++ cond b [] (pair (get_or ns i 0) (table_at ts i) ∷ [])) mark ∙ append-nil here))
 
--- one more part whose unmarked loads are put behind
+-- one more part whose unmarked loads are appended
 pub kept_more : (run : List Part) (i : ℕ) (item : Part) (ns : List ℕ) (ts : List Table) (ms : List Bool) (all new : List (ℕ × Table)) → i < length run → item ≡ get_or run i item → ns ≡ loads_of item → ts ≡ tables_of item → ms ≡ marks_of item
     → all ≡ kept_loads (take i run) → new ≡ all ++ loads_without ns ts ms → new ≡ kept_loads (take (i + 1) run)
 kept_more run i item ns ts ms all new lt at loads tables marks done more =
     more ∙ (λ j. done j ++ loads_without (loads j) (tables j) (marks j)) ∙ ap (λ ls. kept_loads (take i run) ++ ls) (without_places item.places)
     ∙ sym (ap kept_loads (take_more run i item lt ∙ ap (λ (p : Part). take i run ++ p ∷ []) (sym at)) ∙ kept_push (take i run) item)
 
--- ---- a part in the place of others
+-- ---- a part that replaces others
 
 pub replaced_fits : (first count : ℕ) (part : Option Part) (parts : List Part) → 0 < count → first + count ≤ length parts → length (replaced first count part parts) ≤ length parts
 replaced_fits first count part parts some within =

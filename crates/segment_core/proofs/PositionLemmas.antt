@@ -1,4 +1,4 @@
--- Where a position stands in parts of which the positions rise, one part behind another.
+-- Where a position is in parts whose positions strictly increase, one part after another.
 use Rattle.std.proofs.Common.{◌≡◌, sym, ap, subst, ◌∙◌, ℕ, zero, suc, ◌+◌, ◌<◌, ◌≤◌, List, [], ◌∷◌, ◌++◌, Option, Some, None, IfNone, true, false, leb, leb-true, leb-false, length, get_or, ⊎_elim, arith, length-append}
 use Rattle.std.specs.List.{flat_map, slice_index}
 use Rattle.std.specs.List.Sorted.{IsNonDecreasingBy, IsPartitionPoint, IsStrictlyIncreasing}
@@ -11,7 +11,7 @@ use Rattle.segment_core.specs.Positions.{AreFull, Rises, first_load, loads_of}
 use Rattle.segment_core.specs.Versions.{part_at, part_with}
 use Rattle.list_laws.proofs.ListLemmas.{all_append}
 
--- ---- lists that rise
+-- ---- increasing lists
 
 rise_first : (xs ys : List ℕ) → IsStrictlyIncreasing (xs ++ ys) → IsStrictlyIncreasing xs
 rise_first xs ys h k l = omega (arith, get_or_append_left xs ys 0 k (omega arith), get_or_append_left xs ys 0 (k + 1) l, h k (omega (arith, length-append xs ys)))
@@ -37,7 +37,7 @@ pub lacks_by : (xs : List ℕ) (n : ℕ) → ((i : ℕ) → i < length xs → sl
 lacks_by [] n h = tt
 lacks_by (x ∷ xs) n h = (h zero (omega arith), lacks_by xs n (λ i l. h (suc i) (omega arith)))
 
--- ---- parts of which the positions rise
+-- ---- parts whose positions increase
 
 positions-cons : (part : Part) (parts : List Part) → positions_of (part ∷ parts) ≡ loads_of part ++ positions_of parts
 positions-cons part parts = map-append (λ (place : Place). place.position) part.places (flat_map (λ (part : Part). part.places) parts)
@@ -99,7 +99,7 @@ none_behind [] n h behind = tt
 none_behind (part ∷ parts) n h behind =
     lacks_both part parts n (lacks_behind part parts n h (behind 0 (omega arith))) (none_behind parts n (rises_rest part parts h) (λ k l. behind (suc k) (omega arith)))
 
--- a position that the last part begun by it lacks
+-- a position that is missing from the last part that begins at or before it
 pub none_else : (parts : List Part) (last n : ℕ) → Rises parts → AreFull parts → last < length parts → first_load (part_at parts last) ≤ n → ((k : ℕ) → last < k → k < length parts → n < first_load (part_at parts k)) → Lacks (loads_of (part_at parts last)) n → Lacks (positions_of parts) n
 none_else [] last n h full l begun behind lacks = absurd (omega arith)
 none_else (part ∷ parts) zero n h full l begun behind lacks =
@@ -108,7 +108,7 @@ none_else (part ∷ parts) (suc last) n h full l begun behind lacks =
     let before = lacks_by (loads_of part) n (λ i m e. omega (arith, e, begun, later_first part parts i last (part_with 0 []) h full.1 m (omega arith))) in
     lacks_both part parts n before (none_else parts last n (rises_rest part parts h) full.1 (omega arith) begun (λ k m w. behind (suc k) (omega arith) (omega arith)) lacks)
 
--- ---- what the two searches say
+-- ---- the results of the two searches
 
 pub record Begun (parts : List Part) (n count : ℕ) : Type 0 where
   pub within : count ≤ length parts
@@ -131,7 +131,7 @@ none_begun parts n count h b e = none_behind parts n h (λ k l. b.behind k (omeg
 pub last_lacks : (parts : List Part) (n count last : ℕ) → Rises parts → AreFull parts → Begun parts n count → count ≡ last + 1 → Lacks (loads_of (part_at parts last)) n → Lacks (positions_of parts) n
 last_lacks parts n count last h full b e lacks = none_else parts last n h full (omega (arith, b.within)) (b.before last (omega arith)) (λ k m w. b.behind k (omega arith) w) lacks
 
--- a fact of no value is one of each value
+-- what holds in any case holds if there is no value
 pub if_none : {X : Type 0} (value : Option X) (P : Type 0) → P → IfNone value P
 if_none None P p = p
 if_none (Some x) P p = tt

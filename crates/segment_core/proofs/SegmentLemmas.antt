@@ -1,4 +1,4 @@
--- What the arrays of a segment say of the lists and the sets of its tables.
+-- What the arrays of a segment say about the lists and the sets of its tables.
 use Rattle.std.proofs.Common.{◌≡◌, refl, ◌∙◌, sym, ap, subst, ℕ, ◌<◌, ◌≤◌, List, [], get_or, length, map, arith}
 use Rattle.std.proofs.lemmas.List.{length-map, get_or-map}
 use Rattle.std.proofs.lemmas.List.FromFn.{length-enumerate_from}
@@ -22,7 +22,7 @@ pub length-lists : (tables : List Table) → length (segment tables).lists ≡ l
 unfolding segment
 length-lists tables = length-map _ _ ∙ length-enumerate_from 0 _
 
--- The arrays of a value's tables, where the value is known by another name, as a proof about a struct has it.
+-- The arrays of a value's tables if the value is known by another name, as in a proof about a struct.
 module _ (held tables : List Table) (is : held ≡ tables) (owners : List Owner) (tokens : List TokenAt) (by_key list_starts : List ℕ) (postings : List Posting) (set_starts set_tokens : List ℕ)
     (arrays : AreArrays held owners tokens by_key list_starts postings set_starts set_tokens) where
   pub list_bounds : (token : ℕ) → token < length (segment tables).tokens → Bounds 0 list_starts postings token (get_or (segment tables).lists token [])
@@ -44,26 +44,26 @@ module _ (held tables : List Table) (is : held ≡ tables) (owners : List Owner)
   pub token_count : length tokens ≡ length (segment tables).tokens
   token_count = sym (length-map tokens (pointed held)) ∙ ap length arrays.named ∙ length-map (segment held).tokens (λ (t : Token). t.key) ∙ ap (λ (ts : List Table). length (segment ts).tokens) is
 
--- the arrays that tell where the keys of the tokens stand
+-- the arrays that say where the keys of the tokens are
 pub keys_kept : (tables : List Table) (owners : List Owner) (tokens : List TokenAt) (by_key list_starts : List ℕ) (postings : List Posting) (set_starts set_tokens : List ℕ) → AreArrays tables owners tokens by_key list_starts postings set_starts set_tokens → AreKeys tables owners tokens
 keys_kept tables owners tokens by_key list_starts postings set_starts set_tokens arrays = record { owned = arrays.owned; named = arrays.named; within = arrays.within }
 
 pub key_count : (tables : List Table) (owners : List Owner) (tokens : List TokenAt) → AreKeys tables owners tokens → length tokens ≡ length (segment tables).tokens
 key_count tables owners tokens keys = sym (length-map tokens (pointed tables)) ∙ ap length keys.named ∙ length-map (segment tables).tokens (λ (t : Token). t.key)
 
--- the column of a number stands in its table
+-- the column with a number is in its table
 pub stands_there : (tables : List Table) (set : ℕ) → set < length (segment tables).columns → Stands tables (titled_at (segment tables).columns set)
 unfolding segment
 stands_there tables set h = stands tables set h
 
--- what stands in no array
+-- what is in no array
 abbrev pub no_token : TokenAt
 no_token = record { column = 0; index = 0 }
 
 abbrev pub no_owner : Owner
 no_owner = record { table = 0; place = 0 }
 
--- Where a key is read: its place is one of the columns, this is one of a table, and that table has the key there.
+-- Where a key is read: `at` names a column, the column belongs to a table, and that table has the key there.
 pub record IsRead (tables : List Table) (at : TokenAt) (owner : Owner) : Type 0 where
   pub table : owner.table < length tables
   pub low : 0 < owner.place
@@ -95,7 +95,7 @@ module _ (tables : List Table) (owners : List Owner) (owned : owners ≡ map own
         key = ap (λ (ks : List Text). get_or ks at.index []) here.keys ∙ pointed_here;
       })
 
--- the key of a token stands at the token's place
+-- the key of a token is where the token's entry says
 pub key_pointed : (tables : List Table) (owners : List Owner) (tokens : List TokenAt) → AreKeys tables owners tokens → (token : ℕ) (at : TokenAt) → token < length tokens → at ≡ get_or tokens token at → pointed tables at ≡ key_of (segment tables).tokens token
 key_pointed tables owners tokens keys token at within is = key_here (pointed tables) tokens (segment tables).tokens token at keys.named within is
 

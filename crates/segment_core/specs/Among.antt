@@ -1,4 +1,4 @@
--- The tokens of a segment that have keys of a query, found key by key.
+-- The tokens of a segment whose keys are in a query, found key by key.
 use Rattle.std.specs.Prelude.{ℕ, ◌<◌, List, [], ◌∷◌, get_or, length, map}
 use Rattle.std.specs.List.{flat_map}
 use Rattle.lake_model.specs.Texts.{Text}
@@ -7,11 +7,11 @@ use Rattle.search_model.specs.Segment.{Token, tokens_in}
 use Rattle.segment_core.specs.Hashes.{IsHashed}
 use Rattle.segment_core.specs.declared.segment.Hit.{Hit}
 
--- the tokens that these keys are, in the order of the keys
+-- the tokens of these keys, in the order of the keys
 abbrev pub found_by : List Token → List Text → List ℕ
 found_by tokens keys = flat_map (λ key. tokens_in tokens (key ∷ [])) keys
 
--- the token and the key of a hit are there
+-- the token and the key of a hit exist
 abbrev pub IsHit : List Table → List Text → Hit → Type 0
 IsHit tables keys hit = IsHashed tables hit.entry × (hit.index < length keys)
 

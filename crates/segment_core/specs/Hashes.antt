@@ -29,11 +29,11 @@ hash_of key = hash_from 0x811C9DC5 key
 abbrev pub hash_at : List Token → ℕ → ℕ
 hash_at tokens n = hash_of (key_of tokens n)
 
--- a hash, the number of a token, and where its key stands
+-- a hash, the number of a token, and where its key is
 abbrev pub hashed_from : ℕ → ℕ → TokenAt → HashedToken
 hashed_from hash token at = record { hash = hash; token = token; at = at }
 
--- what such tokens are sorted by
+-- the key by which such tokens are sorted
 abbrev pub sorted_by : List Token → HashedToken → List ℕ
 sorted_by tokens entry = entry.hash ∷ key_of tokens entry.token
 
@@ -47,7 +47,7 @@ token_number entry = entry.token
 abbrev pub IsOneOf : List HashedToken → HashedToken → Type 0
 IsOneOf order entry = (i : ℕ) × (i < length order) × (get_or order i entry ≡ entry)
 
--- a token of the segment of these tables, with the hash of its key, and with a place where its key stands
+-- a token of the segment of these tables, with the hash of its key and a place at which its key is
 pub record IsHashed (tables : List Table) (entry : HashedToken) : Type 0 where
   pub there : entry.token < length (segment tables).tokens
   pub hash : entry.hash ≡ hash_at (segment tables).tokens entry.token
@@ -60,13 +60,13 @@ pub record IsByHash (tables : List Table) (order : List HashedToken) : Type 0 wh
   pub rising : IsSortedByKey (sorted_by (segment tables).tokens) (slice_cmp nat_cmp) order
   pub same : IsPermutation (numbers_of (segment tables).tokens) (map token_number order)
 
--- where the columns stand, and where the keys of the tokens stand
+-- where the columns are, and where the keys of the tokens are
 pub record AreKeys (tables : List Table) (owners : List Owner) (tokens : List TokenAt) : Type 0 where
   pub owned : owners ≡ map owner_of (segment tables).columns
   pub named : map (pointed tables) tokens ≡ token_keys (segment tables).tokens
   pub within : (i : ℕ) (d : TokenAt) → i < length tokens → IsAt tables (get_or tokens i d)
 
--- The arrays that a segment keeps: those of its tables, where the order of the tokens by hash stands in the place of that by key.
+-- The arrays that a segment keeps: those of its tables, with the order of the tokens by hash in place of that by key.
 pub record AreKept (tables : List Table) (owners : List Owner) (tokens : List TokenAt) (by_hash : List HashedToken) (list_starts : List ℕ) (postings : List Posting) (set_starts set_tokens : List ℕ) : Type 0 where
   pub by_key : List ℕ
   pub arrays : AreArrays tables owners tokens by_key list_starts postings set_starts set_tokens

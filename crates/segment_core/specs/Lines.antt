@@ -8,21 +8,21 @@ use Rattle.lake_model.specs.Layout.{Place, Part, unmarked_of}
 abbrev pub shown_places : List Place → List (ℕ × Bool)
 shown_places places = map (λ place. (place.position, place.marked)) places
 
--- the pair of an index marked
+-- the pair at an index, marked
 abbrev pub mark_pair : ℕ → List (ℕ × Bool) → List (ℕ × Bool)
 mark_pair n pairs = slice_set pairs n ((get_or pairs n (0, false)).0, true)
 
--- a line from its parts: the name, how many columns, how many members
+-- a line from its components: the name, the number of columns, the number of members
 abbrev pub line_from : Text × ℕ × ℕ → Line
 line_from line = line_with line.0 line.1 line.2
 
--- the lines of the tables that are unmarked
+-- the lines of the unmarked tables
 abbrev pub lines_without : List Table → List Bool → List Line
 lines_without [] marks = []
 lines_without (t ∷ ts) [] = []
 lines_without (t ∷ ts) (m ∷ ms) = if m then lines_without ts ms else line_of t ∷ lines_without ts ms
 
--- the lines of the places that are unmarked
+-- the lines of the unmarked places
 abbrev pub unmarked_lines : List Place → List Line
 unmarked_lines places = map (λ place. line_of place.table) (filter (λ place. not place.marked) places)
 

@@ -1,4 +1,4 @@
--- The column of a live table, by the table's name and the column's place: what keeps it from being there, and its keys.
+-- The column of a live table, by the table's name and the column's place: why there may be none, and its keys.
 use Rattle.std.specs.Prelude.{ℕ, ◌-◌, Bool, not, List, [], ◌∷◌, map, filter, find, nat_eq, slice_get, if◌then◌else◌, Option, Some, None}
 use Rattle.lake_model.specs.Texts.{Text}
 use Rattle.lake_model.specs.Tables.{Column, Table}
@@ -8,7 +8,7 @@ use Rattle.segment_core.specs.Versions.{live_of}
 use Rattle.segment_core.specs.declared.column.ColumnRefused.{ColumnRefused}
 use Rattle.segment_core.specs.declared.column.ColumnRefused.TheVariants.{UnknownTable, UnknownColumn}
 
--- the first unmarked table of the name
+-- the first unmarked table with this name
 abbrev pub live_named : List Part → Text → Option Table
 live_named parts name = find (has_name name) (live_of parts)
 
@@ -32,14 +32,14 @@ abbrev pub keys_in : ℕ → Option Table → List Text
 keys_in place None = []
 keys_in place (Some table) = keys_of (column_of table place)
 
--- what keeps a column from being there
+-- why there is no such column
 abbrev pub column_fault : List Part → Text → ℕ → Option ColumnRefused
 column_fault parts name place = fault_in place (live_named parts name)
 
 abbrev pub column_keys : List Part → Text → ℕ → List Text
 column_keys parts name place = keys_in place (live_named parts name)
 
--- the tables that are unmarked
+-- the unmarked tables
 abbrev pub tables_without : List Table → List Bool → List Table
 tables_without [] marks = []
 tables_without (t ∷ ts) [] = []

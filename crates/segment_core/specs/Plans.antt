@@ -1,11 +1,11 @@
--- Plans of merges, merged segments, and what a swap puts in the place of adjacent parts.
+-- Plans of merges, merged segments, and the parts after a swap.
 use Rattle.std.specs.Prelude.{ℕ, ◌+◌, Bool, List, [], ◌∷◌, ◌++◌, map, filter, not, take, drop, if◌then◌else◌, Option}
 use Rattle.std.specs.Option.{option_to_list}
 use Rattle.lake_model.specs.Tables.{Table}
 use Rattle.lake_model.specs.Layout.{Place, Part, unmarked_of}
 use Rattle.segment_core.specs.Positions.{loads_of}
 
--- a plan: the number and the positions of each part that is merged, the loads that are kept, and the position of the version
+-- a plan: the number and the positions of each part to be merged, the loads that are kept, and the version's position
 pub record PlanOf : Type 0 where
   pub from : List (ℕ × List ℕ)
   pub kept : List (ℕ × Table)
@@ -14,7 +14,7 @@ pub record PlanOf : Type 0 where
 abbrev pub plan_with : List (ℕ × List ℕ) → List (ℕ × Table) → ℕ → PlanOf
 plan_with from kept at = record { from = from; kept = kept; at = at }
 
--- what a plan was merged into: the positions that are kept, and their tables
+-- the result of merging a plan: the positions that are kept, and their tables
 pub record MergedOf : Type 0 where
   pub from : List (ℕ × List ℕ)
   pub kept : List ℕ
@@ -46,6 +46,6 @@ loads_without (n ∷ ns) (t ∷ ts) (m ∷ ms) = if m then loads_without ns ts m
 abbrev pub plan_run : ℕ → List Part → PlanOf
 plan_run at run = plan_with (named run) (kept_loads run) at
 
--- a part, or none, in the place of so many parts from an index on
+-- the parts, with `count` of them, from index `first` on, replaced by one part or by none
 abbrev pub replaced : ℕ → ℕ → Option Part → List Part → List Part
 replaced first count part parts = take first parts ++ (option_to_list part ++ drop (first + count) parts)

@@ -1,4 +1,4 @@
--- Where loads stand in the parts of a layout.
+-- Where loads are in the parts of a layout.
 use Rattle.std.specs.Prelude.{◌≡◌, ℕ, ◌<◌, List, length, map, slice_index}
 use Rattle.std.specs.List.{AllByRecursion}
 use Rattle.std.specs.List.Sorted.{IsStrictlyIncreasing}
@@ -12,7 +12,7 @@ loads_of part = map (λ place. place.position) part.places
 abbrev pub first_load : Part → ℕ
 first_load part = slice_index (loads_of part) 0
 
--- the positions rise over all parts, one behind another
+-- the positions strictly increase over all parts, one part after another
 abbrev pub Rises : List Part → Type 0
 Rises parts = IsStrictlyIncreasing (positions_of parts)
 
@@ -20,7 +20,7 @@ Rises parts = IsStrictlyIncreasing (positions_of parts)
 abbrev pub AreFull : List Part → Type 0
 AreFull parts = AllByRecursion (λ part. 0 < length part.places) parts
 
--- the load of a position is that of a place of a part, both by their index from 0
+-- the load at a position is at this index of this part, both from 0
 pub record StandsAt (parts : List Part) (position part place : ℕ) : Type 0 where
   pub part_there : part < length parts
   pub place_there : place < length (part_at parts part).places

@@ -1,4 +1,5 @@
--- Versions: the parts that are searched at a position of the journal; and what a search asks of one, with its log.
+-- Versions: the parts that are searched at a position of the journal; and what a search asks of a version, with its
+-- log.
 use Rattle.std.specs.Prelude.{ℕ, zero, suc, true, List, [], ◌∷◌, ◌++◌, map, get_or, slice_set, Bool}
 use Rattle.lake_model.specs.Tables.{Table}
 use Rattle.lake_model.specs.Layout.{Place, Part, unmarked_of}
@@ -35,18 +36,18 @@ tables_of part = map (λ place. place.table) part.places
 abbrev pub marks_of : Part → List Bool
 marks_of part = map (λ place. place.marked) part.places
 
--- the tables that are unmarked, part by part
+-- the unmarked tables, part by part
 abbrev pub live_of : List Part → List Table
 live_of parts = map (λ place. place.table) (unmarked_of parts)
 
--- the segment of a part: that of all its tables, the marked ones too
+-- the segment of a part: that of all its tables, including the marked ones
 abbrev pub segment_of : Part → Segment
 segment_of part = segment (tables_of part)
 
 abbrev pub segment_at : List Part → ℕ → Segment
 segment_at parts i = segment_of (part_at parts i)
 
--- a version that is looked at, the looks that were logged, and for how many more the log has room
+-- the version that is searched, the looks that were logged, and the number of looks for which the log still has room
 pub record LooksOf : Type 0 where
   pub version : VersionOf
   pub log : List Look
@@ -55,7 +56,7 @@ pub record LooksOf : Type 0 where
 abbrev pub looks_with : VersionOf → List Look → ℕ → LooksOf
 looks_with version log spare = record { version = version; log = log; spare = spare }
 
--- the place of an index marked
+-- the place at an index, marked
 abbrev pub mark_nth : ℕ → List Place → List Place
 mark_nth n [] = []
 mark_nth zero (p ∷ ps) = place_with p.position p.table true ∷ ps
@@ -64,6 +65,6 @@ mark_nth (suc n) (p ∷ ps) = p ∷ mark_nth n ps
 abbrev pub marked_at : ℕ → Part → Part
 marked_at n part = part_with part.number (mark_nth n part.places)
 
--- the parts with the table marked that is at an index of a part, and one more part behind them
+-- the parts with the table at an index of a part marked, followed by one more part
 abbrev pub marked_and_added : ℕ → ℕ → Part → List Part → List Part
 marked_and_added part place more parts = slice_set parts part (marked_at place (part_at parts part)) ++ more ∷ []

@@ -10,14 +10,14 @@ use column_set::{Name, QuerySet, SharedTable};
 use no_memory::NoMemory;
 use std::alloc::Global;
 
-/// Why a column gives no query.
+/// Why the keys of a column cannot be used as a query.
 #[derive(Clone, Copy, Debug, PartialEq, Eq)]
 pub enum ColumnRefused {
     /// No live table has the name.
     UnknownTable,
-    /// The live table of the name has no column at the place.
+    /// The live table with the name has no column at the place.
     UnknownColumn,
-    /// Memory was wanting.
+    /// Memory ran out.
     NoMemory,
 }
 
@@ -32,7 +32,8 @@ impl From<NoMemory> for ColumnRefused {
     }
 }
 
-// The keys of the column at a place, counted from 1, of the unmarked table of a name. It raises the meter of the segment that it reads.
+// Returns the keys of the column at a place, counted from 1, of the unmarked table with this name. It raises the meter
+// of the segment that it reads.
 pub(crate) fn live_column(
     alloc: Global,
     parts: &[Part],
@@ -52,7 +53,7 @@ pub(crate) fn live_column(
 }
 
 impl Part {
-    // The index of the first unmarked table of a name, from 0.
+    // Returns the index, from 0, of the first unmarked table with this name.
     fn live_table(&self, name: &Name) -> Option<usize>
         ensures there { IfSome result (λ i. i < length (tables_of self.now)) }
         ensures found { IfSome result (λ i. find (has_name name.now) (unmarked_in self.now) ≡ Some (table_at (tables_of self.now) i)) }
@@ -62,7 +63,7 @@ impl Part {
     }
 }
 
-// The index of the first table of a name that is not marked, from 0.
+// Returns the index, from 0, of the first table with this name that is not marked.
 fn unmarked_of(tables: &[SharedTable], marks: &[bool], name: &Name) -> Option<usize>
     requires { length marks.now ≡ length tables.now }
     ensures there { IfSome result (λ i. i < length tables.now) }

@@ -1,4 +1,4 @@
-//! Where the load of a position of the journal stands in a version.
+//! Where in a version the load at a position of the journal is.
 ghost use Rattle.std.specs.Prelude.{◌≡◌, ◌<◌, ◌≤◌, ◌^◌, ℕ, length, slice_index, IfNone, IfSome};
 ghost use Rattle.std.specs.List.Sorted.{IsStrictlyIncreasing};
 ghost use Rattle.lake_model.specs.Layout.{positions_of};
@@ -9,8 +9,9 @@ ghost use Rattle.segment_core.specs.Versions.{part_at};
 use crate::version::{Part, Version};
 
 impl Version {
-    /// The index of the part, and the index in it, of the table that was loaded at a position, both from 0; `None` where no part
-    /// has it. It takes two binary searches: one over the parts, and one over the loads of a part.
+    /// Returns the index of the part and the index in that part, both from 0, of the table that was loaded at a
+    /// position, or `None` if no part has it. It takes two binary searches: one over the parts, and one over the loads
+    /// of a part.
     pub fn find(&self, position: u64) -> Option<(u32, u32)>
         requires rise { Rises self.now.parts }
         requires full { AreFull self.now.parts }
@@ -23,7 +24,7 @@ impl Version {
         Some((part, place))
     }
 
-    // How many parts have their first load at the position or before it.
+    // Returns the number of parts whose first load is at the position or before it.
     fn begun(&self, position: u64) -> u32
         requires rise { Rises self.now.parts }
         requires full { AreFull self.now.parts }
@@ -37,7 +38,7 @@ impl Version {
 }
 
 impl Part {
-    // The position of the load of its first table, and 0 where it has no table.
+    // Returns the position of the load of the part's first table, or 0 if it has no table.
     fn first_load(&self) -> u64
         ensures { result ≡ first_load self.now }
     {
@@ -47,7 +48,7 @@ impl Part {
         }
     }
 
-    // The index of the table that was loaded at the position, from 0.
+    // Returns the index, from 0, of the table that was loaded at the position.
     fn place_of(&self, position: u64) -> Option<u32>
         requires rise { IsStrictlyIncreasing (loads_of self.now) }
         requires few { length (loads_of self.now) < 2 ^ 32 }

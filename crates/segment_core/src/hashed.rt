@@ -10,8 +10,8 @@ use no_memory::NoMemory;
 use std::alloc::Global;
 use std::marker::Model;
 
-/// A query with the hash of each of its keys, so that a key is hashed once for all parts that it is looked up in, and a filter of these
-/// hashes. A contract sees the keys.
+/// A query with the hash of each of its keys, so that a key is hashed once for all parts in which it is looked up, and
+/// a filter of these hashes. Its model is the list of the keys.
 #[derive(Drop)]
 pub struct HashedQuery<'q> {
     query: &'q QuerySet,
@@ -33,7 +33,7 @@ impl<'q> Model for HashedQuery<'q> {
 }
 
 impl<'q> HashedQuery<'q> {
-    /// The query, and the hashes of its keys. It takes the time to read each key once, and 5 to 6 bytes for each.
+    /// Returns the query with the hashes of its keys. It reads each key once and takes 5 to 6 bytes for each.
     pub fn new(alloc: Global, query: &'q QuerySet) -> Result<HashedQuery<'q>, NoMemory>
         ensures { IfOk result (λ hashed. hashed ≡ query.now) }
     {
@@ -49,7 +49,7 @@ impl<'q> HashedQuery<'q> {
         })
     }
 
-    /// Whether the query has the key, of which the hash is at hand. Mostly it reads no text where it has not.
+    /// Returns whether the query has the key, whose hash is given. If it does not, usually no text is read.
     pub(crate) fn has(&self, hash: u32, key: &str) -> bool
         requires { hash ≡ hash_of key.now }
         ensures { result ≡ has_key self.now key.now }
@@ -57,14 +57,14 @@ impl<'q> HashedQuery<'q> {
         self.filter.may_have(hash) && self.query.has(key)
     }
 
-    /// The query.
+    /// Returns the query.
     pub(crate) fn query(&self) -> &QuerySet
         ensures { result.now ≡ self.now }
     {
         self.query
     }
 
-    /// The hash of the key at an index, from 0.
+    /// Returns the hash of the key at an index, from 0.
     pub(crate) fn hash(&self, i: u32) -> u32
         requires { i < length self.now }
         ensures { result ≡ hash_of (get_or self.now i []) }

@@ -16,7 +16,7 @@ use std::alloc::Global;
 use std::cmp::Ordering;
 use std::marker::Model;
 
-/// A token of a segment, with the hash of its key, and where its key stands.
+/// A token of a segment, with the hash of its key and where the key is.
 #[derive(Clone, Copy)]
 pub struct HashedToken {
     pub hash: u32,
@@ -24,8 +24,8 @@ pub struct HashedToken {
     pub at: TokenAt,
 }
 
-/// The tokens of a segment by the hashes of their keys, and then by the bytes of their keys, with a directory of the hashes. A contract
-/// sees the list of the tokens.
+/// The tokens of a segment, sorted by the hashes of their keys and then by the bytes of the keys, with a directory of
+/// the hashes. Its model is the list of the tokens.
 #[derive(Drop)]
 pub struct HashOrder {
     entries: Vec<HashedToken>,
@@ -47,15 +47,15 @@ impl Model for HashOrder {
 }
 
 impl HashOrder {
-    /// The tokens, in order.
+    /// Returns the tokens, in order.
     pub(crate) fn entries(&self) -> &[HashedToken]
         ensures { result.now ≡ self.now }
     {
         &self.entries
     }
 
-    /// The first token of which the key has the hash. It reads no text, mostly a few numbers alone, and never more than the logarithm of
-    /// their number.
+    /// Returns the first token whose key has the hash, or `None`. It reads no text: usually a few numbers, and never
+    /// more than the logarithm of the number of tokens.
     pub(crate) fn first(&self, hash: u32) -> Option<HashedToken>
         ensures there { IfSome result (λ entry. IsOneOf self.now entry) }
         ensures hash { IfSome result (λ entry. entry.hash ≡ hash) }
@@ -66,7 +66,7 @@ impl HashOrder {
     }
 }
 
-// The first that has the hash.
+// Returns the first entry that has the hash.
 fn first_of(entries: &[HashedToken], hash: u32) -> Option<HashedToken>
     requires { IsNonDecreasingBy token_hash entries.now }
     ensures there { IfSome result (λ entry. IsOneOf entries.now entry) }
@@ -80,8 +80,9 @@ fn first_of(entries: &[HashedToken], hash: u32) -> Option<HashedToken>
     Some(entries[at])
 }
 
-/// The tokens in the order of the hashes of their keys. It takes the time to read each key once and to sort as many numbers, and for a while
-/// 22 bytes for each token, of which 18 to 20 are kept. Keys are compared only where their hashes are equal.
+/// Returns the tokens in the order of the hashes of their keys. It reads each key once and sorts one number for each
+/// token. It takes 22 to 24 bytes for each token, of which 18 to 20 are kept. Keys are compared only if their hashes
+/// are equal.
 pub fn order_by_hash(
     alloc: Global,
     tables: &[SharedTable],
@@ -98,7 +99,7 @@ pub fn order_by_hash(
     Ok(HashOrder { entries, directory })
 }
 
-// The tokens in that order, each with the hash of its key.
+// Returns the tokens in that order, each with the hash of its key.
 fn sorted_tokens(
     alloc: Global,
     tables: &[SharedTable],
@@ -115,7 +116,7 @@ fn sorted_tokens(
     Ok(hashed)
 }
 
-// The tokens in their own order, each with the hash of its key.
+// Returns the tokens in their own order, each with the hash of its key.
 fn hashed_tokens(
     alloc: Global,
     tables: &[SharedTable],
@@ -139,7 +140,7 @@ fn hashed_tokens(
     Ok(hashed)
 }
 
-// By the hash, and then by the key, which is read only where the hashes are equal.
+// Compares by the hash, then by the key, which is read only if the hashes are equal.
 fn hashed_order(
     tables: &[SharedTable],
     owners: &[Owner],
@@ -158,7 +159,7 @@ fn hashed_order(
     }
 }
 
-// The hashes of these.
+// Returns the hashes of the entries.
 fn hashes_of(alloc: Global, entries: &[HashedToken]) -> Result<Vec<u32>, NoMemory>
     ensures { IfOk result (λ hashes. hashes.items ≡ map token_hash entries.now) }
 {
@@ -169,7 +170,7 @@ fn hashes_of(alloc: Global, entries: &[HashedToken]) -> Result<Vec<u32>, NoMemor
     Ok(hashes)
 }
 
-/// The key of a token, and the empty text where there is no such token.
+/// Returns the key of a token, or an empty text if there is no such token.
 pub(crate) fn key_at<'a>(
     tables: &'a [SharedTable],
     owners: &[Owner],
@@ -185,7 +186,7 @@ pub(crate) fn key_at<'a>(
     key_there(tables, owners, tokens[token as usize])
 }
 
-/// The key of a column that stands at a place.
+/// Returns the key that is at `at`.
 pub(crate) fn key_there<'a>(tables: &'a [SharedTable], owners: &[Owner], at: TokenAt) -> &'a str
     requires owned { owners.now ≡ map owner_of (segment tables.now).columns }
     requires there { IsAt tables.now at }
@@ -197,14 +198,14 @@ pub(crate) fn key_there<'a>(tables: &'a [SharedTable], owners: &[Owner], at: Tok
         .key(owner.place, at.index)
 }
 
-/// The hash of a key, by FNV-1a of 32 bits. Nothing but speed rests on how few keys share one.
+/// Returns the hash of a key: 32-bit FNV-1a. How few keys share a hash matters only for speed.
 pub fn hash_key(key: &str) -> u32
     ensures { result ≡ hash_of key.now }
 {
     hash_bytes(0x811C_9DC5, key.as_bytes())
 }
 
-// The hash behind these bytes, from that before them.
+// Returns the hash after these bytes, from the hash before them.
 fn hash_bytes(start: u32, bytes: &[u8]) -> u32
     ensures { result ≡ hash_from start bytes.now }
 {

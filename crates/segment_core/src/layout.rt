@@ -8,8 +8,8 @@ use no_memory::NoMemory;
 use std::marker::Model;
 use std::sync::Arc;
 
-/// The places of a part: for each table the position of its load in the journal, and whether it is marked as dropped. The part and
-/// the layouts that show it share one list. A contract sees the list.
+/// The places of a part: for each table, the position of its load in the journal, and whether it is marked as dropped.
+/// The part and the layouts that show it share one list. Its model is the list.
 #[derive(Drop)]
 pub struct Places {
     places: Arc<Vec<(u64, bool)>>,
@@ -24,21 +24,21 @@ impl Model for Places {
 }
 
 impl Places {
-    /// These places. It takes no memory.
+    /// Makes `Places` of these places. It allocates nothing.
     pub fn new(places: Arc<Vec<(u64, bool)>>) -> Places
         ensures { result ≡ places.value.items }
     {
         Places { places }
     }
 
-    /// The places, in their order.
+    /// Returns the places, in order.
     pub fn list(&self) -> &[(u64, bool)]
         ensures { result.now ≡ self.now }
     {
         &self.places
     }
 
-    // The same places, over the same list.
+    // Returns the same places, sharing the list.
     pub(crate) fn share(&self) -> Result<Places, NoMemory>
         ensures { IfOk result (λ other. other ≡ self.now) }
     {
@@ -47,8 +47,8 @@ impl Places {
         })
     }
 
-    // Marks the place of an index, from 0, as dropped. The list is copied only where it has another owner. Out of memory, the places
-    // stay as they were.
+    // Marks the place at an index, from 0, as dropped. The list is copied only if it has another owner. If memory runs
+    // out, the places are unchanged.
     pub(crate) fn mark_dropped(&mut self, i: u32) -> Result<(), NoMemory>
         requires { i < length self.old }
         ensures ok { OnOk result (self.new ≡ mark_pair i self.old) }
@@ -61,8 +61,8 @@ impl Places {
     }
 }
 
-/// A layout: its position, which is how many entries the journal has there, and its parts, each with its number and its places. A
-/// contract sees the position and the parts.
+/// A layout: its position, which is the number of entries of the journal there, and its parts, each with its number and
+/// its places. Its model is the position and the parts.
 #[derive(Drop)]
 pub struct Layout {
     at: u64,
@@ -78,21 +78,21 @@ impl Model for Layout {
 }
 
 impl Layout {
-    /// The layout of these parts at a position. It takes no memory.
+    /// Makes the layout of these parts at a position. It allocates nothing.
     pub fn new(at: u64, parts: Vec<(u64, Places)>) -> Layout
         ensures { result ≡ shown_with at parts.items }
     {
         Layout { at, parts }
     }
 
-    /// Its position.
+    /// Returns the layout's position.
     pub fn at(&self) -> u64
         ensures { result ≡ self.now.at }
     {
         self.at
     }
 
-    /// The number and the places of each part, in the order of the layout.
+    /// Returns the number and the places of each part, in the order of the layout.
     pub fn parts(&self) -> &[(u64, Places)]
         ensures { result.now ≡ self.now.parts }
     {
@@ -100,8 +100,8 @@ impl Layout {
     }
 }
 
-/// The lines of a list of tables: the name of each, how many columns it has, and how many members these have together. A contract
-/// sees the list of the lines.
+/// The lines of a list of tables: the name of each table, the number of its columns, and the number of their members
+/// together. Its model is the list of the lines.
 #[derive(Drop)]
 pub struct TableLines {
     lines: Vec<(Name, u32, u64)>,
@@ -118,14 +118,14 @@ impl Model for TableLines {
 }
 
 impl TableLines {
-    /// These lines. It takes no memory.
+    /// Makes `TableLines` of these lines. It allocates nothing.
     pub fn new(lines: Vec<(Name, u32, u64)>) -> TableLines
         ensures { result ≡ map line_from lines.items }
     {
         TableLines { lines }
     }
 
-    /// The lines, in their order.
+    /// Returns the lines, in order.
     pub fn list(&self) -> &[(Name, u32, u64)]
         ensures { map line_from result.now ≡ self.now }
     {

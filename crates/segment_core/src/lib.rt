@@ -1,4 +1,5 @@
-//! Segments of a lake, the versions that hold them, and all that a search may ask of a version, with a log of what it reads.
+//! Segments of a lake, the versions that hold them, and everything that a search may ask of a version, with a log of
+//! what it reads.
 #![tactic(auto)]
 
 mod column;

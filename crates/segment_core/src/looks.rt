@@ -1,4 +1,4 @@
-//! The looks of a search at a version: all that it may ask, and a log of the lists and the sets that it read.
+//! The looks of a search at a version: everything that it may ask, and a log of the lists and the sets that it read.
 ghost use Rattle.std.specs.Prelude.{◌≡◌, ◌<◌, ◌+◌, ◌++◌, ◌∷◌, [], count_by, drop, false, get_or, length, not, IfOk, OnErr, OnOk};
 ghost use Rattle.search_model.specs.Looks.{is_read};
 
@@ -13,11 +13,12 @@ use std::alloc::Global;
 use std::marker::Model;
 use std::sync::Arc;
 
-/// All that a search gets of a version. It borrows the version's pin, and lends for as long as that is borrowed. Each posting list
-/// and each set that it reads goes to its log. A contract sees the version, the log, and for how many looks more the log has room.
+/// Everything that a search gets from a version. It borrows the version's pin, and what it lends lives as long as that
+/// borrow. Each posting list and each set that is read is logged. Its model is the version, the log, and the number of
+/// looks for which the log still has room.
 ///
-/// Parts are found by their index in the order of the layout, tokens and columns by their numbers in the part's segment, all from
-/// 0. It lends no key.
+/// Parts are found by their index in the order of the layout, tokens and columns by their numbers in the part's
+/// segment, all from 0. It lends no keys.
 #[derive(Drop)]
 pub struct Looks<'a> {
     version: &'a Version,
@@ -43,7 +44,7 @@ impl<'a> Looks<'a> {
     ghost use Rattle.search_model.specs.Segment.{tokens_in};
     ghost use Rattle.segment_core.specs.Versions.{looks_with, marks_of, part_at, segment_at, tables_of};
 
-    // Looks at this version, with an empty log.
+    // Makes looks at this version, with an empty log.
     pub(crate) fn new(alloc: Global, version: &'a Version) -> Looks<'a>
         ensures { result ≡ looks_with version.now [] 0 }
     {
@@ -54,14 +55,14 @@ impl<'a> Looks<'a> {
         }
     }
 
-    /// How many parts there are.
+    /// Returns the number of parts.
     pub fn parts(&self) -> u32
         ensures { result ≡ length self.now.version.parts }
     {
         self.version.parts().len() as u32
     }
 
-    /// The number of a part.
+    /// Returns the number of a part.
     pub fn number(&self, part: u32) -> u64
         requires { part < length self.now.version.parts }
         ensures { result ≡ (part_at self.now.version.parts part).number }
@@ -69,7 +70,7 @@ impl<'a> Looks<'a> {
         self.version.part(part).number
     }
 
-    /// How many columns a part has, those of marked tables too.
+    /// Returns how many columns a part has, including those of marked tables.
     pub fn sets(&self, part: u32) -> u32
         requires { part < length self.now.version.parts }
         ensures { result ≡ length (segment_at self.now.version.parts part).sets }
@@ -77,7 +78,7 @@ impl<'a> Looks<'a> {
         self.version.part(part).segment().sets()
     }
 
-    /// How many tokens a column has.
+    /// Returns how many tokens a column has.
     pub fn size(&self, part: u32, set: u32) -> u32
         requires part { part < length self.now.version.parts }
         requires set { set < length (segment_at self.now.version.parts part).sets }
@@ -86,7 +87,7 @@ impl<'a> Looks<'a> {
         self.version.part(part).segment().size(set)
     }
 
-    /// The token of a part that the key is, and `None` where no column of the part has the key.
+    /// Returns the key's token in a part, or `None` if no column of the part has the key.
     pub fn lookup(&self, part: u32, key: &str) -> Option<u32>
         requires { part < length self.now.version.parts }
         ensures { IsToken (segment_at self.now.version.parts part).tokens key.now result }
@@ -94,7 +95,7 @@ impl<'a> Looks<'a> {
         self.version.part(part).segment().lookup(key)
     }
 
-    /// How many columns hold a token.
+    /// Returns how many columns hold a token.
     pub fn list_len(&self, part: u32, token: u32) -> u32
         requires part { part < length self.now.version.parts }
         requires token { token < length (segment_at self.now.version.parts part).tokens }
@@ -103,8 +104,8 @@ impl<'a> Looks<'a> {
         self.version.part(part).segment().list_len(token)
     }
 
-    /// The tokens of a part of which the keys are the query's, rising, so that the rarest come first. It walks the smaller of the
-    /// two, the part's tokens or the query's keys.
+    /// Returns the tokens of a part whose keys are the query's, in increasing order, so that the rarest come first. It
+    /// walks over the smaller of the two: the part's tokens or the query's keys.
     pub fn query_tokens(
         &self,
         alloc: Global,
@@ -117,7 +118,7 @@ impl<'a> Looks<'a> {
         self.version.part(part).segment().tokens_among(alloc, query)
     }
 
-    /// The columns of a part in the order of names, those of marked tables too.
+    /// Returns the columns of a part in the order of names, including those of marked tables.
     pub fn order(&self, part: u32) -> ColumnOrder<'a>
         requires { part < length self.now.version.parts }
         ensures ranks { AreRanks (segment_at self.now.version.parts part).columns result.ranks.now }
@@ -127,7 +128,7 @@ impl<'a> Looks<'a> {
         version.part(part).segment().order()
     }
 
-    /// Whether the table of a column is unmarked.
+    /// Returns whether the table of a column is unmarked.
     pub fn live(&self, part: u32, set: u32) -> bool
         requires part { part < length self.now.version.parts }
         requires set { set < length (segment_at self.now.version.parts part).sets }
@@ -138,7 +139,7 @@ impl<'a> Looks<'a> {
         !part.marks()[owner.table as usize]
     }
 
-    /// The titles of the table of a column, and the place of the column there, from 1.
+    /// Returns the titles of the table of a column, and the place of the column there, from 1.
     pub fn table_of(&self, part: u32, set: u32) -> (&'a Arc<Titles>, u32)
         requires part { part < length self.now.version.parts }
         requires set { set < length (segment_at self.now.version.parts part).sets }
@@ -157,7 +158,7 @@ impl<'a> Looks<'a> {
     ghost use Rattle.search_model.specs.declared.Look.TheVariants.{Probe, Read};
     ghost use Rattle.segment_core.specs.Versions.{part_at, segment_at};
 
-    /// Makes room for more looks in the log.
+    /// Makes room in the log for `more` additional looks.
     pub fn reserve_log(&mut self, more: usize) -> Result<(), NoMemory>
         ensures version { self.new.version ≡ self.old.version }
         ensures log { self.new.log ≡ self.old.log }
@@ -172,15 +173,15 @@ impl<'a> Looks<'a> {
         Ok(())
     }
 
-    /// For how many looks more the log has room.
+    /// Returns the number of looks for which the log still has room.
     pub fn log_spare(&self) -> usize
         ensures { result ≡ self.now.spare }
     {
         self.spare
     }
 
-    /// The columns that hold a token, rising, each with the token's position among its tokens, from 0, and their number. The look is
-    /// logged. It takes no memory.
+    /// Returns the posting list of a token: the columns that hold it, by increasing number, each with the token's
+    /// position among the column's tokens, from 0, and the number of these. The look is logged. It allocates nothing.
     pub fn list(&mut self, part: u32, token: u32) -> &'a [Posting]
         requires part { part < length self.old.version.parts }
         requires token { token < length (segment_at self.old.version.parts part).tokens }
@@ -200,7 +201,8 @@ impl<'a> Looks<'a> {
         list
     }
 
-    /// The tokens of a column behind a position, which counts from 0, rising. The look is logged. It takes no memory.
+    /// Returns the tokens of a column after a position, counted from 0, in increasing order. The look is logged. It
+    /// allocates nothing.
     pub fn tail(&mut self, part: u32, set: u32, after: u32) -> &'a [u32]
         requires part { part < length self.old.version.parts }
         requires set { set < length (segment_at self.old.version.parts part).sets }
@@ -222,7 +224,7 @@ impl<'a> Looks<'a> {
         tail
     }
 
-    // One more look in the log.
+    // Adds one look to the log.
     fn note(&mut self, look: Look)
         requires { 0 < self.old.spare }
         ensures version { self.new.version ≡ self.old.version }
@@ -235,21 +237,21 @@ impl<'a> Looks<'a> {
         }
     }
 
-    /// The looks so far, in their order. A part is named by its number.
+    /// Returns the looks so far, in order. A part is named by its number.
     pub fn log(&self) -> &[Look]
         ensures { result.now ≡ self.now.log }
     {
         &self.log
     }
 
-    /// How many posting lists were read.
+    /// Returns how many posting lists were read.
     pub fn reads(&self) -> u64
         ensures { result ≡ count_by is_read self.now.log }
     {
         self.log.iter().filter(|look| is_read_look(**look)).count() as u64
     }
 
-    /// How many sets were probed.
+    /// Returns how many sets were probed.
     pub fn probes(&self) -> u64
         ensures { result ≡ count_by (λ look. not (is_read look)) self.now.log }
     {
@@ -257,7 +259,7 @@ impl<'a> Looks<'a> {
     }
 }
 
-// Whether the look read a posting list.
+// Returns whether the look read a posting list.
 fn is_read_look(look: Look) -> bool
     ensures { result ≡ is_read look }
 {

@@ -1,10 +1,10 @@
-//! Lists of numbers and of marks, as small types that contracts see as the list of their elements.
+//! Lists of numbers and of marks, as small types whose models are the lists of their elements.
 ghost use Rattle.std.specs.Prelude.{◌≡◌, ◌<◌, length, slice_set, true, IfOk};
 
 use no_memory::NoMemory;
 use std::marker::Model;
 
-/// A list of numbers, such as the positions of loads in the journal. A contract sees the list.
+/// A list of numbers, such as the positions of loads in the journal. Its model is the list.
 #[derive(Drop)]
 pub struct Numbers {
     numbers: Vec<u64>,
@@ -19,21 +19,21 @@ impl Model for Numbers {
 }
 
 impl Numbers {
-    /// These numbers. It takes no memory.
+    /// Makes `Numbers` of these numbers. It allocates nothing.
     pub fn new(numbers: Vec<u64>) -> Numbers
         ensures { result ≡ numbers.items }
     {
         Numbers { numbers }
     }
 
-    /// The numbers, in their order.
+    /// Returns the numbers, in order.
     pub fn list(&self) -> &[u64]
         ensures { result.now ≡ self.now }
     {
         &self.numbers
     }
 
-    /// The same numbers, in memory of their own.
+    /// Returns a copy of the numbers, in memory of its own.
     pub fn copy(&self) -> Result<Numbers, NoMemory>
         ensures { IfOk result (λ other. other ≡ self.now) }
     {
@@ -43,7 +43,7 @@ impl Numbers {
     }
 }
 
-/// A list of marks, `true` where something is marked. A contract sees the list.
+/// A list of marks, `true` for what is marked. Its model is the list.
 #[derive(Drop)]
 pub struct Marks {
     marks: Vec<bool>,
@@ -58,21 +58,21 @@ impl Model for Marks {
 }
 
 impl Marks {
-    /// These marks. It takes no memory.
+    /// Makes `Marks` of these marks. It allocates nothing.
     pub fn new(marks: Vec<bool>) -> Marks
         ensures { result ≡ marks.items }
     {
         Marks { marks }
     }
 
-    /// The marks, in their order.
+    /// Returns the marks, in order.
     pub fn list(&self) -> &[bool]
         ensures { result.now ≡ self.now }
     {
         &self.marks
     }
 
-    /// Marks what stands at an index, from 0. It takes no memory.
+    /// Marks the element at an index, from 0. It allocates nothing.
     pub fn mark(&mut self, i: u32)
         requires { i < length self.old }
         ensures { self.new ≡ slice_set self.old i true }
@@ -80,7 +80,7 @@ impl Marks {
         self.marks[i as usize] = true;
     }
 
-    /// The same marks, in memory of their own.
+    /// Returns a copy of the marks, in memory of its own.
     pub fn copy(&self) -> Result<Marks, NoMemory>
         ensures { IfOk result (λ other. other ≡ self.now) }
     {

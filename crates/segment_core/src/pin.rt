@@ -16,8 +16,8 @@ use std::alloc::Global;
 use std::marker::Model;
 use std::sync::Arc;
 
-/// A version that is held: what comes later changes nothing of it. It hands out neither the version nor its segments. A contract
-/// sees the version. Parts are found by their index in the order of the layout, from 0.
+/// A version that is held: later changes to the lake do not affect it. It hands out neither the version nor its
+/// segments. Its model is the version. Parts are found by their index in the order of the layout, from 0.
 #[derive(Drop)]
 pub struct Pin {
     version: Arc<Version>,
@@ -34,28 +34,28 @@ impl Model for Pin {
 impl Pin {
     ghost use Rattle.segment_core.specs.Versions.{looks_with, marks_of, part_at, segment_at};
 
-    /// A pin of this version. It takes no memory.
+    /// Makes a pin of this version. It allocates nothing.
     pub fn new(version: Arc<Version>) -> Pin
         ensures { result ≡ version.value }
     {
         Pin { version }
     }
 
-    /// The position of the version: how many entries the journal has there.
+    /// Returns the position of the version: the number of entries of the journal there.
     pub fn at(&self) -> u64
         ensures { result ≡ self.now.at }
     {
         self.version.at()
     }
 
-    /// How many parts there are.
+    /// Returns the number of parts.
     pub fn parts(&self) -> u32
         ensures { result ≡ length self.now.parts }
     {
         self.version.parts().len() as u32
     }
 
-    /// The number of a part.
+    /// Returns the number of a part.
     pub fn number(&self, part: u32) -> u64
         requires { part < length self.now.parts }
         ensures { result ≡ (part_at self.now.parts part).number }
@@ -63,7 +63,7 @@ impl Pin {
         self.version.part(part).number
     }
 
-    /// How many columns a part has, those of marked tables too.
+    /// Returns how many columns a part has, including those of marked tables.
     pub fn sets(&self, part: u32) -> u32
         requires { part < length self.now.parts }
         ensures { result ≡ length (segment_at self.now.parts part).sets }
@@ -71,14 +71,15 @@ impl Pin {
         self.version.part(part).segment().sets()
     }
 
-    /// How often the lists and the sets of a part's segment were read, by whomever. No contract says more of it.
+    /// Returns how often the lists and the sets of a part's segment have been read by anyone. No contract says more
+    /// about it.
     pub fn meter(&self, part: u32) -> u64
         requires { part < length self.now.parts }
     {
         self.version.part(part).segment().meter()
     }
 
-    /// The marks of a part's tables, in their order: `true` where the table was dropped.
+    /// Returns the marks of a part's tables, in order: `true` if the table was dropped.
     pub fn marks(&self, part: u32) -> &[bool]
         requires { part < length self.now.parts }
         ensures { result.now ≡ marks_of (part_at self.now.parts part) }
@@ -86,7 +87,8 @@ impl Pin {
         self.version.part(part).marks()
     }
 
-    /// The plan of a merge of this many adjacent parts, from the index `first` on. It takes the time to copy the positions of their loads.
+    /// Returns the plan of a merge of `parts` adjacent parts, from the index `first` on. It copies the positions of
+    /// their loads.
     pub fn plan_run(&self, alloc: Global, first: u32, parts: u32) -> Result<Plan, NoMemory>
         requires some { 0 < parts }
         requires within { first + parts ≤ length self.now.parts }
@@ -97,14 +99,15 @@ impl Pin {
         plan_parts(alloc, self.version.at(), run)
     }
 
-    /// All that a search may ask of the version, with an empty log that has no room. It takes no memory.
+    /// Returns everything that a search may ask of the version, with an empty log that has no room. It allocates
+    /// nothing.
     pub fn looks(&self, alloc: Global) -> Looks<'_>
         ensures { result ≡ looks_with self.now [] 0 }
     {
         Looks::new(alloc, &self.version)
     }
 
-    /// The layout of the version. It takes one entry a part, and shares the places of each.
+    /// Returns the layout of the version. It takes one entry for each part, and shares the places of each.
     pub fn layout(&self, alloc: Global) -> Result<Layout, NoMemory>
         ensures { IfOk result (λ layout. layout ≡ shown_with self.now.at (shown self.now.parts)) }
     {
@@ -112,17 +115,19 @@ impl Pin {
         Ok(Layout::new(self.version.at(), parts))
     }
 
-    /// The name, the columns and the members of each live table, in the order of their loads.
+    /// Returns the name, the number of columns and the number of members of each live table, in the order of their
+    /// loads.
     pub fn tables(&self, alloc: Global) -> Result<TableLines, NoMemory>
         ensures { IfOk result (λ lines. lines ≡ live_lines self.now.parts) }
     {
         Ok(TableLines::new(lines_of(alloc, self.version.parts())?))
     }
 
-    /// The keys of a live table's column as a query: the table is found by its name, in a walk over the tables, and the column by
-    /// its place, counted from 1. Where it succeeds, it raises the meter of the table's segment by one.
+    /// Returns the keys of a live table's column as a query. The table is found by its name, in a walk over the tables,
+    /// and the column by its place, counted from 1. On success it raises the meter of the table's segment by one.
     ///
-    /// It is refused where no live table has the name, else where the table has no column at the place, and where memory is wanting.
+    /// Returns `Err(UnknownTable)` if no live table has the name, else `Err(UnknownColumn)` if the table has no column
+    /// at the place, and `Err(NoMemory)` if memory runs out.
     pub fn column(&self, alloc: Global, table: &Name, place: u32) -> Result<QuerySet, ColumnRefused>
         ensures keys { IfOk result (λ query. query ≡ column_keys self.now.parts table.now place) }
         ensures sound { OnOk result (column_fault self.now.parts table.now place ≡ None) }
@@ -132,7 +137,7 @@ impl Pin {
     }
 }
 
-// The number and the places of each part.
+// Returns the number and the places of each part.
 fn shown_parts(alloc: Global, parts: &[Part]) -> Result<Vec<(u64, Places)>, NoMemory>
     ensures { IfOk result (λ all. all.items ≡ shown parts.now) }
 {
@@ -143,7 +148,7 @@ fn shown_parts(alloc: Global, parts: &[Part]) -> Result<Vec<(u64, Places)>, NoMe
     Ok(all)
 }
 
-// The lines of the unmarked tables of the parts.
+// Returns the lines of the unmarked tables of the parts.
 fn lines_of(alloc: Global, parts: &[Part]) -> Result<Vec<(Name, u32, u64)>, NoMemory>
     ensures { IfOk result (λ lines. map line_from lines.items ≡ live_lines parts.now) }
 {

@@ -1,4 +1,4 @@
-//! Plans of merges, and what comes of them.
+//! Plans of merges, and their results.
 ghost use Rattle.std.specs.Prelude.{◌≡◌, ◌++◌, length, IfOk, OnOk};
 ghost use Rattle.segment_core.specs.Plans.{kept_loads, loads_without, named, plan_run};
 
@@ -11,9 +11,9 @@ use std::alloc::Global;
 use std::marker::Model;
 use std::sync::Arc;
 
-/// A plan of a merge: for each part that is merged, in the order of the layout, its number and the positions of its loads; for each
-/// load that is kept, in this order too, its position and its table; and the position of the version at which it was planned. A
-/// contract sees these lists and that position.
+/// A plan of a merge. `from` has, for each part to be merged, in the order of the layout, its number and the positions
+/// of its loads. `kept` has, for each load that is kept, in the same order, its position and its table. `at` is the
+/// position of the version for which it was planned. Its model is these lists and that position.
 #[derive(Drop)]
 pub struct Plan {
     pub from: Vec<(u64, Numbers)>,
@@ -29,9 +29,9 @@ impl Model for Plan {
     ghost view = { λ p. plan_with p.from.items p.kept.items p.at };
 }
 
-/// What a plan was merged into: the parts that were merged and the positions that are kept, as in the plan; the segment of the tables
-/// that were loaded there, and `None` where nothing is kept; and the position of the plan. A contract sees the tables in place of
-/// their segment.
+/// The result of merging a plan: the parts that were merged and the positions that are kept, as in the plan; the
+/// segment of the tables that were loaded at those positions, or `None` if none is kept; and the position of the plan.
+/// In its model the tables take the place of their segment.
 #[derive(Drop)]
 pub struct Merged {
     pub from: Vec<(u64, Numbers)>,
@@ -51,7 +51,7 @@ impl Model for Merged {
     ghost invariant = { λ m. (length m.kept ≡ length (unwrap_or (option_map (λ s. s.value) m.segment) [])) × IfSome m.segment (λ s. 0 < length s.value) };
 }
 
-// The plan of these parts at a position.
+// Returns the plan of these parts at a position.
 pub(crate) fn plan_parts(alloc: Global, at: u64, run: &[Part]) -> Result<Plan, NoMemory>
     ensures { IfOk result (λ plan. plan ≡ plan_run at run.now) }
 {
@@ -62,7 +62,7 @@ pub(crate) fn plan_parts(alloc: Global, at: u64, run: &[Part]) -> Result<Plan, N
     })
 }
 
-// The number of each part, and the positions of its loads.
+// Returns the number of each part, and the positions of its loads.
 fn named_parts(alloc: Global, run: &[Part]) -> Result<Vec<(u64, Numbers)>, NoMemory>
     ensures { IfOk result (λ all. all.items ≡ named run.now) }
 {
@@ -73,7 +73,7 @@ fn named_parts(alloc: Global, run: &[Part]) -> Result<Vec<(u64, Numbers)>, NoMem
     Ok(all)
 }
 
-// The position and the table of each load that is unmarked.
+// Returns the position and the table of each unmarked load.
 fn unmarked_loads(alloc: Global, run: &[Part]) -> Result<Vec<(u64, SharedTable)>, NoMemory>
     ensures { IfOk result (λ loads. loads.items ≡ kept_loads run.now) }
 {
@@ -89,7 +89,7 @@ fn unmarked_loads(alloc: Global, run: &[Part]) -> Result<Vec<(u64, SharedTable)>
     Ok(loads)
 }
 
-// Puts the unmarked loads of a part behind others.
+// Appends the unmarked loads of a part.
 fn add_loads(
     positions: &[u64],
     tables: &[SharedTable],

@@ -20,20 +20,21 @@ use std::cmp::Ordering as Comparison;
 use std::marker::Model;
 use std::sync::atomic::{AtomicU64, Ordering};
 
-/// A token of which the key may be that of a query at an index, from 0: they have the same hash.
+/// A token whose key may be that of a query at an index, from 0: they have the same hash.
 #[derive(Clone, Copy)]
 struct Hit {
     entry: HashedToken,
     index: u32,
 }
 
-/// The inverted index of a list of tables. Its columns are those of the tables, numbered from 0 by table and then by place. Its
-/// tokens are the distinct keys of the columns, numbered from 0 by rising frequency (how many columns hold the key), and then by
-/// the bytes of the key. Each column has its tokens, and each token its posting list: the columns that hold it. Each column also has
-/// its rank in the order of names. A contract sees the list of the tables.
+/// The inverted index of a list of tables. Its columns are those of the tables, numbered from 0 by table and then by
+/// place. Its tokens are the distinct keys of the columns, numbered from 0 by increasing frequency (how many columns
+/// hold the key), and then by the bytes of the key. Each column has its tokens, and each token has its posting list:
+/// the columns that hold it. Each column also has its rank in the order of names. Its model is the list of the tables.
 ///
-/// A segment never changes but for its meter, which counts how often one of its lists was read. The index is that of Zhu, Deng,
-/// Nargesian and Miller, "JOSIE: Overlap Set Similarity Search for Finding Joinable Tables in Data Lakes", SIGMOD 2019.
+/// A segment never changes except for its meter, which counts how often one of its lists was read. The index is that of
+/// Zhu, Deng, Nargesian and Miller, "JOSIE: Overlap Set Similarity Search for Finding Joinable Tables in Data Lakes",
+/// SIGMOD 2019.
 #[derive(Drop)]
 pub struct Segment {
     tables: Vec<SharedTable>,
@@ -67,10 +68,10 @@ impl Segment {
     ghost use Rattle.search_model.specs.Arrays.{pointed, IsAt};
     ghost use Rattle.segment_core.specs.Hashes.{hash_at, hash_of, sorted_by, AreKept, IsHashed};
 
-    /// The segment of these tables, from its arrays: where each column stands; where each token's key stands, in the order of the
-    /// tokens; the tokens in the order of their hashes; the posting lists, one behind another, with where each begins and one more for
-    /// the end; the columns' tokens likewise; each column's rank in the order of names, and the columns by their ranks. It takes no
-    /// memory.
+    /// Makes the segment of these tables from its arrays: where each column is; where each token's key is, in the order
+    /// of the tokens; the tokens in the order of their hashes; the posting lists, one after another, with the index at
+    /// which each begins, and the end; the columns' tokens in the same form; each column's rank in the order of names,
+    /// and the columns by their ranks. It allocates nothing.
     pub fn new(
         tables: Vec<SharedTable>,
         owners: Vec<Owner>,
@@ -103,22 +104,22 @@ impl Segment {
         }
     }
 
-    /// The tables, in their order.
+    /// Returns the tables, in order.
     pub fn tables(&self) -> &[SharedTable]
         ensures { result.now ≡ self.now }
     {
         &self.tables
     }
 
-    /// How many columns there are.
+    /// Returns the number of columns.
     pub fn sets(&self) -> u32
         ensures { result ≡ length (segment self.now).sets }
     {
         self.owners.len() as u32
     }
 
-    /// The token that the key is, and `None` where no column has the key. It compares a few numbers, and then one text; where another
-    /// key has the same hash, as many texts as the number of tokens has binary digits.
+    /// Returns the key's token, or `None` if no column has the key. It compares a few numbers and then one text. If
+    /// another key has the same hash, it compares as many texts as the number of tokens has binary digits.
     pub fn lookup(&self, key: &str) -> Option<u32>
         ensures { IsToken (segment self.now).tokens key.now result }
     {
@@ -127,7 +128,7 @@ impl Segment {
         self.token_at(entry, hash, key)
     }
 
-    // The first token of which the key has the hash, in the order of the keys' bytes.
+    // Returns the first token whose key has the hash, in the order of the keys' bytes.
     fn first_hashed(&self, hash: u32) -> Option<HashedToken>
         ensures there { IfSome result (λ entry. IsHashed self.now entry) }
         ensures lacking { IfNone result ((n : ℕ) → n < length (segment self.now).tokens → hash_at (segment self.now).tokens n ≡ hash → ⊥) }
@@ -135,7 +136,7 @@ impl Segment {
         self.by_hash.first(hash)
     }
 
-    // The token that a key is, where the first that has the key's hash is at hand.
+    // Returns the key's token, given the first token whose key has the key's hash.
     fn token_at(&self, first: HashedToken, hash: u32, key: &str) -> Option<u32>
         requires hashed { IsHashed self.now first }
         requires own { hash ≡ hash_of key.now }
@@ -147,7 +148,7 @@ impl Segment {
         self.lookup_colliding(hash, key)
     }
 
-    // The token that the key is, where another key may have its hash too.
+    // Returns the key's token if other keys may have its hash, too.
     fn lookup_colliding(&self, hash: u32, key: &str) -> Option<u32>
         requires { hash ≡ hash_of key.now }
         ensures { IsToken (segment self.now).tokens key.now result }
@@ -159,7 +160,7 @@ impl Segment {
         }
     }
 
-    // How a token stands to a key: by their hashes, and then by the bytes of the keys.
+    // Compares a token with a key: by their hashes, and then by the bytes of the keys.
     fn hash_order(&self, entry: HashedToken, hash: u32, key: &str) -> Comparison
         ensures { result ≡ slice_cmp nat_cmp (sorted_by (segment self.now).tokens entry) (hash ∷ key.now) }
     {
@@ -169,7 +170,7 @@ impl Segment {
         }
     }
 
-    /// How many columns hold the token.
+    /// Returns how many columns hold the token.
     pub fn list_len(&self, token: u32) -> u32
         requires { token < length (segment self.now).tokens }
         ensures { result ≡ length (get_or (segment self.now).lists token []) }
@@ -177,7 +178,7 @@ impl Segment {
         len_at(&self.list_starts, token)
     }
 
-    /// How many tokens the column has.
+    /// Returns how many tokens the column has.
     pub(crate) fn size(&self, set: u32) -> u32
         requires { set < length (segment self.now).sets }
         ensures { result ≡ length (get_or (segment self.now).sets set []) }
@@ -185,7 +186,7 @@ impl Segment {
         len_at(&self.set_starts, set)
     }
 
-    /// The index of the column's table, from 0, and the column's place there, from 1.
+    /// Returns the index of the column's table, from 0, and the column's place there, from 1.
     pub(crate) fn owner(&self, set: u32) -> Owner
         requires { set < length (segment self.now).sets }
         ensures table { result.table ≡ (titled_at (segment self.now).columns set).from }
@@ -195,7 +196,7 @@ impl Segment {
         self.owners[set as usize]
     }
 
-    /// The columns in the order of names.
+    /// Returns the columns in the order of names.
     pub(crate) fn order(&self) -> ColumnOrder<'_>
         ensures ranks { AreRanks (segment self.now).columns result.ranks.now }
         ensures inverse { AreInverse result.ranks.now result.by_rank.now }
@@ -206,8 +207,8 @@ impl Segment {
         }
     }
 
-    /// The columns that hold the token, rising, each with the token's position among its tokens and their number. It raises the
-    /// meter.
+    /// Returns the posting list of the token: the columns that hold it, by increasing number, each with the token's
+    /// position among the column's tokens and the number of these. It raises the meter.
     pub(crate) fn list(&self, token: u32) -> &[Posting]
         requires { token < length (segment self.now).tokens }
         ensures { result.now ≡ get_or (segment self.now).lists token [] }
@@ -216,7 +217,7 @@ impl Segment {
         list_at(&self.list_starts, &self.postings, token, 0)
     }
 
-    /// The column's tokens behind the position, which counts from 0, rising. It raises the meter.
+    /// Returns the column's tokens after the position, counted from 0, in increasing order. It raises the meter.
     pub(crate) fn tail(&self, set: u32, after: u32) -> &[u32]
         requires set { set < length (segment self.now).sets }
         requires after { after < length (get_or (segment self.now).sets set []) }
@@ -226,7 +227,8 @@ impl Segment {
         list_at(&self.set_starts, &self.set_tokens, set, after as usize + 1)
     }
 
-    /// The keys of the column at a place, counted from 1, of the table at an index, from 0. It raises the meter.
+    /// Returns the keys of the column at a place, counted from 1, of the table at an index, from 0. On success it
+    /// raises the meter.
     pub(crate) fn column(
         &self,
         alloc: Global,
@@ -247,19 +249,19 @@ impl Segment {
         Ok(query)
     }
 
-    /// How often a list or a set of the segment was read. No contract sees it.
+    /// Returns how often a list or a set of the segment has been read. No contract mentions it.
     pub(crate) fn meter(&self) -> u64 {
         self.meter.load(Ordering::SeqCst)
     }
 
-    // The key of a token, and the empty text where there is no such token.
+    // Returns the key of a token, or an empty text if there is no such token.
     fn key(&self, token: u32) -> &str
         ensures { result.now ≡ key_of (segment self.now).tokens token }
     {
         key_at(&self.tables, &self.owners, &self.tokens, token)
     }
 
-    // The key of a column that stands at a place.
+    // Returns the key that is at `at`.
     fn key_there(&self, at: TokenAt) -> &str
         requires { IsAt self.now at }
         ensures { result.now ≡ pointed self.now at }
@@ -274,7 +276,8 @@ impl Segment {
     ghost use Rattle.segment_core.specs.Among.{found_by, hit_keys, IsHit};
     ghost use Rattle.segment_core.specs.Hashes.{IsHashed};
 
-    /// The tokens of which the keys are the query's, rising. It walks the smaller of the two: the tokens, or the keys of the query.
+    /// Returns the tokens whose keys are the query's, in increasing order. It walks over the smaller of the two: the
+    /// tokens or the keys of the query.
     pub(crate) fn tokens_among(
         &self,
         alloc: Global,
@@ -289,7 +292,8 @@ impl Segment {
         }
     }
 
-    // The same, where the query is asked for the key of each token, token after token as they lie by their hashes.
+    // Returns the same by looking up each token's key in the query, in the order in which the tokens are stored by
+    // hash.
     fn asked_tokens(&self, alloc: Global, query: &HashedQuery<'_>) -> Result<Vec<u32>, NoMemory>
         ensures { IfOk result (λ tokens. tokens.items ≡ tokens_in (segment self.now).tokens query.now) }
     {
@@ -298,7 +302,7 @@ impl Segment {
         Ok(tokens)
     }
 
-    // The tokens of which the query has the keys, by the hashes of the keys.
+    // Returns the tokens whose keys the query has, by the hashes of the keys.
     fn tokens_asked(&self, alloc: Global, query: &HashedQuery<'_>) -> Result<Vec<u32>, NoMemory>
         ensures { IfOk result (λ tokens. IsPermutation (tokens_in (segment self.now).tokens query.now) tokens.items) }
     {
@@ -311,7 +315,7 @@ impl Segment {
         Ok(tokens)
     }
 
-    // Whether the query has the key of a token.
+    // Returns whether the query has the key of a token.
     fn is_asked(&self, query: &HashedQuery<'_>, entry: HashedToken) -> bool
         requires { IsHashed self.now entry }
         ensures { result ≡ has_key query.now (key_of (segment self.now).tokens entry.token) }
@@ -319,7 +323,7 @@ impl Segment {
         query.has(entry.hash, self.key_there(entry.at))
     }
 
-    // The same, where each key of the query is looked up.
+    // Returns the same by looking up each key of the query among the tokens.
     fn found_tokens(&self, alloc: Global, query: &HashedQuery<'_>) -> Result<Vec<u32>, NoMemory>
         ensures { IfOk result (λ tokens. tokens.items ≡ tokens_in (segment self.now).tokens query.now) }
     {
@@ -329,8 +333,8 @@ impl Segment {
         Ok(tokens)
     }
 
-    // For each key of the query of which some token has the hash, the first such token. No key of a token is read yet: the reads are misses
-    // of the cache, which do not wait for one another where nothing else lies between them.
+    // Returns, for each key of the query whose hash some token has, the first such token. No key of a token is read
+    // yet: these reads are cache misses, which overlap as long as nothing else happens between them.
     fn hits(&self, alloc: Global, query: &HashedQuery<'_>) -> Result<Vec<Hit>, NoMemory>
         ensures hits { IfOk result (λ hits. All (IsHit self.now query.now) hits.items) }
         ensures all { IfOk result (λ hits. IsPermutation (tokens_in (segment self.now).tokens query.now) (found_by (segment self.now).tokens (hit_keys query.now hits.items))) }
@@ -344,7 +348,7 @@ impl Segment {
         Ok(hits)
     }
 
-    // The tokens that the keys of these hits are, in their order.
+    // Returns the tokens of the keys of these hits, in order.
     fn tokens_of_hits(
         &self,
         alloc: Global,
@@ -365,7 +369,7 @@ impl Segment {
     }
 }
 
-// How long the list at an index is.
+// Returns the length of the list at an index.
 fn len_at(starts: &[u32], i: u32) -> u32
     requires there { i + 1 < length starts.now }
     requires rising { slice_index starts.now i ≤ slice_index starts.now (i + 1) }
@@ -374,7 +378,7 @@ fn len_at(starts: &[u32], i: u32) -> u32
     starts[i as usize + 1] - starts[i as usize]
 }
 
-// The list at an index, without the first elements that are to be skipped.
+// Returns the list at an index, without its first `skip` elements.
 fn list_at<'a, T>(starts: &[u32], flat: &'a [T], i: u32, skip: usize) -> &'a [T]
     requires there { i + 1 < length starts.now }
     requires rising { slice_index starts.now i + skip ≤ slice_index starts.now (i + 1) }

@@ -1,4 +1,4 @@
-//! What a swap does to a version: one part, or none, in the place of adjacent ones.
+//! The effect of a swap on a version: adjacent parts are replaced by one part or by none.
 ghost use Rattle.std.specs.Prelude.{◌≡◌, ◌<◌, ◌≤◌, ◌+◌, length, OnErr, OnOk};
 ghost use Rattle.lake_model.specs.Layout.{positions_of};
 ghost use Rattle.segment_core.specs.Distinct.{unmarked_names};
@@ -11,9 +11,9 @@ use no_memory::NoMemory;
 use std::sync::Arc;
 
 impl Version {
-    /// Moves the version to a position, with this part, or with none, in the place of `count` parts from the index `first` on, which
-    /// counts from 0. The list of the parts is copied only where the version has another owner, such as a pin; the segments never
-    /// are. Where memory is wanting, the version stays as it was.
+    /// Moves the version to position `at` and replaces the `count` parts from index `first` on, counted from 0, by
+    /// `part`, or removes them if it is `None`. The list of the parts is copied only if the version has another owner,
+    /// such as a pin; the segments never are. If memory runs out, the version is unchanged.
     pub fn swap(
         version: &mut Arc<Version>,
         at: u64,

@@ -18,10 +18,10 @@ use std::alloc::{AllocError, Global};
 use std::marker::Model;
 use std::sync::Arc;
 
-/// A part of a version: its number, which is the position of the entry of the journal that made it; its segment; and for each
-/// table of the segment, in their order, the position of its load in the journal, and whether it was dropped since. There are as
-/// many positions and as many marks as tables. The two stand beside each other once more, in a list that layouts share. A contract
-/// sees a part of a layout.
+/// A part of a version: its number, which is the position of the journal's entry that made it; its segment; and, for
+/// each table of the segment in order, the position of the table's load in the journal, and whether the table has been
+/// dropped since. There are as many positions and as many marks as tables. Both are also kept as pairs, in a list that
+/// layouts share. Its model is a part of a layout.
 #[derive(Drop)]
 pub struct Part {
     pub(crate) number: u64,
@@ -45,7 +45,7 @@ impl Model for Part {
 }
 
 impl Part {
-    /// The part of this number over a segment, with the position of the load of each table, and its mark.
+    /// Makes the part with this number over a segment, with the position of the load of each table, and its mark.
     pub fn new(
         alloc: Global,
         number: u64,
@@ -67,28 +67,28 @@ impl Part {
         })
     }
 
-    /// Its number.
+    /// Returns the part's number.
     pub fn number(&self) -> u64
         ensures { result ≡ self.now.number }
     {
         self.number
     }
 
-    /// The segment of its tables, the marked ones too.
+    /// Returns the segment of the part's tables, including the marked ones.
     pub fn segment(&self) -> &Segment
         ensures { result.now ≡ tables_of self.now }
     {
         &self.segment
     }
 
-    /// The position of the load of each of its tables, in their order.
+    /// Returns the position of the load of each of the part's tables, in order.
     pub fn loads(&self) -> &[u64]
         ensures { result.now ≡ loads_of self.now }
     {
         self.positions.list()
     }
 
-    /// The marks of its tables, in their order.
+    /// Returns the marks of the part's tables, in order.
     pub fn marks(&self) -> &[bool]
         ensures marks { result.now ≡ marks_of self.now }
         ensures many { length result.now ≡ length (tables_of self.now) }
@@ -96,22 +96,22 @@ impl Part {
         self.marked.list()
     }
 
-    /// The position of the load of each of its tables, and whether the table is marked: the list is shared, and a later mark changes
-    /// nothing of it.
+    /// Returns the position of the load of each of the part's tables, and whether the table is marked. The list is
+    /// shared, and later marks do not change it.
     pub(crate) fn places(&self) -> Result<Places, NoMemory>
         ensures { IfOk result (λ places. places ≡ shown_places self.now.places) }
     {
         self.pairs.share()
     }
 
-    /// Puts the lines of its unmarked tables behind others.
+    /// Appends the lines of the part's unmarked tables.
     pub(crate) fn add_lines(&self, lines: &mut Vec<(Name, u32, u64)>) -> Result<(), NoMemory>
         ensures { OnOk result (map line_from lines.new.items ≡ map line_from lines.old.items ++ unmarked_lines self.now.places) }
     {
         add_unmarked(self.segment.tables(), self.marked.list(), lines)
     }
 
-    // Marks the table of an index, from 0. Out of memory, the part stays as it was.
+    // Marks the table at an index, from 0. If memory runs out, the part is unchanged.
     fn mark(&mut self, place: u32) -> Result<(), NoMemory>
         requires { place < length self.old.places }
         ensures ok { OnOk result (self.new ≡ marked_at place self.old) }
@@ -122,7 +122,7 @@ impl Part {
         Ok(())
     }
 
-    // The same part, over the same segment.
+    // Returns the same part, sharing the segment.
     fn share(&self) -> Result<Part, NoMemory>
         ensures { IfOk result (λ other. other ≡ self.now) }
     {
@@ -136,9 +136,9 @@ impl Part {
     }
 }
 
-/// A position of the journal, and the parts that are searched there, in the order of the layout and fewer than 2^32. No two
-/// positions of loads are the same, and no two tables that are unmarked have the same name. A contract sees the position and the
-/// parts.
+/// A position of the journal, and the parts that are searched there, in the order of the layout. There are fewer than
+/// 2^32 parts. The positions of all loads are distinct, and so are the names of all unmarked tables. Its model is the
+/// position and the parts.
 #[derive(Drop)]
 pub struct Version {
     at: u64,
@@ -160,7 +160,7 @@ impl Model for Version {
 }
 
 impl Version {
-    /// The version of these parts at a position. It takes no memory.
+    /// Makes the version of these parts at a position. It allocates nothing.
     pub fn new(at: u64, parts: Vec<Part>) -> Version
         requires few { length parts.items < 2 ^ 32 }
         requires positions { AreDistinct (positions_of parts.items) }
@@ -170,7 +170,7 @@ impl Version {
         Version { at, parts }
     }
 
-    /// The version of an empty journal, which has no parts. It takes no memory.
+    /// Returns the version of an empty journal, which has no parts. It allocates nothing.
     pub fn empty(alloc: Global) -> Version
         ensures { result ≡ version_with 0 [] }
     {
@@ -180,14 +180,14 @@ impl Version {
         }
     }
 
-    /// Its position: how many entries the journal has there.
+    /// Returns the version's position: the number of entries of the journal there.
     pub fn at(&self) -> u64
         ensures { result ≡ self.now.at }
     {
         self.at
     }
 
-    /// Its parts, in the order of the layout.
+    /// Returns the version's parts, in the order of the layout.
     pub fn parts(&self) -> &[Part]
         ensures parts { result.now ≡ self.now.parts }
         ensures few { length self.now.parts < 2 ^ 32 }
@@ -197,7 +197,7 @@ impl Version {
         &self.parts
     }
 
-    /// The part of an index, from 0.
+    /// Returns the part at an index, from 0.
     pub fn part(&self, part: u32) -> &Part
         requires { part < length self.now.parts }
         ensures { result.now ≡ part_at self.now.parts part }
@@ -207,8 +207,8 @@ impl Version {
 }
 
 impl Version {
-    /// Moves the version to a position, with one more part behind the others. The list of the parts is copied only where the
-    /// version has another owner, such as a pin; the segments never are. Where memory is wanting, the version stays as it was.
+    /// Moves the version to position `at` and appends a part. The list of the parts is copied only if the version has
+    /// another owner, such as a pin; the segments never are. If memory runs out, the version is unchanged.
     pub fn add(version: &mut Arc<Version>, at: u64, part: Part) -> Result<(), NoMemory>
         requires few { length version.old.value.parts + 1 < 2 ^ 32 }
         requires positions { AreDistinct (positions_of (version.old.value.parts ++ part ∷ [])) }
@@ -220,9 +220,9 @@ impl Version {
         own.push(at, part)
     }
 
-    /// Moves the version to a position, with the table marked that is at an index of a part, both from 0. The list of the parts is
-    /// copied only where the version has another owner, and the places of the part only where a layout or another version shares
-    /// them. Out of memory, the version stays as it was.
+    /// Moves the version to position `at` and marks the table at an index of a part, both from 0. The list of the parts
+    /// is copied only if the version has another owner, and the places of the part only if a layout or another version
+    /// shares them. If memory runs out, the version is unchanged.
     pub fn mark(version: &mut Arc<Version>, at: u64, part: u32, place: u32) -> Result<(), NoMemory>
         requires part { part < length version.old.value.parts }
         requires place { place < length (part_at version.old.value.parts part).places }
@@ -235,8 +235,8 @@ impl Version {
         own.mark_here(at, part, place)
     }
 
-    /// Moves the version to a position, with the table marked that is at an index of a part, both from 0, and with one more part behind
-    /// the others. Nothing is copied but what `mark` copies. Out of memory, the version stays as it was.
+    /// Moves the version to position `at`, marks the table at an index of a part, both from 0, and appends one more
+    /// part. Nothing is copied except what `mark` copies. If memory runs out, the version is unchanged.
     pub fn mark_and_add(
         version: &mut Arc<Version>,
         at: u64,
@@ -256,7 +256,7 @@ impl Version {
         own.mark_and_push(at, part, place, more)
     }
 
-    // One more part, in a version with no other owner.
+    // Appends a part to a version with no other owner.
     fn push(&mut self, at: u64, part: Part) -> Result<(), NoMemory>
         requires few { length self.old.parts + 1 < 2 ^ 32 }
         requires positions { AreDistinct (positions_of (self.old.parts ++ part ∷ [])) }
@@ -269,7 +269,7 @@ impl Version {
         Ok(())
     }
 
-    // A table marked, in a version with no other owner.
+    // Marks a table in a version with no other owner.
     fn mark_here(&mut self, at: u64, part: u32, place: u32) -> Result<(), NoMemory>
         requires part { part < length self.old.parts }
         requires place { place < length (part_at self.old.parts part).places }
@@ -283,7 +283,8 @@ impl Version {
         Ok(())
     }
 
-    // A table marked, and one more part, in a version with no other owner. The room for the part is taken first.
+    // Marks a table and appends a part, in a version with no other owner. The room for the part is made first, so that
+    // nothing is marked if there is none.
     fn mark_and_push(&mut self, at: u64, part: u32, place: u32, more: Part) -> Result<(), NoMemory>
         requires few { length self.old.parts + 1 < 2 ^ 32 }
         requires part { part < length self.old.parts }
@@ -300,7 +301,7 @@ impl Version {
         Ok(())
     }
 
-    // A part or none in the place of others, in a version with no other owner.
+    // Replaces parts by one part or by none, in a version with no other owner.
     pub(crate) fn replace(
         &mut self,
         at: u64,
@@ -327,7 +328,7 @@ impl Clone for Version {
 
     ghost is_clone = { λ a b. b ≡ a };
 
-    /// An equal version over the same segments.
+    /// Returns an equal version over the same segments.
     fn clone(&self) -> Result<Version, AllocError> {
         let Ok(parts) = share_all(&self.parts) else {
             return Err(AllocError);
@@ -336,7 +337,7 @@ impl Clone for Version {
     }
 }
 
-// The same parts, over the same segments.
+// Returns the same parts over the same segments.
 fn share_all(parts: &Vec<Part>) -> Result<Vec<Part>, NoMemory>
     ensures { IfOk result (λ shared. shared.items ≡ parts.now.items) }
 {
@@ -347,7 +348,7 @@ fn share_all(parts: &Vec<Part>) -> Result<Vec<Part>, NoMemory>
     Ok(shared)
 }
 
-// Pushes where there is room.
+// Pushes a part for which there is room.
 fn push_reserved(parts: &mut Vec<Part>, part: Part)
     requires { vec_len parts.old < vec_capacity parts.old }
     ensures { parts.new.items ≡ parts.old.items ++ part ∷ [] }
@@ -358,7 +359,7 @@ fn push_reserved(parts: &mut Vec<Part>, part: Part)
     }
 }
 
-// The numbers, each with the mark at its index.
+// Returns the numbers, each with the mark at its index.
 fn paired(alloc: Global, numbers: &[u64], marks: &[bool]) -> Result<Vec<(u64, bool)>, NoMemory>
     ensures { IfOk result (λ pairs. pairs.items ≡ zip numbers.now marks.now) }
 {
@@ -371,7 +372,7 @@ fn paired(alloc: Global, numbers: &[u64], marks: &[bool]) -> Result<Vec<(u64, bo
     )
 }
 
-// Puts the lines of the tables that are unmarked behind others.
+// Appends the lines of the unmarked tables.
 fn add_unmarked(
     tables: &[SharedTable],
     marks: &[bool],

@@ -1,4 +1,4 @@
--- The number of binary digits, by the count of leading zeros.
+-- The number of binary digits, from the number of leading zeros.
 use Rattle.std.proofs.Common.{◌≡◌, refl, ap, sym, ◌∙◌, ℕ, zero, suc, ◌+◌, ◌-◌, ◌*◌, ◌^◌, ◌<◌, ◌≤◌, Bool, true, false, cond, List, inl, inr, arith}
 use Rattle.std.specs.Prelude.{◌⊎◌, nat_le, count_by}
 use Rattle.std.specs.List.{range_with_len}
@@ -15,7 +15,7 @@ once b = cond b 1 0
 pow_more : (a : ℕ) → 2 ^ suc a ≡ 2 * 2 ^ a
 pow_more a = omega arith
 
--- a power of two is at most n where its exponent is below the number of digits
+-- the exponent of a power of two that is at most n is below the number of digits
 is_below : (n m a : ℕ) → n < 2 ^ m → 2 ^ a ≤ n → a < m
 is_below n m a h k = by (cases_lt a m)
   where

@@ -25,7 +25,7 @@ first_yes (part ∷ parts) h =
 first_no : (part : Part) (parts : List Part) → begins_run (part ∷ parts) ≡ false → first_run (part ∷ parts) ≡ first_run parts
 first_no part parts h = ap (λ (b : Bool). cond b (Some (take 4 (part ∷ parts))) (first_run parts)) h
 
--- one part more that begins no run
+-- one more part that begins no run
 pub first_more : (parts : List Part) (i : ℕ) → i < length parts → begins_run (drop i parts) ≡ false → first_run parts ≡ first_run (drop i parts) → first_run parts ≡ first_run (drop (i + 1) parts)
 first_more parts i lt h k =
     let more = drop_more parts i (part_with 0 []) lt in
@@ -128,7 +128,7 @@ plan_some at (part ∷ parts) h = refl
 pub length_run : (parts : List Part) (i n : ℕ) → 0 < n → i + n ≤ length parts → 0 < length (slice_range parts i (i + n))
 length_run parts i n h k = omega (arith, length-take ((i + n) - i) (drop i parts), length-drop i parts)
 
--- four parts, by the tiers that were read
+-- four parts, by their tiers as they were read
 pub begins_by : (parts : List Part) (i t a b c : ℕ) → i + 4 ≤ length parts → t ≡ tier (part_at parts i) → a ≡ tier (part_at parts (i + 1)) → b ≡ tier (part_at parts (i + 2)) → c ≡ tier (part_at parts (i + 3))
     → begins_run (drop i parts) ≡ (nat_eq a t && (nat_eq b t && nat_eq c t))
 begins_by parts i t a b c h et ea eb ec = begins_four parts i h ∙ (λ j. nat_eq (sym ea j) (sym et j) && (nat_eq (sym eb j) (sym et j) && nat_eq (sym ec j) (sym et j)))

@@ -32,7 +32,7 @@ length-sets : (tables : List Table) → length (segment tables).sets ≡ sum_by 
 unfolding segment
 length-sets tables = length-map (columns_of tables) (λ (c : Titled). tokens_in (tokens_of (columns_of tables)) c.column.keys) ∙ length-columns_from 0 tables
 
--- the tier of a part by how many columns its segment has
+-- the tier of a part, from the number of columns of its segment
 pub tier_of_sets : (part : Part) → binary_digits (length (segment_of part).sets) ≡ tier part
 tier_of_sets part = ap binary_digits (length-sets (tables_of part) ∙ fold-map (λ (n : ℕ) (t : Table). n + length t.columns) (λ (p : Place). p.table) 0 part.places)
 
@@ -46,7 +46,7 @@ half_by_marks part = λ i. nat_le (length-map part.places (λ (p : Place). p.mar
 pub none_marked : (part : Part) → count_by (λ mark. mark) (marks_of part) ≡ marks part
 none_marked part = marks_counted part
 
--- more than half of n are not in the rest
+-- m is half or more of n exactly if the rest is at most m
 pub half_test : (n m : ℕ) → nat_le (n - m) m ≡ nat_le n (2 * m)
 half_test n m = by (cases_lt (2 * m) n)
   where

@@ -8,7 +8,7 @@ use Rattle.lake_model.specs.Plan.{planned_parts, tier}
 use Rattle.segment_core.specs.Plans.{PlanOf, plan_run}
 use Rattle.segment_core.specs.Versions.{VersionOf}
 
--- the plan of these parts at a position, where there are any
+-- the plan of these parts at a position, if there are any
 abbrev pub plan_parts : ℕ → List Part → Option PlanOf
 plan_parts at [] = None
 plan_parts at (part ∷ parts) = Some (plan_run at (part ∷ parts))
@@ -16,7 +16,7 @@ plan_parts at (part ∷ parts) = Some (plan_run at (part ∷ parts))
 abbrev pub plan_at : Policy → VersionOf → Option PlanOf
 plan_at policy version = plan_parts version.at (planned_parts policy version.parts)
 
--- whether the first four parts are there, and of one tier
+-- whether there are four parts at the start, all of one tier
 abbrev pub begins_run : List Part → Bool
 begins_run [] = false
 begins_run (part ∷ parts) = let run = take 4 (part ∷ parts) in nat_eq (length run) 4 && list_all (λ other. nat_eq (tier other) (tier part)) run

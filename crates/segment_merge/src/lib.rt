@@ -1,4 +1,4 @@
-//! Merges of adjacent parts: their plan over a pinned version, and the segment that comes of a plan.
+//! Merges of adjacent parts: their plan over a pinned version, and the segment that results from a plan.
 #![tactic(auto)]
 
 mod merging;

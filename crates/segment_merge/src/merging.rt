@@ -1,4 +1,4 @@
-//! What comes of a plan.
+//! The result of a plan.
 ghost use Rattle.std.specs.Prelude.{◌≡◌, ◌<◌, ◌^◌, [], length, map, option_map, sum_by, unwrap_or, IfOk, IfSome};
 ghost use Rattle.lake_model.specs.Tables.{members};
 ghost use Rattle.segment_core.specs.Plans.{merged_with};
@@ -11,8 +11,8 @@ use segment_core::{Merged, Numbers, Plan, Segment};
 use std::alloc::Global;
 use std::sync::Arc;
 
-/// The segment of the tables that a plan keeps, with what the plan says; `None` where it keeps nothing. No table is copied. It takes the
-/// time to build that segment, and is refused only for want of memory.
+/// Merges a plan: returns the segment of the tables that it keeps, or `None` for the segment if it keeps none, with the
+/// rest of the plan. No table is copied. It costs as much as building that segment, and fails only if memory runs out.
 pub fn merge(alloc: Global, plan: Plan) -> Result<Merged, NoMemory>
     requires columns { sum_by (λ t. length t.columns) (load_tables plan.kept) < 2 ^ 32 }
     requires members { sum_by members (load_tables plan.kept) < 2 ^ 32 }
@@ -29,7 +29,7 @@ pub fn merge(alloc: Global, plan: Plan) -> Result<Merged, NoMemory>
     })
 }
 
-// The positions of loads, and their tables.
+// Returns the positions of loads, and their tables.
 fn split_loads(
     alloc: Global,
     loads: &[(u64, SharedTable)],
@@ -46,7 +46,7 @@ fn split_loads(
     Ok((positions, tables))
 }
 
-// The segment of the tables, where there are any.
+// Returns the segment of the tables, or `None` if there are none.
 fn segment_of(alloc: Global, tables: Vec<SharedTable>) -> Result<Option<Arc<Segment>>, NoMemory>
     requires columns { sum_by (λ t. length t.columns) tables.items < 2 ^ 32 }
     requires members { sum_by members tables.items < 2 ^ 32 }

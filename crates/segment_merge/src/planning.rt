@@ -9,12 +9,13 @@ use no_memory::NoMemory;
 use segment_core::{Pin, Plan};
 use std::alloc::Global;
 
-/// The plan of a merge of the version that is pinned; `None` where there is nothing to merge.
+/// Returns the plan of a merge of the pinned version, or `None` if there is nothing to merge.
 ///
-/// By tiers it takes the first four adjacent parts of one tier, which is the number of binary digits of a part's columns, those of
-/// dropped tables among them; where there are no four, the first part of which half or more of the tables are dropped. Of the whole
-/// layout it takes all parts where they are two or more, or one part with a dropped table. What is kept are the tables that are not
-/// dropped. It looks at each part once, and at the marks of the parts where no four are found; it copies what it plans alone.
+/// `Tier` takes the first four adjacent parts of one tier, which is the number of binary digits of the number of a
+/// part's columns, those of dropped tables included. If there are no such four, it takes the first part half or more of
+/// whose tables are dropped. `All` takes all parts if there are two or more, or a single part with a dropped table. The
+/// tables that are not dropped are kept. It looks at each part once, and at the marks of the parts if no such four are
+/// found; it copies only what it plans.
 pub fn plan(alloc: Global, pin: &Pin, policy: Policy) -> Result<Option<Plan>, NoMemory>
     ensures { IfOk result (λ plan. plan ≡ plan_at policy pin.now) }
 {
@@ -24,7 +25,7 @@ pub fn plan(alloc: Global, pin: &Pin, policy: Policy) -> Result<Option<Plan>, No
     }
 }
 
-// The index of the first part that is planned, from 0, and how many are.
+// Returns the index of the first planned part, from 0, and the number of planned parts.
 fn planned_run(pin: &Pin, policy: Policy) -> Option<(u32, u32)>
     ensures some { IfSome result (λ run. 0 < run.1) }
     ensures within { IfSome result (λ run. run.0 + run.1 ≤ length pin.now.parts) }
@@ -37,7 +38,7 @@ fn planned_run(pin: &Pin, policy: Policy) -> Option<(u32, u32)>
     }
 }
 
-// The first four adjacent parts of one tier, or else the first part that is half marked.
+// Returns the first four adjacent parts of one tier, or else the first part that is half marked.
 fn by_tier(pin: &Pin) -> Option<(u32, u32)>
     ensures some { IfSome result (λ run. 0 < run.1) }
     ensures within { IfSome result (λ run. run.0 + run.1 ≤ length pin.now.parts) }
@@ -51,7 +52,7 @@ fn by_tier(pin: &Pin) -> Option<(u32, u32)>
     Some((part, 1))
 }
 
-// All parts, where they are two or more, or one with a mark.
+// Returns all parts if there are two or more, or one with a mark.
 fn whole_layout(pin: &Pin) -> Option<(u32, u32)>
     ensures some { IfSome result (λ run. 0 < run.1) }
     ensures within { IfSome result (λ run. run.0 + run.1 ≤ length pin.now.parts) }
@@ -65,7 +66,7 @@ fn whole_layout(pin: &Pin) -> Option<(u32, u32)>
     }
 }
 
-// The index of the first of four adjacent parts of one tier.
+// Returns the index of the first of four adjacent parts of one tier.
 fn first_of_tier(pin: &Pin) -> Option<u32>
     ensures within { IfSome result (λ first. first + 4 ≤ length pin.now.parts) }
     ensures run { IfSome result (λ first. first_run pin.now.parts ≡ Some (slice_range pin.now.parts first (first + 4))) }
@@ -79,7 +80,7 @@ fn first_of_tier(pin: &Pin) -> Option<u32>
     None
 }
 
-// Whether four parts from this one on are there, and of one tier.
+// Returns whether there are four parts from this one on, all of one tier.
 fn begins_run(pin: &Pin, part: u32) -> bool
     requires { part < length pin.now.parts }
     ensures { result ≡ begins_run (drop part pin.now.parts) }
@@ -97,7 +98,7 @@ fn begins_run(pin: &Pin, part: u32) -> bool
     tier_of(pin, part + 3) == tier
 }
 
-// The number of binary digits of a part's columns, those of marked tables among them.
+// Returns the number of binary digits of the number of a part's columns, those of marked tables included.
 fn tier_of(pin: &Pin, part: u32) -> u32
     requires { part < length pin.now.parts }
     ensures { result ≡ tier (part_at pin.now.parts part) }
@@ -105,14 +106,14 @@ fn tier_of(pin: &Pin, part: u32) -> u32
     digits(pin.sets(part))
 }
 
-// The number of binary digits.
+// Returns the number of binary digits.
 fn digits(n: u32) -> u32
     ensures { result ≡ binary_digits n }
 {
     32 - n.leading_zeros()
 }
 
-// The index of the first part of which half or more of the tables are marked.
+// Returns the index of the first part half or more of whose tables are marked.
 fn half_marked(pin: &Pin) -> Option<u32>
     ensures within { IfSome result (λ part. part < length pin.now.parts) }
     ensures found { IfSome result (λ part. find is_half_marked pin.now.parts ≡ Some (part_at pin.now.parts part)) }
@@ -126,7 +127,7 @@ fn half_marked(pin: &Pin) -> Option<u32>
     None
 }
 
-// Whether half or more of the marks are set.
+// Returns whether half or more of the marks are set.
 fn is_half(marks: &[bool]) -> bool
     ensures { result ≡ nat_le (length marks.now) (2 * count_by (λ mark. mark) marks.now) }
 {
@@ -134,7 +135,7 @@ fn is_half(marks: &[bool]) -> bool
     marks.len() - marked <= marked
 }
 
-// How many marks are set.
+// Returns how many marks are set.
 fn marked(marks: &[bool]) -> usize
     ensures value { result ≡ count_by (λ mark. mark) marks.now }
     ensures within { result ≤ length marks.now }

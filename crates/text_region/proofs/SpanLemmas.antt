@@ -1,4 +1,4 @@
--- A text put behind others is a span, a span ends between characters, and spans stand apart.
+-- An appended text is a span, a span ends between characters, and spans are apart.
 use Rattle.std.proofs.Common.{◌≡◌, ◌≢◌, ℕ, ◌+◌, ◌-◌, ◌≤◌, List, [], ◌++◌, length, take, drop, sym, ap, subst, arith, length-append, length-drop, append_assoc}
 use Rattle.std.specs.Str.{IsUtf8, IsCharBoundary}
 use Rattle.std.proofs.lemmas.Str.{IsUtf8-append, IsCharBoundary-from_take}
@@ -22,7 +22,7 @@ starts_at region span utf8 is_span = IsCharBoundary-from_take region.bytes span.
 pub ends_at : (region : Written) (span : Span) → IsUtf8 region.bytes → IsSpan region span → IsCharBoundary region.bytes (span.start + span.len)
 ends_at region span utf8 is_span = IsCharBoundary-from_take region.bytes (span.start + span.len) utf8 is_span.within is_span.through
 
--- what stands within the old bytes stays
+-- what is within the old bytes stays
 pub spans_kept : (region grown : Written) → HasGrown region grown → KeepsSpans region grown
 spans_kept region grown (more, bytes) span is_span =
     let within : span.start + span.len ≤ length region.bytes = is_span.within in
@@ -48,7 +48,7 @@ pub spans_disjoint : (region grown : Written) (earlier later : Span) → IsPutLa
 spans_disjoint region grown earlier later put place first second =
     omega (arith, ends_before region grown earlier later put, first.1, second.0)
 
--- an empty range is of no bytes
+-- an empty range has no bytes
 no_bytes : (bytes : List ℕ) (start len : ℕ) → len ≡ 0 → take ((start + len) - start) (drop start bytes) ≡ []
 no_bytes bytes start len none =
     let zero_long : (start + len) - start ≡ 0 = omega arith in
@@ -60,7 +60,7 @@ spans_different region grown earlier later put nonempty same =
     let none : earlier.len ≡ 0 = omega (arith, ends_before region grown earlier later put) in
     nonempty (no_bytes region.bytes earlier.start earlier.len none)
 
--- the parts round a range make the whole
+-- the parts around a range make up the whole
 three_parts : (bytes : List ℕ) (start len : ℕ) → bytes ≡ take start bytes ++ take ((start + len) - start) (drop start bytes) ++ drop (start + len) bytes
 three_parts bytes start len =
     let long : (start + len) - start ≡ len = omega arith in

@@ -8,14 +8,14 @@ use Rattle.text_region.specs.declared.region.Span.{Span}
 abbrev pub SpansAreDisjoint : Type 0
 SpansAreDisjoint = (region grown : Written) (earlier later : Span) → IsPutLater region grown earlier later → AreDisjoint earlier later
 
--- and their spans differ where the earlier text has a byte
+-- and their spans differ if the earlier text is not empty
 abbrev pub SpansDiffer : Type 0
 SpansDiffer = (region grown : Written) (earlier later : Span) → IsPutLater region grown earlier later → text_at region earlier ≢ [] → earlier ≢ later
 
--- a span stands in its region
+-- a span is in its region
 abbrev pub SpansAreOfTheirRegion : Type 0
 SpansAreOfTheirRegion = (region : Written) (span : Span) → IsSpan region span → StandsIn region span
 
--- spans keep their texts while bytes are added behind
+-- spans keep their texts while bytes are appended
 abbrev pub SpansAreKept : Type 0
 SpansAreKept = (region grown : Written) → HasGrown region grown → KeepsSpans region grown

@@ -1,4 +1,4 @@
--- A region as contracts see it: the bytes put so far, and how many more fit.
+-- The model of a region: the bytes put so far, and how many more fit.
 use Rattle.std.specs.Prelude.{ℕ, ◌≡◌, List, ◌++◌}
 
 pub record Written : Type 0 where
@@ -8,6 +8,6 @@ pub record Written : Type 0 where
 abbrev pub written : List ℕ → ℕ → Written
 written bytes spare = record { bytes = bytes; spare = spare }
 
--- bytes were added behind, or none
+-- bytes, or none, were appended
 abbrev pub HasGrown : Written → Written → Type 0
 HasGrown old new = (more : List ℕ) × (new.bytes ≡ old.bytes ++ more)

@@ -6,16 +6,16 @@ use no_memory::NoMemory;
 use std::alloc::Global;
 use std::marker::Model;
 
-/// Where a text stands in its region: 8 bytes, that mean nothing without the region that answered them.
+/// Where a text is in its region: 8 bytes, which mean nothing without the region that returned them.
 #[derive(Clone, Copy, Debug, PartialEq, Eq)]
 pub struct Span {
-    /// How many bytes of the region stand before the text.
+    /// The number of bytes in the region before the text.
     start: u32,
-    /// How many bytes the text has.
+    /// The number of bytes in the text.
     len: u32,
 }
 
-/// Texts one behind the other in memory of their own, and how many more bytes fit.
+/// Texts one after another in memory of their own, and how many more bytes fit.
 #[derive(Drop)]
 pub struct Region {
     text: String,
@@ -34,8 +34,8 @@ impl Model for Region {
 }
 
 impl Region {
-    /// An empty region with room for so many bytes, or no memory. A region of no bytes is always made. More than 2^32 - 1 bytes,
-    /// which no span can count, are refused the same way.
+    /// Returns an empty region with room for `bytes` bytes, or `Err(NoMemory)` if memory runs out. With 0 bytes it
+    /// never fails. More than 2^32 - 1 bytes, which no span can count, are also refused with `Err(NoMemory)`.
     pub fn new(alloc: Global, bytes: usize) -> Result<Region, NoMemory>
         ensures empty { IfOk result (λ region. region.bytes ≡ []) }
         ensures spare { IfOk result (λ region. region.spare ≡ bytes) }
@@ -50,15 +50,16 @@ impl Region {
         })
     }
 
-    /// How many more bytes of text can be put, below 2^32.
+    /// Returns how many more bytes of text can be put, below 2^32.
     pub fn spare(&self) -> usize
         ensures { result ≡ self.now.spare }
     {
         self.spare as usize
     }
 
-    /// Makes room for at least so many more bytes, more than that where the region grows. It is refused where memory is wanting, and
-    /// where the region would have more than 2^32 - 1 bytes; the region is then as it was.
+    /// Makes room for at least `bytes` more bytes, or for more than that if the region has to grow. Returns
+    /// `Err(NoMemory)` if memory runs out, and also if the region would have more than 2^32 - 1 bytes; the region is
+    /// then unchanged.
     pub fn reserve(&mut self, bytes: usize) -> Result<(), NoMemory>
         ensures bytes { self.new.bytes ≡ self.old.bytes }
         ensures spare { OnOk result (bytes ≤ self.new.spare) }
@@ -78,8 +79,8 @@ impl Region {
         Ok(())
     }
 
-    /// Puts a text behind the others, and answers where it stands. It takes no memory and cannot fail, and the spans that
-    /// the region answered before keep their texts.
+    /// Appends a text, and returns its span. It neither allocates nor fails, and the spans that the region returned
+    /// before keep their texts.
     pub fn put(&mut self, text: &str) -> Span
         requires { length text.now ≤ self.old.spare }
         ensures bytes { self.new.bytes ≡ self.old.bytes ++ text.now }
@@ -102,7 +103,7 @@ impl Region {
         }
     }
 
-    /// Gives back the memory that the texts do not take. The spans keep their texts.
+    /// Releases the spare capacity. The spans keep their texts.
     pub fn shrink_to_fit(&mut self)
         ensures bytes { self.new.bytes ≡ self.old.bytes }
         ensures kept { KeepsSpans self.old self.new }
@@ -111,7 +112,7 @@ impl Region {
         self.text.shrink_to_fit();
     }
 
-    /// The text at a span of this region, lent without copying.
+    /// Returns the text at a span of this region, without copying it.
     pub fn text(&self, at: Span) -> &str
         requires { IsSpan self.now at }
         ensures { result.now ≡ text_at self.now at }

@@ -1,19 +1,19 @@
-//! A region is made where memory is ample, and lends what was put: no clause says that memory is there.
+//! A region is made if there is enough memory, and lends what was put into it. No clause says that there is enough.
 use crate::{Region, Span};
 use std::mem::size_of;
 use std::test::Fail;
 
-// Asks of a type that any thread may have it, or look at it.
+// Requires of a type that any thread may own it, or refer to it.
 fn crosses_threads<T: Send + Sync>() {}
 
-// A region and its spans may be of any thread: what is built on them is shared among threads.
+// A region and its spans may be used by any thread, because what is built on them is shared among threads.
 #[test]
 fn threads_share_a_region() {
     crosses_threads::<Region>();
     crosses_threads::<Span>();
 }
 
-// Two texts and an empty one between them in a region of 8 bytes: 3 bytes are left, and each text reads back.
+// Two texts with an empty one between them, in a region of 8 bytes: 3 bytes are left, and each text reads back.
 #[test]
 fn three_texts(rt: HostRuntime) -> Result<(), Fail> {
     let mut region = Region::new(rt.alloc(), 8)?;

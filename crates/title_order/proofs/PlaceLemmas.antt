@@ -1,4 +1,4 @@
--- Numbers 0, 1 and so on in some order, and the place of each.
+-- The numbers 0, 1, and so on in some order, and the index of each.
 use Rattle.std.proofs.Common.{◌≡◌, sym, ◌∙◌, subst, ℕ, ◌+◌, ◌<◌, List, false, length, get_or, inl, inr, arith, eqb}
 use Rattle.std.specs.List.{All, IsDistinct, range_with_len}
 use Rattle.std.proofs.lemmas.Bool.{cases_lt, eqb-false}
@@ -14,7 +14,7 @@ use Rattle.search_model.specs.Segment.{columns_of, segment}
 use Rattle.search_model.proofs.RankLemmas.{ranks_are}
 use Rattle.title_order.specs.Titles.{AreNumbers, ArePlaces, IsPlace}
 
--- each is below how many there are
+-- each is below the number of them
 pub numbers_below : (numbers : List ℕ) → AreNumbers numbers → All (λ n. n < length numbers) numbers
 numbers_below numbers all =
     All-permutation (λ n. n < length numbers) (range_with_len 0 (length numbers)) numbers all
@@ -50,7 +50,7 @@ places_forth numbers places all are r b =
     let here = are.each n (numbers_below numbers all r 0 b) in
     same_place numbers all (get_or places n 0) r here.0 b here.1
 
--- what is written for each of them are the places
+-- what is written for each of them is its index
 pub places_are : (numbers places : List ℕ) → AreNumbers numbers → length places ≡ length numbers → All (λ n. IsPlace numbers n (get_or places n 0)) numbers → ArePlaces numbers places
 places_are numbers places all long written =
     let IsHere : ℕ → Type 0 = λ n. IsPlace numbers n (get_or places n 0) in
@@ -62,7 +62,7 @@ places_are numbers places all long written =
           subst IsHere at (each n 0 (omega (arith, b, length-range_with_len 0 (length numbers)))));
     }
 
--- the places and the numbers are inverse
+-- the indices and the numbers are inverse
 pub places_inverse : (numbers places : List ℕ) → AreNumbers numbers → ArePlaces numbers places → AreInverse places numbers
 places_inverse numbers places all are =
     record {
@@ -72,7 +72,7 @@ places_inverse numbers places all are =
       forth = places_forth numbers places all are;
     }
 
--- the places of the columns' numbers in order are their ranks
+-- the indices of the columns' numbers in order are their ranks
 pub segment_ranks : (tables : List Table) (numbers places : List ℕ) → IsSorted (number_cmp (columns_of tables)) numbers → length numbers ≡ length (columns_of tables) → AreNumbers numbers → ArePlaces numbers places → AreRanks (segment tables).columns places
 unfolding segment
 segment_ranks tables numbers places up long all are =

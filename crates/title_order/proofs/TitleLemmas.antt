@@ -1,4 +1,4 @@
--- Columns that are added behind others, and their order.
+-- Columns that are appended to others, and their order.
 use Rattle.std.proofs.Common.{◌≡◌, refl, ap, sym, ◌∙◌, subst, ℕ, ◌+◌, ◌<◌, List, [], ◌++◌, map, length, get_or, arith, append_assoc}
 use Rattle.std.specs.Cmp.{IsTotalOrder}
 use Rattle.std.specs.List.{All, range_with_len}
@@ -45,7 +45,7 @@ more_more old new newer columns others first second =
 pub by_title_total : IsTotalOrder by_title
 by_title_total = then_total (on_total (λ (t : Title). t.row.table) nat_list_cmp_total) (then_total (on_total row_of row_cmp_total) (on_total number_of nat_cmp_total))
 
--- a comparison that stands first again changes nothing
+-- to put the first comparison first once again changes nothing
 said_twice : (r s t : Ordering) → ordering_then r (ordering_then (ordering_then r s) t) ≡ ordering_then (ordering_then r s) t
 said_twice Less s t = refl
 said_twice Equal s t = refl

@@ -1,4 +1,4 @@
--- Columns as what they are sorted by, and lists of numbers with their places.
+-- Columns with the values by which they are sorted, and lists of numbers with their indices.
 use Rattle.std.specs.Prelude.{◌≡◌, ℕ, ◌<◌, ◌^◌, List, ◌++◌, get_or, length, map}
 use Rattle.std.specs.List.{range_with_len}
 use Rattle.std.specs.List.Sorted.{IsPermutation}
@@ -11,29 +11,29 @@ use Rattle.search_model.specs.Looks.{row_with}
 use Rattle.search_model.specs.Segment.{Titled}
 use Rattle.title_order.specs.declared.title.Title.{Title}
 
--- by the rows, and then by the numbers
+-- by the rows, then by the numbers
 abbrev pub by_row : Title → Title → Ordering
 by_row a b = ordering_then (row_cmp a.row b.row) (nat_cmp a.number b.number)
 
--- by the tables' names, and then so
+-- by the tables' names, then by the rows and the numbers
 abbrev pub by_title : Title → Title → Ordering
 by_title a b = ordering_then (slice_cmp nat_cmp a.row.table b.row.table) (by_row a b)
 
--- the rows of columns, with no overlap
+-- the rows of columns, with an overlap of 0
 abbrev pub rows_of : List Titled → List Row
 rows_of columns = map (row_with 0) columns
 
--- each number is the place in the list
+-- each number is the index in the list
 abbrev pub AreNumbered : List Title → Type 0
 AreNumbered titles = (i : ℕ) (d : Title) → i < length titles → (get_or titles i d).number ≡ i
 
--- these columns were added behind others
+-- these columns were appended
 pub record AreMoreTitles (old new : List Title) (columns : List Titled) : Type 0 where
   pub rows : map (λ t. t.row) new ≡ map (λ t. t.row) old ++ rows_of columns
   pub numbered : AreNumbered old → AreNumbered new
   pub few : length old < 2 ^ 32 → length new < 2 ^ 32
 
--- the title is that of the column of its number
+-- the title is that of the column with its number
 abbrev pub IsTitle : List Titled → Title → Type 0
 IsTitle columns title = title.row ≡ row_with 0 (titled_at columns title.number)
 
@@ -41,11 +41,11 @@ IsTitle columns title = title.row ≡ row_with 0 (titled_at columns title.number
 abbrev pub AreNumbers : List ℕ → Type 0
 AreNumbers numbers = IsPermutation (range_with_len 0 (length numbers)) numbers
 
--- the number stands at this place
+-- the number is at this index
 abbrev pub IsPlace : List ℕ → ℕ → ℕ → Type 0
 IsPlace numbers number place = (place < length numbers) × (get_or numbers place 0 ≡ number)
 
--- the place of each number
+-- the index of each number
 pub record ArePlaces (numbers places : List ℕ) : Type 0 where
   pub long : length places ≡ length numbers
   pub each : (n : ℕ) → n < length numbers → IsPlace numbers n (get_or places n 0)

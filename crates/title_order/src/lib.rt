@@ -1,4 +1,5 @@
-//! The columns of a list of tables in the order of their names, so that two columns compare by two numbers.
+//! The columns of a list of tables in the order of their names, so that comparing two columns means comparing two
+//! numbers.
 #![tactic(auto)]
 
 mod order;

@@ -1,4 +1,4 @@
-//! The numbers of columns by their names, and their ranks there.
+//! The numbers of columns in the order of their names, and their ranks in that order.
 ghost use Rattle.std.specs.Prelude.{◌≡◌, ◌<◌, ◌^◌, length, map, IfOk};
 ghost use Rattle.std.specs.List.Sorted.{IsSorted};
 ghost use Rattle.search_model.specs.Ranks.{number_cmp, AreInverse, AreRanks};
@@ -10,18 +10,18 @@ use column_set::SharedTable;
 use no_memory::NoMemory;
 use std::alloc::Global;
 
-/// The order of the columns of a list of tables by the bytes of their tables' names, those of their own names, their places, and their
-/// numbers, which count from 0 by table and then by place: for each column, at its number, how many come before it, and the numbers of
-/// the columns in that order.
+/// The order of the columns of a list of tables: by the bytes of their tables' names, then those of their own names,
+/// then by their places, then by their numbers, which count from 0 by table and then by place. `ranks` has, at each
+/// column's number, how many columns come before it; `by_rank` has the numbers of the columns in that order.
 #[derive(Drop)]
 pub struct TitleOrder {
     pub ranks: Vec<u32>,
     pub by_rank: Vec<u32>,
 }
 
-/// The order of the columns of the tables. It takes the time to sort the columns, which is that to sort the names of one table, or those of
-/// all tables and columns together; and 28 bytes for each column while they are sorted, of which 8 are kept. It is refused only for want of
-/// memory, as it is where there are 2^32 columns or more.
+/// Returns the order of the columns of the tables. It sorts the columns, which costs as much as sorting the names of
+/// one table, or those of all tables and columns together. It takes 28 bytes for each column while they are sorted, of
+/// which 8 are kept. Returns `Err(NoMemory)` if memory runs out, and also if there are 2^32 columns or more.
 pub fn order_columns(alloc: Global, tables: &[SharedTable]) -> Result<TitleOrder, NoMemory>
     ensures ranks { IfOk result (λ order. AreRanks (segment tables.now).columns order.ranks.items) }
     ensures inverse { IfOk result (λ order. AreInverse order.ranks.items order.by_rank.items) }
@@ -31,7 +31,7 @@ pub fn order_columns(alloc: Global, tables: &[SharedTable]) -> Result<TitleOrder
     Ok(TitleOrder { ranks, by_rank })
 }
 
-// The numbers of the columns in their order.
+// Returns the numbers of the columns in their order.
 fn columns_by_title(alloc: Global, tables: &[SharedTable]) -> Result<Vec<u32>, NoMemory>
     ensures sorted { IfOk result (λ numbers. IsSorted (number_cmp (columns_of tables.now)) numbers.items) }
     ensures long { IfOk result (λ numbers. length numbers.items ≡ length (columns_of tables.now)) }
@@ -43,7 +43,7 @@ fn columns_by_title(alloc: Global, tables: &[SharedTable]) -> Result<Vec<u32>, N
     numbers_of(alloc, &titles)
 }
 
-// The numbers of these columns.
+// Returns the numbers of these columns.
 fn numbers_of(alloc: Global, titles: &[Title<'_>]) -> Result<Vec<u32>, NoMemory>
     ensures { IfOk result (λ numbers. numbers.items ≡ map (λ t. t.number) titles.now) }
 {
@@ -54,7 +54,8 @@ fn numbers_of(alloc: Global, titles: &[Title<'_>]) -> Result<Vec<u32>, NoMemory>
     Ok(numbers)
 }
 
-// Where each number stands among these, which are 0, 1 and so on in some order. It takes one write a number.
+// Returns the index of each number in the list, which holds 0, 1, and so on in some order. It takes one write for each
+// number.
 fn places_of(alloc: Global, numbers: &[u32]) -> Result<Vec<u32>, NoMemory>
     requires few { length numbers.now < 2 ^ 32 }
     requires all { AreNumbers numbers.now }
@@ -65,7 +66,7 @@ fn places_of(alloc: Global, numbers: &[u32]) -> Result<Vec<u32>, NoMemory>
     Ok(places)
 }
 
-// Writes the place of each number at the number.
+// Writes the index of each number at that number.
 fn write_places(numbers: &[u32], places: &mut [u32])
     requires few { length numbers.now < 2 ^ 32 }
     requires all { AreNumbers numbers.now }

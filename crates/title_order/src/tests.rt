@@ -1,19 +1,21 @@
-//! The order of the columns of three tables: two of one name, and one between them that comes last.
+//! The order of the columns of three tables: two with the same name, and one between them in the list, which comes
+//! last.
 use crate::{TitleOrder, order_columns};
 use column_set::{Keys, Name, SharedTable, TableSets};
 use csv_table::read_table;
 use std::alloc::Global;
 use std::test::Fail;
 
-// The table of a name and of CSV bytes.
+// Returns the table with this name and these CSV bytes.
 fn table(alloc: Global, name: &[u8], bytes: &[u8]) -> Result<SharedTable, Fail> {
     let name = Name::read(name).ok_or("no name")?;
     let raw = read_table(alloc, bytes, 1_024)?;
     Ok(SharedTable::new(alloc, TableSets::build(alloc, Keys::Canonical, name, &raw)?)?)
 }
 
-// The table `a` has the columns q, p and q, the table `b` a column p, and another table `a` the columns q and b. Tables come by their names,
-// then columns by theirs, and equal names by their places; where these are equal too, the table that stands first comes first.
+// The table `a` has the columns q, p and q, the table `b` a column p, and another table `a` the columns q and b. Tables
+// are ordered by their names, then columns by theirs, and equal names by their places; if these are equal, too, the
+// table that is first in the list comes first.
 #[test]
 fn names_places_numbers(rt: HostRuntime) -> Result<(), Fail> {
     let alloc = rt.alloc();
@@ -27,7 +29,7 @@ fn names_places_numbers(rt: HostRuntime) -> Result<(), Fail> {
     Ok(())
 }
 
-// No table has no column.
+// A list of no tables has no columns.
 #[test]
 fn no_table(rt: HostRuntime) -> Result<(), Fail> {
     let TitleOrder { ranks, by_rank } = order_columns(rt.alloc(), &[])?;

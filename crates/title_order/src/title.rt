@@ -1,4 +1,4 @@
-//! The columns of tables, as what they are sorted by.
+//! The columns of tables, with the values by which they are sorted.
 ghost use Rattle.std.specs.Prelude.{◌≡◌, ◌<◌, ◌≤◌, ◌∷◌, ℕ, [], length, sum_by, IfOk, OnOk};
 ghost use Rattle.search_model.specs.Segment.{columns_in, columns_of, titled_in};
 ghost use Rattle.title_order.specs.Titles.{by_row, by_title, AreMoreTitles};
@@ -8,7 +8,8 @@ use no_memory::NoMemory;
 use std::alloc::Global;
 use std::cmp::Ordering;
 
-/// A column: its row, with no overlap, and its number among the columns of a list of tables, by table and then by place, from 0.
+/// A column: its row, with an overlap of 0, and its number among the columns of a list of tables, by table and then by
+/// place, from 0.
 #[derive(Drop)]
 pub struct Title<'a> {
     pub row: Row<'a>,
@@ -16,7 +17,8 @@ pub struct Title<'a> {
 }
 
 impl<'a> Title<'a> {
-    /// By the bytes of the table's name, those of the column's name, the place, and the number.
+    /// Compares by the bytes of the table's name, then those of the column's name, then by the place, then by the
+    /// number.
     pub fn order(&self, other: &Title<'_>) -> Ordering
         ensures { result ≡ by_title self.now other.now }
     {
@@ -26,7 +28,7 @@ impl<'a> Title<'a> {
         }
     }
 
-    // The same, where the tables' names are equal: so the columns' names are read only then.
+    // Compares the same way if the tables' names are equal, so that the columns' names are read only then.
     fn order_in_table(&self, other: &Title<'_>) -> Ordering
         ensures { result ≡ by_row self.now other.now }
     {
@@ -36,7 +38,8 @@ impl<'a> Title<'a> {
     }
 }
 
-/// The columns of the tables, by their numbers. They are refused for want of memory where there are 2^32 or more.
+/// Returns the columns of the tables, by their numbers. Returns `Err(NoMemory)` if memory runs out, and also if there
+/// are 2^32 or more.
 pub fn all_titles<'a>(alloc: Global, tables: &'a [SharedTable]) -> Result<Vec<Title<'a>>, NoMemory>
     ensures { IfOk result (λ titles. AreMoreTitles [] titles.items (columns_of tables.now)) }
 {
@@ -47,7 +50,7 @@ pub fn all_titles<'a>(alloc: Global, tables: &'a [SharedTable]) -> Result<Vec<Ti
     Ok(titles)
 }
 
-// How many columns the tables have together. It is refused for want of memory where these are 2^64 or more.
+// Returns how many columns the tables have together. Returns `Err(NoMemory)` if there are 2^64 or more.
 fn column_count(tables: &[SharedTable]) -> Result<usize, NoMemory>
     ensures { IfOk result (λ count. count ≡ sum_by (λ t. length t.columns) tables.now) }
 {
@@ -61,7 +64,7 @@ fn column_count(tables: &[SharedTable]) -> Result<usize, NoMemory>
     Ok(count)
 }
 
-// Adds the columns of a table.
+// Appends the columns of a table.
 fn push_titles<'a>(titles: &mut Vec<Title<'a>>, table: &'a TableSets) -> Result<(), NoMemory>
     ensures { OnOk result ((from : ℕ) → AreMoreTitles titles.old.items titles.new.items (columns_in from table.now)) }
 {
@@ -71,7 +74,7 @@ fn push_titles<'a>(titles: &mut Vec<Title<'a>>, table: &'a TableSets) -> Result<
     Ok(())
 }
 
-// Adds the column at a place of a table.
+// Appends the column at a place of a table.
 fn push_title<'a>(
     titles: &mut Vec<Title<'a>>,
     table: &'a TableSets,

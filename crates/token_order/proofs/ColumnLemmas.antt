@@ -1,4 +1,4 @@
--- Columns that are added behind others.
+-- Columns that are appended to others.
 use Rattle.std.proofs.Common.{◌≡◌, ap, sym, ◌∙◌, ℕ, ◌+◌, ◌<◌, List, [], ◌∷◌, ◌++◌, length, map, take, arith, inl, inr, append-nil, append_assoc, length-append}
 use Rattle.std.proofs.lemmas.Bool.{cases_lt}
 use Rattle.std.proofs.lemmas.List.{get_or_append_left, get_or_push, length_push, map_push, take-append-le, take_more}
@@ -41,7 +41,7 @@ columns_push tables columns column are is first =
       ];
     }
 
--- one more column, of these keys, which is this one of the table of an index
+-- one more column, with these keys, which is this one of the table at an index
 pub more_column : (tables : List Table) (old new : List ColumnAt) (added : List Titled) (keys : List Text) (first next : ℕ) (column : ColumnAt) (titled : Titled) → AreMoreColumns tables old new added keys first → IsColumn tables column → owner_there column ≡ owner_of titled → column.first ≡ first → next ≡ first + length (keys_there tables column)
     → AreMoreColumns tables old (new ++ column ∷ []) (added ++ titled ∷ []) (keys ++ keys_there tables column) next
 more_column tables old new added keys first next column titled more is owns at after =

@@ -29,7 +29,7 @@ first_run first (key ∷ keys) = by (bytes_eq key first.key) (first_run (token_w
     by true u = u
     by false u = (omega arith, refl)
 
--- a run with so many members
+-- a run lengthened by a number of members
 abbrev pub longer : Run → ℕ → Run
 longer run n = record { first = run.first; frequency = n; rank = run.rank }
 
@@ -82,7 +82,7 @@ module _ (tables : List Table) (all : List Token) (columns : List ColumnAt) (mem
   pub counting_ranked : IsCounting tables all columns members ended run i → AreRanked (ended ++ run ∷ [])
   counting_ranked h = ranked_push ended run h.rank h.ranked
 
-  -- the present run's key is that of its number among all
+  -- the current run's key is the one with its number among all
   pub counting_here : IsCounting tables all columns members ended run i → IsRank (map (λ t. t.key) all) (pointed_by tables columns run.first) run.rank
   counting_here h =
       let key : Token → Text = λ t. t.key in
@@ -101,7 +101,7 @@ counting_starts tables columns members first none zero h =
 
 -- ---- ranks
 
--- one more number is written, at a slot that is the element's
+-- one more number is written, in the slot of the element
 pub slot_written : {X : Type 0} (P : ℕ → ℕ → Type 0) (slot : X → ℕ) (written : List ℕ) (xs : List X) (i : ℕ) (x : X) (n : ℕ) → i < length xs → x ≡ get_or xs i x → slot x < length written → P (slot x) n
     → All (λ q. P (slot q) (get_or written (slot q) 0)) (take i xs) → All (λ q. P (slot q) (get_or (set written (slot x) n) (slot q) 0)) (take (i + 1) xs)
 slot_written {X = X} P slot written xs i x n within is inside holds before =
@@ -115,7 +115,7 @@ slot_written {X = X} P slot written xs i x n within is inside holds before =
     ]) in
     All-more (λ q. P (slot q) (get_or (set written (slot x) n) (slot q) 0)) xs i x within each (here (get_or xs i x) (ap slot (sym is)))
 
--- the runs from a first one that is not counted yet
+-- the runs from a first one that has not been counted yet
 pub from_first : (tables : List Table) (columns : List ColumnAt) (members : List TokenAt) (first : Run) (m : TokenAt) → first.first ≡ m → first.frequency ≡ 0 → 0 < length members → m ≡ get_or members 0 m
     → runs_from (run_token tables columns first) (map (pointed_by tables columns) members) ≡ runs_of (map (pointed_by tables columns) members)
 from_first tables columns [] first m e f h is = absurd (omega arith)

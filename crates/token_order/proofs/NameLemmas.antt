@@ -1,4 +1,4 @@
--- Keys that rise and differ: their places compare as they do.
+-- Distinct keys in increasing order: their indices compare as the keys do.
 use Rattle.std.proofs.Common.{◌≡◌, refl, ap, sym, ◌∙◌, ℕ, zero, suc, ◌<◌, List, [], ◌∷◌, length, get_or, true, false, inl, inr, arith}
 use Rattle.std.specs.Prelude.{bytes_eq}
 use Rattle.std.specs.List.{IsDistinct}
@@ -18,11 +18,11 @@ use Rattle.lake_model.specs.Texts.{Text}
 use Rattle.token_order.proofs.SortLemmas.{Rises, less}
 use Rattle.search_model.proofs.TokenLemmas.{flips}
 
--- keys that differ still do in another order
+-- distinct keys are still distinct in another order
 pub differ_moved : (xs ys : List Text) → IsPermutation xs ys → IsDistinct bytes_eq xs → IsDistinct bytes_eq ys
 differ_moved xs ys moved d = IsDistinct-IsPermutation bytes_eq flips xs ys moved d
 
--- two of them, by their places
+-- two of them, by their indices
 apart_at : (xs : List Text) → IsDistinct bytes_eq xs → (i j : ℕ) → i < j → j < length xs → bytes_eq (get_or xs i []) (get_or xs j []) ≡ false
 unfolding IsDistinct
 apart_at [] d i j l b = absurd (omega arith)
@@ -33,7 +33,7 @@ apart_at (x ∷ xs) d (suc i) (suc j) l b = apart_at xs d.1 i j (omega arith) (o
 no_more : (x y : Text) → bytes_eq x y ≡ false → x ≡ y → ⊥
 no_more x y n e = let f : bytes_eq x y ≡ true = (bytes_eq-Decides x y).1 e in let g : true ≡ false = sym f ∙ n in cc
 
--- the same key is at the same place
+-- equal keys have the same index
 pub same_place : (xs : List Text) → IsDistinct bytes_eq xs → (i j : ℕ) → i < length xs → j < length xs → get_or xs i [] ≡ get_or xs j [] → i ≡ j
 same_place xs d i j b c e = elim (cases_lt i j) [
   | inl l ↦ absurd (no_more (get_or xs i []) (get_or xs j []) (apart_at xs d i j l c) e)
@@ -62,7 +62,7 @@ level_itself Less e = cc
 level_itself Equal e = refl
 level_itself Greater e = cc
 
--- keys that rise and differ compare as their places
+-- distinct increasing keys compare as their indices
 pub places_compare : (xs : List Text) → Rises xs → IsDistinct bytes_eq xs → (i j : ℕ) → i < length xs → j < length xs → slice_cmp nat_cmp (get_or xs i []) (get_or xs j []) ≡ nat_cmp i j
 places_compare xs r d i j b c = elim (cases_lt i j) [
   | inl l ↦ before xs r d i j l c ∙ nat_cmp_is i j Less l

@@ -38,7 +38,7 @@ run_cmp_total = then_total (on_total (λ (r : Run). r.frequency) nat_cmp_total) 
 abbrev pub rank_of : Run → ℕ
 rank_of run = run.rank
 
--- each run has one of the numbers below how many there are, and all have
+-- the runs' numbers are a permutation of those below the number of runs
 pub numbered : (runs moved : List Run) → AreRanked runs → IsPermutation runs moved → AreNumbers (map rank_of moved)
 numbered runs moved ranked perm =
     let long : length (map rank_of moved) ≡ length runs = length-map moved rank_of ∙ length_permutation runs moved perm in
@@ -50,18 +50,18 @@ numbered runs moved ranked perm =
     get_or-range_with_len 0 (length (map rank_of moved)) i 0 (omega (arith, inside, long)) ∙ z ∙ sym (get_or-map rank_of runs i no 0 inside ∙ ranked i no inside)) in
     subst (λ (ns : List ℕ). IsPermutation ns (map rank_of moved)) (sym same) (IsPermutation-map rank_of runs moved perm)
 
--- ---- a list of all numbers and their places
+-- ---- a list of all numbers, and their indices
 
 below : (ranks : List ℕ) → AreNumbers ranks → All (λ r. r < length ranks) ranks
 below ranks all =
     All-permutation (λ r. r < length ranks) (range_with_len 0 (length ranks)) ranks all
     (λ k d b. let h : k < length ranks = omega (arith, b, length-range_with_len 0 (length ranks)) in omega (arith, get_or-range_with_len 0 (length ranks) k d h))
 
--- the run of this number has the rank
+-- the run with this number has the rank
 abbrev pub IsSlot : List Run → ℕ → ℕ → Type 0
 IsSlot runs rank number = (number < length (map rank_of runs)) × (get_or (map rank_of runs) number 0 ≡ rank)
 
--- a run's rank is below their number
+-- a run's rank is below the number of runs
 pub rank_below : (runs : List Run) (i : ℕ) (d : Run) → AreNumbers (map rank_of runs) → i < length runs → (get_or runs i d).rank < length runs
 rank_below runs i d all h =
     let ranks = map rank_of runs in
@@ -72,7 +72,7 @@ rank_below runs i d all h =
 pub rank_here : (runs : List Run) (i : ℕ) (d : Run) → i < length runs → IsSlot runs (get_or runs i d).rank i
 rank_here runs i d h = (omega (arith, h, length-map runs rank_of), get_or-map rank_of runs i d 0 h)
 
--- what is written for all runs are the places
+-- the numbers written for all runs are the indices
 pub places_are : (runs : List Run) (numbers : List ℕ) → AreNumbers (map rank_of runs) → length numbers ≡ length runs → All (λ r. IsSlot runs r.rank (get_or numbers r.rank 0)) runs → ArePlaces (map rank_of runs) numbers
 places_are runs numbers all long written =
     let ranks = map rank_of runs in
@@ -91,7 +91,7 @@ number_at tokens i h =
     let z : 0 + i ≡ i = omega arith in
     get_or-map (λ (t : ℕ × Token). t.0) (enumerate_from 0 tokens) i (0, token_with [] 0) 0 b ∙ ap (λ (t : ℕ × Token). t.0) (get_or-enumerate_from 0 tokens i (0, token_with [] 0) h) ∙ z
 
--- the places are the tokens' numbers by key, where the keys of the numbers rise and differ
+-- the indices are the tokens' numbers by key, if the keys of the numbers are distinct and increase
 pub places_by_key : (tokens : List Token) (names : List Text) (ranks places : List ℕ) → Rises names → IsDistinct bytes_eq names → IsPermutation names (map (λ t. t.key) tokens) → AreNumbers ranks → length ranks ≡ length tokens
     → ((t : ℕ) → t < length tokens → key_of tokens t ≡ get_or names (get_or ranks t 0) []) → ArePlaces ranks places → IsByKey tokens places
 places_by_key tokens names ranks places rise differ moved all long key are =

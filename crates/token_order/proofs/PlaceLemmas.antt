@@ -1,4 +1,4 @@
--- Members that are added behind others, and the keys of tables.
+-- Members that are appended to others, and the keys of tables.
 use Rattle.std.proofs.Common.{◌≡◌, refl, ap, sym, ◌∙◌, ℕ, ◌+◌, ◌-◌, ◌<◌, List, [], ◌∷◌, ◌++◌, map, length, get_or, take, arith, inl, inr, subst, append-nil, append_assoc, length-append}
 use Rattle.std.specs.Prelude.{bytes_eq, sum_by, flat_map}
 use Rattle.std.specs.List.{All, AllByRecursion, IsDistinct, enumerate_from, range_with_len}
@@ -115,7 +115,7 @@ differ_all n (t ∷ tables) h = all_append (λ (c : Titled). IsDistinct bytes_eq
 pub columns_differ : (tables : List Table) → All HasDistinctKeys tables → AllByRecursion (λ c. IsDistinct bytes_eq c.column.keys) (columns_of tables)
 columns_differ tables h = differ_all 0 tables (recursion_from_All HasDistinctKeys tables h)
 
--- as many as there are keys, where they point at all keys, in whatever order
+-- as many as there are keys, if they point at all keys, in any order
 pub member_count : (tables : List Table) (columns : List ColumnAt) (found : List TokenAt) → IsPermutation (keys_of tables) (map (pointed_by tables columns) found) → length found ≡ sum_by members tables
 member_count tables columns found same = sym (length-map found (pointed_by tables columns)) ∙ length_permutation (keys_of tables) (map (pointed_by tables columns) found) same ∙ length-keys_of tables
 

@@ -40,7 +40,7 @@ keys_numbered all n (t ∷ tokens) h =
     let rest = keys_numbered all (n + 1) tokens (λ i b. (let e : n + 1 + i ≡ n + suc i = omega arith in ap (key_of all) e) ∙ h (suc i) (omega arith)) in
     λ i. first i ∷ rest i
 
--- the tokens' numbers by key name them so
+-- the tokens' numbers by key give these names
 pub numbers_named : (tokens : List Token) (numbers : List ℕ) → IsByKey tokens numbers → map (key_of tokens) numbers ≡ names_of tokens
 numbers_named tokens numbers by_key =
     let keys = map (λ (t : Token). t.key) tokens in
@@ -48,7 +48,7 @@ numbers_named tokens numbers by_key =
     sorted_is nat_list_cmp_total exact_bytes (map (key_of tokens) numbers) (sorted_map (slice_cmp nat_cmp) (key_of tokens) numbers by_key.rising)
     ∙ in_order-IsPermutation nat_list_cmp_total exact_bytes keys (map (key_of tokens) numbers) (subst (λ (ks : List Text). IsPermutation ks (map (key_of tokens) numbers)) named (IsPermutation-map (key_of tokens) (numbers_of tokens) numbers by_key.same))
 
--- the runs of sorted keys are named so
+-- the runs of sorted keys have these names
 pub runs_named : (keys : List Text) (tokens : List Token) → IsSorted (slice_cmp nat_cmp) keys → IsPermutation (runs_of keys) tokens → map (λ t. t.key) (runs_of keys) ≡ names_of tokens
 runs_named keys tokens up moved =
     let key : Token → Text = λ t. t.key in
@@ -58,7 +58,7 @@ runs_named keys tokens up moved =
 
 -- ---- the ranks
 
--- what is written for all members are the ranks
+-- the numbers written for all members are the ranks
 pub ranks_are : (tables : List Table) (columns : List ColumnAt) (members : List TokenAt) (names : List Text) (ranks : List ℕ) → AreMembers tables columns members → HaveRanks names (keys_of tables) ranks columns members
     → (n : ℕ) → n < length (keys_of tables) → IsRank names (get_or (keys_of tables) n []) (get_or ranks n 0)
 ranks_are tables columns members names ranks all written n b =
@@ -100,7 +100,7 @@ token_there tokens numbers key rank number by_key is at =
     let same : key_of tokens number ≡ key = ap (key_of tokens) at ∙ sym (get_or-map (key_of tokens) numbers rank number [] within) ∙ ap (λ (ks : List Text). get_or ks rank []) named ∙ is.1 in
     found tokens numbers by_key key rank number within at (ap (λ (k : Text). slice_cmp nat_cmp k key) same ∙ level_itself (slice_cmp nat_cmp key key) (nat_list_cmp_total.antisymm key key))
 
--- what a vocabulary holds, of its tables
+-- what a vocabulary holds, stated for its tables
 pub by_key_of : (tables held : List Table) (columns : List ColumnAt) (places : List TokenAt) (frequencies by_key ranks : List ℕ) → IsVocabulary held columns places frequencies by_key ranks → held ≡ tables → IsByKey (tokens_of (columns_of tables)) by_key
 by_key_of tables held columns places frequencies by_key ranks is e =
     subst (λ (ts : List Table). IsByKey (tokens_of (columns_of ts)) by_key) e is.sorted

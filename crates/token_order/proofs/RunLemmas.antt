@@ -1,4 +1,4 @@
--- The runs of sorted keys: each key has one run, as long as the key is often.
+-- The runs of sorted keys: each key has one run, which is as long as the key is frequent.
 use Rattle.std.proofs.Common.{◌≡◌, refl, ap, sym, ◌∙◌, ℕ, ◌+◌, ◌≤◌, List, [], ◌∷◌, map, length, Bool, true, false, ◌||◌, cond, arith}
 use Rattle.std.specs.Prelude.{bytes_eq, sum_by}
 use Rattle.std.specs.List.{AllByRecursion, IsDistinct, count_by, list_any}
@@ -32,7 +32,7 @@ all_both : {X : Type 0} (P Q R : X → Type 0) → ((x : X) → P x → Q x → 
 all_both P Q R f [] h g = tt
 all_both P Q R f (x ∷ xs) h g = (f x h.0 g.0, all_both P Q R f xs h.1 g.1)
 
--- the keys behind one that is another
+-- the keys after one that differs
 others : (first : Token) (key : Text) (keys : List Text) → Rises (first.key ∷ key ∷ keys) → bytes_eq key first.key ≡ false → AllByRecursion (λ y. bytes_eq first.key y ≡ false) (key ∷ keys)
 others first key keys r e = (differ_back first.key key e, beyond_all first.key key keys r.0.0 e r.1.0)
 
@@ -56,7 +56,7 @@ unfolding IsDistinct
 runs_differ [] r = tt
 runs_differ (key ∷ keys) r = differ_from (token_with key 1) keys r
 
--- ---- the keys of the runs rise
+-- ---- the keys of the runs increase
 
 rise_then : (first : Token) (key : Text) (keys : List Text) (b : Bool) → Rises (first.key ∷ key ∷ keys) → Rises (map (λ t. t.key) (runs_from (longer first) keys)) → Rises (map (λ t. t.key) (runs_from (token_with key 1) keys))
     → Rises (map (λ t. t.key) (runs_then b first key keys))
@@ -95,7 +95,7 @@ pub runs_have : (q : Text) (keys : List Text) → list_any (bytes_eq q) (map (λ
 runs_have q [] = refl
 runs_have q (key ∷ keys) = has_from q (token_with key 1) keys
 
--- ---- as long as the key is often
+-- ---- as long as the key is frequent
 
 abbrev once : Bool → ℕ
 once b = cond b 1 0
@@ -108,7 +108,7 @@ count_none a [] h = refl
 count_none a (y ∷ ys) h =
     omega (arith, sum_by-cons (λ (y : Text). once (bytes_eq a y)) y ys, count_none a ys h.1, ap once h.0)
 
--- how many keys a run of q has, where the keys follow those of the first run
+-- how many keys a run of q has, if the keys follow those of the first run
 abbrev often : Token → List Text → Text → ℕ
 often first keys q = times first.frequency (bytes_eq q first.key) + count_by (bytes_eq q) keys
 

@@ -1,4 +1,4 @@
--- What a sort by a key leaves, and sorted keys.
+-- The result of a sort by a key, and sorted keys.
 use Rattle.std.proofs.Common.{◌≡◌, refl, ap, sym, ◌∙◌, subst, ℕ, zero, suc, ◌+◌, ◌<◌, List, [], ◌∷◌, map, length, get_or, Bool, true, false, arith}
 use Rattle.std.specs.Prelude.{bytes_eq}
 use Rattle.std.specs.List.{AllByRecursion}
@@ -20,7 +20,7 @@ use Rattle.lake_model.specs.Texts.{Text}
 use denote.Ref.{Bor}
 use denote.Param.Members.{Mut}
 
--- what `sort_unstable_by` leaves, where each call of its closure compares two keys
+-- the result of `sort_unstable_by` if each call of its closure compares two keys
 pub sorted_by_key : {X K : Type 0} {R : K → K → Ordering} → IsTotalOrder R → (key : X → K) → {F : Type 0} {g : Mut F (Bor X × (Bor X × Unit {0})) Ordering} {f : F} (xs : List X)
     → IsSortedByClosure g f xs
     → ((a : Bor X × (Bor X × Unit {0})) (r : Ordering) (f' : F) → Called g f a r f' → (r ≡ R (key a.0.now) (key a.1.0.now)) × (f' ≡ f)) → IsSortedByKey key R xs
@@ -76,7 +76,7 @@ level Greater n m = cc
 same_text : (x y : Text) → less x y ≡ false → less y x ≡ false → x ≡ y
 same_text x y n m = exact_bytes x y (level (slice_cmp nat_cmp x y) n (ap is_lt (sym (nat_list_cmp_total.antisymm y x)) ∙ m))
 
--- two texts that differ, either way
+-- texts that differ do so in either order
 pub differ_back : (a k : Text) → bytes_eq k a ≡ false → bytes_eq a k ≡ false
 differ_back a k n = by (bytes_eq a k) refl
   where
@@ -84,7 +84,7 @@ differ_back a k n = by (bytes_eq a k) refl
     by false e = refl
     by true e = absurd (let f : bytes_eq k a ≡ true = (bytes_eq-Decides k a).1 (sym ((bytes_eq-Decides a k).0 e)) in let g : true ≡ false = sym f ∙ n in cc)
 
--- k comes after a and is another, so what comes after k is another than a
+-- k comes after a and differs from it, so what comes after k differs from a
 beyond : (a k y : Text) → less k a ≡ false → bytes_eq k a ≡ false → less y k ≡ false → bytes_eq a y ≡ false
 beyond a k y up n h = by (bytes_eq a y) refl
   where

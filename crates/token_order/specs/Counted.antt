@@ -1,4 +1,4 @@
--- The runs of all members of tables, and the number that each member's run has.
+-- The runs of all members of tables, and the number of each member's run.
 use Rattle.std.specs.Prelude.{◌≡◌, ℕ, ◌<◌, ◌^◌, List, [], get_or, length, map}
 use Rattle.std.specs.List.{All, range_with_len}
 use Rattle.std.specs.List.Sorted.{IsPermutation, IsSorted}
@@ -16,7 +16,7 @@ use Rattle.token_order.specs.Runs.{run_keys, run_token, runs_of, AreRanked}
 use Rattle.token_order.specs.declared.columns.ColumnAt.{ColumnAt}
 use Rattle.token_order.specs.declared.runs.Run.{Run}
 
--- the keys of all columns, by their bytes
+-- the keys of all columns, sorted by their bytes
 abbrev pub sorted_keys : List Table → List Text
 sorted_keys tables = in_order (slice_cmp nat_cmp) (keys_of tables)
 
@@ -32,11 +32,11 @@ pub record AreCounted (tables : List Table) (columns : List ColumnAt) (runs : Li
   pub long : length ranks ≡ length (keys_of tables)
   pub ranked : (n : ℕ) → n < length (keys_of tables) → IsRank (run_keys (sorted_keys tables)) (get_or (keys_of tables) n []) (get_or ranks n 0)
 
--- each number is among the numbers below the length of the list, and all are
+-- the list is a permutation of the numbers below its length
 abbrev pub AreNumbers : List ℕ → Type 0
 AreNumbers ranks = IsPermutation (range_with_len 0 (length ranks)) ranks
 
--- the places of the numbers 0, 1 and so on in the list
+-- the index of each of the numbers 0, 1, and so on in the list
 pub record ArePlaces (ranks places : List ℕ) : Type 0 where
   pub long : length places ≡ length ranks
   pub each : (r : ℕ) → r < length ranks → (get_or places r 0 < length ranks) × (get_or ranks (get_or places r 0) 0 ≡ r)

@@ -1,4 +1,4 @@
--- A count of runs, part of the way: the runs that have ended, the present one, and how many members were seen.
+-- A count of runs that is under way: the runs that have ended, the current one, and how many members were seen.
 use Rattle.std.specs.Prelude.{◌≡◌, ℕ, ◌≤◌, List, ◌++◌, map, length, drop}
 use Rattle.std.specs.List.{All}
 use Rattle.lake_model.specs.Tables.{Table}
@@ -9,7 +9,7 @@ use Rattle.token_order.specs.declared.columns.ColumnAt.{ColumnAt}
 use Rattle.search_model.specs.declared.TokenAt.{TokenAt}
 use Rattle.token_order.specs.declared.runs.Run.{Run}
 
--- the runs so far, with those from the present one on, are all runs
+-- the runs so far, followed by those from the current one on, are all runs
 pub record IsCounting (tables : List Table) (all : List Token) (columns : List ColumnAt) (members : List TokenAt) (ended : List Run) (run : Run) (i : ℕ) : Type 0 where
   pub runs : map (run_token tables columns) ended ++ runs_from (run_token tables columns run) (map (pointed_by tables columns) (drop i members)) ≡ all
   pub within : All (λ r. IsThere tables columns r.first) ended

@@ -13,7 +13,7 @@ use Rattle.token_order.specs.declared.columns.ColumnAt.{ColumnAt}
 abbrev pub keys_in : Table → List Text
 keys_in table = all_of (sets_of table)
 
--- the keys of all columns of the tables: a member's number is its place in this list, from 0
+-- the keys of all columns of the tables: a member's number is its index in this list, from 0
 abbrev pub keys_of : List Table → List Text
 keys_of tables = flat_map keys_in tables
 
@@ -30,22 +30,22 @@ pub record IsThere (tables : List Table) (columns : List ColumnAt) (member : Tok
   pub column : member.column < length columns
   pub index : member.index < length (keys_there tables (column_at columns member.column))
 
--- a member is the key of its number
+-- a member is the key with its number
 pub record IsMember (tables : List Table) (columns : List ColumnAt) (member : TokenAt) : Type 0 where
   pub here : IsThere tables columns member
   pub inside : number_of columns member < length (keys_of tables)
   pub points : get_or (keys_of tables) (number_of columns member) [] ≡ pointed_by tables columns member
 
--- all members, in whatever order
+-- all members, in any order
 pub record AreMembers (tables : List Table) (columns : List ColumnAt) (members : List TokenAt) : Type 0 where
   pub each : All (IsMember tables columns) members
   pub all : IsPermutation (range_with_len 0 (length (keys_of tables))) (map (number_of columns) members)
 
--- each member's number is its place in the list
+-- each member's number is its index in the list
 abbrev pub IsNumbered : List ColumnAt → List TokenAt → Type 0
 IsNumbered columns members = (i : ℕ) (d : TokenAt) → i < length members → number_of columns (get_or members i d) ≡ i
 
--- members were added behind others, they point at these keys, and all stand in columns, and are numbered, if the others did and were
+-- members were appended to others and point at these keys; all are in columns and are numbered, if the others are
 pub record IsMore (tables : List Table) (columns : List ColumnAt) (old new : List TokenAt) (keys : List Text) : Type 0 where
   pub points : map (pointed_by tables columns) new ≡ map (pointed_by tables columns) old ++ keys
   pub within : All (IsThere tables columns) old → All (IsThere tables columns) new

@@ -1,4 +1,4 @@
--- The ranks of members: which of the distinct keys, by their bytes, is the member's, counted from 0.
+-- The ranks of members: the number, from 0, of the member's key among the distinct keys sorted by their bytes.
 use Rattle.std.specs.Prelude.{◌≡◌, ℕ, ◌<◌, List, [], map, length, get_or}
 use Rattle.std.specs.List.{All}
 use Rattle.std.specs.Ordering.{nat_cmp}
@@ -11,7 +11,7 @@ use Rattle.token_order.specs.Places.{keys_of, number_of}
 use Rattle.token_order.specs.declared.columns.ColumnAt.{ColumnAt}
 use Rattle.search_model.specs.declared.TokenAt.{TokenAt}
 
--- the text is the one of this number
+-- the text is the one with this number
 abbrev pub IsRank : List Text → Text → ℕ → Type 0
 IsRank names key n = (n < length names) × (get_or names n [] ≡ key)
 
@@ -19,11 +19,11 @@ IsRank names key n = (n < length names) × (get_or names n [] ≡ key)
 abbrev pub HaveRanks : List Text → List Text → List ℕ → List ColumnAt → List TokenAt → Type 0
 HaveRanks names keys ranks columns members = All (λ m. IsRank names (get_or keys (number_of columns m) []) (get_or ranks (number_of columns m) 0)) members
 
--- the keys of the tokens, by their bytes
+-- the keys of the tokens, sorted by their bytes
 abbrev pub names_of : List Token → List Text
 names_of tokens = in_order (slice_cmp nat_cmp) (map (λ t. t.key) tokens)
 
--- the ranks of all members, by their numbers
+-- the ranks of all members, at their numbers
 pub record AreRanks (tables : List Table) (ranks : List ℕ) : Type 0 where
   pub long : length ranks ≡ length (keys_of tables)
   pub each : (n : ℕ) → n < length (keys_of tables) → IsRank (names_of (tokens_of (columns_of tables))) (get_or (keys_of tables) n []) (get_or ranks n 0)

@@ -1,4 +1,4 @@
--- Keys as runs of equal neighbours. A run is a token: its key, and how many keys it has.
+-- Keys as runs of equal neighbours. A run is a token: its key, and how many keys the run has.
 use Rattle.std.specs.Prelude.{◌≡◌, ℕ, ◌+◌, ◌<◌, List, [], ◌∷◌, bytes_eq, get_or, if◌then◌else◌, length, map}
 use Rattle.std.specs.Ordering.{nat_cmp, ordering_then}
 use Rattle.std.specs.declared.cmp.Ordering.{Ordering}
@@ -10,7 +10,7 @@ use Rattle.token_order.specs.Places.{pointed_by}
 use Rattle.token_order.specs.declared.columns.ColumnAt.{ColumnAt}
 use Rattle.token_order.specs.declared.runs.Run.{Run}
 
--- the runs, where the keys follow those of the first run
+-- the runs, if the keys follow those of the first run
 abbrev pub runs_from : Token → List Text → List Token
 runs_from first [] = first ∷ []
 runs_from first (key ∷ keys) = if bytes_eq key first.key then runs_from (token_with first.key (first.frequency + 1)) keys else first ∷ runs_from (token_with key 1) keys
@@ -31,6 +31,6 @@ run_token tables columns run = token_with (pointed_by tables columns run.first) 
 abbrev pub run_cmp : Run → Run → Ordering
 run_cmp a b = ordering_then (nat_cmp a.frequency b.frequency) (nat_cmp a.rank b.rank)
 
--- each run's number is its place in the list
+-- each run's number is its index in the list
 abbrev pub AreRanked : List Run → Type 0
 AreRanked runs = (i : ℕ) (d : Run) → i < length runs → (get_or runs i d).rank ≡ i

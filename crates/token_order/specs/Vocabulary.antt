@@ -1,5 +1,5 @@
--- What a vocabulary holds: the columns of its tables, where its tokens' keys stand among them and how frequent the tokens are, in the order of
--- tokens, the tokens' numbers by key, and the ranks of the members.
+-- What a vocabulary holds: the columns of its tables; where its tokens' keys are among them and how frequent the tokens
+-- are, in token order; the tokens' numbers by key; and the ranks of the members.
 use Rattle.std.specs.Prelude.{◌≡◌, ℕ, ◌<◌, ◌^◌, List, map, length, get_or, sum_by}
 use Rattle.std.specs.List.{All}
 use Rattle.lake_model.specs.Tables.{Table, members}

@@ -11,8 +11,8 @@ use column_set::{SharedTable, TableSets};
 use no_memory::NoMemory;
 use std::alloc::Global;
 
-/// A column: the index of its table in a list of tables, from 0, its place there, from 1, and the number of its first member among the
-/// members of all columns, by table, place and index, from 0.
+/// A column: the index of its table in a list of tables, from 0; its place there, from 1; and the number of its first
+/// member, from 0, among the members of all columns by table, place and index.
 #[derive(Clone, Copy)]
 pub struct ColumnAt {
     pub table: u32,
@@ -20,8 +20,8 @@ pub struct ColumnAt {
     pub first: u32,
 }
 
-/// The columns of the tables, by table, and then by place. They are refused for want of memory where there are 2^32 tables, columns or
-/// members, or more.
+/// Returns the columns of the tables, by table and then by place. Returns `Err(NoMemory)` if memory runs out, and also
+/// if there are 2^32 or more tables, columns or members.
 pub fn all_columns(alloc: Global, tables: &[SharedTable]) -> Result<Vec<ColumnAt>, NoMemory>
     ensures columns { IfOk result (λ columns. AreColumns tables.now columns.items) }
     ensures owned { IfOk result (λ columns. map owner_there columns.items ≡ map owner_of (columns_of tables.now)) }
@@ -43,7 +43,7 @@ pub fn all_columns(alloc: Global, tables: &[SharedTable]) -> Result<Vec<ColumnAt
     Ok(columns)
 }
 
-// Adds the columns of a table, and gives the number of the first member behind them.
+// Appends the columns of a table, and returns the number of the member that follows theirs.
 fn push_columns(
     columns: &mut Vec<ColumnAt>,
     tables: &[SharedTable],
@@ -73,7 +73,7 @@ fn push_columns(
     Ok(first)
 }
 
-/// The table of a number.
+/// Returns the table with this number.
 pub fn table_of(tables: &[SharedTable], number: u32) -> &TableSets
     requires { number < length tables.now }
     ensures { result.now ≡ table_at tables.now number }

@@ -1,13 +1,14 @@
-//! The fronts of keys. The front of a key is its first 15 bytes as one number, so that two keys mostly compare as two numbers.
+//! The fronts of keys. The front of a key is its first 15 bytes as one number, so that comparing two keys mostly means
+//! comparing two numbers.
 ghost use Rattle.std.specs.Prelude.{◌≡◌, ◌<◌, ◌^◌};
 ghost use Rattle.std.specs.List.{All};
 ghost use Rattle.token_order.specs.Fronts.{digit_at, digits, front_of};
 
-/// How many bytes of a key its front has.
+/// How many bytes of a key are in its front.
 const FRONT_BYTES: usize = 15;
 
-/// The front of a key: twice the number of its first 15 bytes, and one more where other bytes may follow. Fronts rise with the keys, and
-/// keys of equal even fronts are equal.
+/// Returns the front of a key: twice the number made of its first 15 bytes, plus one if more bytes may follow. Fronts
+/// are ordered as the keys are, and keys whose fronts are equal and even are equal.
 pub fn front_of(key: &str) -> u128
     ensures value { result ≡ front_of key.now }
     ensures bytes { All (λ byte. byte < 256) key.now }
@@ -21,7 +22,8 @@ pub fn front_of(key: &str) -> u128
     }
 }
 
-// The first 15 bytes as a number of 15 digits to the base of 257: each digit is one more than its byte, so that 0 is past the last.
+// Returns the first 15 bytes as a number of 15 digits in base 257. Each digit is one more than its byte, and 0 past the
+// last byte.
 fn first_digits(bytes: &[u8]) -> u128
     ensures value { result ≡ digits 15 bytes.now }
     ensures small { result < 2 ^ 125 }
@@ -33,7 +35,7 @@ fn first_digits(bytes: &[u8]) -> u128
     digits
 }
 
-// One more than the byte at a place, from 0, and 0 past the last.
+// Returns one more than the byte at an index, from 0, or 0 past the last byte.
 fn digit_at(bytes: &[u8], i: usize) -> u128
     ensures value { result ≡ digit_at bytes.now i }
     ensures small { result < 257 }

@@ -1,4 +1,4 @@
-//! Members with the fronts of their keys, which are sorted with few looks at the keys.
+//! Members with the fronts of their keys, so that sorting them seldom reads the keys.
 ghost use Rattle.std.specs.Prelude.{◌≡◌, bytes_eq};
 ghost use Rattle.std.specs.Cmp.Lexicographic.{slice_cmp};
 ghost use Rattle.std.specs.Ordering.{nat_cmp};
@@ -22,7 +22,7 @@ pub struct Keyed {
 }
 
 impl Keyed {
-    /// A member with the front of its key.
+    /// Makes a member with the front of its key.
     pub fn new(tables: &[SharedTable], columns: &[ColumnAt], member: TokenAt) -> Keyed
         ensures member { result.member ≡ member }
         ensures keyed { IsKeyed tables.now columns.now result }
@@ -35,7 +35,7 @@ impl Keyed {
         }
     }
 
-    // The front.
+    // Returns the front.
     #[inline(always)]
     fn front(&self) -> u128
         ensures { result ≡ front_held self.now }
@@ -44,8 +44,8 @@ impl Keyed {
     }
 }
 
-/// The order of members by their fronts, and then by their keys, which are read only where the fronts are equal and other bytes may
-/// follow. It is the order by the bytes of their keys.
+/// Compares members by their fronts, and then by their keys, which are read only if the fronts are equal and more bytes
+/// may follow. The order is that of the bytes of their keys.
 #[inline(always)]
 pub fn order(tables: &[SharedTable], columns: &[ColumnAt], a: &Keyed, b: &Keyed) -> Ordering
     ensures { result ≡ slice_cmp nat_cmp (compared_with tables.now columns.now a.now) (compared_with tables.now columns.now b.now) }
@@ -57,7 +57,7 @@ pub fn order(tables: &[SharedTable], columns: &[ColumnAt], a: &Keyed, b: &Keyed)
     }
 }
 
-// The order of members of one front.
+// Compares members that have the same front.
 #[inline(never)]
 fn order_by_rest(
     tables: &[SharedTable],
@@ -74,7 +74,7 @@ fn order_by_rest(
     key_at(tables, columns, a).cmp(key_at(tables, columns, b))
 }
 
-/// Whether two members have one key.
+/// Returns whether two members have the same key.
 pub fn same_key(tables: &[SharedTable], columns: &[ColumnAt], a: &Keyed, b: &Keyed) -> bool
     requires first { IsKeyed tables.now columns.now a.now }
     requires second { IsKeyed tables.now columns.now b.now }

@@ -1,4 +1,5 @@
-//! The vocabulary of a list of tables: its distinct keys, numbered as tokens by rising frequency, and then by their bytes.
+//! The vocabulary of a list of tables: its distinct keys, numbered as tokens by increasing frequency, and then by their
+//! bytes.
 #![tactic(auto)]
 
 mod columns;

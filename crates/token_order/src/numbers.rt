@@ -9,7 +9,7 @@ use crate::places::key_at;
 use column_set::SharedTable;
 use search_model::TokenAt;
 
-/// The key of a token, and an empty text where there is no such token.
+/// Returns the key of a token, or an empty text if there is no such token.
 pub fn key_of<'a>(
     tables: &'a [SharedTable],
     columns: &[ColumnAt],
@@ -24,7 +24,7 @@ pub fn key_of<'a>(
     }
 }
 
-/// The number of the token that has the key, by a binary search.
+/// Returns the number of the token that has the key, found by a binary search, or `None`.
 pub fn find(
     tables: &[SharedTable],
     columns: &[ColumnAt],

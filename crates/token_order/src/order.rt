@@ -1,4 +1,4 @@
-//! The runs of members in the order of tokens.
+//! The runs of members in token order.
 ghost use Rattle.std.specs.Prelude.{◌≡◌, ◌<◌, ◌^◌, length, map, sum_by, IfOk};
 ghost use Rattle.lake_model.specs.Tables.{members};
 ghost use Rattle.token_order.specs.Counted.{AreNumbers, ArePlaces};
@@ -11,8 +11,9 @@ use no_memory::NoMemory;
 use search_model::TokenAt;
 use std::alloc::Global;
 
-/// The columns, where the keys of the tokens stand among them and how frequent the tokens are, in the order of tokens, the numbers of the
-/// tokens by the bytes of their keys, and for each member, at its number, which of the distinct keys it has, by their bytes.
+/// The columns; where the tokens' keys are and how frequent the tokens are, in token order; the numbers of the tokens
+/// by the bytes of their keys; and, for each member at its number, the rank of its key among the distinct keys by their
+/// bytes.
 #[derive(Drop)]
 pub struct OrderedTokens {
     pub columns: Vec<ColumnAt>,
@@ -22,7 +23,7 @@ pub struct OrderedTokens {
     pub ranks: Vec<u32>,
 }
 
-/// The tokens of the tables. The runs are numbered by their keys, so that no key is compared to put them in order.
+/// Returns the tokens of the tables. The runs are numbered by their keys, so that ordering them compares no keys.
 pub fn ordered_tokens(alloc: Global, tables: &[SharedTable]) -> Result<OrderedTokens, NoMemory>
     requires { sum_by members tables.now < 2 ^ 32 }
     ensures { IfOk result (λ made. IsVocabulary tables.now made.columns.items made.tokens.items made.frequencies.items made.by_key.items made.ranks.items) }
@@ -45,7 +46,7 @@ pub fn ordered_tokens(alloc: Global, tables: &[SharedTable]) -> Result<OrderedTo
     })
 }
 
-// For each rank the number of the run that has it. It takes one write a run.
+// Returns the number of the run that has each rank. It takes one write for each run.
 fn numbers_by_rank(alloc: Global, runs: &[Run]) -> Result<Vec<u32>, NoMemory>
     requires few { length runs.now < 2 ^ 32 }
     requires ranks { AreNumbers (map (λ r. r.rank) runs.now) }
@@ -69,7 +70,7 @@ fn number_runs(runs: &[Run], numbers: &mut [u32])
     }
 }
 
-// Where the keys of the runs stand.
+// Returns where the keys of the runs are.
 fn places_of(alloc: Global, runs: &[Run]) -> Result<Vec<TokenAt>, NoMemory>
     ensures { IfOk result (λ tokens. tokens.items ≡ map (λ r. r.first) runs.now) }
 {
@@ -80,7 +81,7 @@ fn places_of(alloc: Global, runs: &[Run]) -> Result<Vec<TokenAt>, NoMemory>
     Ok(tokens)
 }
 
-// How many members the runs have.
+// Returns how many members the runs have.
 fn frequencies_of(alloc: Global, runs: &[Run]) -> Result<Vec<u32>, NoMemory>
     ensures { IfOk result (λ frequencies. frequencies.items ≡ map (λ r. r.frequency) runs.now) }
 {

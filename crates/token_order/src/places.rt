@@ -1,5 +1,5 @@
-//! The members of the columns of tables, sorted by their keys. A member is a key of a column. As many as there are members are sorted, so one
-//! is kept as the number of its column and its index there, and with the front of its key.
+//! The members of the columns of tables, sorted by their keys. A member is a key of a column. There is an entry for
+//! each member, so it is kept small: the number of its column and its index there, with the front of its key.
 ghost use Rattle.std.specs.Prelude.{◌≡◌, ◌<◌, ◌^◌, [], get_or, length, map, sum_by, IfOk, OnOk};
 ghost use Rattle.std.specs.Cmp.Lexicographic.{slice_cmp};
 ghost use Rattle.std.specs.List.Sorted.{IsPermutation, IsSorted};
@@ -17,7 +17,7 @@ use no_memory::NoMemory;
 use search_model::{Owner, TokenAt};
 use std::alloc::Global;
 
-/// The number of a member among the members of all columns, by table, place and index, from 0.
+/// Returns the number of a member among the members of all columns by table, place and index, from 0.
 pub fn number_of(columns: &[ColumnAt], member: TokenAt) -> usize
     requires { member.column < length columns.now }
     ensures { result ≡ number_of columns.now member }
@@ -25,7 +25,7 @@ pub fn number_of(columns: &[ColumnAt], member: TokenAt) -> usize
     columns[member.column as usize].first as usize + member.index as usize
 }
 
-/// The key of a member, and an empty text where there is none.
+/// Returns the key of a member, or an empty text if there is none.
 pub fn key_at<'a>(tables: &'a [SharedTable], columns: &[ColumnAt], member: TokenAt) -> &'a str
     ensures { result.now ≡ pointed_by tables.now columns.now member }
 {
@@ -36,7 +36,7 @@ pub fn key_at<'a>(tables: &'a [SharedTable], columns: &[ColumnAt], member: Token
     }
 }
 
-// Where the column of a number stands. Past the columns it is no place.
+// Returns the table and the place of the column with this number, or the invalid place 0 if there is no such column.
 fn owner_at(columns: &[ColumnAt], number: u32) -> Owner
     ensures { result ≡ owner_there (column_at columns.now number) }
 {
@@ -49,7 +49,7 @@ fn owner_at(columns: &[ColumnAt], number: u32) -> Owner
     }
 }
 
-// A key of the column at a place of a table, and an empty text where there is none. Place 0 is place 1.
+// Returns a key of the column at a place of a table, or an empty text if there is none. Place 0 is taken as place 1.
 fn key_in(table: &TableSets, place: u32, index: u32) -> &str
     ensures { result.now ≡ get_or (keys_at table.now place) index [] }
 {
@@ -60,7 +60,7 @@ fn key_in(table: &TableSets, place: u32, index: u32) -> &str
     table.key(place, index)
 }
 
-/// How many keys the columns of the tables have together. It is refused for want of memory where these are 2^64 or more.
+/// Returns how many keys the columns of the tables have together. Returns `Err(NoMemory)` if there are 2^64 or more.
 pub fn member_count(tables: &[SharedTable]) -> Result<usize, NoMemory>
     ensures { IfOk result (λ count. count ≡ sum_by members tables.now) }
 {
@@ -74,7 +74,7 @@ pub fn member_count(tables: &[SharedTable]) -> Result<usize, NoMemory>
     Ok(count)
 }
 
-// Adds each member of the column of a number, where as many members are there as the number of its first says.
+// Appends each member of the column with this number. There are as many members before it as the column's `first` says.
 fn push_column(
     members: &mut Vec<Keyed>,
     tables: &[SharedTable],
@@ -93,7 +93,7 @@ fn push_column(
     Ok(())
 }
 
-// The members of all columns, in the order of their numbers.
+// Returns the members of all columns, in the order of their numbers.
 fn all_members(
     alloc: Global,
     tables: &[SharedTable],
@@ -110,7 +110,7 @@ fn all_members(
     Ok(members)
 }
 
-/// The members of all columns of the tables, by the bytes of their keys.
+/// Returns the members of all columns of the tables, sorted by the bytes of their keys.
 pub fn members_by_key(
     alloc: Global,
     tables: &[SharedTable],

@@ -1,4 +1,4 @@
-//! Members of equal keys, counted.
+//! Members with equal keys, counted.
 ghost use Rattle.std.specs.Prelude.{◌≡◌, ◌<◌, ◌^◌, length, map, sum_by, IfOk, OnOk};
 ghost use Rattle.std.specs.List.{All};
 ghost use Rattle.column_set.specs.Columns.{HasDistinctKeys};
@@ -19,7 +19,8 @@ use search_model::TokenAt;
 use std::alloc::Global;
 use std::cmp::Ordering;
 
-/// A run of neighbours of equal keys among the sorted members: its first member, how many it has, and its number among the runs, from 0.
+/// A run of adjacent members with equal keys among the sorted members: its first member, how many it has, and its
+/// number among the runs, from 0.
 #[derive(Clone, Copy)]
 pub struct Run {
     pub first: TokenAt,
@@ -27,7 +28,8 @@ pub struct Run {
     pub rank: u32,
 }
 
-/// The columns, the runs of their members by the bytes of their keys, and the number of the run of each member, at the member's number.
+/// The columns, the runs of their members by the bytes of their keys, and, at each member's number, the number of its
+/// run.
 #[derive(Drop)]
 pub struct CountedRuns {
     pub columns: Vec<ColumnAt>,
@@ -35,7 +37,7 @@ pub struct CountedRuns {
     pub ranks: Vec<u32>,
 }
 
-/// The runs of the members of all columns of the tables. The members are let go at the end.
+/// Returns the runs of the members of all columns of the tables. The members themselves are freed at the end.
 pub fn counted_runs(alloc: Global, tables: &[SharedTable]) -> Result<CountedRuns, NoMemory>
     requires { sum_by members tables.now < 2 ^ 32 }
     ensures counted { IfOk result (λ made. AreCounted tables.now made.columns.items made.runs.items made.ranks.items) }
@@ -52,7 +54,7 @@ pub fn counted_runs(alloc: Global, tables: &[SharedTable]) -> Result<CountedRuns
     })
 }
 
-/// The order of runs: the shorter first, and then the lower number, which has the lower key.
+/// Compares runs: the shorter first, and then the lower number, which has the lower key.
 pub fn run_order(a: Run, b: Run) -> Ordering
     ensures { result ≡ run_cmp a b }
 {
@@ -62,7 +64,7 @@ pub fn run_order(a: Run, b: Run) -> Ordering
     }
 }
 
-// The runs of the members. The number of its run is written for each member, at the member's number.
+// Returns the runs of the members. The number of each member's run is written to `ranks` at the member's number.
 fn count_runs(
     alloc: Global,
     tables: &[SharedTable],
@@ -86,7 +88,7 @@ fn count_runs(
     count_from(alloc, tables, columns, *first, members, ranks)
 }
 
-// The runs, where the first begins at a member that is not counted yet.
+// Returns the runs. The first one begins at a member that has not been counted yet.
 fn count_from(
     alloc: Global,
     tables: &[SharedTable],

@@ -1,4 +1,4 @@
-//! The vocabulary of a table of two columns: x and z are in one of them, and a is in both.
+//! The vocabulary of a table of two columns: x and z are in one column each, and a is in both.
 ghost use Rattle.std.specs.Prelude.{◌<◌, ◌^◌, length, sum_by, IfOk};
 ghost use Rattle.lake_model.specs.Tables.{members};
 
@@ -8,7 +8,7 @@ use csv_table::read_table;
 use std::alloc::Global;
 use std::test::Fail;
 
-// The table of CSV bytes, alone in a list.
+// Returns a list that holds only the table of these CSV bytes.
 fn one_table(alloc: Global, bytes: &[u8]) -> Result<Vec<SharedTable>, Fail>
     ensures columns { IfOk result (λ tables. sum_by (λ t. length t.columns) tables.items < 2 ^ 32) }
     ensures members { IfOk result (λ tables. sum_by members tables.items < 2 ^ 32) }
@@ -23,7 +23,7 @@ fn one_table(alloc: Global, bytes: &[u8]) -> Result<Vec<SharedTable>, Fail>
     Ok(vec![in alloc; shared]?)
 }
 
-// The lower frequency comes first, and then the lower key: x and z, and then a.
+// The lower frequency comes first, and then the lower key: x, z, and then a.
 #[test]
 fn tokens(rt: HostRuntime) -> Result<(), Fail> {
     let alloc = rt.alloc();

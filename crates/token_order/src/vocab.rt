@@ -15,8 +15,8 @@ use search_model::TokenAt;
 use std::alloc::Global;
 use std::marker::Model;
 
-/// Where the key of each token stands and how many columns hold it, in the order of the tokens, and the tokens' numbers by the bytes of
-/// their keys.
+/// The tokens in token order: where the key of each token is, and how many columns hold it. Also, in `by_key`, the
+/// numbers of the tokens by the bytes of their keys.
 #[derive(Drop)]
 pub struct TokenLists {
     pub tokens: Vec<TokenAt>,
@@ -24,10 +24,10 @@ pub struct TokenLists {
     pub by_key: Vec<u32>,
 }
 
-/// The distinct keys of the columns of a list of tables, as tokens. They are numbered from 0 by rising frequency, which is how many
-/// columns hold the key, and then by the bytes of the key (Zhu, Deng, Nargesian and Miller, "JOSIE: Overlap Set Similarity Search for
-/// Finding Joinable Tables in Data Lakes", SIGMOD 2019). A key is kept as a place in the tables, which are borrowed. A contract sees
-/// the list of the tables.
+/// The distinct keys of the columns of a list of tables, as tokens. They are numbered from 0 by increasing frequency
+/// (how many columns hold the key), and then by the bytes of the key (Zhu, Deng, Nargesian and Miller, "JOSIE: Overlap
+/// Set Similarity Search for Finding Joinable Tables in Data Lakes", SIGMOD 2019). A key is stored as its location in
+/// the tables, which are borrowed. Its model is the list of the tables.
 #[derive(Drop)]
 pub struct Vocab<'a> {
     tables: &'a [SharedTable],
@@ -56,11 +56,13 @@ impl<'a> Vocab<'a> {
     ghost use Rattle.token_order.specs.Places.{keys_of};
     ghost use Rattle.token_order.specs.Vocabulary.{frequencies_of, frequency_of};
 
-    /// The vocabulary of the tables. It takes the time to sort all keys of all columns by their bytes, once, which are read again only
-    /// where the first 15 bytes of two keys are equal. While the keys are sorted and counted, they take 28 bytes for each key of each
-    /// column and at most 32 for each distinct key; while these are put in order,
-    /// 4 for each key of each column and at most 48 for each distinct key; and at most 24 for each column all the time. What is left
-    /// is 4 for each key of each column, 16 for each distinct key, and at most 24 for each column. It is refused only for want of memory.
+    /// Builds the vocabulary of the tables. It sorts all keys of all columns once, by their bytes. While it sorts, it
+    /// reads a key again only to compare it with one that has the same first 15 bytes.
+    ///
+    /// While the keys are sorted and counted, it takes 28 bytes for each key of each column and at most 32 for each
+    /// distinct key; while the distinct keys are put in order, it takes 4 for each key of each column and at most 48
+    /// for each distinct key; and it takes at most 24 for each column throughout. It keeps 4 bytes for each key of each
+    /// column, 16 for each distinct key, and at most 24 for each column. It fails only if memory runs out.
     pub fn build(alloc: Global, tables: &'a [SharedTable]) -> Result<Vocab<'a>, NoMemory>
         requires columns { sum_by (λ t. length t.columns) tables.now < 2 ^ 32 }
         requires members { sum_by members tables.now < 2 ^ 32 }
@@ -83,23 +85,23 @@ impl<'a> Vocab<'a> {
         })
     }
 
-    /// How many tokens there are.
+    /// Returns the number of tokens.
     pub fn len(&self) -> u32
         ensures { result ≡ length (tokens_of (columns_of self.now)) }
     {
         self.tokens.len() as u32
     }
 
-    /// The token that the key is, and `None` where no column has the key. It takes as many comparisons as the number of tokens has
-    /// binary digits.
+    /// Returns the key's token, or `None` if no column has the key. It takes as many comparisons as the number of
+    /// tokens has binary digits.
     pub fn find(&self, key: &str) -> Option<u32>
         ensures { IsToken (tokens_of (columns_of self.now)) key.now result }
     {
         numbers::find(self.tables, &self.columns, &self.tokens, &self.by_key, key)
     }
 
-    /// The token of the member of a number, where the members of all columns are numbered from 0, by table, place and index. It takes
-    /// two reads, and compares no key.
+    /// Returns the token of the member with this number. The members of all columns are numbered from 0, by table,
+    /// place and index. It takes two reads and compares no keys.
     pub fn token_of_member(&self, number: u32) -> u32
         requires { number < length (keys_of self.now) }
         ensures { IsToken (tokens_of (columns_of self.now)) (get_or (keys_of self.now) number []) (Some result) }
@@ -107,7 +109,7 @@ impl<'a> Vocab<'a> {
         self.by_key[self.ranks[number as usize] as usize]
     }
 
-    /// How many columns hold the token.
+    /// Returns how many columns hold the token.
     pub fn frequency(&self, token: u32) -> u32
         requires { token < length (tokens_of (columns_of self.now)) }
         ensures { result ≡ frequency_of (tokens_of (columns_of self.now)) token }
@@ -115,7 +117,7 @@ impl<'a> Vocab<'a> {
         self.frequencies[token as usize]
     }
 
-    /// The key of the token.
+    /// Returns the key of the token.
     pub fn key(&self, token: u32) -> &str
         requires { token < length (tokens_of (columns_of self.now)) }
         ensures { result.now ≡ key_of (tokens_of (columns_of self.now)) token }
@@ -123,8 +125,8 @@ impl<'a> Vocab<'a> {
         numbers::key_of(self.tables, &self.columns, &self.tokens, token)
     }
 
-    /// Where the key of each token stands and how many columns hold it, and the tokens' numbers by the bytes of their keys. All
-    /// frequencies together are the members of all columns.
+    /// Returns where the key of each token is, how many columns hold it, and the tokens' numbers by the bytes of their
+    /// keys. The sum of all frequencies is the number of members of all columns.
     pub fn into_lists(self) -> TokenLists
         ensures tokens { map (pointed self.entry) result.tokens.items ≡ token_keys (tokens_of (columns_of self.entry)) }
         ensures within { All (IsAt self.entry) result.tokens.items }

@@ -7,7 +7,7 @@ use Rattle.lake_model.specs.Tables.{add_key}
 use Rattle.lake_model.specs.Queries.{query_of, line_fault}
 use Rattle.column_set.proofs.query.gather_lines.Given as goal
 
--- the keys so far with those of the lines that are left are the query's, and no line so far is at fault
+-- the keys so far with those of the remaining lines are the query's, and no line so far is at fault
 abbrev pub invariant-loop-number : goal.invariant-loop-number
 invariant-loop-number l = record {
   none : l.lists.finished ≡ [];

@@ -4,7 +4,7 @@ use Rattle.lake_model.specs.Records.{field_keys}
 use Rattle.lake_model.specs.Tables.{add_key, distinct}
 use Rattle.column_set.proofs.table.read_keys.Given as goal
 
--- the keys so far with those of the records that are left are the column's, and the finished lists are as they were
+-- the keys so far with those of the remaining records are the column's, and the finished lists are unchanged
 abbrev pub invariant-loop-row : goal.invariant-loop-row
 invariant-loop-row l = record {
   finished : l.lists.finished ≡ l.initial.lists.finished;

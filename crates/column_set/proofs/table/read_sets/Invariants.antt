@@ -7,7 +7,7 @@ use Rattle.column_set.specs.Lists.{AreLists, parts_of}
 use Rattle.column_set.proofs.ReadLemmas.{fault_behind}
 use Rattle.column_set.proofs.table.read_sets.Given as goal
 
--- the sets of the first columns are finished, none is too large, and the first at fault is one of those that are left
+-- the sets of the first columns are finished, none is too large, and the first column at fault is one of the remaining ones
 abbrev pub invariant-loop-i : goal.invariant-loop-i
 invariant-loop-i l = record {
   none : l.lists.current ≡ [];
