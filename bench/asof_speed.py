@@ -1,14 +1,14 @@
 #!/usr/bin/env python3
-"""What a search of the past costs, the first and each later one, beside a search of the present.
+"""What the first search of the past costs, and each later one, compared with a search of the present.
 
     bench/asof_speed.py [JOSIE] [--times N]
 
-Lakes of 1,000 and 10,000 tables of four columns of 20 values each, of which each value is in about ten columns, are loaded by one script. Each query has 100
-values, 18 of each of five columns and ten others, and asks for ten rows. The present is asked by `search`, of the lake as it was loaded, a part a table, and merged
-into one part. The past is asked by `asof`, of the merged lake: at the last position at which all tables lie in whole blocks of 256; and at the last before the merge, where
-some lie in a block that is not whole. The time of a question is the CPU time of the run with all of them less that without, each
-the least of N whole runs, over their number; the first search of the past is one question alone, and the later ones are all but this one. It ends with 1 if a later
-search of the past costs more than twice as much as a search of the merged lake.
+One script loads a lake of 1,000 or of 10,000 tables, each of four columns of 20 values; each value is in about ten columns. Each query has 100 values, 18 from
+each of five columns and ten others, and asks for ten rows. The present is searched with `search`: over the lake as it was loaded, one part per table, and over
+the lake merged into one part. The past is searched with `asof`, over the merged lake: at the last position at which all tables lie in full blocks of 256, and
+at the last position before the merge, at which some tables lie in a block that is not full. The time of a question is the CPU time of the run with all
+questions less that of the run without, each the least of N whole runs, divided by the number of questions; the first search of the past is measured by itself,
+and the later ones are all the others. It exits with 1 if a later search of the past costs more than twice as much as a search of the merged lake.
 """
 import functools
 import random

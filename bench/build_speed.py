@@ -3,15 +3,14 @@
 
     bench/build_speed.py [INDEX_BENCH] [--times N]
 
-It runs `index_bench COLUMNS ROWS` for tables of 10,000, 100,000 and 1,000,000 members in 10 columns, and prints the nanoseconds a
-member that `segment_build::build` took, as the program measures it: the least of N runs. It is the time of the index alone.
+It runs `index_bench COLUMNS ROWS` for tables of 10,000, 100,000 and 1,000,000 members in 10 columns, and prints the nanoseconds per member that
+`segment_build::build` took, as the program measures it: the least of N runs. This is the time of the index alone.
 
-The memory is what the index alone holds at its peak: the program writes one line when the table and its keys are made, and one when
-the index is built. A counter put in front of the C library's allocator (compiled by `cc` into a folder that is removed again)
-counts the bytes that the program holds; the most between the two lines, less those at the first, for each member, is
-printed. So text and keys are not in it. It is printed for two tables of equally many members: with 10 columns there is a distinct key
-for each five members, with 100 columns one for each fifty, which separates what a distinct key takes from what a member takes.
-Without `cc` a dash is printed.
+The memory is what the index alone holds at its peak: the program writes one line when the table and its keys have been made, and one when the index has been
+built. A counter that wraps the C library's allocator (compiled by `cc` into a folder that is removed again) counts the bytes that the program holds; what is
+printed is the most between the two lines, less the bytes at the first, per member. So text and keys are not included. It is printed for two tables with the
+same number of members: with 10 columns there is one distinct key for every five members, with 100 columns one for every fifty, which separates what a distinct
+key takes from what a member takes. Without `cc` a dash is printed.
 """
 import argparse
 import os
@@ -22,7 +21,7 @@ import tempfile
 FEW, MANY = 10, 100
 SIZES = (10_000, 100_000, 1_000_000)
 
-# Counts the bytes that a program holds. At its second write to standard output it tells the most since its first, on standard error.
+# Counts the bytes that a program holds. At the second write to standard output it prints the most since the first, on standard error.
 COUNTER = """
 #define _GNU_SOURCE
 #include <errno.h>

@@ -1,12 +1,12 @@
 #!/usr/bin/env python3
-"""How long the check of a trace takes, and how much memory, beside the run that wrote it.
+"""How much time and memory the check of a trace takes, compared with the run that wrote it.
 
     bench/check_speed.py [JOSIE] [--times N]
 
-A lake of three hundred tables of three columns and eight records each is loaded. Then there are a thousand rounds on one lane: fifty times a table is dropped
-and another one is loaded, ten searches of eight values are asked, and the whole lake is merged; so there are 100,300 updates, 10,000 searches and a trace of
-some fifty megabytes. A time is the least CPU time of N whole runs, and the memory the greatest of one. It ends with 1 if the check takes more than three times
-the time of the run with its trace, or more than twice its memory.
+A lake of three hundred tables of three columns and eight records each is loaded. Then there are a thousand rounds on one lane. In each, a table is dropped and
+another one is loaded, fifty times; ten searches of eight values are asked; and the whole lake is merged. So there are 100,300 updates, 10,000 searches and a
+trace of some fifty megabytes. A time is the least CPU time of N whole runs, and the memory is the greatest of one run. It exits with 1 if the check takes more
+than three times the time of the run with its trace, or more than twice its memory.
 """
 import os
 import random
@@ -19,7 +19,7 @@ from program import given_words
 
 TABLES, COLUMNS, ROWS, VALUES = 300, "a,b,c", 8, 1_000
 ROUNDS, CHANGED, ASKED, SIZE, MOST = 1_000, 50, 10, 8, 10
-SYNC = 10  # rounds of a batch
+SYNC = 10  # rounds per batch
 MOST_TIME, MOST_MEMORY = 3, 2
 
 
@@ -33,7 +33,7 @@ def search(chance):
 
 
 def one_round(chance, first):
-    """The lines of a round, whose first load has this number."""
+    """The lines of a round whose first load has this number."""
     lines = []
     for number in range(first, first + CHANGED):
         lines += [f"drop t{number - TABLES}", *load(chance, number)]

@@ -1,13 +1,14 @@
 #!/usr/bin/env python3
-"""How long a contain takes beside the search for 10,000 columns that finds the same ones and more.
+"""How long a contain takes, compared with a search for 10,000 columns, which finds the same columns and more.
 
     bench/contain_speed.py [JOSIE] [--times N] [--lake LOADS SEARCHES]
 
-A lake of a hundred tables of four columns each, 400,000 members in all, is loaded by one script, of which each value is in about ten columns; or it is
-that of the script LOADS. It is searched as it was loaded, a part a table, and merged into one part. Each query has 10, 100 or 1,000 values, of which nine
-of ten are of one column; or they are the queries of the script SEARCHES. They are asked by `search 10000` and by `contain A B`, for four fractions. The
-time of a question is the CPU time of the run with all of them less that without, each the least of N whole runs, over their number: it has the reading of
-the query and the writing of the reply. The merged lake is asked them twenty times over, since its answers take little beside the loads.
+One script loads a lake of a hundred tables of four columns each, 400,000 members in all, with each value in about ten columns; or the lake is that of the
+script LOADS. It is searched as it was loaded, one part per table, and merged into one part. Each query has 10, 100 or 1,000 values, nine of ten of which are
+from one column; or the queries are those of the script SEARCHES. They are asked with `search 10000` and with `contain A B`, for four fractions. The time of a
+question is the CPU time of the run with all questions less that of the run without, each the least of N whole runs, divided by the number of questions; it
+includes reading the query and writing the reply. The merged lake is asked the questions twenty times over, because its answers take little time compared with
+the loads.
 """
 import functools
 import os
@@ -38,7 +39,7 @@ def made_lake(chance):
 
 
 def made_queries(chance, columns, size):
-    """Queries of this many values, nine of ten of one column each."""
+    """Queries of this many values, nine of ten from one column each."""
     for _ in range(QUERIES[size]):
         shared = size * 9 // 10
         yield [f"value {number}" for number in chance.sample(chance.choice(columns), shared) + chance.sample(range(VALUES), size - shared)]
@@ -50,7 +51,7 @@ def questions(front, queries):
 
 
 def least_time(given, folder, script):
-    """The least CPU time of some runs over a script, in seconds. A script of which a command is refused measures nothing."""
+    """The least CPU time of some runs over a script, in seconds. A script with a refused command measures nothing."""
     path = os.path.join(folder, "script")
     with open(path, "w", encoding="utf-8") as file:
         file.write(script)

@@ -1,14 +1,14 @@
 #!/usr/bin/env python3
-"""What a column and a query cost whose keys were chosen to collide, beside random ones.
+"""What a column and a query cost if their keys were chosen to collide, compared with random keys.
 
     bench/flood_speed.py [JOSIE] [--times N]
 
-A table of one column of 1,000,000 keys of 32 letters is loaded, and a query of the same keys is asked. In the slots by which a column or a query finds its
-keys while it is read, all keys of the first flood have one hash (`FoldHasher`: behind a front that makes its state equal to the eight bytes that follow, the
-last eight bytes count for nothing). In a segment, which finds its tokens by a hash of 32 bits (FNV-1a), all keys of the second flood have one: each is four
-blocks of eight letters, and each block is one of those that lead from one state of the hash to another. Random keys are of 32 letters too, with the same front
-beside the first flood. Keys come in random order. A time is the least CPU time of N whole runs. It ends with 1 if a flood takes more than twice the time of the
-random keys beside it.
+A table of one column of 1,000,000 keys of 32 letters is loaded, and a query of the same keys is asked. In the slots by which a column or a query finds its keys
+while it is read, all keys of the first flood have the same hash (`FoldHasher`: after a front that makes its state equal to the eight bytes that follow, the
+last eight bytes have no effect). In a segment, which finds its tokens by a 32-bit hash (FNV-1a), all keys of the second flood have the same hash: each key is
+four blocks of eight letters, and each block is one of those that lead from one state of the hash to another. The random keys also have 32 letters, and those
+that are compared with the first flood have the same front. Keys come in random order. A time is the least CPU time of N whole runs. It exits with 1 if a flood
+takes more than twice the time of the random keys that it is compared with.
 """
 import itertools
 import random
@@ -19,7 +19,7 @@ from merge_speed import measured
 from program import given_words
 
 KEYS, SIZE, LETTERS = 1_000_000, 32, "abcdefghijklmnopqrstuvwxyz"
-FRONT, FREE = "joinablekewcbluzeevfwjbx", 8  # the hash of each key with this front and eight bytes more is 0
+FRONT, FREE = "joinablekewcbluzeevfwjbx", 8  # the hash of each key with this front and eight more bytes is 0
 START, PRIME, MASK = 0x811C9DC5, 0x01000193, 0xFFFFFFFF  # of FNV-1a
 INVERSE = pow(PRIME, -1, 1 << 32)
 HALF = 4  # letters
@@ -34,7 +34,7 @@ def random_keys(chance, front):
 
 
 def halves(state, step):
-    """The state behind each text of four letters, by `step` for each letter."""
+    """The state after each text of four letters, by `step` for each letter."""
     states = {state: [""]}
     for _ in range(HALF):
         further = {}
@@ -62,7 +62,7 @@ def fnv_keys(chance):
 
 
 def scripts(keys):
-    """A script with the load alone, and one with the search as well."""
+    """A script with only the load, and one with the search as well."""
     lines = "".join(key + "\n" for key in keys)
     load = f"load t\nc\n{lines}.\n"
     return load, f"{load}sync\nsearch 10\n{lines}.\n"

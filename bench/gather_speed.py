@@ -1,12 +1,12 @@
 #!/usr/bin/env python3
-"""How fast josie gathers a batch, beside a plain copy of the same bytes, and the memory that it takes.
+"""How fast josie gathers a batch, compared with a plain copy of the same bytes, and the memory that it takes.
 
     bench/gather_speed.py [JOSIE] [--times N]
 
-One batch of eight queries, each a block of 64 MiB: 512 MiB in all, which is the most that a batch may have. The first line of each
-query is not UTF-8, so it is refused at once, and what is measured is the gathering. The lines have 31 bytes, or 1,023. The plain copy reads
-the same file in pieces of 65,536 bytes into one buffer in memory, in Python, which only moves them. A time is the least of N runs; the peak
-memory is that of the process at its greatest (`ru_maxrss`).
+There is one batch of eight queries, each a block of 64 MiB: 512 MiB in all, which is the most that a batch may have. The first line of each query is not UTF-8,
+so it is refused at once, and only the gathering is measured. The lines have 31 bytes, or 1,023. The plain copy reads the same file in pieces of 65,536 bytes
+into one buffer in memory; it is written in Python, which only moves the bytes. A time is the least of N runs; the peak memory is the greatest that the process
+held (`ru_maxrss`).
 """
 import os
 import resource
@@ -23,7 +23,7 @@ PIECE = 65_536
 
 
 def write_script(path, line_bytes):
-    """A script of one batch of full blocks whose lines have this many bytes with their line feeds."""
+    """A script of one batch of full blocks whose lines have this many bytes, including their line feeds."""
     line = b"x" * (line_bytes - 1) + b"\n"
     lines = line * (BLOCK // line_bytes)
     first = b"\xff" + lines[1:]

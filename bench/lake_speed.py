@@ -3,13 +3,12 @@
 
     bench/lake_speed.py [JOSIE] [--times N]
 
-A lake of 1,000, of 10,000 and of 50,000 tables is loaded by one script; each table has one column with one value, so that
-what is measured is the addition of a table and not its text. Then the same script is run with drops after its loads,
-in an order that is shuffled by a fixed seed. The time of a load is that of the first script, less the start of the program;
-the time of a drop is the difference between the two. A time is the least of N whole runs; both include the time in which
+One script loads a lake of 1,000, of 10,000 or of 50,000 tables; each table has one column with one value, so that the addition of a table is measured and not
+its text. Then the same script is run with drops after its loads, in an order that is shuffled with a fixed seed. The time of a load is that of the first
+script, less the start of the program; the time of a drop is the difference between the two. A time is the least of N whole runs; both include the time in which
 josie reads the command and writes its reply.
 
-Each batch has 4,000 commands, so there is a `sync` for as many loads or drops.
+Each batch has 4,000 commands, so there is one `sync` for as many loads or drops.
 """
 import random
 import subprocess
@@ -47,7 +46,7 @@ def drops(tables):
 
 
 def least_time(times, josie, script):
-    """The least wall time of some runs, in seconds. A script of which a command is refused measures nothing."""
+    """The least wall time of some runs, in seconds. A script with a refused command measures nothing."""
     best = None
     for _ in range(times):
         start = time.perf_counter()

@@ -3,14 +3,15 @@
 
     bench/lane_speed.py [JOSIE] [--times N] [--beside COMMAND] [--lake LOADS SEARCHES]
 
-Two lakes are generated, always the same. `wide` has 128 tables of six columns and 2,000 records, `small` 8,000 tables of three columns and eight records; most values
-are in a few tables and a few in many. With `--lake`, the loads and the searches of two scripts take their place. The loads are dealt out to 1, 2, 4, 8 and 16 lanes,
-a batch of 4,000 at a time: the largest first, each to the lane that has been given the fewest bytes. Then one lane merges the whole lake, and 400 searches are
-dealt out (3,600 with `--lake`), all in one batch; of a generated lake, for the 10 columns that share the most with 1,000 values. josie reads a file and writes one, so
-that no harness is measured with it. The time of the loads is that of a run that only loads, and the time of the searches what a run with them takes longer than one
-without, each the least of N runs. `--beside` names another program that reads the same scripts on one lane, as a baseline.
+Two lakes are generated, always the same. `wide` has 128 tables of six columns and 2,000 records, and `small` has 8,000 tables of three columns and eight
+records; most values are in a few tables and a few values are in many. With `--lake`, the loads and the searches of two scripts are used instead. The loads are
+dealt out to 1, 2, 4, 8 and 16 lanes, a batch of 4,000 at a time: the largest first, each to the lane that has been given the fewest bytes. Then one lane merges
+the whole lake, and 400 searches (3,600 with `--lake`) are dealt out, all in one batch; in a generated lake, each asks for the 10 columns that share the most
+with 1,000 values. josie reads a file and writes one, so that no harness is measured with it. The time of the loads is that of a run that only loads, and the
+time of the searches is what a run with them takes longer than one without, each the least of N runs. `--beside` names another program that reads the same
+scripts on one lane, as a baseline.
 
-Last comes what a batch of one command costs, with one lane and with sixteen of which one has the command.
+Last, the cost of a batch of one command is measured, with one lane and with sixteen lanes of which one has the command.
 """
 import random
 import subprocess
@@ -30,7 +31,7 @@ ONES = 2_000
 
 
 def value(chance):
-    """One of many values, the smaller numbers far more often."""
+    """One of many values; smaller numbers come far more often."""
     return f"v{int(chance.random() ** 3 * 200_000)}"
 
 
@@ -70,7 +71,7 @@ def dealt(commands, lanes):
 
 
 class Open:
-    """A program that is kept open; each answer of `timed` is a time in seconds."""
+    """A program that is kept open; `timed` returns a time in seconds."""
 
     def __init__(self, words):
         self.process = subprocess.Popen(words, stdin=subprocess.PIPE, stdout=subprocess.PIPE)
@@ -115,7 +116,7 @@ def run_time(words, script):
 
 
 def least(times, words, lanes, loads, asked):
-    """The least seconds of the loads, and of the searches behind them and a merge of all."""
+    """The least seconds of the loads, and of the searches after them and after a merge of the whole lake."""
     words = words + (["--lanes", str(lanes)] if lanes > 1 else [])
     loading = dealt(loads, lanes)
     merging = loading + "merge all\nsync\n"
@@ -133,7 +134,7 @@ def one_command(josie, lanes):
 
 
 def lakes(given):
-    """The lakes that are measured: of each its name, its loads and the searches."""
+    """The lakes that are measured: the name, the loads and the searches of each."""
     if given.lake:
         loads, asked = map(commands_of, given.lake)
         times = -(-LAKE_SEARCHES // len(asked))

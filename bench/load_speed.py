@@ -1,13 +1,13 @@
 #!/usr/bin/env python3
-"""How fast josie loads a table: megabytes of CSV a second, beside a plain pass over the same bytes.
+"""How fast josie loads a table: megabytes of CSV per second, compared with a plain pass over the same bytes.
 
     bench/load_speed.py [JOSIE] [--times N]
 
-The table is generated, always the same, and of 16 MiB with its two command lines (a block may have 64).
-Two tables are measured: one whose values are ASCII, and one in which every fourth value has accents or full-width letters,
-whose keys take more work. A time is the least of N whole runs of the program, with its start, which is
-shown by itself. The plain pass is `wc -w` over the same bytes, in the C locale: it looks at each byte once and keeps
-nothing. josie is measured with each of its two profiles. The last number is Python's csv and unicodedata doing the same work as josie: records, keys, distinct values.
+The table is generated, always the same, and has 16 MiB including its two command lines (a block may have 64). Two tables are measured: one whose values are
+ASCII, and one in which every fourth value has accents or full-width letters, so that its keys take more work. A time is the least of N whole runs of the
+program, including its start, which is also shown by itself. The plain pass is `wc -w` over the same bytes, in the C locale: it looks at each byte once and
+keeps nothing. josie is measured with each of its two profiles. The last number is for Python's csv and unicodedata doing the same work as josie: records, keys,
+distinct values.
 """
 import csv
 import io

@@ -1,12 +1,12 @@
 #!/usr/bin/env python3
-"""How long `merge all` takes for each member of the lake, and how much memory it needs, as the lake grows tenfold.
+"""How long `merge all` takes per member of the lake, and how much memory it needs, as the lake grows tenfold.
 
     bench/merge_speed.py [JOSIE] [--times N] [--beside COMMAND]
 
-Lakes of a hundred tables with four columns each, of 10,000, 100,000 and 1,000,000 members in all, are loaded by one script; a value is in about
-ten columns. Then the same script is run with `merge all` at its end. The time of the merge is the difference of the two, each the least of N whole
-runs, over the number of members; the memory is the greatest that the whole run held, for the loads alone and with the merge. COMMAND is another
-program that reads such scripts and writes such replies, which is measured beside josie.
+One script loads a lake of a hundred tables with four columns each, of 10,000, 100,000 or 1,000,000 members in all; each value is in about ten columns. Then the
+same script is run with `merge all` at its end. The time of the merge is the difference of the two, each the least of N whole runs, divided by the number of
+members; the memory is the greatest that the whole run held, for the loads alone and with the merge. COMMAND is another program that reads such scripts and
+writes such replies, and is measured for comparison.
 """
 import os
 import random

@@ -1,12 +1,12 @@
-"""The arguments of a benchmark of ./josie: where the program is, how often each run is made, and what is measured beside it."""
+"""The arguments of a benchmark of ./josie: where the program is, how many times each run is made, and what it is compared with."""
 import argparse
 import os
 import shlex
 
 
 def given_words(about, times, has_beside=False, has_lake=False):
-    """The parsed arguments: `josie`, the program's whole path, `times`, a number of runs, and, if the benchmark takes it, `beside`, the command of
-    another program, or none, and `lake`, two scripts, or none. `about` is the benchmark's docstring."""
+    """The parsed arguments: `josie`, the program's absolute path; `times`, a number of runs; and, if the benchmark takes them, `beside`, the command of
+    another program, or None, and `lake`, two scripts, or None. `about` is the benchmark's docstring."""
     here = os.path.dirname(os.path.abspath(__file__))
     words = argparse.ArgumentParser(description=about.splitlines()[0])
     words.add_argument("josie", nargs="?", default=os.path.join(here, "..", "crates", "josie", "out", "josie"))

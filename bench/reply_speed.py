@@ -1,11 +1,11 @@
 #!/usr/bin/env python3
-"""How fast josie writes its replies: megabytes of text a second.
+"""How fast josie writes its replies: megabytes of text per second.
 
     bench/reply_speed.py [JOSIE] [--times N]
 
-A lake of 1,000 tables of one value each is loaded, and listed 1,000 times: a million lines. Then one table of 100 columns is asked for
-its value 2,000 times, which gives 200,000 rows with their columns' names quoted. The time is that of the whole run, less that of the same
-run without what is measured; the text is what came more. A time is the least of N runs.
+A lake of 1,000 tables of one value each is loaded, and listed 1,000 times: a million lines. Then one table of 100 columns is searched for its value 2,000
+times, which gives 200,000 rows with the quoted names of their columns. The time is that of the whole run, less that of the same run without what is measured;
+the text is the additional output. A time is the least of N runs.
 """
 import subprocess
 import time

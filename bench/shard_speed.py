@@ -4,10 +4,10 @@
     bench/shard_speed.py [JOSIE] [--times N] [--quick]
 
 It needs Dask (Debian's package python3-distributed). The tables are generated, always the same: three columns of 20,000 records, whose values are drawn so that
-a few are in many tables and most in one or two. One josie holds 279 of them, which have 16 million distinct values summed over columns (a lake may have
-16,777,216); then four of them, in the workers of a local Dask cluster, hold four times as many. Their names are chosen so that each shard gets
-equally many. With --quick there are five tables a process. Each lake is loaded, merged whole, and asked N times for the 10 columns that share the most with
-100 values. It prints the seconds of the load and of the merge, the median and the greatest milliseconds of a search, and the memory of the processes.
+a few are in many tables and most are in one or two. One josie holds 279 of them, which have 16 million distinct values summed over columns (a lake may have
+16,777,216); then four josie processes, in the workers of a local Dask cluster, hold four times as many. The names of the tables are chosen so that each shard
+gets the same number. With --quick there are five tables per process. Each lake is loaded, merged whole, and asked N times for the 10 columns that share the
+most with 100 values. It prints the seconds of the load and of the merge, the median and the greatest milliseconds of a search, and the memory of the processes.
 
 With --quick it also checks that the rows of the four processes are those of one josie with all their tables.
 """
@@ -74,7 +74,7 @@ def josie_memory():
 
 
 def measure(title, lake, tables, times):
-    """Loads a lake, asks it, and prints a line; what was answered is returned."""
+    """Loads a lake, searches it, and prints a line; returns the answers."""
     loads = sum(timed(lake.load, name, table(number)) for number, name in enumerate(tables))
     merge = timed(lake.merge)
     members = sum(entry.members for entry in lake.tables())

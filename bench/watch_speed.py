@@ -1,11 +1,12 @@
 #!/usr/bin/env python3
-"""What a load costs while sixteen queries are watched, beside the load alone and beside sixteen searches from scratch.
+"""What a load costs while sixteen queries are watched, compared with the load alone and with sixteen searches from scratch.
 
     bench/watch_speed.py [JOSIE] [--times N]
 
-A lake of a hundred tables of four columns each, 400,000 members in all, is loaded by one script, of which each value is in about ten columns. Sixteen queries of 10,000
-values are watched, or asked by a search behind each load, for ten rows each; the searches are asked of the first ten tables alone, since each costs more than a load. A
-time is the least CPU time of N whole runs, less that of a run with one small load (at which the watched queries are put into one index), over the number of loads.
+One script loads a lake of a hundred tables of four columns each, 400,000 members in all, with each value in about ten columns. Sixteen queries of 10,000 values
+are watched, or are asked by a search after each load, for ten rows each; the searches follow only the first ten loads, because each costs more than a load. A
+time is the least CPU time of N whole runs, less that of a run with one small load (at which the watched queries are put into one index), divided by the number
+of loads.
 """
 import os
 import random

@@ -1,6 +1,6 @@
-"""What the checks of the built program have in common: where it is, and how a check ends.
+"""What the checks of the built program have in common: where the program is, and how a check ends.
 
-A check is a function of the program's path and of the arguments after it on the command line. It returns what it found right, in a few words, and raises
+A check is a function that takes the program's path and the arguments after it on the command line. It returns what it found right, in a few words, and raises
 `Wrong` if the program does not do what is expected.
 """
 import os

@@ -3,8 +3,8 @@
 
     checks/early_fetch.py [JOSIE]
 
-The file is a named pipe, which opens for writing only when somebody opens it for reading. josie is given the line alone, and the `sync` after
-it only when the pipe was opened and written. It prints one line, and ends with 0 if the table was loaded.
+The file is a named pipe, which opens for writing only when somebody opens it for reading. josie is given only the line at first, and the `sync` after it only
+when the pipe has been opened and written. It prints one line, and exits with 0 if the table was loaded.
 """
 import os
 import subprocess

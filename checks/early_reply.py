@@ -3,8 +3,8 @@
 
     checks/early_reply.py [JOSIE]
 
-josie is kept open as a co-process: each batch is sent only when all replies to the batch before it were read. It prints one line, and ends with 0 if
-each reply came in time.
+josie is kept open as a co-process: each batch is sent only when all replies to the batch before it have been read. It prints one line, and exits with 0 if each
+reply came in time.
 """
 import os
 import select

@@ -1,19 +1,19 @@
 #!/usr/bin/env python3
-"""Traces that josie checks, as it wrote them and changed, against a plain model.
+"""Traces that josie checks, both as it wrote them and changed, against a plain model.
 
     checks/forged_traces.py [JOSIE] [--count=N] [--seed=S]
 
-Random scripts of loads, drops, replaces, lists, searches, likes, contains, asofs and merges on one to five lanes, with a merger and without, by either
-profile, are run with a trace, once on threads and once in a random stated order. josie has to say `yes` to each trace. Then one thing of it is changed:
+Random scripts of loads, drops, replaces, lists, searches, likes, contains, asofs and merges on one to five lanes, with a merger and without, with either
+profile, are run with a trace, once on threads and once in a random stated order. josie must say `yes` to each trace. Then one thing in it is changed:
 
-- a byte: another stands in its place, often a digit for a digit, or none, or it is there twice;
+- a byte: it is replaced by another (often a digit by a digit), removed, or doubled;
 - a line: it is removed, doubled, moved, or swapped with the next one, or its line feed is changed;
-- a reply: it is the one that its command would have at other positions, or `no memory`;
-- the history: an entry stands elsewhere in it, and every reply is made again at the positions that it shows.
+- a reply: it becomes the one that its command would have at other positions, or `no memory`;
+- the history: an entry is moved within it, and every reply is made again at the positions that it shows.
 
-josie has to say `yes` exactly where the model of `plain_trace.py` finds the changed trace right; the model decides each. There are N changes (10,000),
-twenty-five of each trace. Last, josie has to say `yes` to runs of a larger script on four lanes with a merger. The seeds are fixed, the threads are not. It
-prints one line, and ends with 0 if all is as the model says.
+josie must say `yes` exactly if the model of `plain_trace.py` finds the changed trace right; the model decides each case. There are N changes (10,000 by
+default), twenty-five for each trace. Last, josie must say `yes` to runs of a larger script on four lanes with a merger. The seeds are fixed, but not the order
+in which threads run. It prints one line, and exits with 0 if everything is as the model says.
 """
 import argparse
 import multiprocessing
@@ -38,13 +38,13 @@ SAID = {True: (0, b"yes\n", b""), False: (7, b"no\n", b"josie: refuted\n")}
 
 class Script(NamedTuple):
     batches: list  # of commands, each a lane, its words and its block
-    words: list  # the options of its run, of which neither an order nor a trace is one
+    words: list  # the options of its run, other than an order or a trace
 
     def encoded(self):
         return script_of(self.batches).encode("utf-8", "surrogateescape")
 
     def shown(self, mode):
-        """The words of a command line and the script, for a person."""
+        """The words of a command line and the script, for a human reader."""
         return f"josie {mode} {' '.join(self.words)}\n{self.encoded().decode(errors='backslashreplace')}"
 
     def numbered(self):
@@ -59,7 +59,7 @@ class Script(NamedTuple):
 
 
 def varied_value(chance, value):
-    """A value that may be written in another way, or may be none."""
+    """A value, possibly written in another way, or only a blank."""
     pick = chance.random()
     if pick < 0.2:
         return chr(ord(value) + WIDE)
@@ -99,13 +99,13 @@ def random_order(chance, script):
 
 
 def another_byte(chance, trace):
-    """One byte is another, is missing, or is there twice."""
+    """One byte is replaced by another, removed, or doubled."""
     at = chance.randrange(len(trace))
     return trace[:at] + chance.choice([bytes([chance.randrange(256)]), b"", trace[at:at + 1] * 2]) + trace[at + 1:]
 
 
 def another_digit(chance, trace):
-    """One digit is another."""
+    """One digit is replaced by another."""
     at = chance.choice([at for at, byte in enumerate(trace) if chr(byte).isdigit()])
     return trace[:at] + b"%d" % chance.randint(0, 9) + trace[at + 1:]
 
@@ -129,7 +129,7 @@ def swapped_lines(chance, lines):
 
 
 def another_end(chance, lines):
-    """A line feed is another byte, or is missing, or has a byte before it."""
+    """A line feed is replaced by another byte, removed, or preceded by another byte."""
     at = chance.randrange(len(lines))
     lines[at] = lines[at][:-1] + chance.choice([b"", b" ", b"\r", b"\0", b"\n\n", b" \n", b"\r\n", bytes([chance.randrange(256)])])
 
@@ -160,7 +160,7 @@ def written_again(replies, journal):
 
 
 def another_reply(chance, written):
-    """A command has the reply that it would have at other positions, most often next to its own, or had no memory."""
+    """A command gets the reply that it would have at other positions, most often next to its own, or `no memory`."""
     told = chance.choice(written.replies)
     last = len(written.versions) - 1
     at = min(max((told.at or 0) + chance.choice([-1, 1]), 0), last) if chance.random() < 0.6 else chance.randint(0, last)
@@ -170,7 +170,7 @@ def another_reply(chance, written):
 
 
 def another_history(chance, written):
-    """An entry stands elsewhere in the journal, and each reply is made again at the positions that it shows. Whether its lane could come to these is open."""
+    """An entry is moved within the journal, and each reply is made again at the positions that it shows. Its lane may or may not be able to reach these."""
     owners = sorted((reply for reply in written.replies if reply.is_entry), key=lambda reply: reply.at)
     if not owners:
         return written.trace
@@ -214,7 +214,7 @@ def run(josie, script, order):
 
 
 def check_said(josie, folder, script, trace, change):
-    """Checks that josie says of a trace what the model says, and returns that. `change` is what the trace came from, for a person."""
+    """Checks that josie says about a trace what the model says, and returns that. `change` tells a human reader what the trace was made from."""
     path = os.path.join(folder, "trace")
     with open(path, "wb") as file:
         file.write(trace)
@@ -227,7 +227,7 @@ def check_said(josie, folder, script, trace, change):
 
 
 def check_written(josie, folder, script, order):
-    """A trace that josie wrote, is right, and was told to be right."""
+    """A trace that josie wrote, that is right, and to which josie said `yes`."""
     trace = run(josie, script, order)
     if not check_said(josie, folder, script, trace, ""):
         raise Wrong(f"{script.shown('run')}{' '.join(order)}\nwrote a trace that is not right\n{trace.decode(errors='backslashreplace')}")

@@ -3,8 +3,8 @@
 
     checks/help_text.py [JOSIE]
 
-`docs/FORMATS.md` describes the arguments and the commands in full. Each entry in the first column of its tables of arguments and of lines has to be in the
-other two texts, and the line on standard error that it quotes for an invalid command line has to be the one that the program writes.
+`docs/FORMATS.md` describes the arguments and the commands in full. Each entry in the first column of its tables of arguments and of lines must be in the other
+two texts, and the line on standard error that it quotes for an invalid command line must be the one that the program writes.
 """
 import os
 import re

@@ -3,10 +3,10 @@
 
     checks/limits.py [JOSIE]
 
-Each limit is tried at its size, which is accepted, and one past it, which is refused at its line: a line of 4,096 bytes, a comment line and a
-line of spaces of the same length, a block, a file and a trace of 67,108,864 bytes, 4,096 commands of a batch, and 536,870,912 bytes of the blocks and files
-of a batch. (The limit of a script, 68,719,476,736 bytes, is tried at a smaller size by the tests of `script_text`.) It needs two gigabytes of
-memory and a minute, so `.ci/run` does not run it. Its last line is `N passed, M failed`.
+Each limit is tried at its exact size, which is accepted, and one beyond it, which is refused at its line: a line of 4,096 bytes, a comment line and a line of
+spaces of the same length, a block, a file and a trace of 67,108,864 bytes, 4,096 commands in a batch, and 536,870,912 bytes of blocks and files in a batch.
+(The limit of a script, 68,719,476,736 bytes, is tried at a smaller size by the tests of `script_text`.) It needs two gigabytes of memory and a minute, so
+`.ci/run` does not run it. Its last line is `N passed, M failed`.
 """
 import os
 import subprocess
@@ -18,7 +18,7 @@ LINE, BLOCK, COMMANDS, BYTES = 4_096, 67_108_864, 4_096, 536_870_912
 
 
 def body(size):
-    """A query of this many bytes, with its last line feed, that is refused at once: its first line is not UTF-8."""
+    """A query of this many bytes, including its last line feed, that is refused at once: its first line is not UTF-8."""
     return b"\xff\n" + b"x" * (size - 3) + b"\n"
 
 

@@ -4,7 +4,7 @@
     checks/made_lakes.py [JOSIE]
 
 The model draws the same numbers, and loads, merges, counts and sums with `plain_lake.py`. Each summary is compared byte for byte, and each lake is made
-twice. It prints one line, and ends with 0 if everything is as the model says.
+twice. It prints one line, and exits with 0 if everything is as the model says.
 """
 import subprocess
 

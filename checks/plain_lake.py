@@ -1,9 +1,9 @@
 """A plain model of a lake: the reply to each command at a version, and the version after it.
 
-A version is the position of the journal, the live tables in the order in which they were loaded or replaced, the parts of the layout, and the version one entry
-earlier. It never changes, so a pin is the version itself. A table is a name and its columns, a column a title and an ordered list of distinct values. A part is a number and its places; a
-place is the position of a load or a replace, its table, and whether that was dropped or replaced. All text is ASCII, so that `str.casefold` and `str.strip` make the
-key of a value.
+A version is the position of the journal, the live tables in the order in which they were added by a load or a replace, the parts of the layout, and the version
+one entry earlier. It never changes, so a pin is the version itself. A table is a name and its columns, and a column is a title and an ordered list of distinct
+values. A part is a number and its places; a place is the position of a load or a replace, its table, and whether that table was dropped or replaced. All text
+is ASCII, so that `str.casefold` and `str.strip` make the key of a value.
 """
 import csv
 import io
@@ -99,7 +99,7 @@ def put(at, name, columns):
 
 
 def without(at, name):
-    """The tables and the parts of a version with the table of a name taken out and marked."""
+    """The tables and the parts of a version, with the table of a name removed and marked."""
     parts = tuple(part._replace(places=tuple(place._replace(is_dropped=place.is_dropped or place.table[0] == name) for place in part.places))
                   for part in at.parts)
     return tuple(table for table in at.tables if table[0] != name), parts
@@ -169,7 +169,7 @@ def quoted(title):
 
 
 def shared_rows(at, query, excepted):
-    """A row for each column that shares a key with the query, in the order of an answer: its overlap with a minus, table, title and place."""
+    """A row for each column that shares a key with the query, in the order of an answer: its negated overlap, table, title and place."""
     found = []
     for name, columns in at.tables:
         if name == excepted:
@@ -186,7 +186,7 @@ def row_lines(found):
 
 
 def answered(at, query, found, work):
-    """The reply of these rows and this work."""
+    """The reply with these rows and this work."""
     reads, probes = work
     return [f"answer {len(found)} of {len(query)} at {at.position}"] + row_lines(found) + [f"  work reads {reads} probes {probes}", layout(at)]
 
@@ -196,7 +196,7 @@ def answer(at, most, query, excepted):
 
 
 def query_fault(lines):
-    """The reply to lines of which one is not UTF-8, or None."""
+    """The reply to lines if one of them is not UTF-8, or else None."""
     return next(([f"refused query line {number} not UTF-8"] for number, text in enumerate(lines, 1) if NOT_UTF8 in text), None)
 
 
@@ -205,7 +205,7 @@ def search(at, most, lines):
 
 
 def contain(at, part, whole, lines):
-    """All columns that hold at least `part` of `whole` parts of the lines' values."""
+    """All columns that hold at least the fraction `part` / `whole` of the lines' values."""
     query = set(set_of(lines))
     least = max(1, -(-part * len(query) // whole))
     found = [row for row in shared_rows(at, query, None) if -row[0] >= least]
@@ -220,7 +220,7 @@ def earlier(at, position):
 
 
 def as_of(at, asked, most, lines):
-    """The columns that shared the most keys with the query after the first so many entries, as it is answered at a version."""
+    """The reply, at a version, with the columns that shared the most keys with the query after the first `asked` entries."""
     if query_fault(lines):
         return query_fault(lines)
     if asked > at.position:

@@ -1,8 +1,8 @@
-"""A plain model of a search: which posting lists it reads and which sets it probes, where the costs decide between the two.
+"""A plain model of a search: which posting lists it reads and which sets it probes, with the costs deciding between the two.
 
-The parts of a layout are searched in turn, each by its own token order. Before every look the model works out anew, from whole sets, what is known and what
-the lists that were read say of each column. A row is a tuple that sorts as rows are ordered: the overlap with a minus, the table's name, the column's name,
-the place.
+The parts of a layout are searched in turn, each in its own token order. Before every look the model works out again, from whole sets, what is known and what
+the lists that were read say about each column. A row is a tuple that sorts in the order of rows: the negated overlap, the table's name, the column's name, the
+place.
 """
 from bisect import bisect_left
 from collections import Counter
@@ -18,7 +18,7 @@ class Column(NamedTuple):
 
 
 class Open(NamedTuple):
-    """A column that can still be among the best, with its row by the most that its overlap can be; the least of them goes first."""
+    """A column that can still be among the best, with the row that it has at its greatest possible overlap; the least of them goes first."""
     row: tuple
     column: Column
     count: int
@@ -38,7 +38,7 @@ def probe_cost(rest):
 
 
 def columns_of(part):
-    """All columns of a part, those of dropped tables too: the place of their table, title, place and keys."""
+    """All columns of a part, including those of dropped tables: the place of their table, title, place and keys."""
     return [(at, title, place, keys) for at in part.places for place, (title, keys) in enumerate(at.table[1], 1)]
 
 
@@ -62,7 +62,7 @@ def met(part, query, excepted):
 
 
 def first_open(columns, probed, read, lists, worst):
-    """The open column that goes first, or None if none is open. Of `lists` lists this many were read; `worst` is the last row that still counts."""
+    """The open column that goes first, or None if none is open. `read` of `lists` lists were read; `worst` is the last row that still counts."""
     found = []
     for column in columns:
         count = bisect_left(column.lists, read)

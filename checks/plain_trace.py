@@ -1,8 +1,8 @@
 """A plain model of a trace: whether its replies and its journal are right for the commands of a script.
 
-The journal is replayed on the model of `plain_lake.py`: each entry is that of one command, which was accepted at its position, and the version after it is the
-model's. Then each reply is the model's reply at the positions that it shows, with its work and its layout; along a lane the positions never fall, and an
-entry's position is greater than all before it; each position lies between the ends of the batch before and of its own; each accepted command has one entry.
+The journal is replayed on the model of `plain_lake.py`: each entry belongs to one command, which was accepted at its position, and the version after it is the
+model's. Each reply is the model's reply at the positions that it shows, with its work and its layout. Along a lane the positions never decrease, and an entry's
+position is greater than all before it. Each position lies between the end of the batch before and the end of its own. Each accepted command has one entry.
 """
 import re
 from typing import NamedTuple
@@ -68,7 +68,7 @@ def parted(text):
 
 
 def joined(replies, journal):
-    """The text of these replies and this journal: what `parted` parts."""
+    """The text of these replies and this journal, which `parted` takes apart."""
     lines = [line for number, (first, *more) in replies.items() for line in [f"{number} {first}", *more]]
     return "".join(line + "\n" for line in [*lines, f"journal {len(journal)}", *journal])
 
@@ -173,7 +173,7 @@ def checked(replies, journal, batches):
 
 
 def check_trace(text, batches):
-    """Checks that a text is, to the byte, the trace of a right run of all the commands of some batches, of which any may have had no memory."""
+    """Checks that a text is, byte for byte, the trace of a right run of all the commands of some batches, any of which may have run out of memory."""
     lines, journal = parted(text)
     if journal is None:
         raise Wrong("no journal")

@@ -3,14 +3,15 @@
 
     checks/random_lakes.py [JOSIE]
 
-The seeds are fixed, so the scripts are always the same. They load from blocks and from files, drop, replace, list, merge, ask which columns contain a part of some values, and search by values, by
-columns and at earlier positions over a few names and values, in batches: names that are taken or unknown, files and places that do not exist, positions that are still to come, tables with two columns of one name, fields
-without a value, values that differ only by case and by the white space around them, quoted fields, lines with a carriage return or a further dot, tables without a
-header or with a record of another length, fields and lines that are not UTF-8, words of lanes, and further spaces between words. The model is
-`plain_lake.py`; what josie writes, every second script with a trace, is compared with it byte for byte. Where a contain is asked beside a search for 10,000 columns,
-josie's rows of the contain are also compared with those of its search that have enough of the values.
+The seeds are fixed, so the scripts are always the same. In batches, over a few names and values, they load from blocks and from files, drop, replace, list,
+merge, ask which columns contain a fraction of some values, and search by values, by columns and at earlier positions. There are names that are taken or
+unknown, files and places that do not exist, positions that are still to come, tables with two columns of the same name, fields without a value, values that
+differ only in case and in the white space around them, quoted fields, lines with a carriage return or an extra dot, tables without a header or with a record of
+a different length, fields and lines that are not UTF-8, lane words, and extra spaces between words. The model is `plain_lake.py`; what josie writes, with a
+trace for every second script, is compared with it byte for byte. If a contain is asked next to a search for 10,000 columns, josie's rows of the contain are
+also compared with those rows of the search that have enough of the values.
 
-It prints one line, and ends with 0 if josie writes what the model says, or else with 1.
+It prints one line, and exits with 0 if josie writes what the model says, and otherwise with 1.
 """
 import os
 import random
@@ -61,7 +62,7 @@ class Script:
             self.journal.append(plain_lake.journal_line(self.lake.position, change, 1, self.commands))
 
     def spaced(self, line):
-        """The words of a command line, sometimes with further spaces, with the word of its lane, or with a carriage return."""
+        """The words of a command line, sometimes with extra spaces, with a lane word, or with a carriage return."""
         chance = self.chance
         if chance.random() < 0.1:
             line = "@1 " + line
@@ -70,7 +71,7 @@ class Script:
         return line + chance.choice(["", "", "", "  ", "\r", " \r"])
 
     def wanted(self, trace):
-        """What josie has to write, with a trace or without."""
+        """What josie must write, with a trace or without."""
         return plain_lake.written(self.replies, self.journal, trace)
 
     def value(self):
@@ -85,13 +86,13 @@ class Script:
         return chance.choice(BLANKS) + word + chance.choice(BLANKS)
 
     def field(self, text):
-        """A field of CSV that reads as the text: in quotes where it must be, and sometimes where it need not."""
+        """A field of CSV that reads as the text: in quotes if it must be, and sometimes if it need not be."""
         if any(sign in text for sign in ",\"\n\r") or text == "" or self.chance.random() < 0.2:
             return "\"" + text.replace("\"", "\"\"") + "\""
         return text
 
     def records(self):
-        """A header and its rows, sometimes with one row that has a field too many or too few, or no record at all."""
+        """A header and its rows, sometimes with one row that has one field too many or too few, or no record at all."""
         chance = self.chance
         if chance.random() < 0.03:
             return []
@@ -152,7 +153,7 @@ class Script:
         self.command(f"search {most}", plain_lake.search(self.lake, most, block), block)
 
     def as_of(self):
-        """A search of the past: of some position, of one of the last few, or of one that is still to come."""
+        """A search of the past: at some position, at one of the last few, or at one that is still to come."""
         chance, position = self.chance, self.lake.position
         asked = chance.choice([chance.randint(0, position), max(0, position - chance.randint(0, 3)), position + chance.randint(1, 2)])
         most = chance.choice([1, 2, 3, 5, 10, 10000])
@@ -177,7 +178,7 @@ class Script:
             self.command(f"contain {part} {whole}", plain_lake.contain(self.lake, part, whole, block), block)
 
     def merge(self):
-        """A merge, with the same questions before and after it if that is asked for: their rows stay, since the model's do not depend on parts."""
+        """A merge, with the same questions before and after it if requested: their rows stay the same, since the model's do not depend on parts."""
         chance = self.chance
         whole = chance.random() < 0.3
         questions = []
@@ -266,7 +267,7 @@ def enough_rows(reply, part, whole):
 
 
 def uneven(script, text):
-    """The number of the first contain of which the rows are not those of the search before it that have enough, or None."""
+    """The number of the first contain whose rows are not those rows of the search before it that have enough values, or None."""
     replies = replies_of(text)
     for number, part, whole in script.besides:
         all_rows, rows = replies[str(number)], replies[str(number + 1)]

@@ -3,10 +3,10 @@
 
     checks/random_lanes.py [--all] [JOSIE]
 
-Random scripts of loads, drops, replaces, lists, searches and merges on two to sixteen lanes, with a merger and without, run without a stated order. Each trace
-is right by the model of `plain_trace.py`: its replies, its journal, and the positions along each lane. Then the order of the steps that the trace shows is
-stated by `--order`, and that run, on one thread, gives the same bytes. The seeds are fixed, the threads are not. With `--all` there are twenty thousand
-scripts. It prints one line, and ends with 0 if everything is right.
+Random scripts of loads, drops, replaces, lists, searches and merges on two to sixteen lanes, with a merger and without, are run without a stated order. Each
+trace must be right by the model of `plain_trace.py`: its replies, its journal, and the positions along each lane. Then the order of the steps that the trace
+shows is stated with `--order`, and that run, on one thread, must give the same bytes. The seeds are fixed, but not the order in which threads run. With `--all`
+there are twenty thousand scripts. It prints one line, and exits with 0 if everything is right.
 """
 import random
 import subprocess

@@ -3,11 +3,12 @@
 
     checks/random_orders.py [JOSIE]
 
-The first part: random scripts of loads, drops, replaces, lists, searches and merges on one to five lanes, with a merger and without, each in a random order
-(pieces with too few and too many steps, and lanes that have none left) and lane by lane. The second: one script of three lanes, a search and a list, a
-load and a drop, and a merge of the whole layout, in every order of its seven steps. What josie writes, mostly with a trace, is the model's, byte for
-byte. The model is a list of versions (`plain_lake.py`): a load, a drop, a replace, a list and an asof take one step, a search, a contain and a merge two, of which
-the first takes the version that they are answered at. The seeds are fixed. It prints one line, and ends with 0 if everything is as the model says.
+The first part runs random scripts of loads, drops, replaces, lists, searches and merges on one to five lanes, with a merger and without, each in a random order
+(pieces with too few and too many steps, and lanes that have none left) and lane by lane. The second part runs one script of three lanes (a search and a list, a
+load and a drop, and a merge of the whole layout) in every order of its seven steps. What josie writes, mostly with a trace, must be the model's output, byte
+for byte. The model is a list of versions (`plain_lake.py`): a load, a drop, a replace, a list and an asof take one step; a search, a contain and a merge take
+two, the first of which takes the version that they are answered at. The seeds are fixed. It prints one line, and exits with 0 if everything is as the model
+says.
 """
 import itertools
 import random
@@ -97,7 +98,7 @@ def step(lane, play):
 
 
 def wanted(batches, lanes, pieces, merger, trace):
-    """What josie has to write."""
+    """What josie must write."""
     play = {"lake": plain_lake.EMPTY, "journal": []}
     replies, number, merger_number = [], 0, 0
     for place, batch in enumerate(batches):

@@ -3,12 +3,11 @@
 
     checks/random_scripts.py [JOSIE] [--all]
 
-Two kinds of scripts, none of which loads a table, so that every reply follows from the line alone. The first: each command line with one of
-its bytes replaced, at every position, by each of the 256 byte values (with `--all`; else by every fifth of them). The second: random scripts of
-commands, blocks, comments, `sync` lines, words of lanes and lines at fault, with carriage returns and without, with and without an end. Each is
-written whole, and then in random pieces. The exit code, the line on standard error and the replies must be the model's. The model cuts the whole
-script into lines and reads one after another. The seed is fixed. It prints one line, and ends with 0 if everything is as the model
-says.
+There are two kinds of scripts, none of which loads a table, so that every reply follows from the line alone. The first kind is each command line with one of
+its bytes replaced, at every position, by each of the 256 byte values (with `--all`; otherwise by every fifth of them). The second kind is random scripts of
+commands, blocks, comments, `sync` lines, lane words and invalid lines, with and without carriage returns, and with and without an end. Each script is written
+whole, and then in random pieces. The exit code, the line on standard error and the replies must be the model's. The model cuts the whole script into lines and
+reads one after another. The seed is fixed. It prints one line, and exits with 0 if everything is as the model says.
 """
 import random
 import subprocess
@@ -25,7 +24,7 @@ NAME_BYTES = set(range(0x21, 0x7F))
 
 
 class Fault(Exception):
-    """A line at fault: its number and its reason."""
+    """An invalid line: its number and its reason."""
 
 
 def number(word, most):
@@ -116,7 +115,7 @@ def without_return(line):
 
 
 def model(script):
-    """The exit code, the line on standard error, and the replies to the batches before the one at fault."""
+    """The exit code, the line on standard error, and the replies to the batches before the invalid line."""
     lines = script.split(b"\n")
     last = lines.pop()
     if last:

@@ -3,11 +3,11 @@
 
     checks/random_watches.py [JOSIE]
 
-The seeds are fixed, so the scripts are always the same. A script of `random_lakes.py` runs while one to sixteen queries are watched, of one to ten thousand rows. The
-model counts the rows of each query anew after each entry of the journal, and what josie writes is compared with it byte for byte: also where the last line is at fault,
-and where a file of a query is not there or has a line that is not UTF-8.
+The seeds are fixed, so the scripts are always the same. A script of `random_lakes.py` runs while one to sixteen queries are watched, with one to ten thousand
+rows. The model counts the rows of each query again after each entry of the journal, and what josie writes is compared with it byte for byte, also if the last
+line is invalid, and if a query's file does not exist or has a line that is not UTF-8.
 
-It prints one line, and ends with 0 if josie writes what the model says, or else with 1.
+It prints one line, and exits with 0 if josie writes what the model says, and otherwise with 1.
 """
 import os
 import subprocess
@@ -47,7 +47,7 @@ class Watched(Script):
         return [f"  {-less} {name.decode()} {place} \"{plain_lake.quoted(title.decode())}\"" for less, name, title, place in found]
 
     def wanted_text(self):
-        """What josie has to write, without its last line."""
+        """What josie must write, without its last line."""
         lines = []
         for before, now in zip(self.versions, self.versions[1:]):
             for number, query in enumerate(self.queries, 1):

@@ -1,13 +1,13 @@
 #!/usr/bin/env python3
-"""Runs and checks of josie in which one allocation is refused: the first, the second, and so on, until there are fewer.
+"""Runs and checks of josie in which one allocation is refused: the first, the second, and so on, up to the last.
 
     checks/refused_memory.py [JOSIE]
 
-The scripts are worked runs and examples, on one lane or on several in a stated order, each run with a trace. A command that has no memory is answered `no memory`
-and changes nothing: every other reply, and the journal, have to be right by the model of `plain_trace.py`, with that command left out. A run that has no
-memory itself ends with status 5, and what it wrote has to be the right replies to its first batches. Then the trace of each run is checked in the same way: a
-check that has no memory ends with status 5 and without a verdict. The library that refuses is made of `refuse_allocation.c` by the C compiler `cc`, and
-loaded before the C library. It prints one line, and ends with 0 if everything is right.
+The scripts are worked runs and examples, on one lane or on several in a stated order, each run with a trace. A command that runs out of memory is answered
+`no memory` and changes nothing: every other reply, and the journal, must be right by the model of `plain_trace.py`, with that command left out. A run that
+itself runs out of memory ends with status 5, and what it wrote must be the right replies to its first batches. Then the trace of each run is checked in the
+same way: a check that runs out of memory ends with status 5 and without a verdict. The library that refuses allocations is built from `refuse_allocation.c` by
+the C compiler `cc`, and loaded before the C library. It prints one line, and exits with 0 if everything is right.
 """
 import os
 import shlex
@@ -56,7 +56,7 @@ def batches_of(script):
 
 
 def refused_run(josie, library, words, script, number):
-    """A run whose allocation of this number is refused, and whether it made so many."""
+    """A run whose allocation with this number is refused, and whether it made that many."""
     reads, writes = os.pipe()
     with open(reads, "rb") as told:
         try:
@@ -68,7 +68,7 @@ def refused_run(josie, library, words, script, number):
 
 
 def check_ended(ended, batches):
-    """Checks what a run wrote, and returns how many of its commands had no memory, and whether the run had none."""
+    """Checks what a run wrote, and returns how many of its commands ran out of memory, and whether the run itself did."""
     if ended.returncode not in (0, 5) or ended.returncode == 5 and ended.stderr != b"josie: no memory\n":
         raise Wrong(f"status {ended.returncode}")
     lines, journal = parted(ended.stdout.decode())
@@ -84,7 +84,7 @@ def check_ended(ended, batches):
 
 
 def check_case(josie, library, name, words, script):
-    """How many allocations were refused, how many commands had no memory, and how many runs had none."""
+    """How many allocations were refused, and how many commands and how many runs ran out of memory."""
     counts = Counter()
     batches = numbered(batches_of(script), "--merge" in words)
     words = words if "--trace" in words else [*words, "--trace"]
@@ -102,13 +102,13 @@ def check_case(josie, library, name, words, script):
 
 
 def options_of(words):
-    """The options of a run that its check has too: neither an order nor a trace."""
+    """The options of a run that its check takes too: no order and no trace."""
     order = words.index("--order") if "--order" in words else len(words)
     return [word for word in words[1:order] + words[order + 2:] if word != "--trace"]
 
 
 def check_verdicts(josie, library, folder, case):
-    """How many allocations were refused to a check of the trace of a case. Each of these ends without a verdict, or with the right one."""
+    """How many allocations were refused in the checks of a case's trace. Each of these checks ends without a verdict, or with the right one."""
     name, words, script = case
     path = os.path.join(folder, "trace")
     with open(path, "wb") as trace:

@@ -3,8 +3,8 @@
 
     checks/slowest_crates.py &      # kill -INT $! prints the table and ends it
 
-Every second it reads, from /proc, the processor time of each running prover, and which crate it proves (the argument after `--crate-name`).
-What a prover takes after the last such reading is not counted.
+Every second it reads, from /proc, the processor time of each running prover, and which crate it proves (the argument after `--crate-name`). What a prover takes
+after its last reading is not counted.
 """
 import collections
 import os

@@ -3,10 +3,10 @@
 
     checks/wide_input.py [JOSIE]
 
-Each block has 67,108,864 bytes or a little less: one record, one field, 16,777,216 fields of white space and four times as many that are empty, one value in each
-of 1,024 columns, 22 million lines, and values that grow threefold when they are folded. The replies follow from `docs/FORMATS.md`. A run may take eight
-times the size of its block in memory. Two runs at a time need a minute or two and 1.3 gigabytes, so `.ci/run` does not run it. It prints a line for each case
-with its time and its peak memory, and one line in all, and ends with 0 if everything is as stated, and else with 1.
+Each block has 67,108,864 bytes or a little less: one record, one field, 16,777,216 fields of white space and four times as many empty ones, one value in each
+of 1,024 columns, 22 million lines, and values that grow threefold when they are folded. The replies follow from `docs/FORMATS.md`. A run may take eight times
+the size of its block in memory. Two runs at a time need a minute or two and 1.3 gigabytes, so `.ci/run` does not run it. It prints a line for each case with
+its time and its peak memory, and a line for all of them, and exits with 0 if everything is as stated, and otherwise with 1.
 """
 import os
 import subprocess
@@ -23,8 +23,8 @@ AT_ONCE = 2  # runs
 COLUMNS = 1_024
 HEADER = b",".join([b"c"] * COLUMNS) + b"\n"
 SPACES = b",".join([b"   "] * (COLUMNS - 1) + [b" "]) + b"\n"  # so long that 16,384 such records fit
-GROWS = "\u0390".encode()  # two bytes, of which the folding makes six
-KIN = "\u0390\u03b0\u0ddd\ud7a3\U0001d160".encode()  # each of them makes three times its bytes
+GROWS = "\u0390".encode()  # two bytes, which folding turns into six
+KIN = "\u0390\u03b0\u0ddd\ud7a3\U0001d160".encode()  # folding makes each of them three times as long
 
 
 class Case(NamedTuple):
@@ -35,13 +35,13 @@ class Case(NamedTuple):
 
 
 def rows(record, front=b""):
-    """A front and as many repetitions of a record as a block can have."""
+    """A front, and as many repetitions of a record as a block can have."""
     return [(front, 1), (record, (BLOCK - len(front)) // len(record))]
 
 
 def numbered_values(first, count):
-    """A header and so many distinct values, each of one beginning and eight digits. They are made as they are written: what this process holds would count as
-    memory of the runs that it starts."""
+    """A header and this many distinct values, each of the same beginning and eight digits. They are made as they are written: what this process holds would
+    count as memory of the runs that it starts."""
     yield b"c\n", 1
     for number in range(count):
         yield first + b"%08d\n" % number, 1
@@ -92,7 +92,7 @@ def run(josie, path):
 
 
 def tried(josie, case):
-    """The figures of a case in a line, and what is not as stated, in words, or None."""
+    """The figures of a case in one line, and what is not as stated, in words, or None."""
     with tempfile.TemporaryDirectory() as folder:
         path = os.path.join(folder, "script")
         size = written(case, path)

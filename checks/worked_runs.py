@@ -3,10 +3,10 @@
 
     checks/worked_runs.py [JOSIE] [NAME ..]
 
-A folder has the arguments (`args`, one a line), standard input (`stdin`, empty if it is missing), the expected output (`stdout`, or `stdout.pattern`, a regular
-expression), the exit status if it is not 0 (`status`), the line on standard error if it is stated (`stderr`), and the files in the folder where josie runs
-(`data/`). What is expected was worked out by hand from the definitions, never taken from the program. With names, only these runs. It prints a line for each
-run that fails, and one line in all, and ends with 0 if none failed.
+A folder has the arguments (`args`, one per line), standard input (`stdin`, empty if it is missing), the expected output (`stdout`, or `stdout.pattern`, a
+regular expression), the exit status if it is not 0 (`status`), the line on standard error if it is stated (`stderr`), and the files in the folder where josie
+runs (`data/`). What is expected was worked out by hand from the definitions, never taken from the program. With names, only these runs are made. It prints a
+line for each run that fails, and a line for all of them, and exits with 0 if none failed.
 """
 import os
 import re
@@ -29,7 +29,7 @@ def read(folder, name, default=None):
 
 
 def differences(josie, folder):
-    """What differs from what is expected, a line each."""
+    """What differs from what is expected, one line for each difference."""
     words = read(folder, "args").split(b"\n")[:-1]
     data = os.path.join(folder, "data")
     with tempfile.TemporaryDirectory() as empty:
