@@ -5,7 +5,7 @@
 
 A lake of three hundred tables of three columns and eight records each is loaded. Then there are a thousand rounds on one lane. In each, a table is dropped and
 another one is loaded, fifty times; ten searches of eight values are asked; and the whole lake is merged. So there are 100,300 updates, 10,000 searches and a
-trace of some fifty megabytes. A time is the least CPU time of N whole runs, and the memory is the greatest of one run. It exits with 1 if the check takes more
+trace of some forty megabytes. A time is the least CPU time of N whole runs, and the memory is the greatest of one run. It exits with 1 if the check takes more
 than three times the time of the run with its trace, or more than twice its memory.
 """
 import os
