@@ -1,4 +1,4 @@
--- A reader of the crate `csv` over bytes, as the records that it has left.
+-- A reader of the crate `csv` over bytes, as the records that it has not read yet.
 use Rattle.std.specs.Prelude.{◌≡◌, ◌+◌, List, [], length, true, false, Option, Some, None, IsSome}
 use Rattle.std.specs.Borrow.{Bor}
 use Rattle.csv.specs.Machine.{ends_at_end}
@@ -9,20 +9,20 @@ use Rattle.csv.specs.declared.reader.Trim.TheVariants as trim
 use Rattle.lake_model.specs.Texts.{Text}
 use Rattle.lake_model.specs.Records.{Record}
 
--- the bytes that a reader over a slice has left, where they are known
+-- the bytes that a reader over a slice has not read yet, if they are known
 abbrev pub bytes_left : Reader (Bor Text) → Option Text
 bytes_left reader = source_of (λ slice. Some slice.now) reader
 
--- the records of known bytes from a state of the crate's machine
+-- the records of known bytes, read from a state of the crate's machine
 abbrev pub records_left_from : Option Text → State → List Record
 records_left_from None state = []
 records_left_from (Some bytes) state = records_from default_config (length bytes + 1) state bytes
 
--- the records that a reader has left
+-- the records that a reader has not read yet
 abbrev pub records_left : Reader (Bor Text) → List Record
 records_left reader = records_left_from (bytes_left reader) (reader_state reader)
 
--- The reader stands between two records of known bytes, and reads with the crate's defaults, records of any length and no header.
+-- The reader is between two records of known bytes. It has the crate's defaults, but takes records of any length and no header.
 pub record IsReading (reader : Reader (Bor Text)) : Type 0 where
   pub trim : reader_trim reader ≡ trim.None
   pub ready : Ready reader
