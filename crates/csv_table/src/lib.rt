@@ -14,6 +14,9 @@ use std::alloc::Global;
 use std::marker::Model;
 use std::str;
 
+/// How many bytes at the beginning of a table are looked at to guess the number of its fields.
+const SAMPLE_BYTES: usize = 65_536;
+
 /// A header of at most 4,096 fields, and fewer than 2^64 records as long as the header, each field UTF-8.
 ///
 /// Rows count from 0, and row 0 is the header. Places in a row, which are the columns, count from 1.
@@ -124,25 +127,28 @@ fn open_reader(alloc: Global, bytes: &[u8]) -> Reader<&[u8]>
         .from_reader(alloc, behind_mark(bytes))
 }
 
-// Returns a store with room for the fields of the bytes. It never grows: while it grew, it would take half as much memory
-// again.
+// Returns a store with room for the bytes and for the fields that they are likely to have. While a store grows, it takes half as
+// much memory again.
 fn empty_store(alloc: Global, bytes: &[u8]) -> Result<StringRecord, CsvRefused>
     ensures empty { IfOk result (λ store. fields_of store ≡ []) }
     ensures refused { IfErr result (λ e. e ≡ CsvRefused.NoMemory) }
 {
-    let Ok(store) = StringRecord::with_capacity(alloc, bytes.len(), most_fields(bytes)) else {
+    let Ok(store) = StringRecord::with_capacity(alloc, bytes.len(), likely_fields(bytes)) else {
         return Err(CsvRefused::NoMemory);
     };
     Ok(store)
 }
 
-// Returns an upper bound of the number of fields: one more than the commas and line breaks, some of which may be quoted.
-fn most_fields(bytes: &[u8]) -> usize {
+// Returns a sixteenth more than the number of fields that there are if the rest of the bytes is as their beginning.
+fn likely_fields(bytes: &[u8]) -> usize {
+    let sample = bytes.len().min(SAMPLE_BYTES);
     let ends = bytes
         .iter()
+        .take(sample)
         .filter(|byte| matches!(**byte, b',' | b'\n' | b'\r'))
         .count();
-    ends.saturating_add(1)
+    let fields = ends as u128 * bytes.len() as u128 / sample.max(1) as u128;
+    (fields + fields / 16 + 1) as usize
 }
 
 // Returns the bytes after one byte order mark, or all of them if they do not begin with one.
