@@ -1,5 +1,5 @@
 //! The catalogue of a lake.
-ghost use Rattle.std.specs.Prelude.{◌≡◌, ◌≤◌, ◌<◌, ◌+◌, ◌*◌, ◌^◌, ◌++◌, ◌∷◌, ◌⊎◌, [], false, find, length, map, nat_lt, option_map, slice_set, true, vec_capacity, vec_len, IfErr, IfOk, None, OnErr, Some};
+ghost use Rattle.std.specs.Prelude.{◌≡◌, ◌≤◌, ◌<◌, ◌+◌, ◌*◌, ◌^◌, ◌++◌, ◌∷◌, ◌⊎◌, [], false, find, length, map, nat_lt, option_map, slice_set, true, IfErr, IfOk, None, OnErr, Some};
 ghost use Rattle.lake_model.specs.Journal.{counts, entry_with, is_live, live, Dropped, Loaded};
 ghost use Rattle.lake_model.specs.Layout.{is_legal, layout, mark};
 ghost use Rattle.lake_model.specs.Limits.{is_passed, replace_bounds};
@@ -200,7 +200,7 @@ impl Catalogue {
             return Err(NoMemory);
         };
         self.counts = counts_with(self.counts, table.table());
-        push_reserved(&mut self.journal, Entry::loaded(who, table));
+        self.journal.push_reserved(Entry::loaded(who, table));
         Ok(at)
     }
 
@@ -269,7 +269,7 @@ impl Catalogue {
         Version::mark(&mut self.version, at, part, place)?;
         remove_name(&mut self.positions, name);
         self.counts = counts_without(self.counts);
-        push_reserved(&mut self.journal, Entry::dropped(who, name.copy()));
+        self.journal.push_reserved(Entry::dropped(who, name.copy()));
         Ok(at)
     }
 }
@@ -282,17 +282,6 @@ pub(crate) fn loaded_part(alloc: Global, at: u64, segment: Arc<Segment>) -> Resu
     let positions = Numbers::new(vec![in alloc; at]?);
     let marked = Marks::new(vec![in alloc; false]?);
     Part::new(alloc, at, segment, positions, marked)
-}
-
-// Pushes an item; there must be room for it.
-pub(crate) fn push_reserved<T: Drop>(items: &mut Vec<T>, item: T)
-    requires { vec_len items.old < vec_capacity items.old }
-    ensures items { items.new.items ≡ items.old.items ++ item ∷ [] }
-{
-    match items.push(item) {
-        Ok(()) => (),
-        Err(_) => unreachable!(),
-    }
 }
 
 // Returns the counts after a load of this table.

@@ -4,7 +4,7 @@ ghost use Rattle.lake_model.specs.Journal.{entry_with, Replaced};
 ghost use Rattle.catalogue.specs.Kept.{catalogue_with};
 ghost use Rattle.catalogue.specs.Refusals.{replace_refusal};
 
-use crate::catalogue::{Catalogue, counts_replaced, loaded_part, push_reserved};
+use crate::catalogue::{Catalogue, counts_replaced, loaded_part};
 use crate::entry::Entry;
 use crate::names::move_name;
 use crate::refusal::{Passed, ReplaceRefused};
@@ -75,7 +75,7 @@ impl Catalogue {
         Version::mark_and_add(&mut self.version, at, part, place, more)?;
         move_name(&mut self.positions, table.table().name(), at);
         self.counts = counts_replaced(self.counts, table.table());
-        push_reserved(&mut self.journal, Entry::replaced(who, table));
+        self.journal.push_reserved(Entry::replaced(who, table));
         Ok(at)
     }
 }

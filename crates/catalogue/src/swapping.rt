@@ -1,5 +1,5 @@
 //! Swaps: a merged part takes the place of the parts that it was merged from.
-ghost use Rattle.std.specs.Prelude.{◌≡◌, ◌≤◌, ◌<◌, ◌+◌, ◌&&◌, ◌++◌, ◌∷◌, ◌⊎◌, [], bytes_eq, drop, filter, flat_map, is_some, length, map, nat_eq, option_map, take, true, unwrap_or, IfErr, IfOk, IfSome, None, OnErr, OnOk, Some};
+ghost use Rattle.std.specs.Prelude.{◌≡◌, ◌≤◌, ◌<◌, ◌+◌, ◌&&◌, ◌++◌, ◌∷◌, ◌⊎◌, [], bytes_eq, drop, filter, is_some, length, nat_eq, option_map, take, true, unwrap_or, IfErr, IfOk, IfSome, None, OnErr, OnOk, Some};
 ghost use Rattle.std.specs.Option.{option_to_list};
 ghost use Rattle.lake_model.specs.Journal.{entry_with, Swapped};
 ghost use Rattle.lake_model.specs.Layout.{is_among, layout, may_swap, merged, parts_after, positions_of, run_of};
@@ -11,7 +11,7 @@ ghost use Rattle.catalogue.specs.Kept.{catalogue_with};
 ghost use Rattle.catalogue.specs.Carried.{marks_along, is_first, run_marks};
 ghost use Rattle.catalogue.specs.Swaps.{is_there, kept_marks, kept_tables, numbers_in, swap_refusal, IsMergeOf};
 
-use crate::catalogue::{Catalogue, push_reserved};
+use crate::catalogue::Catalogue;
 use crate::entry::Entry;
 use crate::refusal::SwapRefused;
 use lake_model::Who;
@@ -96,7 +96,8 @@ impl Catalogue {
         let numbers = planned_numbers(self.alloc, &from)?;
         self.journal.reserve(1)?;
         Version::swap(&mut self.version, at, first, from.len() as u32, part)?;
-        push_reserved(&mut self.journal, Entry::swapped(who, numbers, kept));
+        self.journal
+            .push_reserved(Entry::swapped(who, numbers, kept));
         Ok(at)
     }
 

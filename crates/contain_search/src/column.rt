@@ -12,7 +12,7 @@ ghost use Rattle.segment_core.specs.Versions.{part_at, segment_at};
 
 use crate::probing::probe_from;
 use column_set::Row;
-use part_columns::{Columns, Tally, most_of, push_within, row_of_column};
+use part_columns::{Columns, Tally, most_of, row_of_column};
 use segment_core::Looks;
 
 // Returns whether a column that was seen may hold at least `least` of the tokens, with `left` lists left, and its table
@@ -54,7 +54,7 @@ fn consider(
     ensures room { vec_capacity found.old ≤ vec_capacity found.new }
 {
     if may_hold(looks, part, columns, left, least, column) {
-        push_within(found, column);
+        found.push_reserved(column);
     }
 }
 
@@ -172,7 +172,7 @@ fn settle<'a>(
     let tally = columns.tally(column);
     let overlap = overlap_from(looks, part, tokens, read, column, tally, least);
     if overlap >= least {
-        push_within(rows, row_of_column(looks, part, column, overlap));
+        rows.push_reserved(row_of_column(looks, part, column, overlap));
     }
 }
 

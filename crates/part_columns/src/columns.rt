@@ -5,7 +5,6 @@ ghost use Rattle.lake_model.specs.Layout.{is_among};
 ghost use Rattle.part_columns.specs.Columns.{IsClean, IsListed};
 ghost use Rattle.part_columns.specs.Tallies.{counted, of_column, raised, tally_at};
 
-use crate::room::push_within;
 use crate::tally::Tally;
 use no_memory::NoMemory;
 use segment_core::Posting;
@@ -131,8 +130,8 @@ impl Columns {
             size: posting.size,
         };
         self.slots[posting.column as usize] = self.tallies.len() as u32;
-        push_within(&mut self.tallies, tally);
-        push_within(&mut self.touched, posting.column);
+        self.tallies.push_reserved(tally);
+        self.touched.push_reserved(posting.column);
     }
 
     /// Marks the row of a column as known.

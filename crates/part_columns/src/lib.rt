@@ -14,6 +14,6 @@ pub use answer::Answer;
 pub use bounds::{most_of, rest_of};
 pub use columns::Columns;
 pub use probing::probe;
-pub use room::{most_columns, most_probes, push_within};
+pub use room::{most_columns, most_probes};
 pub use row::row_of_column;
 pub use tally::Tally;

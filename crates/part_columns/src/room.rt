@@ -1,5 +1,5 @@
 //! The room that a search takes.
-ghost use Rattle.std.specs.Prelude.{◌≡◌, ◌<◌, ◌≤◌, ◌++◌, ◌∷◌, [], length, vec_capacity, vec_len};
+ghost use Rattle.std.specs.Prelude.{◌≡◌, ◌<◌, length};
 ghost use Rattle.std.specs.List.{All};
 ghost use Rattle.part_columns.specs.Room.{IsMost, probes_bound};
 ghost use Rattle.segment_core.specs.Versions.{part_at, segment_at};
@@ -29,16 +29,4 @@ pub fn most_columns(looks: &Looks<'_>) -> u32
         most = most.max(looks.sets(part));
     }
     most
-}
-
-/// Pushes an item; there must be room for it.
-pub fn push_within<T: Drop>(items: &mut Vec<T>, item: T)
-    requires { vec_len items.old < vec_capacity items.old }
-    ensures items { items.new.items ≡ items.old.items ++ item ∷ [] }
-    ensures capacity { vec_capacity items.old ≤ vec_capacity items.new }
-{
-    match items.push(item) {
-        Ok(()) => (),
-        Err(_) => unreachable!(),
-    }
 }

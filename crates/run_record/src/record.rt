@@ -1,5 +1,5 @@
 //! The record of a run: its journal, its answers, and the length of the journal at the end of each batch.
-ghost use Rattle.std.specs.Prelude.{◌≡◌, ◌<◌, ◌≤◌, ◌+◌, ◌++◌, ◌∷◌, [], length, true, vec_capacity, vec_len, OnOk};
+ghost use Rattle.std.specs.Prelude.{◌≡◌, ◌<◌, ◌≤◌, ◌+◌, ◌++◌, ◌∷◌, [], length, true, vec_capacity, OnOk};
 ghost use Rattle.record_model.specs.Record.{empty, with_end};
 ghost use Rattle.script_model.specs.Options.{plain};
 ghost use Rattle.run_record.specs.Callers.{who_by};
@@ -184,7 +184,7 @@ impl RunRecord {
         ensures entries_room { self.new.entries_room ≡ self.old.entries_room }
         ensures syncs_room { self.new.syncs_room ≡ self.old.syncs_room }
     {
-        push_within(&mut self.answers, what);
+        self.answers.push_reserved(what);
         self.answers_room -= 1;
     }
 
@@ -196,7 +196,7 @@ impl RunRecord {
         ensures entries_room { self.new.entries_room + 1 ≡ self.old.entries_room }
         ensures syncs_room { self.new.syncs_room ≡ self.old.syncs_room }
     {
-        push_within(&mut self.journal, what);
+        self.journal.push_reserved(what);
         self.entries_room -= 1;
     }
 
@@ -208,19 +208,7 @@ impl RunRecord {
         ensures entries_room { self.new.entries_room ≡ self.old.entries_room }
         ensures syncs_room { self.new.syncs_room + 1 ≡ self.old.syncs_room }
     {
-        push_within(&mut self.syncs, self.journal.len() as u64);
+        self.syncs.push_reserved(self.journal.len() as u64);
         self.syncs_room -= 1;
-    }
-}
-
-// Appends a value, for which there is room.
-fn push_within<T: Drop>(list: &mut Vec<T>, value: T)
-    requires { vec_len list.old < vec_capacity list.old }
-    ensures items { list.new.items ≡ list.old.items ++ value ∷ [] }
-    ensures capacity { vec_capacity list.old ≤ vec_capacity list.new }
-{
-    match list.push(value) {
-        Ok(()) => (),
-        Err(_) => unreachable!(),
     }
 }

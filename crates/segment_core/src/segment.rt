@@ -20,6 +20,12 @@ use std::cmp::Ordering as Comparison;
 use std::marker::Model;
 use std::sync::atomic::{AtomicU64, Ordering};
 
+/// The number of hits that are examined to see whether the keys of a query were chosen to collide.
+const SAMPLE_HITS: usize = 64;
+
+/// About how many tokens can be asked for in the time that a look-up among colliding keys takes.
+const TOKENS_FOR_A_HIT: usize = 128;
+
 /// A token whose key may be that of a query at an index, from 0: they have the same hash.
 #[derive(Clone, Copy)]
 struct Hit {
@@ -328,6 +334,9 @@ impl Segment {
         ensures { IfOk result (λ tokens. tokens.items ≡ tokens_in (segment self.now).tokens query.now) }
     {
         let hits = self.hits(alloc, query)?;
+        if self.is_flooded(query, &hits) {
+            return self.asked_tokens(alloc, query);
+        }
         let mut tokens = self.tokens_of_hits(alloc, query, &hits)?;
         tokens.sort_unstable();
         Ok(tokens)
@@ -346,6 +355,27 @@ impl Segment {
             }
         }
         Ok(hits)
+    }
+
+    // Returns whether it is cheaper to ask the query for the key of each token than to look up these hits. That is so
+    // if many hits have another key than the first token with their hash, as keys have that were chosen to collide: to
+    // look up one of them takes a binary search that compares texts. Only a sample of the hits is examined.
+    fn is_flooded(&self, query: &HashedQuery<'_>, hits: &[Hit]) -> bool
+        requires { All (IsHit self.now query.now) hits.now }
+    {
+        if self.by_hash.entries().len() / TOKENS_FOR_A_HIT > hits.len() {
+            return false;
+        }
+        let step = (hits.len() / SAMPLE_HITS).max(1);
+        let mut others = 0usize;
+        for i in 0..SAMPLE_HITS {
+            if let Some(hit) = hits.get(i.saturating_mul(step)) {
+                if self.key_there(hit.entry.at) != query.query().key(hit.index) {
+                    others = others.saturating_add(1);
+                }
+            }
+        }
+        others > SAMPLE_HITS / 8
     }
 
     // Returns the tokens of the keys of these hits, in order.

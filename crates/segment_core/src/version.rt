@@ -1,5 +1,5 @@
 //! Versions: the parts in which the tables of a lake are searched at a position of its journal.
-ghost use Rattle.std.specs.Prelude.{◌≡◌, ◌<◌, ◌≤◌, ◌+◌, ◌^◌, ◌++◌, ◌∷◌, [], length, map, slice_set, vec_capacity, vec_len, IfOk, OnErr, OnOk};
+ghost use Rattle.std.specs.Prelude.{◌≡◌, ◌<◌, ◌≤◌, ◌+◌, ◌^◌, ◌++◌, ◌∷◌, [], length, map, slice_set, IfOk, OnErr, OnOk};
 ghost use Rattle.std.specs.List.{zip};
 ghost use Rattle.lake_model.specs.Layout.{positions_of};
 ghost use Rattle.segment_core.specs.Distinct.{unmarked_names};
@@ -296,7 +296,7 @@ impl Version {
     {
         self.parts.reserve(1)?;
         self.parts[part as usize].mark(place)?;
-        push_reserved(&mut self.parts, more);
+        self.parts.push_reserved(more);
         self.at = at;
         Ok(())
     }
@@ -346,17 +346,6 @@ fn share_all(parts: &Vec<Part>) -> Result<Vec<Part>, NoMemory>
         shared.push(part.share()?)?;
     }
     Ok(shared)
-}
-
-// Pushes a part for which there is room.
-fn push_reserved(parts: &mut Vec<Part>, part: Part)
-    requires { vec_len parts.old < vec_capacity parts.old }
-    ensures { parts.new.items ≡ parts.old.items ++ part ∷ [] }
-{
-    match parts.push(part) {
-        Ok(()) => (),
-        Err(_) => unreachable!(),
-    }
 }
 
 // Returns the numbers, each with the mark at its index.

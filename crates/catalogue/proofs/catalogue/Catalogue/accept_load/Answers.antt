@@ -67,7 +67,7 @@ invariant_of-self-2 c =
     let added : (q : Text) → get_by_text c.add_name.new.positions q ≡ cond (bytes_eq c.args.table.name q) (Some (n + 1)) (get_by_text c.self.inside.positions q) =
     λ q. c.in_ok-add_name.ensures.ok q ∙ (λ i. cond (bytes_eq (name i) q) (Some (at i)) (get_by_text c.self.inside.positions q)) in
     let more = kept_load s.limits s.journal.items s.version.value s.counts (λ q. get_by_text s.positions q) c.self.invariant c.args.table accepted c.args.who (λ q. get_by_text c.add_name.new.positions q) added in
-    let journal : c.push_reserved.new.items.items ≡ c.self.inside.journal.items ++ entry_with c.args.who (Loaded c.args.table) ∷ [] =
+    let journal : c.push_reserved.new.self.items ≡ c.self.inside.journal.items ++ entry_with c.args.who (Loaded c.args.table) ∷ [] =
     c.push_reserved.ensures.items ∙ (λ i. c.in_ok-reserve.ensures.items i ++ c.loaded.ensures i ∷ []) in
     let version : c.add.new.version.value ≡ version_with (n + 1) (layout c.self.inside.journal.items ++ loaded_part (n + 1) c.args.table ∷ []) =
     c.in-Ok.ensures.ok ∙ (λ i. version_with (at i) (parts i ++ part i ∷ [])) in

@@ -79,7 +79,7 @@ invariant_of-self-2 c =
     let moved : (q : Text) → get_by_text c.move_name.new.positions q ≡ cond (bytes_eq c.args.table.name q) (Some (n + 1)) (get_by_text c.self.inside.positions q) =
     λ q. c.move_name.ensures q ∙ (λ i. cond (bytes_eq (again i) q) (Some (at i)) (get_by_text c.self.inside.positions q)) in
     let more = kept_replace s.limits s.journal.items s.version.value s.counts (λ q. get_by_text s.positions q) c.self.invariant c.args.table accepted c.args.who (λ q. get_by_text c.move_name.new.positions q) moved in
-    let journal : c.push_reserved.new.items.items ≡ c.self.inside.journal.items ++ entry_with c.args.who (Replaced c.args.table) ∷ [] =
+    let journal : c.push_reserved.new.self.items ≡ c.self.inside.journal.items ++ entry_with c.args.who (Replaced c.args.table) ∷ [] =
     c.push_reserved.ensures.items ∙ (λ i. c.in_ok-reserve.ensures.items i ++ c.replaced.ensures i ∷ []) in
     let version : c.mark_and_add.new.version.value ≡ version_with (n + 1) (map (mark c.args.table.name) (layout c.self.inside.journal.items) ++ loaded_part (n + 1) c.args.table ∷ []) =
     c.in_ok-mark_and_add.ensures.ok ∙ (λ i. version_with (at i) (is i)) in

@@ -83,7 +83,7 @@ invariant_of-self-2 c =
     ∙ (λ i. swapped (c.len.result + 1) (numbers_in (from i)) (kept i) (layout c.self.inside.journal.items)) in
     let numbers : c.in_ok-numbers.numbers ≡ numbers_in c.args.merged.from = c.in_ok-numbers.ensures ∙ ap (λ ps. numbers_in ps) (c.deref-2.ensures.value ∙ ap (λ m. m.from) c.merged.view_is) in
     let entry : c.swapped.result ≡ entry_with c.args.who (Swapped (numbers_in c.args.merged.from) c.args.merged.kept) = c.swapped.ensures ∙ (λ i. entry_with c.args.who (Swapped (numbers i) (kept i))) in
-    let journal : c.push_reserved.new.items.items ≡ c.self.inside.journal.items ++ entry_with c.args.who (Swapped (numbers_in c.args.merged.from) c.args.merged.kept) ∷ [] =
+    let journal : c.push_reserved.new.self.items ≡ c.self.inside.journal.items ++ entry_with c.args.who (Swapped (numbers_in c.args.merged.from) c.args.merged.kept) ∷ [] =
     c.push_reserved.ensures.items ∙ (λ i. c.in_ok-reserve.ensures.items i ++ entry i ∷ []) in
     let more = kept_swap s.limits j s.version.value s.counts (λ q. get_by_text s.positions q) c.self.invariant c.args.who planned left still.may still.merges in
     let version = c.in_ok-swap.ensures.ok ∙ version_is s.limits j s.version.value s.counts (λ q. get_by_text s.positions q) c.self.invariant c.args.who planned left still.may still.merges (c.len.result + 1) _ at new in

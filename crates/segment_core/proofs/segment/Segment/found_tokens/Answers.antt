@@ -11,5 +11,5 @@ pub returns : goal.returns
 returns c =
     let tokens = (segment c.args.self.now).tokens in
     let keys = c.args.query.now in
-    let is = c.in_ok-tokens.ensures ∙ ap (λ (hits : List Hit). found_by tokens (hit_keys keys hits)) c.deref.ensures.value in
+    let is = c.in_ok-tokens.ensures ∙ ap (λ (hits : List Hit). found_by tokens (hit_keys keys hits)) c.deref-2.ensures.value in
     sorted_tokens tokens keys c.in_ok-tokens.tokens.items c.sort_unstable.new.self.items (subst (IsPermutation (tokens_in tokens keys)) (sym is) c.in_ok-hits.ensures.all) c.sort_unstable.ensures.permutation c.sort_unstable.ensures.sorted
