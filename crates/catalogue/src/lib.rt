@@ -19,6 +19,4 @@ pub use refusal::{DropRefused, LoadRefused, ReplaceRefused, SwapRefused};
 pub type Limits = Counts;
 
 #[cfg(test)]
-mod random_tests;
-#[cfg(test)]
 mod tests;

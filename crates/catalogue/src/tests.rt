@@ -101,7 +101,7 @@ fn segment(alloc: Global, table: SharedTable) -> Result<Arc<Segment>, Fail>
 }
 
 // Loads such a table, and expects this answer.
-pub fn loads(
+fn loads(
     lake: &mut Catalogue,
     alloc: Global,
     text: &str,
@@ -116,7 +116,7 @@ pub fn loads(
 }
 
 // Replaces a table by such a table, and expects this answer.
-pub fn replaces(
+fn replaces(
     lake: &mut Catalogue,
     alloc: Global,
     text: &str,
@@ -131,11 +131,7 @@ pub fn replaces(
 }
 
 // Drops a table, and expects this answer.
-pub fn drops(
-    lake: &mut Catalogue,
-    text: &str,
-    answer: Result<u64, DropRefused>,
-) -> Result<(), Fail> {
+fn drops(lake: &mut Catalogue, text: &str, answer: Result<u64, DropRefused>) -> Result<(), Fail> {
     if lake.drop_table(SECOND, &name(text)?) != answer {
         return Err(Fail::from("another answer to a drop"));
     }
@@ -178,7 +174,7 @@ fn same_segment(alloc: Global, table: &SharedTable) -> Result<Arc<Segment>, Fail
 }
 
 // Merges two adjacent parts, from an index on, of which at most one table is kept.
-pub fn merged(lake: &Catalogue, alloc: Global, first: u32) -> Result<Merged, Fail>
+fn merged(lake: &Catalogue, alloc: Global, first: u32) -> Result<Merged, Fail>
     ensures at { IfOk result (λ merged. merged.at ≡ length lake.now.journal) }
     ensures merges { IfOk result (λ merged. IsMergeOf (layout lake.now.journal) merged) }
 {
@@ -199,7 +195,7 @@ pub fn merged(lake: &Catalogue, alloc: Global, first: u32) -> Result<Merged, Fai
 }
 
 // Swaps in what was merged from the newest version, and expects this position.
-pub fn swaps(lake: &mut Catalogue, merged: Merged, at: u64) -> Result<(), Fail>
+fn swaps(lake: &mut Catalogue, merged: Merged, at: u64) -> Result<(), Fail>
     requires at { merged.at ≡ length lake.old.journal }
     requires merges { IsMergeOf (layout lake.old.journal) merged }
 {
@@ -210,12 +206,7 @@ pub fn swaps(lake: &mut Catalogue, merged: Merged, at: u64) -> Result<(), Fail>
 }
 
 // Drops a table, then swaps in what was merged before that, and expects this position.
-pub fn drops_then_swaps(
-    lake: &mut Catalogue,
-    text: &str,
-    merged: Merged,
-    at: u64,
-) -> Result<(), Fail>
+fn drops_then_swaps(lake: &mut Catalogue, text: &str, merged: Merged, at: u64) -> Result<(), Fail>
     requires at { merged.at ≡ length lake.old.journal }
     requires merges { IsMergeOf (layout lake.old.journal) merged }
 {
@@ -230,7 +221,7 @@ pub fn drops_then_swaps(
 }
 
 // Replaces a table, then swaps in what was merged before that, and expects this position.
-pub fn replaces_then_swaps(
+fn replaces_then_swaps(
     lake: &mut Catalogue,
     alloc: Global,
     text: &str,
@@ -307,7 +298,7 @@ fn shows_now(
 
 // Expects `live` live tables, `updates` loads, drops and replaces, and `loads` loads and replaces by a table of one
 // key.
-pub fn counts(lake: &Catalogue, live: usize, updates: usize, loads: u64) -> Result<(), Fail> {
+fn counts(lake: &Catalogue, live: usize, updates: usize, loads: u64) -> Result<(), Fail> {
     let counts = lake.counts();
     if counts.live as usize != live || counts.updates as usize != updates {
         return Err(Fail::from("other counts"));
@@ -327,7 +318,7 @@ fn is_live(lake: &Catalogue, text: &str, live: bool) -> Result<(), Fail> {
 }
 
 // Expects the journal to have `at` entries.
-pub fn entries(lake: &Catalogue, at: u64) -> Result<(), Fail> {
+fn entries(lake: &Catalogue, at: u64) -> Result<(), Fail> {
     if lake.at() != at || lake.journal().len() as u64 != at {
         return Err(Fail::from("another journal"));
     }
@@ -476,6 +467,31 @@ fn the_second_of_two_swaps_is_stale(rt: HostRuntime) -> Result<(), Fail> {
     )?;
     entries(&lake, 4)?;
     counts(&lake, 1, 3, 2)
+}
+
+#[test]
+fn a_swap_leaves_out_what_was_dropped_before_its_plan(rt: HostRuntime) -> Result<(), Fail> {
+    let alloc = rt.alloc();
+    let mut lake = Catalogue::new(alloc, Limits::standard())?;
+    loads(&mut lake, alloc, "a", Ok(1))?;
+    loads(&mut lake, alloc, "b", Ok(2))?;
+    drops(&mut lake, "a", Ok(3))?;
+    let planned = merged(&lake, alloc, 0)?;
+    swaps(&mut lake, planned, 4)?;
+    shows_now(&lake, alloc, 1, &[(4, 2, false)])?;
+    counts(&lake, 1, 3, 2)
+}
+
+#[test]
+fn a_swap_keeps_the_mark_of_a_drop_since_its_plan(rt: HostRuntime) -> Result<(), Fail> {
+    let alloc = rt.alloc();
+    let mut lake = Catalogue::new(alloc, Limits::standard())?;
+    loads(&mut lake, alloc, "a", Ok(1))?;
+    loads(&mut lake, alloc, "b", Ok(2))?;
+    drops(&mut lake, "a", Ok(3))?;
+    let planned = merged(&lake, alloc, 0)?;
+    drops_then_swaps(&mut lake, "b", planned, 5)?;
+    shows_now(&lake, alloc, 0, &[(5, 2, true)])
 }
 
 #[test]

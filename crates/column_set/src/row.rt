@@ -1,7 +1,8 @@
 //! The rows of an answer, which borrow the titles of a table, and kept rows, which own a share of the titles.
 ghost use Rattle.std.specs.Prelude.{◌≡◌, IfOk};
 ghost use Rattle.std.specs.Cmp.{po, partial_equiv_from_equiv};
-ghost use Rattle.std.specs.Ordering.{as_partial_cmp, eq_by_cmp};
+ghost use Rattle.std.specs.Cmp.Lexicographic.{slice_cmp};
+ghost use Rattle.std.specs.Ordering.{as_partial_cmp, eq_by_cmp, nat_cmp, ordering_then};
 ghost use Rattle.std.proofs.Common.{refl};
 ghost use Rattle.std.proofs.lemmas.Cmp.{eq_by_cmp_equiv};
 ghost use Rattle.lake_model.specs.Answer.{row_cmp};
@@ -37,16 +38,25 @@ impl<'a> Model for Row<'a> {
 
 impl<'a> Row<'a> {
     /// Compares two rows in the order of an answer: the greater overlap first, then by the bytes of the table's name,
-    /// then by those of the column's name, then by place. The names are read only if the overlaps are equal.
+    /// then by those of the column's name, then by place. The names are read only if the overlaps are equal, and those of
+    /// the columns only if the tables' names are equal.
     pub fn order(&self, other: &Row<'_>) -> Ordering
         ensures { result ≡ row_cmp self.now other.now }
     {
         match other.overlap.cmp(&self.overlap) {
+            Ordering::Equal => self.order_by_name(other),
+            unequal => unequal,
+        }
+    }
+
+    // Compares two rows by the names of their tables, then by those of their columns, then by place.
+    fn order_by_name(&self, other: &Row<'_>) -> Ordering
+        ensures { result ≡ ordering_then (slice_cmp nat_cmp self.now.table other.now.table) (ordering_then (slice_cmp nat_cmp self.now.column other.now.column) (nat_cmp self.now.place other.now.place)) }
+    {
+        match self.table().bytes().cmp(other.table().bytes()) {
             Ordering::Equal => {
-                let by_table = self.table().bytes().cmp(other.table().bytes());
                 let by_column = self.column().cmp(other.column());
-                let by_place = self.place.cmp(&other.place);
-                by_table.then(by_column.then(by_place))
+                by_column.then(self.place.cmp(&other.place))
             }
             unequal => unequal,
         }
