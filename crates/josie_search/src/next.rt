@@ -138,8 +138,8 @@ fn column_of(found: &Option<(u32, Row<'_>)>) -> Option<u32> {
     }
 }
 
-// Returns how many keys a column has to share at least, if the k-th known row has overlap `worst`.
-fn threshold(worst: Option<u32>) -> u32
+/// Returns how many keys a column has to share at least, if the k-th known row has overlap `worst`.
+pub(crate) fn threshold(worst: Option<u32>) -> u32
     ensures { result ≡ threshold_of worst }
 {
     match worst {
@@ -148,8 +148,8 @@ fn threshold(worst: Option<u32>) -> u32
     }
 }
 
-// Returns the overlap of a row, if there is one.
-fn worst_overlap(worst: Option<&Row<'_>>) -> Option<u32>
+/// Returns the overlap of a row, if there is one.
+pub(crate) fn worst_overlap(worst: Option<&Row<'_>>) -> Option<u32>
     ensures { result ≡ overlap_of (option_map (λ row. row.now) worst.entry) }
 {
     match worst {
@@ -163,14 +163,19 @@ fn take_better<'a>(worst: Option<&Row<'_>>, found: Option<(u32, Row<'a>)>) -> Op
     ensures { result ≡ taken (option_map (λ row. row.now) worst.entry) found.entry }
 {
     let (column, row) = found?;
+    if beats(worst, &row) {
+        Some(column)
+    } else {
+        None
+    }
+}
+
+/// Returns whether a row comes before the k-th known row, or fewer than k are known.
+pub(crate) fn beats(worst: Option<&Row<'_>>, row: &Row<'_>) -> bool
+    ensures { result ≡ beats (option_map (λ row. row.now) worst.entry) row.now }
+{
     match worst {
-        None => Some(column),
-        Some(worst) => {
-            if row.order(worst).is_lt() {
-                Some(column)
-            } else {
-                None
-            }
-        }
+        None => true,
+        Some(worst) => row.order(worst).is_lt(),
     }
 }

@@ -128,5 +128,5 @@ pub(crate) fn search_part<'a, C: Chooser>(
             }
         }
     }
-    offer_rest(looks, part, query, columns, top);
+    offer_rest(looks, part, query, columns, candidates, order, top);
 }

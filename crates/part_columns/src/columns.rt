@@ -140,6 +140,7 @@ impl Columns {
         requires seen { 0 < (tally_at self.old.tallies column).count }
         ensures tallies { self.new.tallies ≡ self.old.tallies }
         ensures known { self.new.known ≡ slice_set self.old.known column true }
+        ensures touched { self.new.touched ≡ self.old.touched }
         ensures marks { length self.old.known ≡ length self.old.tallies }
     {
         self.known[column as usize] = true;

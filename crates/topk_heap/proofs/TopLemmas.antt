@@ -1,13 +1,9 @@
 -- How the first k rows change in a heap.
 use Rattle.std.proofs.Common.{◌≡◌, refl, ap, sym, ◌∙◌, subst, ℕ, zero, suc, ◌<◌, ◌≤◌, List, [], ◌∷◌, Bool, true, false, not, length, arith, take, cond, get_or, ◌-◌, Some}
 use Rattle.std.specs.List.{AllByRecursion, count_by, slice_get}
-use Rattle.std.specs.List.Sorted.{IsPermutation, IsSortedBy}
-use Rattle.std.specs.Cmp.{nat_cmp_is}
-use Rattle.std.specs.Cmp.Lexicographic.{slice_cmp}
-use Rattle.std.specs.Ordering.{is_lt, nat_cmp, ordering_then}
-use Rattle.std.specs.declared.cmp.Ordering.{Ordering}
-use Rattle.std.specs.declared.cmp.Ordering.TheVariants.{Greater}
-use Rattle.std.specs.BinaryHeap.{IsUpperBound, lt_by_cmp}
+use Rattle.std.specs.List.Sorted.{IsPermutation}
+use Rattle.std.specs.Ordering.{is_lt}
+use Rattle.std.specs.BinaryHeap.{IsUpperBound}
 use Rattle.std.proofs.lemmas.List.Sums.{sum_by-cons}
 use Rattle.std.proofs.lemmas.List.Sorted.{IsPermutation-trans, IsPermutation-cons, IsPermutation-sym, IsPermutation-middle, length_permutation, All-permutation}
 use Rattle.std.proofs.lemmas.List.Elements.{All-from_recursion}
@@ -15,7 +11,7 @@ use Rattle.std.proofs.lemmas.Option.{slice_get-get_or}
 use Rattle.lake_model.proofs.SortingLemmas.{in_order_moves}
 use Rattle.lake_model.specs.Sorting.{in_order, put_in_order}
 use Rattle.lake_model.specs.Answer.{Row, row_cmp}
-use Rattle.lake_model.proofs.SortingLemmas.{in_order-IsPermutation, sorted_is, length-in_order, all_in_order, length-put_in_order}
+use Rattle.lake_model.proofs.SortingLemmas.{in_order-IsPermutation, length-in_order, all_in_order, length-put_in_order}
 use Rattle.lake_model.proofs.SortingLemmas.{less_order, irreflexive, Ordered, ordered_in_order, only_equal}
 use Rattle.lake_model.proofs.AnswerLemmas.{row_cmp_total, row_cmp_exact}
 use Rattle.search_laws.specs.Select.{best, no_later, IsBehind}
@@ -53,15 +49,6 @@ unfolding in_order
 left_out row w items h l =
     let behind : IsBehind row_cmp (length items) items row = omega (arith, all_no_later row w items h l) in
     best_behind row_cmp_total row_cmp_exact (length items) row items behind ∙ take_all (in_order row_cmp items) (length items) (omega (arith, length-in_order row_cmp_total items))
-
-later : (a b : Row) → a.overlap < b.overlap → is_lt (row_cmp a b) ≡ false
-later a b low =
-    let names : Ordering = ordering_then (slice_cmp nat_cmp a.table b.table) (ordering_then (slice_cmp nat_cmp a.column b.column) (nat_cmp a.place b.place)) in
-    ap (λ (o : Ordering). is_lt (ordering_then o names)) (sym (nat_cmp_is b.overlap a.overlap Greater low))
-
--- a row with a lower overlap than all others is left out
-pub not_kept : (k : ℕ) (w : Row) (items : List Row) → k ≡ length items → IsUpperBound row_cmp w items → (row : Row) → row.overlap < w.overlap → take k (put_in_order row_cmp row (in_order row_cmp items)) ≡ in_order row_cmp items
-not_kept k w items n up row low = ap (λ (m : ℕ). take m (put_in_order row_cmp row (in_order row_cmp items))) n ∙ left_out row w items up (later row w low)
 
 pub replaced : (row w : Row) (olds rest news : List Row) → IsPermutation olds (w ∷ rest) → IsPermutation (row ∷ rest) news → IsUpperBound row_cmp w rest → is_lt (row_cmp row w) ≡ true
     → in_order row_cmp news ≡ take (length olds) (put_in_order row_cmp row (in_order row_cmp olds))
@@ -105,6 +92,23 @@ last_top items w i h at up =
     let same : z ≡ w = only_equal row_cmp_total row_cmp_exact z w no_less no_more in
     let e : length items - 1 ≡ length rows - 1 = omega (arith, n) in
     ap (slice_get rows) e ∙ slice_get-get_or rows (length rows - 1) w (omega (arith, n)) ∙ ap Some same
+
+-- rows in order, no more than k, are the first k of themselves
+pub first_of_kept : (k : ℕ) (items : List Row) → length items ≤ k → in_order row_cmp items ≡ best row_cmp k (in_order row_cmp items)
+first_of_kept k items few =
+    let rows = in_order row_cmp items in
+    sym (take_all rows k (omega (arith, few, length-in_order row_cmp_total items)))
+    ∙ ap (take k) (sym (in_order-IsPermutation row_cmp_total row_cmp_exact items rows (in_order_moves row_cmp items)))
+
+-- if the k-th row is an upper bound of all, a row that does not come before it is left out
+pub none_after : (k : ℕ) (w : Row) (items : List Row) → k ≡ length items → IsUpperBound row_cmp w items → slice_get (in_order row_cmp items) (k - 1) ≡ Some w → (worst row : Row) → slice_get (in_order row_cmp items) (k - 1) ≡ Some worst → is_lt (row_cmp row worst) ≡ false
+    → take k (put_in_order row_cmp row (in_order row_cmp items)) ≡ in_order row_cmp items
+none_after k w items n up last worst row at l =
+    let same : worst ≡ w = some_same worst w (sym at ∙ last) in
+    ap (λ (m : ℕ). take m (put_in_order row_cmp row (in_order row_cmp items))) n ∙ left_out row w items up (subst (λ (z : Row). is_lt (row_cmp row z) ≡ false) same l)
+  where
+    some_same : (a b : Row) → Some a ≡ Some b → a ≡ b
+    some_same a b e = cc
 
 pub same_first : (items : List Row) (d e : Row) → 0 < length items → get_or items 0 d ≡ get_or items 0 e
 same_first [] d e h = absurd (omega arith)

@@ -5,6 +5,7 @@ use Rattle.segment_core.proofs.SegmentLemmas.{length-sets}
 use Rattle.segment_core.specs.Versions.{part_at, segment_at, tables_of}
 use Rattle.josie_search.specs.Costs.{lengths_of, threshold_of}
 use Rattle.josie_search.specs.Open.{chosen, overlap_of}
+use Rattle.josie_search.proofs.LoopLemmas.{lead_parts}
 use Rattle.josie_search.proofs.NextLemmas.{chosen_probe, head_now, last_is, next_chosen, taken_leads}
 use Rattle.josie_search.proofs.OpenLemmas.{seen_count}
 use Rattle.part_columns.proofs.SegmentLists.{token_within}
@@ -15,6 +16,14 @@ choose-requires-clause-tokens g c = λ k d h.
     let tokens = (segment_at c.args.looks.now.version.parts c.args.part).tokens in
     let within = token_within tokens c.args.query.now.keys k d (omega (arith, h, ap (λ (ts : List ℕ). length ts) c.requires.tokens)) in
     omega (arith, within, ap (λ (ts : List ℕ). get_or ts k d) c.requires.tokens)
+
+pub choose-requires-clause-seen : goal.choose-requires-clause-seen
+choose-requires-clause-seen g c = λ x e.
+    let query = c.args.query.now in
+    let part = searched query (part_at c.args.looks.now.version.parts c.args.part) in
+    let columns = c.args.columns.now in
+    let lead = taken_leads query part columns.tallies columns.known _ c.first_lead-found.result _ _ _ x c.first_lead-found.ensures.found (sym e ∙ c.take_better-column.ensures) in
+    (omega (arith, lead.0, c.requires.wide), (lead_parts query part columns.tallies columns.known x lead.1).2)
 
 pub returns-then-surely_reads-clause-next : goal.returns-then-surely_reads-clause-next
 returns-then-surely_reads-clause-next g c = λ before progress is at same.
@@ -30,10 +39,10 @@ returns-clause-next g c = λ before progress is at same.
     let columns = c.args.columns.now in
     let last = worst query (before ++ known_rows query part progress) in
     let kth = last_is query (before ++ known_rows query part progress) c.args.top.now.rows c.args.top.now.k c.requires.some c.requires.k same in
-    let told = c.worst_overlap-worst.ensures ∙ ap overlap_of (c.worst.ensures ∙ kth) in
+    let told = c.worst_overlap-worst.ensures ∙ ap overlap_of (c.worst.ensures.row ∙ kth) in
     let left : length c.args.tokens.now - c.args.read ≡ left_of part progress = (λ i. length (c.requires.tokens i) - sym at i) in
-    let low = c.threshold-low.ensures ∙ ap threshold_of (c.worst_overlap-worst.ensures ∙ ap overlap_of (c.worst.ensures ∙ sym c.worst-2.ensures)) in
-    let head = head_now query part progress columns.tallies columns.known last _ c.first_lead-found.result _ _ _ c.take_better-column.result is (c.worst-2.ensures ∙ kth) left (length-sets (tables_of whole)) low c.first_lead-found.ensures.found c.take_better-column.ensures in
+    let low = c.threshold-low.ensures ∙ ap threshold_of (c.worst_overlap-worst.ensures ∙ ap overlap_of (c.worst.ensures.row ∙ sym c.worst-2.ensures.row)) in
+    let head = head_now query part progress columns.tallies columns.known last _ c.first_lead-found.result _ _ _ c.take_better-column.result is (c.worst-2.ensures.row ∙ kth) left (length-sets (tables_of whole)) low c.first_lead-found.ensures.found c.take_better-column.ensures in
     c.choose.ensures
     ∙ (λ i. chosen says part.number (lengths_of part.segment (c.requires.tokens i)) (c.requires.tokens i) (sym at i) columns.tallies (told i) c.take_better-column.result)
     ∙ next_chosen says query before part progress columns.tallies columns.known is c.take_better-column.result head
