@@ -1,3 +1,4 @@
+pub mod CutLemmas
 pub mod ReaderLemmas
 pub mod SplitLemmas
 pub mod FaultLemmas

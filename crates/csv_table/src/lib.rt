@@ -8,7 +8,10 @@ ghost use Rattle.csv.specs.Records.{fields_of};
 ghost use Rattle.lake_model.specs.Records.{column_count, csv_fault, field_at, header_fault, record_fault, records_of, table_fault, IsTable, Record, text_fault, text_size};
 ghost use Rattle.csv_table.specs.RecordsLeft.{IsReading, records_left};
 
-use csv::{ByteRecord, Reader, ReaderBuilder, StringRecord};
+mod fields;
+
+use crate::fields::Fields;
+use csv::{ByteRecord, Reader, ReaderBuilder};
 pub use lake_model::CsvRefused;
 use std::alloc::Global;
 use std::marker::Model;
@@ -23,7 +26,7 @@ const SAMPLE_BYTES: usize = 65_536;
 #[derive(Drop)]
 pub struct RawTable {
     /// The fields of all records, record by record.
-    store: StringRecord,
+    store: Fields,
     columns: u32,
     /// The number of records, including the header.
     records: u64,
@@ -31,14 +34,13 @@ pub struct RawTable {
 
 impl Model for RawTable {
     ghost use Rattle.std.specs.Prelude.{◌≡◌, ◌*◌, ◌<◌, ◌≤◌, List, ℕ, length};
-    ghost use Rattle.csv.specs.Records.{fields_of};
     ghost use Rattle.csv_table.specs.SplitRecords.{split_records};
 
     ghost Value = { List (List (List ℕ)) };
 
-    ghost view = { λ table. split_records table.records table.columns (fields_of table.store) };
+    ghost view = { λ table. split_records table.records table.columns table.store };
 
-    ghost invariant = { λ table. (length (fields_of table.store) ≡ table.records * table.columns) × (0 < table.records) × (table.columns ≤ 4096) };
+    ghost invariant = { λ table. (length table.store ≡ table.records * table.columns) × (0 < table.records) × (table.columns ≤ 4096) };
 }
 
 impl RawTable {
@@ -67,10 +69,7 @@ impl RawTable {
         // The length is read only because it bounds the index.
         let _fields = self.store.len();
         let index = row as usize * self.columns as usize + (place as usize - 1);
-        match self.store.get(index) {
-            Some(field) => field,
-            None => unreachable!(),
-        }
+        self.store.field(index)
     }
 }
 
@@ -85,7 +84,8 @@ impl RawTable {
 /// The first of these that holds, with records and fields numbered from 1 and the header as record 1: `NoHeader` if there is
 /// no record; `TooManyColumns` if the header has more than `most` fields; `NotUtf8` at the header's first field that is not
 /// UTF-8; and at the first faulty record, `Unequal` if its length is not the header's, or `NotUtf8` at its first field that
-/// is not UTF-8. `NoMemory` may take the place of any result, and says nothing about the bytes.
+/// is not UTF-8. `NoMemory` may take the place of any result, and says nothing about the bytes. It is also the answer if the
+/// fields have 2^32 bytes or more in all.
 pub fn read_table(alloc: Global, bytes: &[u8], most: u32) -> Result<RawTable, CsvRefused>
     requires low { 1 ≤ most }
     requires high { most ≤ 4096 }
@@ -129,17 +129,18 @@ fn open_reader(alloc: Global, bytes: &[u8]) -> Reader<&[u8]>
 
 // Returns a store with room for the bytes and for the fields that they are likely to have. While a store grows, it takes half as
 // much memory again.
-fn empty_store(alloc: Global, bytes: &[u8]) -> Result<StringRecord, CsvRefused>
-    ensures empty { IfOk result (λ store. fields_of store ≡ []) }
+fn empty_store(alloc: Global, bytes: &[u8]) -> Result<Fields, CsvRefused>
+    ensures empty { IfOk result (λ store. store ≡ []) }
     ensures refused { IfErr result (λ e. e ≡ CsvRefused.NoMemory) }
 {
-    let Ok(store) = StringRecord::with_capacity(alloc, bytes.len(), likely_fields(bytes)) else {
+    let Ok(store) = Fields::with_capacity(alloc, bytes.len(), likely_fields(bytes)) else {
         return Err(CsvRefused::NoMemory);
     };
     Ok(store)
 }
 
-// Returns a sixteenth more than the number of fields that there are if the rest of the bytes is as their beginning.
+// Returns a sixteenth more than the number of fields that there are if the rest of the bytes is as their beginning, but no
+// more than there can be: each field but the last is followed by at least one byte.
 fn likely_fields(bytes: &[u8]) -> usize {
     let sample = bytes.len().min(SAMPLE_BYTES);
     let ends = bytes
@@ -148,7 +149,8 @@ fn likely_fields(bytes: &[u8]) -> usize {
         .filter(|byte| matches!(**byte, b',' | b'\n' | b'\r'))
         .count();
     let fields = ends as u128 * bytes.len() as u128 / sample.max(1) as u128;
-    (fields + fields / 16 + 1) as usize
+    let most = bytes.len() + 1;
+    (fields + fields / 16 + 1).min(most as u128) as usize
 }
 
 // Returns the bytes after one byte order mark, or all of them if they do not begin with one.
@@ -177,9 +179,9 @@ fn read_next(reader: &mut Reader<&[u8]>, row: &mut ByteRecord) -> Result<bool, C
 }
 
 // Adds the header's fields to the store, and returns their number, at most `most`.
-fn add_header(store: &mut StringRecord, header: &ByteRecord, most: u32) -> Result<u32, CsvRefused>
+fn add_header(store: &mut Fields, header: &ByteRecord, most: u32) -> Result<u32, CsvRefused>
     ensures ok { IfOk result (λ n. (n ≡ length (fields_of header.now)) × (n ≤ most) × (header_fault most (fields_of header.now) ≡ None)) }
-    ensures added { OnOk result (fields_of store.new ≡ fields_of store.old ++ fields_of header.now) }
+    ensures added { OnOk result (store.new ≡ store.old ++ fields_of header.now) }
     ensures refused { IfErr result (λ e. (e ≡ CsvRefused.NoMemory) ⊎ (header_fault most (fields_of header.now) ≡ Some e)) }
 {
     let got = header.len();
@@ -192,13 +194,13 @@ fn add_header(store: &mut StringRecord, header: &ByteRecord, most: u32) -> Resul
 
 // Adds the fields of the record with this number, counted from 1, to the store of a table with `columns` columns.
 fn add_record(
-    store: &mut StringRecord,
+    store: &mut Fields,
     row: &ByteRecord,
     number: u64,
     columns: u32,
 ) -> Result<(), CsvRefused>
     ensures ok { OnOk result ((length (fields_of row.now) ≡ columns) × (record_fault number columns (fields_of row.now) ≡ None)) }
-    ensures added { OnOk result (fields_of store.new ≡ fields_of store.old ++ fields_of row.now) }
+    ensures added { OnOk result (store.new ≡ store.old ++ fields_of row.now) }
     ensures refused { IfErr result (λ e. (e ≡ CsvRefused.NoMemory) ⊎ (record_fault number columns (fields_of row.now) ≡ Some e)) }
 {
     let got = row.len();
@@ -213,9 +215,9 @@ fn add_record(
 }
 
 // Adds the fields of the record with this number, up to the first that is not UTF-8, which is refused.
-fn add_fields(store: &mut StringRecord, row: &ByteRecord, number: u64) -> Result<(), CsvRefused>
+fn add_fields(store: &mut Fields, row: &ByteRecord, number: u64) -> Result<(), CsvRefused>
     ensures ok { OnOk result (text_fault number 1 (fields_of row.now) ≡ None) }
-    ensures added { OnOk result (fields_of store.new ≡ fields_of store.old ++ fields_of row.now) }
+    ensures added { OnOk result (store.new ≡ store.old ++ fields_of row.now) }
     ensures refused { IfErr result (λ e. (e ≡ CsvRefused.NoMemory) ⊎ (text_fault number 1 (fields_of row.now) ≡ Some e)) }
 {
     for (i, field) in row.iter().enumerate() {
@@ -225,7 +227,7 @@ fn add_fields(store: &mut StringRecord, row: &ByteRecord, number: u64) -> Result
                 field: i as u64 + 1,
             });
         };
-        if store.push_field(text).is_err() {
+        if store.push(text).is_err() {
             return Err(CsvRefused::NoMemory);
         }
     }

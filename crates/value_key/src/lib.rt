@@ -2,19 +2,25 @@
 //! compatibility.
 #![tactic(auto)]
 
-ghost use Rattle.std.specs.Prelude.{◌≡◌, ◌↔◌, ◌⊎◌, ◌≤◌, ℕ, List, [], chars, encode_utf8_all, if◌then◌else◌, length, IfOk, IsAscii, IsOk, IsTrue, None, OnErr, OnOk, Some, option_map, string_bytes};
+ghost use Rattle.std.specs.Prelude.{◌≡◌, ◌↔◌, ◌⊎◌, ◌≤◌, ◌++◌, ℕ, List, [], chars, encode_utf8_all, if◌then◌else◌, length, IfOk, IsAscii, IsOk, IsTrue, None, OnErr, OnOk, Some, option_map, string_bytes, ⊤};
+ghost use Rattle.std.specs.Str.Iter.{chars_steps};
 ghost use Rattle.std.specs.String.{string_capacity};
 ghost use Rattle.caseless.specs.Caseless.{default_case_fold};
+ghost use Rattle.ucd_case.specs.CaseFolding.{full_fold};
+ghost use Rattle.unicode_normalization.specs.Decompositions.{CanDecompose, DecomposesTo};
 ghost use Rattle.unicode_normalization.specs.Forms.{nfd, nfkd};
+ghost use Rattle.unicode_normalization.specs.Iter.{chars_left};
 ghost use Rattle.lake_model.specs.Keys.{key, key_of_text, IsMatch, IsSameValue};
 
-use caseless::{
-    canonical_caseless_match_str, compatibility_caseless_match_str, default_case_fold_str,
-};
+use caseless::{canonical_caseless_match_str, compatibility_caseless_match_str};
 pub use lake_model::Keys;
 use no_memory::NoMemory;
 use std::alloc::{AllocError, Global};
-use unicode_normalization::{is_nfd, is_nfkd, to_nfd, to_nfkd};
+use std::str::Chars;
+use ucd_case::full_folding;
+use unicode_normalization::{
+    Decompositions, UnicodeNormalization, is_nfd, is_nfkd, to_nfd, to_nfkd,
+};
 
 /// Returns the key of a value X without the white space at its ends, or `None` if nothing is left. Values have equal keys
 /// exactly if they match (The Unicode Standard, section 3.13), with the full case folding of `CaseFolding.txt` and no
@@ -27,22 +33,21 @@ use unicode_normalization::{is_nfd, is_nfkd, to_nfd, to_nfkd};
 ///   ignores compatibility forms: ① is 1, ㎒ is mhz.
 ///
 /// A key may have more bytes than its value. For an ASCII value, the key of either kind is the value in lower case, which
-/// takes one pass over the value and one allocation of its length.
+/// takes one pass over the value and one allocation.
 pub fn key_of(alloc: Global, keys: Keys, value: &str) -> Result<Option<String>, NoMemory>
     ensures { IfOk result (λ found. option_map string_bytes found ≡ key keys value.now) }
 {
-    let trimmed = value.trim();
-    if trimmed.is_empty() {
-        return Ok(None);
-    }
-    Ok(Some(trimmed_key(alloc, keys, trimmed)?))
+    let mut key = String::new(alloc);
+    let found = key_into(alloc, keys, value, &mut key)?;
+    Ok(found.then_some(key))
 }
 
 /// Writes the key of a value into a buffer that is reused, and returns whether the value has a key. The old contents of the
 /// buffer are replaced by the key; the buffer is empty if the value has no key, and after an error.
 ///
-/// An ASCII value takes one pass, and no memory if the buffer's capacity is at least the length of the value. The capacity
-/// never shrinks.
+/// An ASCII value takes one pass, and no memory if the buffer's capacity is at least the length of the value. Any other
+/// value is folded straight into the buffer; another text is made only if what was folded is not in normal form, which is
+/// rare for `Canonical`. The capacity never shrinks.
 pub fn key_into(alloc: Global, keys: Keys, value: &str, into: &mut String) -> Result<bool, NoMemory>
     ensures key { IfOk result (λ found. (if found then Some (string_bytes into.new) else None) ≡ key keys value.now) }
     ensures blank { IfOk result (λ found. IsTrue found ⊎ (string_bytes into.new ≡ [])) }
@@ -83,17 +88,6 @@ fn is_match(alloc: Global, keys: Keys, a: &str, b: &str) -> Result<bool, AllocEr
     }
 }
 
-// Returns the key of a text that has no white space at its ends. Most values are ASCII, and their keys need no table.
-fn trimmed_key(alloc: Global, keys: Keys, text: &str) -> Result<String, NoMemory>
-    ensures { IfOk result (λ found. string_bytes found ≡ key_of_text keys text.now) }
-{
-    let mut key = String::with_capacity(alloc, text.len())?;
-    if push_small(text, &mut key) {
-        return Ok(key);
-    }
-    folded_key(alloc, keys, text)
-}
-
 // Writes the key of a text that has no white space at its ends into an empty buffer.
 fn write_key(alloc: Global, keys: Keys, text: &str, into: &mut String) -> Result<(), NoMemory>
     requires { string_bytes into.old ≡ [] }
@@ -129,78 +123,143 @@ fn push_small(text: &str, into: &mut String) -> bool
     true
 }
 
-// Returns the key of any text, by the steps of its definition.
-fn folded_key(alloc: Global, keys: Keys, text: &str) -> Result<String, NoMemory>
-    ensures { IfOk result (λ found. string_bytes found ≡ key_of_text keys text.now) }
-{
-    let folded = folded_text(alloc, text)?;
-    match keys {
-        Keys::Canonical => in_form_d(alloc, folded),
-        Keys::Compatibility => compatible_key(alloc, folded),
-    }
-}
-
-// Applies what compatibility adds to folded characters: they are decomposed, folded and decomposed again, since the first
-// of these steps may produce letters that are not folded yet.
-fn compatible_key(alloc: Global, text: String) -> Result<String, NoMemory>
-    ensures { (cs : List ℕ) → string_bytes text ≡ encode_utf8_all cs → IfOk result (λ found. string_bytes found ≡ encode_utf8_all (nfkd (default_case_fold (nfkd cs)))) }
-{
-    let folded = folded_compatible(alloc, text.as_str())?;
-    in_form_kd(alloc, folded)
-}
-
-// Returns the characters in normal form D. A text that is already in this form is returned as it is.
-fn in_form_d(alloc: Global, text: String) -> Result<String, NoMemory>
-    ensures { (cs : List ℕ) → string_bytes text ≡ encode_utf8_all cs → IfOk result (λ found. string_bytes found ≡ encode_utf8_all (nfd cs)) }
-{
-    if is_nfd(text.as_str()) {
-        return Ok(text);
-    }
-    Ok(to_nfd(alloc, text.as_str())?)
-}
-
-// Returns the characters in normal form KD. A text that is already in this form is returned as it is.
-fn in_form_kd(alloc: Global, text: String) -> Result<String, NoMemory>
-    ensures { (cs : List ℕ) → string_bytes text ≡ encode_utf8_all cs → IfOk result (λ found. string_bytes found ≡ encode_utf8_all (nfkd cs)) }
-{
-    if is_nfkd(text.as_str()) {
-        return Ok(text);
-    }
-    Ok(to_nfkd(alloc, text.as_str())?)
-}
-
-// Returns a text brought into normal form D and then case-folded. A text that is already in this form is not copied first.
-fn folded_text(alloc: Global, text: &str) -> Result<String, NoMemory>
-    ensures { IfOk result (λ folded. string_bytes folded ≡ encode_utf8_all (default_case_fold (nfd (chars text.now)))) }
-{
-    if is_nfd(text) {
-        return Ok(default_case_fold_str(alloc, text)?);
-    }
-    let decomposed = to_nfd(alloc, text)?;
-    Ok(default_case_fold_str(alloc, decomposed.as_str())?)
-}
-
-// Returns folded characters brought into normal form KD and then case-folded again. A text that is already in this form is
-// not copied first.
-fn folded_compatible(alloc: Global, folded: &str) -> Result<String, NoMemory>
-    ensures { (cs : List ℕ) → folded.now ≡ encode_utf8_all cs → IfOk result (λ again. string_bytes again ≡ encode_utf8_all (default_case_fold (nfkd cs))) }
-{
-    if is_nfkd(folded) {
-        return Ok(default_case_fold_str(alloc, folded)?);
-    }
-    let compatible = to_nfkd(alloc, folded)?;
-    Ok(default_case_fold_str(alloc, compatible.as_str())?)
-}
-
-// Writes the key of any text into a buffer, in place of its contents.
+// Writes the key of any text into a buffer, in place of its contents, which are then empty after an error.
 fn write_folded(alloc: Global, keys: Keys, text: &str, buffer: &mut String) -> Result<(), NoMemory>
     ensures key { OnOk result (string_bytes buffer.new ≡ key_of_text keys text.now) }
     ensures error { OnErr result (string_bytes buffer.new ≡ []) }
     ensures capacity { string_capacity buffer.old ≤ string_capacity buffer.new }
 {
     buffer.clear();
-    let key = folded_key(alloc, keys, text)?;
-    buffer.push_str(key.as_str())?;
+    if push_key(alloc, keys, text, buffer).is_err() {
+        buffer.clear();
+        return Err(NoMemory);
+    }
+    Ok(())
+}
+
+// Writes the key of any text into an empty buffer, by the steps of its definition. Each step leaves its text in the buffer,
+// so that at most one more text is in memory at a time, and none if the folded characters are in normal form.
+fn push_key(alloc: Global, keys: Keys, text: &str, buffer: &mut String) -> Result<(), NoMemory>
+    requires { string_bytes buffer.old ≡ [] }
+    ensures key { OnOk result (string_bytes buffer.new ≡ key_of_text keys text.now) }
+    ensures capacity { string_capacity buffer.old ≤ string_capacity buffer.new }
+{
+    push_folded(alloc, text, buffer)?;
+    match keys {
+        Keys::Canonical => make_nfd(alloc, buffer),
+        Keys::Compatibility => make_compatible(alloc, buffer),
+    }
+}
+
+// Appends the case-folded characters of the normal form D of a text. No text is made in between.
+fn push_folded(alloc: Global, text: &str, into: &mut String) -> Result<(), NoMemory>
+    ensures folded { OnOk result (string_bytes into.new ≡ string_bytes into.old ++ encode_utf8_all (default_case_fold (nfd (chars text.now)))) }
+    ensures capacity { string_capacity into.old ≤ string_capacity into.new }
+{
+    if is_nfd(text) {
+        return fold_text(text, into);
+    }
+    fold_decomposed(text.nfd(alloc), into)
+}
+
+// Appends the case-folded characters of a text.
+fn fold_text(text: &str, into: &mut String) -> Result<(), NoMemory>
+    ensures folded { OnOk result (string_bytes into.new ≡ string_bytes into.old ++ encode_utf8_all (default_case_fold (chars text.now))) }
+    ensures capacity { string_capacity into.old ≤ string_capacity into.new }
+{
+    for c in text.chars() {
+        fold_char(c, into)?;
+    }
+    Ok(())
+}
+
+// Appends the case-folded characters of a text that is decomposed on the way.
+fn fold_decomposed(decomposed: Decompositions<Chars>, into: &mut String) -> Result<(), NoMemory>
+    requires { CanDecompose (λ _. ⊤) chars_left decomposed }
+    ensures folded { (cs : List ℕ) → DecomposesTo chars_steps decomposed.entry cs → OnOk result (string_bytes into.new ≡ string_bytes into.old ++ encode_utf8_all (default_case_fold cs)) }
+    ensures capacity { string_capacity into.old ≤ string_capacity into.new }
+{
+    for item in decomposed {
+        fold_char(item?, into)?;
+    }
+    Ok(())
+}
+
+// Appends the case folding of a character.
+fn fold_char(c: char, into: &mut String) -> Result<(), NoMemory>
+    ensures folded { OnOk result (string_bytes into.new ≡ string_bytes into.old ++ encode_utf8_all (full_fold c)) }
+    ensures capacity { string_capacity into.old ≤ string_capacity into.new }
+{
+    let folded = full_folding(c);
+    if folded.is_empty() {
+        into.push(c)?;
+        return Ok(());
+    }
+    push_all(folded, into)
+}
+
+// Appends characters.
+fn push_all(characters: &[char], into: &mut String) -> Result<(), NoMemory>
+    ensures text { OnOk result (string_bytes into.new ≡ string_bytes into.old ++ encode_utf8_all characters.now) }
+    ensures capacity { string_capacity into.old ≤ string_capacity into.new }
+{
+    for c in characters {
+        into.push(*c)?;
+    }
+    Ok(())
+}
+
+// Applies what compatibility adds to folded characters: they are decomposed, folded and decomposed again, since the first
+// of these steps may produce letters that are not folded yet. None of the steps changes folded characters that are in normal
+// form KD.
+fn make_compatible(alloc: Global, text: &mut String) -> Result<(), NoMemory>
+    ensures value { (cs : List ℕ) → string_bytes text.old ≡ encode_utf8_all (default_case_fold cs) → OnOk result (string_bytes text.new ≡ encode_utf8_all (nfkd (default_case_fold (nfkd (default_case_fold cs))))) }
+    ensures capacity { string_capacity text.old ≤ string_capacity text.new }
+{
+    if is_nfkd(text.as_str()) {
+        return Ok(());
+    }
+    let mut folded = String::new(alloc);
+    fold_decomposed(text.as_str().nfkd(alloc), &mut folded)?;
+    put_in_place(text, folded)?;
+    make_nfkd(alloc, text)
+}
+
+// Brings characters into normal form D. A text that is already in this form is not copied.
+fn make_nfd(alloc: Global, text: &mut String) -> Result<(), NoMemory>
+    ensures value { (cs : List ℕ) → string_bytes text.old ≡ encode_utf8_all cs → OnOk result (string_bytes text.new ≡ encode_utf8_all (nfd cs)) }
+    ensures capacity { string_capacity text.old ≤ string_capacity text.new }
+{
+    if is_nfd(text.as_str()) {
+        return Ok(());
+    }
+    let decomposed = to_nfd(alloc, text.as_str())?;
+    put_in_place(text, decomposed)
+}
+
+// Brings characters into normal form KD. A text that is already in this form is not copied.
+fn make_nfkd(alloc: Global, text: &mut String) -> Result<(), NoMemory>
+    ensures value { (cs : List ℕ) → string_bytes text.old ≡ encode_utf8_all cs → OnOk result (string_bytes text.new ≡ encode_utf8_all (nfkd cs)) }
+    ensures capacity { string_capacity text.old ≤ string_capacity text.new }
+{
+    if is_nfkd(text.as_str()) {
+        return Ok(());
+    }
+    let decomposed = to_nfkd(alloc, text.as_str())?;
+    put_in_place(text, decomposed)
+}
+
+// Puts a text in place of the contents of a buffer. It is copied only if the buffer has the greater capacity, which stays.
+fn put_in_place(buffer: &mut String, text: String) -> Result<(), NoMemory>
+    ensures bytes { OnOk result (string_bytes buffer.new ≡ string_bytes text) }
+    ensures capacity { string_capacity buffer.old ≤ string_capacity buffer.new }
+{
+    if buffer.capacity() <= text.capacity() {
+        *buffer = text;
+        return Ok(());
+    }
+    buffer.clear();
+    buffer.push_str(text.as_str())?;
     Ok(())
 }
 

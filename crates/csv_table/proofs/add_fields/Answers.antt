@@ -22,10 +22,10 @@ loop-i-preserved c =
     let fields = fields_of c.args.row.now in
     let (here, same) = field_there fields c.loop-i.i c.in-Some.field.now (sym (rw (c.loop-i.invariant.row, c.loop-i.invariant.at) at c.in-Some.ensures.steps.1)) in
     let good : is_utf8 (get_or fields c.loop-i.i []) ≡ true = rw same (is_utf8-from_IsUtf8 _ c.in-Ok.ensures.cases.1) in
-    let pushed = on-ok c.push_field.result (sym c.is_err.ensures.value ∙ c.if-is_err.false) c.push_field.ensures.fields in
+    let pushed = on-ok c.push.result (sym c.is_err.ensures.value ∙ c.if-is_err.false) c.push.ensures.added in
     let text = c.in-Ok.ensures.cases.0 in
     let more = take_more fields c.loop-i.i [] here in
-    let joined = append_assoc (fields_of c.args.store.now) (take c.loop-i.i fields) (get_or fields c.loop-i.i [] ∷ []) in
+    let joined = append_assoc c.args.store.now (take c.loop-i.i fields) (get_or fields c.loop-i.i [] ∷ []) in
     let before = c.loop-i.invariant.added in
     record {
       row = ap (λ r. r.now) c.in-Some.ensures.steps.0 ∙ c.loop-i.invariant.row;

@@ -7,6 +7,6 @@ abbrev pub invariant-loop-i : goal.invariant-loop-i
 invariant-loop-i l = record {
   row : l.field-iterator.row.now ≡ l.row;
   at : l.field-iterator.at ≡ l.i;
-  added : fields_of l.store ≡ fields_of l.fn.store ++ take l.i (fields_of l.row);
+  added : l.store ≡ l.fn.store ++ take l.i (fields_of l.row);
   text : text_fault l.number 1 (fields_of l.row) ≡ text_fault l.number (l.i + 1) (drop l.i (fields_of l.row));
 }

@@ -18,27 +18,27 @@ loop-records-init c =
     record {
       reading = more.0;
       narrow = omega (arith, header.ok.1, c.requires.high);
-      left = header_good c.args.most c.args.bytes.now (fields_of c.read_next.new.row) (fields_of c.add_header.new.store) (records_left c.read_next.new.reader) c.in_ok-columns.columns
+      left = header_good c.args.most c.args.bytes.now (fields_of c.read_next.new.row) c.add_header.new.store (records_left c.read_next.new.reader) c.in_ok-columns.columns
           (sym c.open_reader-reader.ensures.left ∙ more.1) header.ok.2 flat header.ok.0;
     }
 
 pub returns-then-not-branch-2-clause-sound : goal.returns-then-not-branch-2-clause-sound
 returns-then-not-branch-2-clause-sound c =
     let none : c.in_ok-read_next-2.field-0 ≡ false = c.if-not-branch-2.true in
-    (all_read c.args.most c.args.bytes.now c.loop-records.records c.in_ok-columns.columns (fields_of c.loop-records.store) (records_left c.loop-records.reader)
+    (all_read c.args.most c.args.bytes.now c.loop-records.records c.in_ok-columns.columns c.loop-records.store (records_left c.loop-records.reader)
     c.loop-records.invariant.left (c.in_ok-read_next-2.ensures.end none)).1
 
 pub returns-then-not-branch-2-clause-is_table : goal.returns-then-not-branch-2-clause-is_table
 returns-then-not-branch-2-clause-is_table c =
     let none : c.in_ok-read_next-2.field-0 ≡ false = c.if-not-branch-2.true in
-    let (read, sound) = all_read c.args.most c.args.bytes.now c.loop-records.records c.in_ok-columns.columns (fields_of c.loop-records.store) (records_left c.loop-records.reader)
+    let (read, sound) = all_read c.args.most c.args.bytes.now c.loop-records.records c.in_ok-columns.columns c.loop-records.store (records_left c.loop-records.reader)
     c.loop-records.invariant.left (c.in_ok-read_next-2.ensures.end none) in
     rw read (table_of c.args.most (records_of c.args.bytes.now) sound)
 
 pub returns-then-not-branch-2-clause-size : goal.returns-then-not-branch-2-clause-size
 returns-then-not-branch-2-clause-size c =
     let none : c.in_ok-read_next-2.field-0 ≡ false = c.if-not-branch-2.true in
-    rw ((all_read c.args.most c.args.bytes.now c.loop-records.records c.in_ok-columns.columns (fields_of c.loop-records.store) (records_left c.loop-records.reader)
+    rw ((all_read c.args.most c.args.bytes.now c.loop-records.records c.in_ok-columns.columns c.loop-records.store (records_left c.loop-records.reader)
     c.loop-records.invariant.left (c.in_ok-read_next-2.ensures.end none)).0) (size_records default_config c.args.bytes.now _ _)
 
 pub returns-in_err-add_record-clause-refused : goal.returns-in_err-add_record-clause-refused
@@ -48,7 +48,7 @@ returns-in_err-add_record-clause-refused c =
     let (e, is, same) = err_from_is_err_and c.from_residual-in_err-add_record.result c.from_residual-in_err-add_record.ensures.1 in
     rw (is, same) (elim c.in_err-add_record.ensures.refused [
       | inl none ↦ inl none
-      | inr bad ↦ inr (record_bad c.args.most c.args.bytes.now c.loop-records.records c.in_ok-columns.columns (fields_of c.loop-records.store) (fields_of c.read_next-in-loop-records.new.row)
+      | inr bad ↦ inr (record_bad c.args.most c.args.bytes.now c.loop-records.records c.in_ok-columns.columns c.loop-records.store (fields_of c.read_next-in-loop-records.new.row)
           (records_left c.loop-records.reader) (records_left c.read_next-in-loop-records.new.reader) c.in_err-add_record.field-0.0 c.loop-records.invariant.left more.1 bad)
     ])
 
@@ -60,7 +60,7 @@ loop-records-preserved c =
     record {
       reading = more.0;
       narrow = c.loop-records.invariant.narrow;
-      left = record_good c.args.most c.args.bytes.now c.loop-records.records c.in_ok-columns.columns (fields_of c.loop-records.store) (fields_of c.add_record.new.store)
+      left = record_good c.args.most c.args.bytes.now c.loop-records.records c.in_ok-columns.columns c.loop-records.store c.add_record.new.store
           (fields_of c.read_next-in-loop-records.new.row) (records_left c.loop-records.reader) (records_left c.read_next-in-loop-records.new.reader)
           c.loop-records.invariant.left more.1 added.ok.0 added.ok.1 added.added;
     }

@@ -1,5 +1,4 @@
 use Rattle.std.proofs.Common.{◌≤◌}
-use Rattle.csv.specs.Records.{fields_of}
 use Rattle.csv_table.specs.RecordsLeft.{IsReading, records_left}
 use Rattle.csv_table.proofs.TableLemmas.{IsLeft}
 use Rattle.csv_table.proofs.read_table.Given as goal
@@ -8,5 +7,5 @@ abbrev pub invariant-loop-records : goal.invariant-loop-records
 invariant-loop-records l = record {
   reading : IsReading l.reader;
   narrow : l.columns ≤ 4096;
-  left : IsLeft l.fn.most l.fn.bytes l.records l.columns (fields_of l.store) (records_left l.reader);
+  left : IsLeft l.fn.most l.fn.bytes l.records l.columns l.store (records_left l.reader);
 }

@@ -1,7 +1,5 @@
-use Rattle.std.proofs.Common.{◌∙◌, ◌*◌, ◌+◌, ◌-◌, ◌<◌, arith, sym}
+use Rattle.std.proofs.Common.{◌∙◌, ◌-◌, ◌<◌, arith, sym}
 use Rattle.std.proofs.lemmas.Nat.{row_fits}
-use Rattle.csv.specs.Records.{fields_of}
-use Rattle.csv.proofs.RecordFacts.{field-get, field-there}
 use Rattle.csv_table.proofs.SplitLemmas.{column_count-split_records, field-split_records, length-split_records}
 use Rattle.csv_table.proofs.RawTable.field.Goals as goal
 
@@ -20,13 +18,13 @@ overflow_add-index c =
     let fits = row_fits c.args.row table.columns table.records table.columns row (omega arith) in
     omega (arith, c.self.invariant.0)
 
-pub unreachable-requires : goal.unreachable-requires
-unreachable-requires c =
+pub field-requires : goal.field-requires
+field-requires c =
     let table = c.self.inside in
     let row = rw (← c.self.view_is, length-split_records) at c.requires.row in
     let high = rw (← c.self.view_is, column_count-split_records _ _ _ c.self.invariant.1 c.self.invariant.0) at c.requires.high in
     let fits = row_fits c.args.row table.columns table.records table.columns row (omega arith) in
-    field-there (fields_of table.store) (c.args.row * table.columns + (c.args.place - 1)) (omega (arith, c.self.invariant.0)) (sym (rw c.in-None.is at c.get.ensures.value))
+    omega (arith, c.self.invariant.0)
 
 pub returns : goal.returns
 returns c =
@@ -34,6 +32,4 @@ returns c =
     let row = rw (← c.self.view_is, length-split_records) at c.requires.row in
     let high = rw (← c.self.view_is, column_count-split_records _ _ _ c.self.invariant.1 c.self.invariant.0) at c.requires.high in
     let place : c.args.place - 1 < table.columns = omega arith in
-    let here = sym (rw c.in-Some.is at c.get.ensures.value) in
-    sym (rw (← c.self.view_is) (field-split_records table.records table.columns (fields_of table.store) c.args.row (c.args.place - 1) row place
-    ∙ field-get (fields_of table.store) (c.args.row * table.columns + (c.args.place - 1)) c.in-Some.field.now here))
+    c.field.ensures ∙ sym (rw (← c.self.view_is) (field-split_records table.records table.columns table.store c.args.row (c.args.place - 1) row place))
