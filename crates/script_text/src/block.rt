@@ -77,6 +77,8 @@ impl OpenBlock {
         ensures size { length self.new.body ≤ length self.old.body + (length text.now + 1) }
         ensures same { self.new.lane ≡ self.old.lane }
     {
+        // A long line is not copied again for the sake of its line feed.
+        self.body.reserve(text.len() + 1)?;
         self.body.extend_from_slice(text)?;
         self.body.push(b'\n')?;
         Ok(())

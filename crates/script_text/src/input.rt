@@ -12,10 +12,13 @@ use no_memory::NoMemory;
 use std::alloc::Global;
 use std::marker::Model;
 
+/// The longest buffer that is kept once its lines have been used: 1 MiB, which is many pieces.
+const MOST_KEPT: usize = 1048576;
+
 /// The bytes that were read from a source and have not been used yet. Its model is the list of these bytes.
 #[derive(Drop)]
 pub(crate) struct Input {
-    /// The buffer, which is zeroed once.
+    /// The buffer. What is added to it is zeroed once.
     bytes: Vec<u8>,
     /// Where the bytes at hand begin, and where they end.
     start: usize,
@@ -71,13 +74,28 @@ impl Input {
         found
     }
 
-    // Drops the first `count` bytes, which have been used.
+    // Drops the first `count` bytes, which have been used. If a long line was among them, its room is given back at
+    // once: a batch may be answered before the next bytes are asked for.
     pub(crate) fn use_up(&mut self, count: usize)
         requires { count ≤ length self.old }
         ensures { self.new ≡ drop count self.old }
     {
         self.start += count;
         self.searched = 0;
+        self.give_back();
+    }
+
+    // Gives back the room that the bytes at hand do not need, if the buffer is long. They are few then, fewer than were
+    // read at once, since a line among the bytes that were read last has been used.
+    fn give_back(&mut self)
+        ensures { self.new ≡ self.old }
+    {
+        if self.bytes.len() <= MOST_KEPT {
+            return;
+        }
+        self.move_to_front();
+        self.bytes.truncate(self.filled);
+        self.bytes.shrink_to_fit();
     }
 
     // Reads once from the source, at most `most` bytes. It returns how many bytes the source gave, 0 only at its end.
@@ -113,6 +131,13 @@ impl Input {
         if self.start == 0 || self.bytes.len() - self.filled >= more {
             return;
         }
+        self.move_to_front();
+    }
+
+    // Moves the bytes at hand to the front of the buffer.
+    fn move_to_front(&mut self)
+        ensures { self.new ≡ self.old }
+    {
         self.bytes.copy_within(self.start..self.filled, 0);
         self.filled -= self.start;
         self.start = 0;
@@ -130,7 +155,9 @@ fn lengthen(bytes: &mut Vec<u8>, filled: usize, more: usize) -> Result<(), NoMem
     if bytes.len() - filled >= more {
         return Ok(());
     }
-    let longer = bytes.len().saturating_mul(2).max(filled + more);
+    let len = bytes.len();
+    let longer = len.saturating_add(len / 2).max(filled + more);
+    bytes.reserve_exact(longer - len)?;
     bytes.resize(longer, 0)?;
     Ok(())
 }

@@ -1,10 +1,11 @@
 //! The region and its spans.
-ghost use Rattle.std.specs.Prelude.{◌≡◌, ◌≤◌, ◌+◌, ◌++◌, [], length, IfOk, IsOk, OnErr, OnOk};
+ghost use Rattle.std.specs.Prelude.{◌≡◌, ◌≤◌, ◌+◌, ◌++◌, [], length, string_bytes, IfOk, IsOk, OnErr, OnOk};
 ghost use Rattle.text_region.specs.Spans.{IsSpan, start_of, text_at, KeepsSpans};
 
 use no_memory::NoMemory;
 use std::alloc::Global;
 use std::marker::Model;
+use std::mem;
 
 /// Where a text is in its region: 8 bytes, which mean nothing without the region that returned them.
 #[derive(Clone, Copy, Debug, PartialEq, Eq)]
@@ -101,6 +102,62 @@ impl Region {
             }
             Err(_) => unreachable!(),
         }
+    }
+
+    /// Appends the text of a buffer, and returns its span; the buffer is then empty. The spans that the region returned
+    /// before keep their texts. Returns `Err(NoMemory)` if memory runs out, and also if the region would have more than
+    /// 2^32 - 1 bytes; the region and the text in the buffer are then unchanged.
+    ///
+    /// A text that fits into the room made so far is copied. So is one that is no longer than what the region holds. A
+    /// longer text is not: the region takes over the memory of the buffer, so that a long text is never held twice.
+    pub fn put_buffer(&mut self, text: &mut String) -> Result<Span, NoMemory>
+        ensures bytes { OnOk result (self.new.bytes ≡ self.old.bytes ++ string_bytes text.old) }
+        ensures span { IfOk result (IsSpan self.new) }
+        ensures text { IfOk result (λ span. text_at self.new span ≡ string_bytes text.old) }
+        ensures behind { IfOk result (λ span. start_of span ≡ length self.old.bytes) }
+        ensures kept { KeepsSpans self.old self.new }
+        ensures empty { OnOk result (string_bytes text.new ≡ []) }
+        ensures refused { OnErr result ((self.new ≡ self.old) × (string_bytes text.new ≡ string_bytes text.old)) }
+    {
+        let len = text.as_str().len();
+        if len > self.spare() && len > self.text.as_str().len() {
+            return self.take_over(text);
+        }
+        self.reserve(len)?;
+        let span = self.put(text.as_str());
+        text.clear();
+        Ok(span)
+    }
+
+    // Puts the region's bytes in front of the text of a buffer, which becomes the region's. The caller sees that the
+    // text is longer than what the region holds, so that the region is at least doubled each time.
+    fn take_over(&mut self, text: &mut String) -> Result<Span, NoMemory>
+        ensures bytes { OnOk result (self.new.bytes ≡ self.old.bytes ++ string_bytes text.old) }
+        ensures span { IfOk result (IsSpan self.new) }
+        ensures text { IfOk result (λ span. text_at self.new span ≡ string_bytes text.old) }
+        ensures behind { IfOk result (λ span. start_of span ≡ length self.old.bytes) }
+        ensures kept { KeepsSpans self.old self.new }
+        ensures empty { OnOk result (string_bytes text.new ≡ []) }
+        ensures refused { OnErr result ((self.new ≡ self.old) × (string_bytes text.new ≡ string_bytes text.old)) }
+    {
+        let start = self.text.as_str().len();
+        let len = text.as_str().len();
+        let most = u32::MAX as usize - start;
+        if len > most {
+            return Err(NoMemory);
+        }
+        text.reserve_exact(start)?;
+        match text.insert_str(0, self.text.as_str()) {
+            Ok(()) => mem::swap(&mut self.text, text),
+            Err(_) => unreachable!(),
+        }
+        self.spare = (self.text.capacity() - start - len).min(most - len) as u32;
+        text.clear();
+        text.shrink_to_fit();
+        Ok(Span {
+            start: start as u32,
+            len: len as u32,
+        })
     }
 
     /// Releases the spare capacity. The spans keep their texts.

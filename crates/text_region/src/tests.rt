@@ -29,3 +29,24 @@ fn three_texts(rt: HostRuntime) -> Result<(), Fail> {
     assert_eq!(rt; size_of::<Span>(), 8);
     Ok(())
 }
+
+// A short text that has no room is copied. A longer one than all before it is taken over with its memory, and one that
+// fits into the room that this leaves is copied again. The buffer is empty each time, and each text reads back.
+#[test]
+fn texts_of_a_buffer(rt: HostRuntime) -> Result<(), Fail> {
+    let mut region = Region::new(rt.alloc(), 3)?;
+    let mut buffer = String::from_str(rt.alloc(), "abc")?;
+    let first = region.put_buffer(&mut buffer)?;
+    buffer.reserve(16)?;
+    buffer.push_str("defgh")?;
+    let taken = region.put_buffer(&mut buffer)?;
+    assert_eq!(rt; buffer.capacity(), 0);
+    assert!(rt; region.spare() >= 2);
+    buffer.push_str("i")?;
+    let last = region.put_buffer(&mut buffer)?;
+    assert!(rt; buffer.is_empty());
+    assert!(rt; region.text(first) == "abc");
+    assert!(rt; region.text(taken) == "defgh");
+    assert!(rt; region.text(last) == "i");
+    Ok(())
+}

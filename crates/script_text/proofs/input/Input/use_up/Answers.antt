@@ -5,6 +5,7 @@ use Rattle.script_text.proofs.input.Input.use_up.Goals as goal
 
 pub returns : goal.returns
 returns c =
-    held_less c.self.inside.start c.self.inside.filled c.args.count c.self.inside.bytes.items
+    c.give_back.ensures
+    ∙ held_less c.self.inside.start c.self.inside.filled c.args.count c.self.inside.bytes.items
     (omega (arith, c.requires, ap length c.self.view_is, length-take (c.self.inside.filled - c.self.inside.start) (drop c.self.inside.start c.self.inside.bytes.items)))
     ∙ ap (drop c.args.count) c.self.view_is
