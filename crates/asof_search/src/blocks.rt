@@ -102,26 +102,19 @@ fn built(alloc: Global, puts: &[Put]) -> Result<Segment, NoMemory>
     requires light { sum_by members (tables_put puts.now) < 2 ^ 32 }
     ensures { IfOk result (λ segment. segment ≡ tables_put puts.now) }
 {
-    look_at_widths(puts);
     build(alloc, tables_of(alloc, puts)?)
 }
 
-// Shows that each table has at most 4,096 columns, which is known of a table once it is looked at.
-fn look_at_widths(puts: &[Put])
-    ensures { sum_by (λ t. length t.columns) (tables_put puts.now) ≤ 4096 * length puts.now }
-{
-    for put in puts {
-        let _columns = put.table().table().columns();
-    }
-}
-
-// Returns a share of each table.
+// Returns a share of each table. A table has at most 4,096 columns, which is known of it once it is looked at.
 fn tables_of(alloc: Global, puts: &[Put]) -> Result<Vec<SharedTable>, NoMemory>
-    ensures { IfOk result (λ tables. tables.items ≡ tables_put puts.now) }
+    ensures same { IfOk result (λ tables. tables.items ≡ tables_put puts.now) }
+    ensures narrow { IfOk result (λ tables. sum_by (λ t. length t.columns) (tables_put puts.now) ≤ 4096 * length puts.now) }
 {
     let mut tables = Vec::with_capacity(alloc, puts.len())?;
     for put in puts {
-        tables.push(put.table().share()?)?;
+        let table = put.table();
+        let _columns = table.table().columns();
+        tables.push(table.share()?)?;
     }
     Ok(tables)
 }

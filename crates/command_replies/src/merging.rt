@@ -1,5 +1,5 @@
 //! Merges: the plan at a pin with its result, and the swap, which may come later.
-ghost use Rattle.std.specs.Prelude.{◌≡◌, ◌≤◌, ◌<◌, ◌+◌, ◌*◌, Bool, length, sum_by, option_map, IfOk, Some};
+ghost use Rattle.std.specs.Prelude.{◌≡◌, ◌≤◌, ◌<◌, ◌+◌, Bool, length, sum_by, option_map, IfOk, Some};
 ghost use Rattle.lake_model.specs.Journal.{entry_with, Swapped};
 ghost use Rattle.lake_model.specs.Tables.{members};
 ghost use Rattle.lake_model.specs.Layout.{shown, shown_with};
@@ -14,7 +14,6 @@ ghost use Rattle.command_replies.specs.Loads.{Adds};
 ghost use Rattle.command_replies.specs.Merging.{merge_of, swap_reply, swapped_by, CanSwap, IsPlanned};
 
 use catalogue::{Catalogue, Entry, SwapRefused, Who};
-use column_set::SharedTable;
 use lake_model::Policy;
 use no_memory::NoMemory;
 use run_record::{Reply, RunRecord};
@@ -70,17 +69,7 @@ fn merge_few(alloc: Global, plan: Plan) -> Result<Merged, NoMemory>
     requires light { sum_by members (load_tables plan.kept) ≤ 16777216 }
     ensures { IfOk result (λ merged. merged ≡ merge_of plan) }
 {
-    look_at_widths(&plan.kept);
     merge(alloc, plan)
-}
-
-// Shows that each table has at most 4,096 columns, which is known of each table when it is looked at.
-fn look_at_widths(loads: &[(u64, SharedTable)])
-    ensures { sum_by (λ t. length t.columns) (load_tables loads.now) ≤ 4096 * length loads.now }
-{
-    for load in loads {
-        let _columns = load.1.table().columns();
-    }
 }
 
 /// Answers a merge that was planned: what was merged replaces the planned parts, with an entry of this caller and

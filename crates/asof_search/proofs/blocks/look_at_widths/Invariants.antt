@@ -1,7 +1,0 @@
-use Rattle.std.proofs.Common.{◌*◌, ◌≤◌, length, take}
-use Rattle.std.specs.Prelude.{sum_by}
-use Rattle.asof_search.specs.Puts.{tables_put}
-use Rattle.asof_search.proofs.blocks.look_at_widths.Given as goal
-
-abbrev pub invariant-loop-put : goal.invariant-loop-put
-invariant-loop-put l = sum_by (λ table. length table.columns) (tables_put (take l.put-index l.puts)) ≤ 4096 * l.put-index
