@@ -1,5 +1,5 @@
 //! The gatherer of lists of keys. Each list holds its distinct keys in order of first occurrence.
-ghost use Rattle.std.specs.Prelude.{◌≡◌, ◌≤◌, ◌++◌, List, [], bytes_eq, drop, length, take, IfOk, IfSome, OnErr, OnOk};
+ghost use Rattle.std.specs.Prelude.{◌≡◌, ◌≤◌, ◌++◌, List, [], bytes_eq, drop, length, string_bytes, take, IfOk, IfSome, OnErr, OnOk};
 ghost use Rattle.std.specs.List.{IsDistinct};
 ghost use Rattle.std.specs.Option.{option_map_or};
 ghost use Rattle.lake_model.specs.Keys.{key};
@@ -63,7 +63,8 @@ impl KeyGatherer {
     }
 
     /// Adds the key of a value, of kind `keys`, to the current list, if the value has a key that is not in the list.
-    /// The key is written into the buffer, whose contents are replaced.
+    /// The key is written into the buffer, whose contents are replaced. A new key that is longer than all keys so far,
+    /// and than the room made so far, is not copied from there: the buffer's memory is taken over.
     pub fn add(
         &mut self,
         alloc: Global,
@@ -77,16 +78,16 @@ impl KeyGatherer {
         if !key_into(alloc, keys, value, buffer)? {
             return Ok(());
         }
-        self.insert(alloc, buffer.as_str())
+        self.insert(alloc, buffer)
     }
 
-    // Adds a key to the current list if it is not there.
-    fn insert(&mut self, alloc: Global, key: &str) -> Result<(), NoMemory>
+    // Adds the key in the buffer to the current list if it is not there.
+    fn insert(&mut self, alloc: Global, key: &mut String) -> Result<(), NoMemory>
         ensures finished { OnOk result (self.new.finished ≡ self.old.finished) }
-        ensures added { OnOk result (self.new.current ≡ add_key self.old.current key.now) }
+        ensures added { OnOk result (self.new.current ≡ add_key self.old.current (string_bytes key.old)) }
     {
         let Some(slots) = self.slots.take() else {
-            return self.keys.push(key);
+            return self.keys.push_buffer(key);
         };
         self.slots = entered(alloc, slots, &mut self.keys, self.from, key)?;
         Ok(())
@@ -148,30 +149,31 @@ impl KeyGatherer {
     }
 }
 
-// Appends a key if it is not among the keys from index `from` on. Returns the slots of these keys, or `None` if too
-// many of them share a hash.
+// Appends the key in the buffer if it is not among the keys from index `from` on. Returns the slots of these keys, or
+// `None` if too many of them share a hash.
 fn entered(
     alloc: Global,
     mut slots: Vec<u32>,
     keys: &mut Texts,
     from: u32,
-    key: &str,
+    key: &mut String,
 ) -> Result<Option<Vec<u32>>, NoMemory>
     requires from { from ≤ length keys.old }
     requires slotted { IsSlottedSet slots.items (drop from keys.old) }
-    ensures keys { OnOk result (keys.new ≡ take from keys.old ++ add_key (drop from keys.old) key.now) }
+    ensures keys { OnOk result (keys.new ≡ take from keys.old ++ add_key (drop from keys.old) (string_bytes key.old)) }
     ensures slotted { IfOk result (λ made. IfSome made (λ slots. IsSlottedSet slots.items (drop from keys.new))) }
     ensures within { from ≤ length keys.new }
 {
-    match seat_of(&slots, keys, from, key, hash_key(key)) {
+    let text = key.as_str();
+    match seat_of(&slots, keys, from, text, hash_key(text)) {
         Seat::Taken => Ok(Some(slots)),
         Seat::Free(at) => {
-            keys.push(key)?;
+            keys.push_buffer(key)?;
             slots[at] = keys.len() - from;
             widened(alloc, slots, keys, from)
         }
         Seat::Crowded => {
-            keys.push(key)?;
+            keys.push_buffer(key)?;
             Ok(None)
         }
     }

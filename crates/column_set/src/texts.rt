@@ -91,6 +91,22 @@ impl Texts {
         Ok(())
     }
 
+    /// Appends the text of a buffer, which is then empty. A text that is longer than all texts so far, and than the
+    /// room made so far, is not copied: its memory is taken over. Returns `Err(NoMemory)` as `push` does; the texts are
+    /// then unchanged.
+    pub fn push_buffer(&mut self, text: &mut String) -> Result<(), NoMemory>
+        ensures added { OnOk result (self.new ≡ self.old ++ string_bytes text.old ∷ []) }
+        ensures empty { OnOk result (string_bytes text.new ≡ []) }
+        ensures refused { OnErr result (self.new ≡ self.old) }
+    {
+        if self.spans.len() >= u32::MAX as usize {
+            return Err(NoMemory);
+        }
+        let span = self.region.put_buffer(text)?;
+        self.spans.push(span)?;
+        Ok(())
+    }
+
     /// Appends these texts.
     pub fn push_all(&mut self, strings: &[String]) -> Result<(), NoMemory>
         ensures { OnOk result (self.new ≡ self.old ++ map string_bytes strings.now) }

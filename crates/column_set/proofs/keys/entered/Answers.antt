@@ -1,5 +1,7 @@
-use Rattle.std.proofs.Common.{◌∙◌, drop}
+use Rattle.std.proofs.Common.{◌≡◌, ◌∙◌, ◌∷◌, ◌++◌, [], ap, drop, false, string_bytes, subst, sym}
 use Rattle.std.specs.Prelude.{Err, Ok, OnOk, Result}
+use Rattle.lake_model.specs.Tables.{has_key}
+use Rattle.lake_model.specs.Texts.{Text}
 use Rattle.column_set.proofs.GatherLemmas.{entered_new, entered_set}
 use Rattle.column_set.proofs.SlotLemmas.{if_slotted}
 use Rattle.column_set.proofs.keys.entered.Goals as goal
@@ -10,19 +12,24 @@ on_ok (Err x) p = tt
 
 pub widened-requires-clause-slotted : goal.widened-requires-clause-slotted
 widened-requires-clause-slotted c =
-    let set = entered_set c.args.from c.args.keys.now c.args.key.now c.args.slots.items c.in-Free.at c.hash_key.result c.requires.from c.requires.slotted c.hash_key.ensures
-    c.deref.result.now c.deref.ensures.value c.in-Free.ensures c.push.new.self c.in_ok-push-in-Free.ensures.added c.len.result c.len.ensures.value in
+    let added = c.in_ok-push_buffer-in-Free.ensures.added ∙ ap (λ (key : Text). c.args.keys.now ++ key ∷ []) (sym c.as_str-text.ensures.value) in
+    let set = entered_set c.args.from c.args.keys.now c.as_str-text.result.now c.args.slots.items c.in-Free.at c.hash_key.result c.requires.from c.requires.slotted c.hash_key.ensures
+    c.deref.result.now c.deref.ensures.value c.in-Free.ensures c.push_buffer.new.self added c.len.result c.len.ensures.value in
     set.slotted
 
-pub returns-in_ok-push-in-Free-clause-keys : goal.returns-in_ok-push-in-Free-clause-keys
-returns-in_ok-push-in-Free-clause-keys c =
-    on_ok c.widened.result (c.in_ok-push-in-Free.ensures.added ∙ entered_new c.args.from c.args.keys.now c.args.key.now c.in-Free.ensures.0)
+pub returns-in_ok-push_buffer-in-Free-clause-keys : goal.returns-in_ok-push_buffer-in-Free-clause-keys
+returns-in_ok-push_buffer-in-Free-clause-keys c =
+    let absent = subst (λ (key : Text). has_key (drop c.args.from c.args.keys.now) key ≡ false) c.as_str-text.ensures.value c.in-Free.ensures.0 in
+    on_ok c.widened.result (c.in_ok-push_buffer-in-Free.ensures.added ∙ entered_new c.args.from c.args.keys.now (string_bytes c.args.key.now) absent)
 
-pub returns-in_ok-push-in-Free-clause-slotted : goal.returns-in_ok-push-in-Free-clause-slotted
-returns-in_ok-push-in-Free-clause-slotted c =
-    let set = entered_set c.args.from c.args.keys.now c.args.key.now c.args.slots.items c.in-Free.at c.hash_key.result c.requires.from c.requires.slotted c.hash_key.ensures
-    c.deref.result.now c.deref.ensures.value c.in-Free.ensures c.push.new.self c.in_ok-push-in-Free.ensures.added c.len.result c.len.ensures.value in
-    if_slotted (drop c.args.from c.push.new.self) c.widened.result (λ v. v.items) set.different c.widened.ensures
+pub returns-in_ok-push_buffer-in-Free-clause-slotted : goal.returns-in_ok-push_buffer-in-Free-clause-slotted
+returns-in_ok-push_buffer-in-Free-clause-slotted c =
+    let added = c.in_ok-push_buffer-in-Free.ensures.added ∙ ap (λ (key : Text). c.args.keys.now ++ key ∷ []) (sym c.as_str-text.ensures.value) in
+    let set = entered_set c.args.from c.args.keys.now c.as_str-text.result.now c.args.slots.items c.in-Free.at c.hash_key.result c.requires.from c.requires.slotted c.hash_key.ensures
+    c.deref.result.now c.deref.ensures.value c.in-Free.ensures c.push_buffer.new.self added c.len.result c.len.ensures.value in
+    if_slotted (drop c.args.from c.push_buffer.new.self) c.widened.result (λ v. v.items) set.different c.widened.ensures
 
-pub returns-in_ok-push-in-Crowded-clause-keys : goal.returns-in_ok-push-in-Crowded-clause-keys
-returns-in_ok-push-in-Crowded-clause-keys c = c.in_ok-push-in-Crowded.ensures.added ∙ entered_new c.args.from c.args.keys.now c.args.key.now c.in-Crowded.ensures
+pub returns-in_ok-push_buffer-in-Crowded-clause-keys : goal.returns-in_ok-push_buffer-in-Crowded-clause-keys
+returns-in_ok-push_buffer-in-Crowded-clause-keys c =
+    let absent = subst (λ (key : Text). has_key (drop c.args.from c.args.keys.now) key ≡ false) c.as_str-text.ensures.value c.in-Crowded.ensures in
+    c.in_ok-push_buffer-in-Crowded.ensures.added ∙ entered_new c.args.from c.args.keys.now (string_bytes c.args.key.now) absent

@@ -1,4 +1,4 @@
-use Rattle.std.proofs.Common.{◌∙◌, List, ap, drop, sym}
+use Rattle.std.proofs.Common.{◌∙◌, List, ap, drop, string_bytes, sym}
 use Rattle.lake_model.specs.Tables.{add_key}
 use Rattle.lake_model.specs.Texts.{Text}
 use Rattle.column_set.proofs.GatherLemmas.{entered_current}
@@ -10,6 +10,7 @@ invariant_of-self-in_err-self-inside c = (c.entered.ensures.within, rw c.take.en
 
 pub returns-clause-added : goal.returns-clause-added
 returns-clause-added c =
+    let key = string_bytes c.args.key.now in
     let set = set_where_slotted (drop c.self.inside.from c.self.inside.keys) c.self.inside.slots c.in-Some.slots (λ v. v.items) (sym c.in-Some.ensures.value) c.self.invariant.1 in
-    entered_current c.self.inside.from c.self.inside.keys c.args.key.now c.entered.new.keys c.self.invariant.0 set.different c.in_ok-self-inside.ensures.keys
-    ∙ ap (λ (keys : List Text). add_key keys c.args.key.now) (ap (λ g. g.current) c.self.view_is)
+    entered_current c.self.inside.from c.self.inside.keys key c.entered.new.keys c.self.invariant.0 set.different c.in_ok-self-inside.ensures.keys
+    ∙ ap (λ (keys : List Text). add_key keys key) (ap (λ g. g.current) c.self.view_is)
