@@ -149,3 +149,27 @@ fn equal_bound_of_an_earlier_name(rt: HostRuntime) -> Result<(), Fail> {
     assert_eq!(rt; answer.looks.probes(), 2);
     Ok(())
 }
+
+// Twelve keys of one hash: the table has the first ten of them, and the query has the last ten.
+const TABLE_OF_ONE_HASH: &str =
+    "c\nafcrvqsd\nbfmdfpyf\nbrtpvupk\ncayzqxpn\ncrwvbqwv\ncucnwzrb\nepoehbyn\neymnweve\nfxbgimkt\nhbcnaefi\n";
+
+const QUERY_OF_ONE_HASH: &[u8] =
+    b"brtpvupk\ncayzqxpn\ncrwvbqwv\ncucnwzrb\nepoehbyn\neymnweve\nfxbgimkt\nhbcnaefi\nhiygmwwp\nhtalgfsa\n";
+
+// No key of the query is the first of its hash among the part's tokens, so the query is asked for each token's key.
+// Eight keys are in both.
+#[test]
+fn keys_of_one_hash(rt: HostRuntime) -> Result<(), Fail> {
+    let alloc = rt.alloc();
+    let pin = merged(
+        alloc,
+        ("t1", TABLE_OF_ONE_HASH),
+        ("t2", "c\n"),
+        ("t3", "c\n"),
+    )?;
+    let asked = query(alloc, QUERY_OF_ONE_HASH)?;
+    let answer = prepare(alloc, pin.looks(alloc), &asked, 1, None)?.run(&AlwaysRead);
+    expect_rows(&rt, &answer.rows, &[(8, "t1")]);
+    Ok(())
+}
