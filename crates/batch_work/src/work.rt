@@ -6,6 +6,7 @@ ghost use Rattle.script_model.specs.Commands.{command_with, Merge, updates};
 ghost use Rattle.record_model.specs.Play.{merges_of, who_of};
 ghost use Rattle.commands.specs.Tasks.{task_of};
 ghost use Rattle.run_record.specs.Callers.{who_by};
+ghost use Rattle.batch_work.specs.Named.{HasName, HaveNames};
 ghost use Rattle.batch_work.specs.Works.{merge_policy, work_of, works_of};
 
 use catalogue::Who;
@@ -121,14 +122,15 @@ fn merge_policy(task: &Task) -> Option<Policy>
 }
 
 /// Returns the commands of a batch, and then those of the merger, if there is one: a merge for each load, drop and
-/// replace of the batch, numbered from `merger` on.
+/// replace of the batch, numbered from `merger` on. Each name in them is the name of a table.
 pub fn works_of(
     alloc: Global,
     batch: &Batch,
     merger: Option<u64>,
 ) -> Result<Vec<Work<'_>>, NoMemory>
     requires { MatchOption merger ⊤ (λ first. first + updates batch.now < 2 ^ 64) }
-    ensures { IfOk result (λ works. works_of works.items ≡ batch.now ++ merges_of merger batch.now) }
+    ensures works { IfOk result (λ works. works_of works.items ≡ batch.now ++ merges_of merger batch.now) }
+    ensures names { IfOk result (λ works. HaveNames batch.now) }
 {
     let mut works = given(alloc, batch.commands())?;
     if let Some(first) = merger {
@@ -139,13 +141,33 @@ pub fn works_of(
 
 // Returns the commands, as work.
 fn given(alloc: Global, commands: &[Command]) -> Result<Vec<Work<'_>>, NoMemory>
-    ensures { IfOk result (λ works. works_of works.items ≡ commands.now) }
+    ensures works { IfOk result (λ works. works_of works.items ≡ commands.now) }
+    ensures names { IfOk result (λ works. HaveNames commands.now) }
 {
     let mut works = Vec::with_capacity(alloc, commands.len())?;
     for command in commands {
+        let _name = name_of(command.task());
         works.push(Work::Given(command))?;
     }
     Ok(works)
+}
+
+// Returns the name in a task, if there is one. That it is the name of a table is known once it is looked at.
+fn name_of(task: &Task) -> Option<&[u8]>
+    ensures { HasName (task_of task.now) }
+{
+    match task {
+        Task::Load { name, .. }
+        | Task::LoadFile { name, .. }
+        | Task::Drop { name }
+        | Task::Replace { name, .. }
+        | Task::Like { name, .. } => Some(name.bytes()),
+        Task::Tables
+        | Task::Search { .. }
+        | Task::Contain { .. }
+        | Task::AsOf { .. }
+        | Task::Merge { .. } => None,
+    }
 }
 
 // Appends `count` merges of the merger, numbered from `first` on.

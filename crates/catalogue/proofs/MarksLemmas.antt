@@ -13,6 +13,7 @@ use Rattle.catalogue.specs.Carried.{is_first, marks_along, run_marks}
 use Rattle.catalogue.specs.Swaps.{kept_marks}
 use Rattle.list_laws.proofs.ListLemmas.{all_weaker, filter_agree}
 use Rattle.catalogue.proofs.PlaceLemmas.{places_of, positions_in}
+use Rattle.layout_laws.proofs.WeightLemmas.{kept_of}
 
 abbrev pub marks_in : List Place → List Bool
 marks_in places = map (λ place. place.marked) places
@@ -90,9 +91,6 @@ run_more kept run i part positions marks all new whole h at loads marked many be
 
 -- ---- what the walk gives
 
-abbrev pub kept_in : List ℕ → List Place → List Place
-kept_in kept places = filter (λ place. is_among kept place.position) places
-
 others_same : (k : ℕ) (ks : List ℕ) (places : List Place) → AllByRecursion (λ n. n ≡ k → ⊥) (positions_in places) → AllByRecursion (λ (p : Place). is_among (k ∷ ks) p.position ≡ is_among ks p.position) places
 others_same k ks [] h = tt
 others_same k ks (p ∷ ps) h = (ap (λ (b : Bool). b || is_among ks p.position) (ne_eqb p.position k h.0), others_same k ks ps h.1)
@@ -101,17 +99,17 @@ others_among : (k : ℕ) (ks ns : List ℕ) → AllByRecursion (λ n. n ≡ k �
 others_among k ks ns h = all_weaker (λ (n : ℕ). n ≡ k → ⊥) (λ n. is_among (k ∷ ks) n ≡ is_among ks n) ns (λ n f. ap (λ (b : Bool). b || is_among ks n) (ne_eqb n k f)) h
 
 abbrev GivesMarks : List Place → List ℕ → Type 0
-GivesMarks ps kept = filter (is_among kept) (positions_in ps) ≡ kept → marks_along kept (positions_in ps) (marks_in ps) ≡ marks_in (kept_in kept ps)
+GivesMarks ps kept = filter (is_among kept) (positions_in ps) ≡ kept → marks_along kept (positions_in ps) (marks_in ps) ≡ marks_in (kept_of kept ps)
 
 -- If the kept positions are those that pass, in this order, the walk gives the marks of their places.
-pub along_is : (kept : List ℕ) (places : List Place) → AreDistinct (positions_in places) → filter (is_among kept) (positions_in places) ≡ kept → marks_along kept (positions_in places) (marks_in places) ≡ marks_in (kept_in kept places)
+pub along_is : (kept : List ℕ) (places : List Place) → AreDistinct (positions_in places) → filter (is_among kept) (positions_in places) ≡ kept → marks_along kept (positions_in places) (marks_in places) ≡ marks_in (kept_of kept places)
 along_is [] [] h e = refl
 along_is (k ∷ ks) [] h e = cc
 along_is [] (p ∷ ps) h e = along_is [] ps h.1 e
 along_is (k ∷ ks) (p ∷ ps) h e = by (nat_eq p.position k) (is_among ks p.position) refl (along_is ks ps h.1) (along_is (k ∷ ks) ps h.1) e
   where
     by : (b c : Bool) → nat_eq p.position k ≡ b → GivesMarks ps ks → GivesMarks ps (k ∷ ks) → cond (b || c) (p.position ∷ filter (is_among (k ∷ ks)) (positions_in ps)) (filter (is_among (k ∷ ks)) (positions_in ps)) ≡ k ∷ ks
-        → cond b (p.marked ∷ marks_along ks (positions_in ps) (marks_in ps)) (marks_along (k ∷ ks) (positions_in ps) (marks_in ps)) ≡ marks_in (cond (b || c) (p ∷ kept_in (k ∷ ks) ps) (kept_in (k ∷ ks) ps))
+        → cond b (p.marked ∷ marks_along ks (positions_in ps) (marks_in ps)) (marks_along (k ∷ ks) (positions_in ps) (marks_in ps)) ≡ marks_in (cond (b || c) (p ∷ kept_of (k ∷ ks) ps) (kept_of (k ∷ ks) ps))
     by true c g fewer all e =
         let same : p.position ≡ k = eqb-true p.position k g in
         let lacks = subst (λ (n : ℕ). AllByRecursion (λ m. m ≡ n → ⊥) (positions_in ps)) same h.0 in

@@ -33,8 +33,9 @@ use Rattle.catalogue.specs.Swaps.{kept_marks, kept_tables, numbers_in, swap_refu
 use Rattle.catalogue.proofs.ListLemmas.{map_none}
 use Rattle.catalogue.proofs.PlaceLemmas.{places_of, positions_in}
 use Rattle.catalogue.proofs.KeptLemmas.{is_legal_behind-push, merging-push, names_differ, positions_differ}
-use Rattle.catalogue.proofs.MarksLemmas.{kept_in, marks_in}
+use Rattle.catalogue.proofs.MarksLemmas.{marks_in}
 use Rattle.catalogue.proofs.ThereLemmas.{numbers_there}
+use Rattle.layout_laws.proofs.WeightLemmas.{kept_of}
 
 distinct_same : (ns : List ℕ) → laws.AreDistinct ns → AreDistinct ns
 distinct_same [] h = tt
@@ -53,12 +54,12 @@ map_kept : (p : Place) (ps : List Place) (b : Bool) → map (λ place. place.tab
 map_kept p ps true = refl
 map_kept p ps false = refl
 
-tables_same : (kept : List ℕ) (ps qs : List Place) → ArePlaces ps qs → map (λ place. place.table) (kept_in kept ps) ≡ map (λ place. place.table) (kept_in kept qs)
+tables_same : (kept : List ℕ) (ps qs : List Place) → ArePlaces ps qs → map (λ place. place.table) (kept_of kept ps) ≡ map (λ place. place.table) (kept_of kept qs)
 tables_same kept [] [] h = refl
 tables_same kept [] (q ∷ qs) h = absurd h
 tables_same kept (p ∷ ps) [] h = absurd h
 tables_same kept (p ∷ ps) (q ∷ qs) h =
-    map_kept p (kept_in kept ps) (is_among kept p.position) ∙ (λ i. with_table (is_among kept (sym h.0.position i)) (sym h.0.table i) (tables_same kept ps qs h.1 i)) ∙ sym (map_kept q (kept_in kept qs) (is_among kept q.position))
+    map_kept p (kept_of kept ps) (is_among kept p.position) ∙ (λ i. with_table (is_among kept (sym h.0.position i)) (sym h.0.table i) (tables_same kept ps qs h.1 i)) ∙ sym (map_kept q (kept_of kept qs) (is_among kept q.position))
 
 pub record StillMerges (parts : List Part) (planned kept : List ℕ) (tables : List Table) : Type 0 where
   pub may : may_swap parts planned kept ≡ true

@@ -9,7 +9,7 @@ use Rattle.std.proofs.lemmas.List.{get_or_default}
 use Rattle.std.proofs.lemmas.List.Sorted.{list_any-IsPermutation, sum_by-IsPermutation}
 use Rattle.std.proofs.lemmas.List.Sums.{sum_by-cons}
 use Rattle.std.proofs.lemmas.Map.Lookups.{exact_unsigned}
-use Rattle.std.proofs.lemmas.Bool.{and_parts}
+use Rattle.std.proofs.lemmas.Bool.{and_parts, eq-eqb}
 use Rattle.list_laws.proofs.ListLemmas.{all_weaker, rises_same}
 use Rattle.list_laws.specs.Distinct.{Rises}
 use Rattle.lake_model.proofs.SortingLemmas.{less_order, Ordered, ordered_in_order, sorted_is}
@@ -24,18 +24,9 @@ use Rattle.search_model.specs.Arrays.{no_titled, titled_at}
 use Rattle.search_model.specs.Contain.{is_unmarked, lists_needed, may_hold, seen_behind}
 use Rattle.search_model.specs.Looks.{hits, Searched}
 use Rattle.search_model.specs.Segment.{Titled}
-use Rattle.search_laws.proofs.TableLemmas.{same_tests}
+use Rattle.list_laws.proofs.TestLemmas.{count-cons, once, same_tests}
 
 -- ---- sorted lists of distinct numbers
-
-abbrev once : Bool → ℕ
-once b = cond b 1 0
-
-count-cons : (p : ℕ → Bool) (x : ℕ) (xs : List ℕ) → count_by p (x ∷ xs) ≡ once (p x) + count_by p xs
-count-cons p x xs = sum_by-cons (λ y. once (p y)) x xs
-
-itself : (x : ℕ) → nat_eq x x ≡ true
-itself x = grind (arith, nat_tests)
 
 abbrev less : ℕ → ℕ → Bool
 less a b = is_lt (nat_cmp a b)
@@ -51,7 +42,7 @@ behind x (y ∷ ys) h none = (by (nat_eq x y) refl, behind x ys h.1 (λ some. no
 rises_ordered : (xs : List ℕ) → Ordered less (less_order nat_cmp_total) xs → ((x : ℕ) → count_by (nat_eq x) xs ≤ 1) → Rises xs
 rises_ordered [] h few = tt
 rises_ordered (x ∷ xs) h few = (
-  behind x xs h.0 (λ some. absurd (let f = few x in omega (arith, f, some, count-cons (nat_eq x) x xs, ap once (itself x)))),
+  behind x xs h.0 (λ some. absurd (let f = few x in omega (arith, f, some, count-cons (nat_eq x) x xs, ap once (eq-eqb x x refl)))),
   rises_ordered xs h.1 (λ y. let f = few y in omega (arith, f, count-cons (nat_eq y) x xs)),
 )
 

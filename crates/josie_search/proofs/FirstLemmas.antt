@@ -14,6 +14,7 @@ use Rattle.search_model.specs.Looks.{Searched}
 use Rattle.lake_model.proofs.SortingLemmas.{by_test, irreflexive, less_order}
 use Rattle.part_columns.specs.declared.tally.Tally.{Tally}
 use Rattle.josie_search.specs.Rows.{bound_row, first_of, first_pair, FoundAmong, FoundTo, is_before, IsFirst, IsFirstAmong, lead_row, leads}
+use Rattle.search_model.proofs.RankLemmas.{first_late}
 
 by_place : {G : Type 0} (y x : ℕ) → (y < x → G) → (y ≡ x → G) → (x < y → G) → G
 by_place {G} y x f g h = elim (nat_lt y x) as (λ t. nat_lt y x ≡ t → G) [
@@ -24,14 +25,9 @@ by_place {G} y x f g h = elim (nat_lt y x) as (λ t. nat_lt y x ≡ t → G) [
   ] refl
 ] refl
 
-not_first : (r s : Ordering) → is_lt (ordering_then r s) ≡ false → is_lt r ≡ false
-not_first Less s h = cc
-not_first Equal s h = refl
-not_first Greater s h = refl
-
 -- a row that does not come before another has no greater overlap
 pub no_sooner : (a b : Row) → is_before a b ≡ false → a.overlap ≤ b.overlap
-no_sooner a b h = ge_from_not_lt b.overlap a.overlap (not_first (nat_cmp b.overlap a.overlap) _ h)
+no_sooner a b h = ge_from_not_lt b.overlap a.overlap (first_late (nat_cmp b.overlap a.overlap) _ h)
 
 -- the greater overlap comes first
 pub sooner : (a b : Row) → a.overlap < b.overlap → is_before b a ≡ true

@@ -3,7 +3,7 @@ use Rattle.std.proofs.Common.{◌≡◌, refl, ap, sym, ◌∙◌, subst, inl, i
 use Rattle.std.specs.List.{AllByRecursion, filter, fold}
 use Rattle.std.specs.List.Sorted.{IsPermutation}
 use Rattle.std.proofs.Math.Seq.{drop-cons}
-use Rattle.std.proofs.lemmas.Bool.{cases_eq, or_right}
+use Rattle.std.proofs.lemmas.Bool.{cases_eq, or_right, ne_eqb}
 use Rattle.std.proofs.lemmas.Bool.Decides.{nat_tests}
 use Rattle.std.proofs.lemmas.List.{get_or-set_other, get_or-set_same}
 use Rattle.std.proofs.lemmas.List.Sorted.{list_any-IsPermutation, sum_by_popped, sum_by_pushed}
@@ -18,9 +18,6 @@ use Rattle.josie_search.specs.Candidates.{AreApart, AreHeld, AreHeldBut, candida
 use Rattle.josie_search.specs.Rows.{leads}
 use Rattle.part_columns.specs.Tallies.{most_of, rest_of, counted, of_column, raised, tally_at}
 use Rattle.josie_search.proofs.LoopLemmas.{lead_parts}
-
-differ : (x y : ℕ) → (x ≡ y → ⊥) → nat_eq x y ≡ false
-differ x y h = grind (arith, nat_tests)
 
 -- ---- one candidate
 
@@ -127,7 +124,7 @@ module _ (query : Query) (part : Searched) (ranks : List ℕ) (tallies : List Ta
   held_entered low now x before rest all news front same h goes stays y out lead high = elim (cases_eq y x) [
     | inl e ↦ subst (λ (z : ℕ). covers left (tally_at tallies z) (get_or ranks z 0) news ≡ true) (sym e)
         (covers_own left (get_or ranks x 0) (tally_at tallies x) all news (goes (does (subst (λ (z : ℕ). get_or known z false ≡ false) e (lead_parts query part tallies known y lead).1) (subst (λ (z : ℕ). low ≤ most_of left (tally_at tallies z)) e high))))
-    | inr apart ↦ by (goes_in (get_or known x false) now left (tally_at tallies x)) refl (h y (ap (λ xs. is_among xs y) front ∙ ap (λ b. b || is_among rest y) (differ y x apart) ∙ out) lead high)
+    | inr apart ↦ by (goes_in (get_or known x false) now left (tally_at tallies x)) refl (h y (ap (λ xs. is_among xs y) front ∙ ap (λ b. b || is_among rest y) (ne_eqb y x apart) ∙ out) lead high)
   ]
     where
       does : get_or known x false ≡ false → low ≤ most_of left (tally_at tallies x) → goes_in (get_or known x false) now left (tally_at tallies x) ≡ true

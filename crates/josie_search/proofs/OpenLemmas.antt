@@ -17,19 +17,12 @@ use Rattle.part_columns.specs.Tallies.{most_of, tally_at}
 use Rattle.josie_search.specs.State.{IsAt}
 use Rattle.josie_search.proofs.FirstLemmas.{later, no_sooner_there}
 use Rattle.part_columns.proofs.TallyLemmas.{bound_same, tally_count}
+use Rattle.std.proofs.lemmas.Bool.{and_parts}
 
 and_moved : (a b c d : Bool) → (a && b && c && d) ≡ ((a && b && c) && d)
 and_moved true true c d = refl
 and_moved true false c d = refl
 and_moved false b c d = refl
-
-and_left : (a b : Bool) → (a && b) ≡ true → a ≡ true
-and_left true b e = refl
-and_left false b e = cc
-
-and_right : (a b : Bool) → (a && b) ≡ true → b ≡ true
-and_right true b e = e
-and_right false b e = cc
 
 and_third : (a b c : Bool) → (a && b && c) ≡ true → c ≡ true
 and_third true true c e = e
@@ -76,8 +69,8 @@ module _ (query : Query) (part : Searched) (progress : Progress) (tallies : List
       let same : row ≡ (seen_at part progress x).bound = h.same ∙ bounds_are x h.does in
       first_by_rows query part progress last x h.within
       (open_is last x ∙ (λ i. h.does i && beats last (sym same i)) ∙ b)
-      (λ y l o m. (let d = and_left (does_lead y) _ (sym (open_is last y) ∙ o) in sym (λ i. is_before (same i) (bounds_are y d i)) ∙ h.lower y m d))
-      (λ y l o m. (let d = and_left (does_lead y) _ (sym (open_is last y) ∙ o) in sym (λ i. is_before (bounds_are y d i) (same i)) ∙ h.higher y m l d))
+      (λ y l o m. (let d = (and_parts (does_lead y) _ (sym (open_is last y) ∙ o)).0 in sym (λ i. is_before (same i) (bounds_are y d i)) ∙ h.lower y m d))
+      (λ y l o m. (let d = (and_parts (does_lead y) _ (sym (open_is last y) ∙ o)).0 in sym (λ i. is_before (bounds_are y d i) (same i)) ∙ h.higher y m l d))
 
   no_later_beats : (last : Option Row) (a b : Row) → is_before b a ≡ false → beats last a ≡ false → beats last b ≡ false
   no_later_beats None a b h e = cc

@@ -18,6 +18,7 @@ use Rattle.search_model.specs.declared.Summary.{Summary}
 use Rattle.search_model.specs.Looks.{choice, known_rows, looks_of, next_look, open_columns, Progress, progress_after, run, run_within, searched, Searched, start, work_left, worst}
 use Rattle.search_state.proofs.OfferLemmas.{worst_is}
 use Rattle.segment_core.specs.Versions.{part_at, part_with}
+use Rattle.topk_heap.proofs.TopLemmas.{in_order_empty}
 
 -- the first k of the first k
 abbrev is_less : Row → Row → Bool
@@ -91,10 +92,6 @@ pub record Through (says : Summary → Bool) (query : Query) (all : List Searche
   pub looks_are : log ++ looks_of says query before (drop i all) ≡ looks_of says query [] all
   pub known_is : known_after says query before (drop i all) ≡ known_after says query [] all
 
-in_order_none : in_order row_cmp [] ≡ []
-unfolding in_order
-in_order_none = refl
-
 take_none : (k : ℕ) → take {A = Row} k [] ≡ []
 take_none zero = refl
 take_none (suc k) = refl
@@ -103,7 +100,7 @@ module _ (says : Summary → Bool) (query : Query) (some : 0 < query.k) (all : L
   pub through_none : (log : List Look) (rows : List Row) → log ≡ [] → rows ≡ [] → Through says query all 0 log rows
   through_none log rows e f = record {
     before = [];
-    rows_are = f ∙ sym (ap (take query.k) in_order_none ∙ take_none query.k);
+    rows_are = f ∙ sym (ap (take query.k) in_order_empty ∙ take_none query.k);
     looks_are = ap (λ us. us ++ looks_of says query [] all) e;
     known_is = refl;
   }

@@ -28,23 +28,17 @@ use Rattle.part_columns.proofs.AskedLemmas.{hits_overlap}
 use Rattle.part_columns.proofs.TallyLemmas.{counted_in, tally_count}
 use Rattle.josie_search.proofs.PartLemmas.{rows_by, rows_more, rows_stay, rows_where}
 use Rattle.part_columns.proofs.TouchedLemmas.{all_among, apart_before, listed_once, listed_seen, touched_listed}
+use Rattle.std.proofs.lemmas.Bool.{and_parts}
+use Rattle.std.proofs.Math.Bool.{or-true}
 
 default : (i : ℕ) (d e : Titled) (cs : List Titled) → i < length cs → get_or cs i e ≡ get_or cs i d
 default i d e [] h = absurd (omega arith)
 default zero d e (c ∷ cs) h = refl
 default (suc i) d e (c ∷ cs) h = default i d e cs (omega arith)
 
-or_true : (b : Bool) → (b || true) ≡ true
-or_true true = refl
-or_true false = refl
-
 or_false : (b : Bool) → (b || false) ≡ b
 or_false true = refl
 or_false false = refl
-
-and_right : (a b : Bool) → (a && b) ≡ true → b ≡ true
-and_right true b e = e
-and_right false b e = cc
 
 module _ (query : Query) (whole : Part) (distinct : IsDistinct bytes_eq query.keys) (tallies : List Tally) (known : List Bool) (probed : List ℕ)
     (tallies_are : AreTallies (searched query whole).segment.sets (searched query whole).query tallies) (known_are : (x : ℕ) → get_or known x false ≡ is_among probed x) where
@@ -93,7 +87,7 @@ module _ (query : Query) (whole : Part) (distinct : IsDistinct bytes_eq query.ke
     other y differ = (let e : nat_eq y x ≡ false = grind (arith, nat_tests) in ap (λ b. b || is_among probed y) (pushed y ∙ ap (λ b. is_among done y || b) e ∙ or_false (is_among done y)))
 
     now : to more x ≡ true
-    now = let e : nat_eq x x ≡ true = grind (arith, nat_tests) in ap (λ b. b || is_among probed x) (pushed x ∙ ap (λ b. is_among done x || b) e ∙ or_true (is_among done x))
+    now = let e : nat_eq x x ≡ true = grind (arith, nat_tests) in ap (λ b. b || is_among probed x) (pushed x ∙ ap (λ b. is_among done x || b) e ∙ or-true (is_among done x))
 
   module _ (before : List Row) where
     -- one more column, not among those done
@@ -138,7 +132,7 @@ module _ (query : Query) (whole : Part) (distinct : IsDistinct bytes_eq query.ke
         so_far
         ∙ ap (λ us. best row_cmp query.k (before ++ us)) (rows_where query part (to touched) (λ x c l at share.
         let same : c ≡ column_at part x = at ∙ default x no_titled c part.segment.columns l in
-        let shared : nat_lt 0 (overlap query.keys (column_at part x).column.keys) ≡ true = and_right (is_eligible query part (column_at part x)) _ (ap (λ (d : Titled). shares query part (x, d)) (sym same) ∙ share) in
+        let shared : nat_lt 0 (overlap query.keys (column_at part x).column.keys) ≡ true = (and_parts (is_eligible query part (column_at part x)) _ (ap (λ (d : Titled). shares query part (x, d)) (sym same) ∙ share)).1 in
         let some : 0 < (tally_at tallies x).count = (let n = counted x l in let t : 0 < overlap query.keys (column_at part x).column.keys = grind (arith, nat_tests) in omega (arith, n, t)) in
         ap (λ b. b || is_among probed x) (touched_listed tallies touched x listed some)))
 

@@ -237,9 +237,7 @@ fn open_and_read<R: Files>(
         Ok(file) => file,
         Err(error) => return Err(open_refusal(error.kind())),
     };
-    let Ok(mut room) = piece_room(alloc) else {
-        return Err(ShelfRefused::NoMemory);
-    };
+    let mut room = piece_room(alloc)?;
     read_file(alloc, &mut file, most, room.as_mut_slice())
 }
 

@@ -13,7 +13,7 @@ ghost use Rattle.lake_io.specs.Causes.{HasCause};
 ghost use Rattle.lake_io.specs.Files.{File, HasFile};
 ghost use Rattle.lake_io.specs.Refusals.{Refuses};
 
-use std::alloc::Global;
+use std::alloc::{AllocError, Global};
 use thiserror::Error;
 
 mod adapters;
@@ -48,6 +48,17 @@ pub enum ShelfRefused {
     /// Memory ran out for the file's bytes.
     #[error("no memory")]
     NoMemory,
+}
+
+impl From<AllocError> for ShelfRefused {
+    ghost use Rattle.std.specs.Prelude.{◌≡◌};
+    ghost use Rattle.lake_io.specs.declared.ShelfRefused.TheVariants as refused;
+
+    ghost from_gives = { λ _ e. e ≡ refused.NoMemory };
+
+    fn from(_error: AllocError) -> ShelfRefused {
+        ShelfRefused::NoMemory
+    }
 }
 
 /// A source of bytes.

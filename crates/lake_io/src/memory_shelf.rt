@@ -136,9 +136,6 @@ impl Shelf for MemoryShelf {
         if bytes.len() > most {
             return Err(ShelfRefused::TooLong);
         }
-        let Ok(copy) = Vec::from_slice(alloc, bytes) else {
-            return Err(ShelfRefused::NoMemory);
-        };
-        Ok(copy)
+        Ok(Vec::from_slice(alloc, bytes)?)
     }
 }

@@ -12,11 +12,13 @@ use Rattle.record_model.specs.Replies.{Reply}
 use Rattle.record_model.specs.Record.{Answered}
 use Rattle.record_model.specs.Play.{Done, done_with, answers_of, who_of, gathered}
 use Rattle.record_model.specs.Right.{done_of}
-use Rattle.lane_run.specs.Chains.{lane_commands, commands_in, Chain, AreServed, AreWithin}
+use Rattle.lane_run.specs.Chains.{Chain, AreServed, AreWithin}
 use Rattle.lane_run.specs.Seats.{HaveAnswered, HaveServed, IsFresh, IsRoom, desk_in, done_in}
 use Rattle.lane_run.proofs.Serving.{any_default}
 use Rattle.record_model.proofs.GatherLemmas.{AreLists, gathered_commands, gathered_lane}
 use Rattle.record_model.proofs.ProgressLemmas.{whos}
+use Rattle.record_model.specs.Lanes.{commands_in, lane_commands}
+use Rattle.list_laws.proofs.ListLemmas.{all_append}
 
 -- ---- what is at a place
 
@@ -48,10 +50,6 @@ zip_again (d ∷ done) = ap (λ (ds : List Done). d ∷ ds) (zip_again done)
 
 -- ---- sitting down
 
-all_last : {X : Type 0} (P : X → Type 0) (xs : List X) (x : X) → AllByRecursion P xs → P x → AllByRecursion P (xs ++ x ∷ [])
-all_last P [] x h k = (k, tt)
-all_last P (y ∷ xs) x h k = (h.0, all_last P xs x h.1 k)
-
 all_front : {X : Type 0} (P : X → Type 0) (xs : List X) (x : X) → AllByRecursion P (xs ++ x ∷ []) → AllByRecursion P xs × P x
 all_front P [] x h = (tt, h.0)
 all_front P (y ∷ xs) x h = let rest = all_front P xs x h.1 in ((h.0, rest.0), rest.1)
@@ -65,7 +63,7 @@ module _ {D : Type 0} where
   sits_more room total seats later yielded rooms fewer given desks fresh empty count pushed popped =
       let split = all_front (IsRoom room) fewer given.done (subst (AllByRecursion (IsRoom room)) popped empty) in (
         ap (map desk_in) pushed ∙ map-append desk_in seats (given ∷ []) ∙ ap (λ (ds : List D). ds ++ given.desk ∷ []) desks,
-        subst (AllByRecursion (IsFresh room)) (sym pushed) (all_last (IsFresh room) seats given fresh split.1),
+        subst (AllByRecursion (IsFresh room)) (sym pushed) (all_append (IsFresh room) seats (given ∷ []) fresh (split.1, tt)),
         split.0,
         omega (arith, count, ap (λ (rs : List (VecDeque Done Global)). length rs) popped, length-append fewer (given.done ∷ []), length-append yielded (given.desk ∷ [])),
       )

@@ -12,7 +12,8 @@ use Rattle.record_model.specs.Replies.{Reply}
 use Rattle.record_model.specs.Play.{Done, done_with}
 use Rattle.batch_work.specs.Works.{work_of, works_of}
 use Rattle.batch_work.proofs.WorkLemmas.{work_at, works_long}
-use Rattle.lane_run.specs.Chains.{Chain, Serves, lane_commands}
+use Rattle.lane_run.specs.Chains.{Chain, Serves}
+use Rattle.record_model.specs.Lanes.{lane_commands}
 
 pub any_default : {X : Type 0} (xs : List X) (n : ℕ) (a b : X) → n < length xs → get_or xs n a ≡ get_or xs n b
 any_default [] n a b within = absurd (omega (arith, within))

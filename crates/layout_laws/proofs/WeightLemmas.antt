@@ -82,7 +82,7 @@ one_marked name (p ∷ ps) h = by p.marked (has_name name p.table) refl refl (on
         omega (arith, there, marked_cons p ps, new, rest left.1)
 
 -- what is not kept is marked
-abbrev kept_of : List ℕ → List Place → List Place
+abbrev pub kept_of : List ℕ → List Place → List Place
 kept_of kept places = filter (λ place. is_among kept place.position) places
 
 kept_marked : (kept : List ℕ) (places : List Place) → AllByRecursion (λ place. (is_among kept place.position || place.marked) ≡ true) places

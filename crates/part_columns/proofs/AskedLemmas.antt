@@ -19,6 +19,7 @@ use Rattle.search_state.specs.State.{column_at}
 use Rattle.segment_core.specs.Versions.{part_at, part_with, segment_at, segment_of, VersionOf}
 use Rattle.part_columns.specs.Room.{asked_in, looks_bound, looks_in}
 use Rattle.part_columns.proofs.SegmentLists.{token_within}
+use Rattle.std.proofs.Math.Bool.{and-true, or-true}
 
 -- ---- the tokens that are held for a part
 
@@ -41,17 +42,9 @@ tokens_within now version keys part tokens same is k d b =
 
 -- ---- there are at most as many of them as the query has keys
 
-or_true : (b : Bool) → (b || true) ≡ true
-or_true true = refl
-or_true false = refl
-
-and_true : (b : Bool) → (b && true) ≡ b
-and_true true = refl
-and_true false = refl
-
 weaker : (x : Text) (ys all : List Text) → AllByRecursion (λ y. has_key all y ≡ true) ys → AllByRecursion (λ y. has_key (x ∷ all) y ≡ true) ys
 weaker x [] all h = tt
-weaker x (y ∷ ys) all h = (ap (λ b. bytes_eq y x || b) h.0 ∙ or_true (bytes_eq y x), weaker x ys all h.1)
+weaker x (y ∷ ys) all h = (ap (λ b. bytes_eq y x || b) h.0 ∙ or-true (bytes_eq y x), weaker x ys all h.1)
 
 all_there : (xs : List Text) → AllByRecursion (λ y. has_key xs y ≡ true) xs
 all_there [] = tt
@@ -67,7 +60,7 @@ both keys all (x ∷ xs) h =
       arith,
       sum_by-cons (λ t. once (has_key keys t && has_key all t)) x xs,
       sum_by-cons (λ t. once (has_key keys t)) x xs,
-      ap once (ap (λ b. has_key keys x && b) h.0 ∙ and_true (has_key keys x)),
+      ap once (ap (λ b. has_key keys x && b) h.0 ∙ and-true (has_key keys x)),
       both keys all xs h.1,
     )
 

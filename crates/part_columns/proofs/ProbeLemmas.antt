@@ -4,70 +4,36 @@ use Rattle.std.specs.Prelude.{MatchResult, Result, Ok, Err, is_ok}
 use Rattle.std.specs.List.{AllByRecursion, count_by}
 use Rattle.std.specs.List.Sorted.{IsBinarySearchResult, IsStrictlyIncreasing}
 use Rattle.std.specs.Ordering.{nat_cmp}
-use Rattle.std.proofs.lemmas.Bool.{cases_lt}
+use Rattle.std.proofs.lemmas.Bool.{cases_lt, ne_eqb}
 use Rattle.std.proofs.lemmas.Bool.Decides.{nat_tests}
 use Rattle.std.proofs.lemmas.List.{length-drop, take-append-drop, take_all}
 use Rattle.std.proofs.lemmas.List.Elements.{All-from_recursion}
 use Rattle.std.proofs.lemmas.List.Sorted.{searched}
 use Rattle.std.proofs.lemmas.List.Sums.{count_by-le-length, length-filter}
 use Rattle.lake_model.specs.Layout.{is_among}
-use Rattle.search_model.proofs.BoundLemmas.{prefix_filter}
+use Rattle.search_model.proofs.BoundLemmas.{prefix_filter, hits_le_count}
 use Rattle.search_model.specs.Looks.{hits}
 use Rattle.search_model.specs.Segment.{rank}
 use Rattle.segment_core.proofs.PositionLemmas.{rise_far}
 use Rattle.part_columns.specs.declared.tally.Tally.{Tally}
 use Rattle.part_columns.specs.Tallies.{most_of, tally_of}
 use Rattle.search_state.proofs.FallLemmas.{rank_within}
-use Rattle.search_model.proofs.BoundLemmas.{among_counts, count-cons, one}
-use Rattle.search_model.proofs.FilterLemmas.{Rising, after_all, all_hits, hits-append, IsHit, rising_right}
+use Rattle.search_model.proofs.BoundLemmas.{among_counts}
+use Rattle.search_model.proofs.FilterLemmas.{Rising, after_all, all_hits, hits-append, IsHit, rising_right, distinct_rising}
+use Rattle.list_laws.proofs.TestLemmas.{count-cons, once}
+use Rattle.std.proofs.Math.Bool.{or-true}
 
 -- ---- lists of distinct numbers
 
-abbrev Distinct : List ℕ → Type 0
-Distinct [] = Unit {0}
-Distinct (x ∷ xs) = (is_among xs x ≡ false) × Distinct xs
-
-not_above : (x : ℕ) (xs : List ℕ) → AllByRecursion (λ y. x < y) xs → is_among xs x ≡ false
-not_above x [] h = refl
-not_above x (y ∷ ys) h = let lt = h.0 in let e : nat_eq x y ≡ false = grind (arith, nat_tests) in ap (λ b. b || is_among ys x) e ∙ not_above x ys h.1
-
-distinct_rising : (xs : List ℕ) → Rising xs → Distinct xs
-distinct_rising [] h = tt
-distinct_rising (x ∷ xs) h = (not_above x xs h.0, distinct_rising xs h.1)
-
-count_apart : (d : ℕ) (ds set : List ℕ) → is_among ds d ≡ false → count_by (is_among (d ∷ ds)) set ≡ count_by (nat_eq d) set + count_by (is_among ds) set
-count_apart d ds [] h = refl
-count_apart d ds (s ∷ set) h =
-    let here : one (nat_eq s d || is_among ds s) ≡ one (nat_eq d s) + one (is_among ds s) = by (nat_eq d s) refl in
-    omega (arith, count-cons (is_among (d ∷ ds)) s set, count-cons (nat_eq d) s set, count-cons (is_among ds) s set, count_apart d ds set h, here)
-  where
-    by : (b : Bool) → nat_eq d s ≡ b → one (nat_eq s d || is_among ds s) ≡ one (nat_eq d s) + one (is_among ds s)
-    by true e =
-        let at : d ≡ s = grind (arith, nat_tests) in
-        let back : nat_eq s d ≡ true = grind (arith, nat_tests) in
-        let not_in : is_among ds s ≡ false = ap (is_among ds) (sym at) ∙ h in
-        ap (λ b. one (b || is_among ds s)) back ∙ sym (ap (λ b. one b + one (is_among ds s)) e ∙ ap (λ b. 1 + one b) not_in)
-    by false e =
-        let back : nat_eq s d ≡ false = grind (arith, nat_tests) in
-        ap (λ b. one (b || is_among ds s)) back ∙ sym (ap (λ b. one b + one (is_among ds s)) e ∙ (let z : 0 + one (is_among ds s) ≡ one (is_among ds s) = omega arith in z))
-
-no_more : (ds set : List ℕ) → Distinct ds → count_by (is_among set) ds ≤ count_by (is_among ds) set
-no_more [] set h = omega arith
-no_more (d ∷ ds) set h = by (no_more ds set h.1) (is_among set d) refl
-  where
-    by : count_by (is_among set) ds ≤ count_by (is_among ds) set → (b : Bool) → is_among set d ≡ b → count_by (is_among set) (d ∷ ds) ≤ count_by (is_among (d ∷ ds)) set
-    by less true e = omega (arith, count-cons (is_among set) d ds, ap one e, count_apart d ds set h.0, among_counts d set e)
-    by less false e = omega (arith, count-cons (is_among set) d ds, ap one e, count_apart d ds set h.0)
-
 -- as many of the one are in the other as of the other in the one
 both_ways : (xs ys : List ℕ) → Rising xs → Rising ys → count_by (is_among xs) ys ≡ count_by (is_among ys) xs
-both_ways xs ys up over = omega (arith, no_more ys xs (distinct_rising ys over), no_more xs ys (distinct_rising xs up))
+both_ways xs ys up over = omega (arith, hits_le_count ys xs (distinct_rising ys over), hits_le_count xs ys (distinct_rising xs up))
 
 -- ---- the tokens of a set after one of its own
 
 rank_front : (l : ℕ) (set : List ℕ) → AllByRecursion (λ y. l < y) set → rank set l ≡ 0
 rank_front l [] h = refl
-rank_front l (s ∷ set) h = let lt = h.0 in let e : nat_lt s l ≡ false = grind (arith, nat_tests) in omega (arith, count-cons (λ o. nat_lt o l) s set, ap one e, rank_front l set h.1)
+rank_front l (s ∷ set) h = let lt = h.0 in let e : nat_lt s l ≡ false = grind (arith, nat_tests) in omega (arith, count-cons (λ o. nat_lt o l) s set, ap once e, rank_front l set h.1)
 
 -- the tokens of the set above l are those after l
 among_tail : (set : List ℕ) (l t : ℕ) → Rising set → is_among set l ≡ true → l < t → is_among set t ≡ is_among (drop (rank set l + 1) set) t
@@ -80,14 +46,14 @@ among_tail (s ∷ set) l t up e h = by (λ there. among_tail set l t up.1 there 
         let apart : nat_eq t s ≡ false = grind (arith, nat_tests) in
         let itself : nat_lt s l ≡ false = grind (arith, nat_tests) in
         let none = rank_front l set (subst (λ (m : ℕ). AllByRecursion (λ y. m < y) set) at up.0) in
-        let z : rank (s ∷ set) l + 1 ≡ 1 = omega (arith, count-cons (λ o. nat_lt o l) s set, ap one itself, none) in
+        let z : rank (s ∷ set) l + 1 ≡ 1 = omega (arith, count-cons (λ o. nat_lt o l) s set, ap once itself, none) in
         ap (λ b. b || is_among set t) apart ∙ sym (ap (λ (n : ℕ). is_among (drop n (s ∷ set)) t) z)
     by later false f =
         let there : is_among set l ≡ true = ap (λ b. b || is_among set l) (sym f) ∙ e in
         let low : s < l = above set up.0 there in
         let below : nat_lt s l ≡ true = grind (arith, nat_tests) in
         let apart : nat_eq t s ≡ false = grind (arith, nat_tests) in
-        let z : rank (s ∷ set) l + 1 ≡ suc (rank set l + 1) = omega (arith, count-cons (λ o. nat_lt o l) s set, ap one below) in
+        let z : rank (s ∷ set) l + 1 ≡ suc (rank set l + 1) = omega (arith, count-cons (λ o. nat_lt o l) s set, ap once below) in
         ap (λ b. b || is_among set t) apart ∙ later there ∙ sym (ap (λ (n : ℕ). is_among (drop n (s ∷ set)) t) z)
       where
         above : (xs : List ℕ) → AllByRecursion (λ y. s < y) xs → is_among xs l ≡ true → s < l
@@ -99,7 +65,7 @@ among_tail (s ∷ set) l t up e h = by (λ there. among_tail set l t up.1 there 
 
 same_counts : (p q : ℕ → Bool) (ts : List ℕ) (l : ℕ) → AllByRecursion (λ t. l < t) ts → ((t : ℕ) → l < t → p t ≡ q t) → count_by p ts ≡ count_by q ts
 same_counts p q [] l h w = refl
-same_counts p q (t ∷ ts) l h w = omega (arith, count-cons p t ts, count-cons q t ts, ap one (w t h.0), same_counts p q ts l h.1 w)
+same_counts p q (t ∷ ts) l h w = omega (arith, count-cons p t ts, count-cons q t ts, ap once (w t h.0), same_counts p q ts l h.1 w)
 
 pub rising_drop : (n : ℕ) (xs : List ℕ) → Rising xs → Rising (drop n xs)
 rising_drop n xs up = rising_right (take n xs) (drop n xs) (subst Rising (sym (take-append-drop n xs)) up)

@@ -15,12 +15,7 @@ use Rattle.segment_build.proofs.InverseLemmas.{length-postings}
 use Rattle.segment_core.specs.Versions.{segment_of, tables_of}
 use Rattle.part_columns.specs.Room.{asked_in, listed_in, probes_bound, unprobed}
 use Rattle.part_columns.proofs.SegmentLists.{all_asked, list_is}
-
-abbrev once : Bool → ℕ
-once b = cond b 1 0
-
-count-cons : {X : Type 0} (p : X → Bool) (x : X) (xs : List X) → count_by p (x ∷ xs) ≡ once (p x) + count_by p xs
-count-cons p x xs = sum_by-cons (λ y. once (p y)) x xs
+use Rattle.list_laws.proofs.TestLemmas.{count-cons, once}
 
 abbrev has_one : List ℕ → List ℕ → Bool
 has_one tokens set = nat_lt 0 (length (hits set tokens))

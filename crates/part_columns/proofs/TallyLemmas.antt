@@ -12,7 +12,7 @@ use Rattle.search_model.proofs.BoundLemmas.{prefix_filter}
 use Rattle.search_model.specs.declared.Posting.{Posting}
 use Rattle.search_model.specs.Looks.{hits}
 use Rattle.search_model.specs.Segment.{posting, postings_of, rank}
-use Rattle.search_state.proofs.FallLemmas.{hits_more}
+use Rattle.search_state.proofs.FallLemmas.{hits_more, get_or_end}
 use Rattle.part_columns.specs.declared.tally.Tally.{Tally}
 use Rattle.part_columns.specs.Tallies.{AreTallies, counted, most_of, no_tally, of_column, raised, tally_at, tally_of, tally_with}
 
@@ -69,13 +69,6 @@ module _ (token column : ℕ) where
 -- the postings of a column in the list of a token: one if it has the token, and else none
 pub picked_is : (sets : List (List ℕ)) (token column : ℕ) → filter (of_column column) (postings_of sets token) ≡ one_of (is_among (get_or sets column []) token) (posting token column (get_or sets column []))
 picked_is sets token column = let z : column - 0 ≡ column = omega arith in picked_from token column 0 sets (omega arith) ∙ ap (λ (i : ℕ). one_of (is_among (get_or sets i []) token) (posting token column (get_or sets i []))) z
-
-get_or_end : (xs : List ℕ) (x : ℕ) → get_or (xs ++ x ∷ []) (length (xs ++ x ∷ []) - 1) 0 ≡ x
-get_or_end [] x = refl
-get_or_end (y ∷ xs) x =
-    let z : length (xs ++ x ∷ []) ≡ length xs + 1 = length-append xs (x ∷ []) in
-    let e : length ((y ∷ xs) ++ x ∷ []) - 1 ≡ suc (length (xs ++ x ∷ []) - 1) = omega (arith, z) in
-    ap (λ (n : ℕ). get_or (y ∷ (xs ++ x ∷ [])) n 0) e ∙ get_or_end xs x
 
 -- one more hit
 hit_more : (set found : List ℕ) (token column : ℕ) → tally_of set (found ++ token ∷ []) ≡ raised (tally_of set found) (posting token column set)

@@ -3,7 +3,7 @@ use Rattle.std.proofs.Common.{◌≡◌, refl, ap, sym, ◌∙◌, subst, inl, i
 use Rattle.std.specs.List.{AllByRecursion, count_by}
 use Rattle.std.proofs.Math.ListN.{length-set}
 use Rattle.std.proofs.Math.Seq.{drop-cons}
-use Rattle.std.proofs.lemmas.Bool.{cases_eq, cases_lt}
+use Rattle.std.proofs.lemmas.Bool.{cases_eq, cases_lt, ne_eqb}
 use Rattle.std.proofs.lemmas.Bool.Decides.{nat_tests}
 use Rattle.std.proofs.lemmas.List.{drop_all, ext_get_or, get_or-map, get_or-replicate, get_or-set_other, get_or-set_same, get_or_append_left, get_or_past, get_or_push, length-map, length-replicate, map-set, take_all}
 use Rattle.std.proofs.lemmas.List.Sums.{count_by-le-length, sum_by-append, sum_by-cons, sum_by-set, sum_by_push}
@@ -28,9 +28,6 @@ is_unseen t h = grind (arith, nat_tests)
 
 same : (x y : ℕ) → x ≡ y → nat_eq x y ≡ true
 same x y e = grind (arith, nat_tests)
-
-differ : (x y : ℕ) → (x ≡ y → ⊥) → nat_eq x y ≡ false
-differ x y h = grind (arith, nat_tests)
 
 -- ---- what a list of columns has
 
@@ -138,7 +135,7 @@ module _ (tallies : List Tally) (touched : List ℕ) (x : ℕ) (tally : Tally) (
       | inr apart ↦ omega (
         arith,
         sum_by_push (λ z. once (nat_eq y z)) touched x,
-        ap once (differ y x apart),
+        ap once (ne_eqb y x apart),
         are.listed y,
         ap (λ (t : Tally). once (is_touched t)) (other_at y apart),
       )
@@ -327,7 +324,7 @@ forgotten_more slots touched known i d x so_far h at wide marks y none = elim (c
   | inr apart ↦
       let one : i + 1 ≡ suc i = omega arith in
       let front : drop i touched ≡ x ∷ drop (i + 1) touched = drop-cons touched i d h ∙ (λ j. sym at j ∷ drop (sym one j) touched) in
-      let before : is_among (drop i touched) y ≡ false = ap (λ (xs : List ℕ). is_among xs y) front ∙ ap (λ b. b || is_among (drop (i + 1) touched) y) (differ y x apart) ∙ none in
+      let before : is_among (drop i touched) y ≡ false = ap (λ (xs : List ℕ). is_among xs y) front ∙ ap (λ b. b || is_among (drop (i + 1) touched) y) (ne_eqb y x apart) ∙ none in
       let was = so_far y before in
       (get_or-set_other slots x y 0 0 apart ∙ was.0, get_or-set_other known x y false false apart ∙ was.1)
 ]

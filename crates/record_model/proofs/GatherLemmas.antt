@@ -4,12 +4,8 @@ use Rattle.std.specs.Prelude.{◌==◌, slice_set, filter}
 use Rattle.std.proofs.lemmas.Bool.Decides.{nat_tests}
 use Rattle.script_model.specs.Commands.{Command}
 use Rattle.record_model.specs.Play.{Done, gathered}
-
-abbrev lane_commands : ℕ → List Command → List Command
-lane_commands l commands = filter (λ c. c.lane == l) commands
-
-abbrev commands_in : List Done → List Command
-commands_in done = map (λ (d : Done). d.command) done
+use Rattle.record_model.specs.Lanes.{commands_in, lane_commands}
+use Rattle.std.proofs.lemmas.Bool.{eq-eqb}
 
 -- each lane's list has its commands
 abbrev pub AreLists : List Command → List (List Done) → Type 0
@@ -34,11 +30,8 @@ record IsNext (command : Command) (commands : List Command) (lists : List (List 
   is : first.command ≡ command
   rest : commands_in others ≡ lane_commands command.lane commands
 
-self : (n : ℕ) → (n == n) ≡ true
-self n = grind (arith, nat_tests)
-
 next : (command : Command) (commands : List Command) (lists : List (List Done)) → AreLists (command ∷ commands) lists → IsNext command commands lists
-next command commands lists h = by (get_or lists command.lane []) refl (h command.lane ∙ ap (λ b. cond b (command ∷ lane_commands command.lane commands) (lane_commands command.lane commands)) (self command.lane))
+next command commands lists h = by (get_or lists command.lane []) refl (h command.lane ∙ ap (λ b. cond b (command ∷ lane_commands command.lane commands) (lane_commands command.lane commands)) (eq-eqb command.lane command.lane refl))
   where
     by : (done : List Done) → get_or lists command.lane [] ≡ done → commands_in done ≡ command ∷ lane_commands command.lane commands → IsNext command commands lists
     by [] e k = absurd (let f : [] ≡ command ∷ lane_commands command.lane commands = k in cc)

@@ -26,16 +26,13 @@ use Rattle.script_model.specs.Lanes.{IsOfLanes}
 use Rattle.list_laws.proofs.ListLemmas.{all_append, all_filter}
 use Rattle.record_model.proofs.PlayedLemmas.{merges_are, played_right}
 use Rattle.layout_laws.proofs.LaidLemmas.{legal_behind-append}
+use Rattle.std.proofs.Math.Bool.{and-true}
 
 -- ---- a legal journal that goes on
 
-and_true : (b : Bool) → (b && true) ≡ b
-and_true true = refl
-and_true false = refl
-
 -- One more entry.
 pub legal_more : (journal : List Entry) (entry : Entry) → is_legal (journal ++ entry ∷ []) ≡ (is_legal journal && may_follow journal entry.what)
-legal_more journal entry = legal_behind-append [] journal (entry ∷ []) ∙ ap (λ b. is_legal journal && b) (and_true (may_follow journal entry.what))
+legal_more journal entry = legal_behind-append [] journal (entry ∷ []) ∙ ap (λ b. is_legal journal && b) (and-true (may_follow journal entry.what))
 
 -- ---- what a command adds
 

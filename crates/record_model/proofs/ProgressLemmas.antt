@@ -17,9 +17,7 @@ use Rattle.record_model.specs.Replies.{Reply}
 use Rattle.record_model.specs.Answered.{answer_to, has_pin}
 use Rattle.record_model.specs.Play.{Done, done_with, Lane, lane_with, Play, play_with, reply_or_denied, step_of, lane_step, step_at, step, play, with_denials, whole_order, lane_of, lanes_of, play_batch, gathered, answers_of, who_of}
 use Rattle.record_model.specs.Record.{Answered}
-
-abbrev commands_in : List Done → List Command
-commands_in done = map (λ (d : Done). d.command) done
+use Rattle.record_model.specs.Lanes.{commands_in, lane_commands}
 
 abbrev idle : Lane
 idle = lane_with [] None []
@@ -210,9 +208,6 @@ occurs_whole (suc m) piece n k h =
     omega (arith, occurs-append (suc m) piece (flat_map (λ l. replicate k l) (range_with_len 1 n ++ 0 ∷ [])), o, occurs_range (suc m) k 1 n (omega arith) (omega (arith, h)))
 
 -- ---- the lanes before a batch
-
-abbrev lane_commands : ℕ → List Command → List Command
-lane_commands l commands = filter (λ c. c.lane == l) commands
 
 abbrev AreLane : ℕ → List Command → Type 0
 AreLane l commands = AllByRecursion (λ c. c.lane ≡ l) commands

@@ -47,9 +47,9 @@ rises_split low (m ∷ ms) ns high h = let rest = rises_split m.at ms ns high h.
 -- ---- the journal goes on
 
 -- both positions of a reply are within a journal
-record IsWithin (size : ℕ) (s : Standing) : Type 0 where
-  pinned : pinned_by s ≤ size
-  made : made_by s ≤ size
+pub record IsWithin (size : ℕ) (s : Standing) : Type 0 where
+  pub pinned : pinned_by s ≤ size
+  pub made : made_by s ≤ size
 
 within : (s : Standing) (low high size : ℕ) → high ≤ size → Rises low (moments_by s) high → IsWithin size s
 within Nowhere low high size le h = record { pinned = omega arith; made = omega arith }
@@ -58,7 +58,7 @@ within (Added at) low high size le h = record { pinned = omega (arith, le, h.1);
 within (PlannedAndSaw pinned at) low high size le h = record { pinned = omega (arith, le, h.1.0, h.1.1); made = omega (arith, le, h.1.1) }
 within (PlannedAndAdded pinned at) low high size le h = record { pinned = omega (arith, le, h.1.0, h.1.1); made = omega (arith, le, h.1.1) }
 
-answer_stays : (rules : Rules) (journal more : List Entry) (command : Command) (s : Standing) → IsWithin (length journal) s
+pub answer_stays : (rules : Rules) (journal more : List Entry) (command : Command) (s : Standing) → IsWithin (length journal) s
     → answer_by rules (journal ++ more) command s ≡ answer_by rules journal command s
 answer_stays rules journal more command s h =
     ap (λ p. answer_to rules command.task p (take (made_by s) (journal ++ more))) (take-append-le (pinned_by s) journal more h.pinned)

@@ -10,3 +10,4 @@ pub mod PlayLaws
 pub mod Texts
 pub mod Statuses
 pub mod Watched
+pub mod Lanes

@@ -12,16 +12,11 @@ use Rattle.std.proofs.lemmas.List.Sums.{sum_by-cons, sum_by-append}
 use Rattle.std.proofs.lemmas.List.Sorted.{IsPermutation-refl, IsPermutation-sym, IsPermutation-trans, IsPermutation-cons, IsPermutation-map, IsPermutation-middle, IsPermutation-append_left, IsPermutation-append_right, IsPermutation-append_comm}
 use Rattle.lake_model.specs.Sorting.{in_order, put_in_order}
 use Rattle.lake_model.proofs.AnswerLemmas.{row_cmp_exact, row_cmp_total}
-use Rattle.lake_model.proofs.SortingLemmas.{in_order-IsPermutation, sorted_is}
+use Rattle.lake_model.proofs.SortingLemmas.{in_order-IsPermutation, sorted_is, by_test}
 use Rattle.lake_model.specs.Answer.{Row, row_cmp}
 use Rattle.lake_model.proofs.SortingLemmas.{less_order, ordered_in_order, Ordered, stays, only_equal}
 use Rattle.search_laws.specs.Select.{best, no_later, IsBehind}
-
-abbrev once : Bool → ℕ
-once b = cond b 1 0
-
-count-cons : {X : Type 0} (p : X → Bool) (x : X) (xs : List X) → count_by p (x ∷ xs) ≡ once (p x) + count_by p xs
-count-cons p x xs = sum_by-cons (λ y. once (p y)) x xs
+use Rattle.list_laws.proofs.TestLemmas.{count-cons, once}
 
 count-append : {X : Type 0} (p : X → Bool) (xs ys : List X) → count_by p (xs ++ ys) ≡ count_by p xs + count_by p ys
 count-append p xs ys = sum_by-append (λ y. once (p y)) xs ys
@@ -34,10 +29,6 @@ take_take (suc k) (y ∷ ys) = ap (λ us. y ∷ us) (take_take k ys)
 take_twice : {X : Type 0} (k : ℕ) (y : X) (ys : List X) → take k (y ∷ take k ys) ≡ take k (y ∷ ys)
 take_twice zero y ys = refl
 take_twice (suc k) y ys = ap (λ us. y ∷ us) (take_take k ys)
-
-by_test : {G : Type 0} (b : Bool) → (b ≡ true → G) → (b ≡ false → G) → G
-by_test true f g = f refl
-by_test false f g = g refl
 
 module _ {X : Type 0} {R : X → X → Ordering} (total : IsTotalOrder R) (exact : (x y : X) → R x y ≡ Equal → x ≡ y) where
   abbrev less : X → X → Bool

@@ -113,11 +113,6 @@ all_rows-append query xs ys =
 
 -- ---- tokens
 
-pub same_tests : (a b : Bool) → (a ≡ true → b ≡ true) → (b ≡ true → a ≡ true) → a ≡ b
-same_tests true b f g = sym (f refl)
-same_tests false true f g = g refl
-same_tests false false f g = refl
-
 none_equal : (x : Text) (xs : List Text) → AllByRecursion (λ y. bytes_eq x y ≡ false) xs → has_key xs x ≡ false
 none_equal x [] h = refl
 none_equal x (y ∷ ys) h = ap (λ b. b || has_key ys x) h.0 ∙ none_equal x ys h.1

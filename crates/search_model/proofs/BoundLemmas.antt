@@ -6,12 +6,7 @@ use Rattle.std.proofs.lemmas.Bool.Decides.{nat_tests}
 use Rattle.search_model.specs.Segment.{rank}
 use Rattle.search_model.specs.Looks.{hits}
 use Rattle.lake_model.specs.Layout.{is_among}
-
-abbrev pub one : Bool → ℕ
-one b = cond b 1 0
-
-pub count-cons : (p : ℕ → Bool) (x : ℕ) (xs : List ℕ) → count_by p (x ∷ xs) ≡ one (p x) + count_by p xs
-count-cons p x xs = sum_by-cons (λ y. one (p y)) x xs
+use Rattle.list_laws.proofs.TestLemmas.{count-cons, once}
 
 abbrev pub Distinct : List ℕ → Type 0
 Distinct [] = Unit {0}
@@ -21,7 +16,7 @@ Distinct (x ∷ xs) = (is_among xs x ≡ false) × Distinct xs
 pub among_counts : (d : ℕ) (set : List ℕ) → is_among set d ≡ true → 1 ≤ count_by (nat_eq d) set
 among_counts d [] h = absurd (let f : false ≡ true = h in cc)
 among_counts d (s ∷ set) h = elim (nat_eq d s) as (λ b. nat_eq d s ≡ b → (b || is_among set d) ≡ true → 1 ≤ count_by (nat_eq d) (s ∷ set)) [
-  | true ↦ λ e k. omega (arith, count-cons (nat_eq d) s set, ap one e)
+  | true ↦ λ e k. omega (arith, count-cons (nat_eq d) s set, ap once e)
   | false ↦ λ e k. omega (arith, count-cons (nat_eq d) s set, among_counts d set k)
 ] refl h
 
@@ -29,27 +24,27 @@ among_counts d (s ∷ set) h = elim (nat_eq d s) as (λ b. nat_eq d s ≡ b → 
 count_apart : (d : ℕ) (ds set : List ℕ) → is_among ds d ≡ false → count_by (is_among (d ∷ ds)) set ≡ count_by (nat_eq d) set + count_by (is_among ds) set
 count_apart d ds [] h = refl
 count_apart d ds (s ∷ set) h =
-    let here : one (nat_eq s d || is_among ds s) ≡ one (nat_eq d s) + one (is_among ds s) = by (nat_eq d s) refl in
+    let here : once (nat_eq s d || is_among ds s) ≡ once (nat_eq d s) + once (is_among ds s) = by (nat_eq d s) refl in
     omega (arith, count-cons (is_among (d ∷ ds)) s set, count-cons (nat_eq d) s set, count-cons (is_among ds) s set, count_apart d ds set h, here)
   where
-    by : (b : Bool) → nat_eq d s ≡ b → one (nat_eq s d || is_among ds s) ≡ one (nat_eq d s) + one (is_among ds s)
+    by : (b : Bool) → nat_eq d s ≡ b → once (nat_eq s d || is_among ds s) ≡ once (nat_eq d s) + once (is_among ds s)
     by true e =
         let at : d ≡ s = grind (arith, nat_tests) in
         let back : nat_eq s d ≡ true = grind (arith, nat_tests) in
         let not_in : is_among ds s ≡ false = ap (is_among ds) (sym at) ∙ h in
-        ap (λ b. one (b || is_among ds s)) back ∙ sym (ap (λ b. one b + one (is_among ds s)) e ∙ ap (λ b. 1 + one b) not_in)
+        ap (λ b. once (b || is_among ds s)) back ∙ sym (ap (λ b. once b + once (is_among ds s)) e ∙ ap (λ b. 1 + once b) not_in)
     by false e =
         let back : nat_eq s d ≡ false = grind (arith, nat_tests) in
-        ap (λ b. one (b || is_among ds s)) back ∙ sym (ap (λ b. one b + one (is_among ds s)) e ∙ (let z : 0 + one (is_among ds s) ≡ one (is_among ds s) = omega arith in z))
+        ap (λ b. once (b || is_among ds s)) back ∙ sym (ap (λ b. once b + once (is_among ds s)) e ∙ (let z : 0 + once (is_among ds s) ≡ once (is_among ds s) = omega arith in z))
 
 -- of a list of distinct tokens, no more are in the set than members of the set are in the list
-hits_le_count : (ds set : List ℕ) → Distinct ds → count_by (is_among set) ds ≤ count_by (is_among ds) set
+pub hits_le_count : (ds set : List ℕ) → Distinct ds → count_by (is_among set) ds ≤ count_by (is_among ds) set
 hits_le_count [] set h = omega arith
 hits_le_count (d ∷ ds) set h = by (hits_le_count ds set h.1) (is_among set d) refl
   where
     by : count_by (is_among set) ds ≤ count_by (is_among ds) set → (b : Bool) → is_among set d ≡ b → count_by (is_among set) (d ∷ ds) ≤ count_by (is_among (d ∷ ds)) set
-    by less true e = omega (arith, count-cons (is_among set) d ds, ap one e, count_apart d ds set h.0, among_counts d set e)
-    by less false e = omega (arith, count-cons (is_among set) d ds, ap one e, count_apart d ds set h.0)
+    by less true e = omega (arith, count-cons (is_among set) d ds, ap once e, count_apart d ds set h.0, among_counts d set e)
+    by less false e = omega (arith, count-cons (is_among set) d ds, ap once e, count_apart d ds set h.0)
 
 -- a weaker test counts as many or more
 pub count_weaker : (p q : ℕ → Bool) → ((x : ℕ) → p x ≡ true → q x ≡ true) → (xs : List ℕ) → count_by p xs ≤ count_by q xs
@@ -57,14 +52,14 @@ count_weaker p q w [] = omega arith
 count_weaker p q w (x ∷ xs) = by (count_weaker p q w xs) (p x) refl
   where
     by : count_by p xs ≤ count_by q xs → (b : Bool) → p x ≡ b → count_by p (x ∷ xs) ≤ count_by q (x ∷ xs)
-    by less true e = omega (arith, count-cons p x xs, count-cons q x xs, ap one e, ap one (w x e))
-    by less false e = omega (arith, count-cons p x xs, count-cons q x xs, ap one e)
+    by less true e = omega (arith, count-cons p x xs, count-cons q x xs, ap once e, ap once (w x e))
+    by less false e = omega (arith, count-cons p x xs, count-cons q x xs, ap once e)
 
 -- below, at and above a token
 pub three_parts : (l : ℕ) (set : List ℕ) → rank set l + count_by (nat_eq l) set + count_by (nat_lt l) set ≡ length set
 three_parts l [] = refl
 three_parts l (s ∷ set) =
-    let here : one (nat_lt s l) + one (nat_eq l s) + one (nat_lt l s) ≡ 1 = grind (arith, nat_tests) in
+    let here : once (nat_lt s l) + once (nat_eq l s) + once (nat_lt l s) ≡ 1 = grind (arith, nat_tests) in
     omega (arith, count-cons (λ t. nat_lt t l) s set, count-cons (nat_eq l) s set, count-cons (nat_lt l) s set, three_parts l set, here)
 
 among_above : (l : ℕ) (ds : List ℕ) → AllByRecursion (λ t. l < t) ds → (s : ℕ) → is_among ds s ≡ true → nat_lt l s ≡ true

@@ -12,6 +12,7 @@ use Rattle.search_model.proofs.OverlapLemmas.{tokens_from, tokens_from-cons, fro
 use Rattle.lake_model.specs.Texts.{Text}
 use Rattle.lake_model.specs.Tables.{has_key, overlap}
 use Rattle.lake_model.specs.Layout.{is_among}
+use Rattle.std.proofs.lemmas.Bool.{eq-eqb}
 
 abbrev pub Rising : List ℕ → Type 0
 Rising [] = Unit {0}
@@ -61,16 +62,13 @@ not_above : (x : ℕ) (xs : List ℕ) → AllByRecursion (λ y. x < y) xs → is
 not_above x [] h = refl
 not_above x (y ∷ ys) h = let lt = h.0 in let e : nat_eq x y ≡ false = grind (arith, nat_tests) in ap (λ b. b || is_among ys x) e ∙ not_above x ys h.1
 
-distinct_rising : (xs : List ℕ) → Rising xs → Distinct xs
+pub distinct_rising : (xs : List ℕ) → Rising xs → Distinct xs
 distinct_rising [] h = tt
 distinct_rising (x ∷ xs) h = (not_above x xs h.0, distinct_rising xs h.1)
 
 or_true : (a b : Bool) → b ≡ true → (a || b) ≡ true
 or_true true b e = refl
 or_true false b e = e
-
-same : (a : ℕ) → nat_eq a a ≡ true
-same a = grind (arith, nat_tests)
 
 abbrev pub IsHit : (ℕ → Bool) → List ℕ → ℕ → Type 0
 IsHit p xs y = (p y ≡ true) × (is_among xs y ≡ true)
@@ -84,7 +82,7 @@ all_hits p [] = tt
 all_hits p (x ∷ xs) = by (further p x xs (filter p xs) (all_hits p xs)) (p x) refl
   where
     by : AllByRecursion (IsHit p (x ∷ xs)) (filter p xs) → (b : Bool) → p x ≡ b → AllByRecursion (IsHit p (x ∷ xs)) (cond b (x ∷ filter p xs) (filter p xs))
-    by h true e = ((e, ap (λ b. b || is_among xs x) (same x)), h)
+    by h true e = ((e, ap (λ b. b || is_among xs x) (eq-eqb x x refl)), h)
     by h false e = h
 
 pub hits-append : (set xs ys : List ℕ) → hits set (xs ++ ys) ≡ hits set xs ++ hits set ys

@@ -14,6 +14,7 @@ use Rattle.lake_model.proofs.SortingLemmas.{all_in_order}
 use Rattle.lake_model.proofs.AnswerLemmas.{row_cmp_total}
 use Rattle.lake_model.specs.Answer.{Query, Row}
 use Rattle.lake_model.specs.Layout.{is_among}
+use Rattle.std.proofs.lemmas.Bool.{eq-eqb, ne_eqb}
 
 first_of : (a b c d : Bool) → (a && not b && c && d) ≡ true → b ≡ false
 first_of true true c d e = cc
@@ -35,16 +36,10 @@ one b = cond b 1 0
 unprobed-cons : (probed : List ℕ) (n : ℕ) (c : Titled) (cs : List Titled) → unprobed probed (enumerate_from n (c ∷ cs)) ≡ one (not (is_among probed n)) + unprobed probed (enumerate_from (n + 1) cs)
 unprobed-cons probed n c cs = sum_by-cons (λ (c : ℕ × Titled). one (not (is_among probed c.0))) (n, c) (enumerate_from (n + 1) cs)
 
-differ : (a b : ℕ) → (a ≡ b → ⊥) → nat_eq a b ≡ false
-differ a b h = grind (arith, nat_tests)
-
-same : (a b : ℕ) → a ≡ b → nat_eq a b ≡ true
-same a b h = grind (arith, nat_tests)
-
 unprobed_above : (probed : List ℕ) (j n : ℕ) (cs : List Titled) → j < n → unprobed (j ∷ probed) (enumerate_from n cs) ≡ unprobed probed (enumerate_from n cs)
 unprobed_above probed j n [] h = refl
 unprobed_above probed j n (c ∷ cs) h =
-    let e : is_among (j ∷ probed) n ≡ is_among probed n = ap (λ b. b || is_among probed n) (differ n j (λ k. omega arith)) in
+    let e : is_among (j ∷ probed) n ≡ is_among probed n = ap (λ b. b || is_among probed n) (ne_eqb n j (λ k. omega arith)) in
     unprobed-cons (j ∷ probed) n c cs ∙ ap (λ b. one (not b) + unprobed (j ∷ probed) (enumerate_from (n + 1) cs)) e
     ∙ ap (λ m. one (not (is_among probed n)) + m) (unprobed_above probed j (n + 1) cs (omega arith)) ∙ sym (unprobed-cons probed n c cs)
 
@@ -59,7 +54,7 @@ unprobed_falls probed j n (c ∷ cs) a b h = elim (nat_eq n j) as (λ t. nat_eq 
       let right = unprobed-cons probed n c cs ∙ ap (λ b. one (not b) + unprobed probed (enumerate_from (n + 1) cs)) not_yet in
       omega (arith, left, right, unprobed_above probed j (n + 1) cs (omega arith))
   | false ↦ λ e.
-      let apart : n ≡ j → ⊥ = λ k. let t = same n j k in let f : true ≡ false = sym t ∙ e in cc in
+      let apart : n ≡ j → ⊥ = λ k. let t = eq-eqb n j k in let f : true ≡ false = sym t ∙ e in cc in
       let there : is_among (j ∷ probed) n ≡ is_among probed n = ap (λ b. b || is_among probed n) e in
       let left = unprobed-cons (j ∷ probed) n c cs ∙ ap (λ b. one (not b) + unprobed (j ∷ probed) (enumerate_from (n + 1) cs)) there in
       let right = unprobed-cons probed n c cs in

@@ -10,12 +10,8 @@ use Rattle.search_model.specs.Looks.{hits}
 use Rattle.lake_model.specs.Texts.{Text}
 use Rattle.lake_model.specs.Tables.{has_key, overlap}
 use Rattle.lake_model.specs.Layout.{is_among}
-
-abbrev once : Bool → ℕ
-once b = cond b 1 0
-
-count-cons : {X : Type 0} (p : X → Bool) (x : X) (xs : List X) → count_by p (x ∷ xs) ≡ once (p x) + count_by p xs
-count-cons p x xs = sum_by-cons (λ y. once (p y)) x xs
+use Rattle.list_laws.proofs.TestLemmas.{count-cons, once}
+use Rattle.std.proofs.lemmas.Bool.{eq-eqb, ne_eqb}
 
 count_same : {X : Type 0} (p q : X → Bool) → ((x : X) → p x ≡ q x) → (xs : List X) → count_by p xs ≡ count_by q xs
 count_same p q h [] = refl
@@ -116,18 +112,12 @@ tokens_from-cons n token tokens keys = by (has_key keys token.key)
     by true = refl
     by false = refl
 
-differ : (a b : ℕ) → (a ≡ b → ⊥) → nat_eq a b ≡ false
-differ a b h = grind (arith, nat_tests)
-
-same : (a : ℕ) → nat_eq a a ≡ true
-same a = grind (arith, nat_tests)
-
 not_before : (j n : ℕ) (tokens : List Token) (keys : List Text) → j < n → is_among (tokens_from n tokens keys) j ≡ false
 not_before j n [] keys h = refl
 not_before j n (token ∷ tokens) keys h = ap (λ set. is_among set j) (tokens_from-cons n token tokens keys) ∙ by (has_key keys token.key) (not_before j (n + 1) tokens keys (omega arith))
   where
     by : (b : Bool) → is_among (tokens_from (n + 1) tokens keys) j ≡ false → is_among (front b n (tokens_from (n + 1) tokens keys)) j ≡ false
-    by true later = ap (λ b. b || is_among (tokens_from (n + 1) tokens keys) j) (differ j n (λ e. omega arith)) ∙ later
+    by true later = ap (λ b. b || is_among (tokens_from (n + 1) tokens keys) j) (ne_eqb j n (λ e. omega arith)) ∙ later
     by false later = later
 
 count_front : (p : ℕ → Bool) (b : Bool) (n : ℕ) (later : List ℕ) → count_by p (front b n later) ≡ once (b && p n) + count_by p later
@@ -159,11 +149,11 @@ hits_from n (token ∷ tokens) query keys =
     ∙ (let s : once (q && k) + count_by (is_among set) asked ≡ count_by (λ t. has_key query t && has_key keys t) (map (λ t. t.key) (token ∷ tokens)) = omega (arith, hits_from (n + 1) tokens query keys, count-cons (λ t. has_key query t && has_key keys t) token.key (map (λ (t : Token). t.key) tokens)) in s)
   where
     at : (b : Bool) → is_among (tokens_from (n + 1) tokens keys) n ≡ false → is_among (front b n (tokens_from (n + 1) tokens keys)) n ≡ b
-    at true h = ap (λ b. b || is_among (tokens_from (n + 1) tokens keys) n) (same n)
+    at true h = ap (λ b. b || is_among (tokens_from (n + 1) tokens keys) n) (eq-eqb n n refl)
     at false h = h
 
     beyond : (b : Bool) (j : ℕ) → n < j → is_among (front b n (tokens_from (n + 1) tokens keys)) j ≡ is_among (tokens_from (n + 1) tokens keys) j
-    beyond true j h = ap (λ b. b || is_among (tokens_from (n + 1) tokens keys) j) (differ j n (λ e. omega arith))
+    beyond true j h = ap (λ b. b || is_among (tokens_from (n + 1) tokens keys) j) (ne_eqb j n (λ e. omega arith))
     beyond false j h = refl
 
 -- a column shares as many keys with the query as there are lists of the query's tokens that hold it

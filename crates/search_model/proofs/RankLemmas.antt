@@ -21,7 +21,7 @@ number_cmp_total columns = then_total (on_total (titled_at columns) title_cmp_to
 level_first : (u : ℕ) (r : Ordering) → ordering_then (nat_cmp u u) r ≡ r
 level_first u r = ap (λ (o : Ordering). ordering_then o r) (sym (nat_cmp_is u u Equal refl))
 
-first_late : (r s : Ordering) → is_lt (ordering_then r s) ≡ false → is_lt r ≡ false
+pub first_late : (r s : Ordering) → is_lt (ordering_then r s) ≡ false → is_lt r ≡ false
 first_late Less s e = cc
 first_late Equal s e = refl
 first_late Greater s e = refl

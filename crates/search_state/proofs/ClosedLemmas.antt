@@ -17,12 +17,7 @@ use Rattle.search_laws.proofs.SelectLemmas.{count_in_order}
 use Rattle.search_laws.proofs.PartLemmas.{row_for, candidates, known_rows_are}
 use Rattle.search_state.specs.State.{seen_at, open_at, column_at}
 use Rattle.search_state.proofs.FallLemmas.{bound_falls, hits_more}
-
-abbrev once : Bool → ℕ
-once b = cond b 1 0
-
-count-cons : {X : Type 0} (p : X → Bool) (x : X) (xs : List X) → count_by p (x ∷ xs) ≡ once (p x) + count_by p xs
-count-cons p x xs = sum_by-cons (λ y. once (p y)) x xs
+use Rattle.list_laws.proofs.TestLemmas.{count-cons, once}
 
 abbrev less : Row → Row → Bool
 less a b = is_lt (row_cmp a b)

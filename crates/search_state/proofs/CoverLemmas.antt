@@ -5,7 +5,7 @@ use Rattle.std.specs.List.Sorted.{IsPermutation}
 use Rattle.std.specs.Ordering.{is_lt}
 use Rattle.std.proofs.lemmas.Bool.Decides.{nat_tests}
 use Rattle.std.proofs.lemmas.List.Sorted.{list_any-IsPermutation}
-use Rattle.std.proofs.lemmas.Bool.{and_parts, or_right}
+use Rattle.std.proofs.lemmas.Bool.{and_parts, or_right, eq-eqb}
 use Rattle.lake_model.specs.Sorting.{in_order}
 use Rattle.lake_model.specs.Answer.{Row, row_cmp, Query}
 use Rattle.search_model.specs.Segment.{Titled}
@@ -61,14 +61,11 @@ held_stays sized asked x count bound later h e = by (or_either (covers sized x b
 pub held_sized : (sized asked : List Candidate) (x count bound later more : ℕ) → later ≤ bound → covers sized x bound ≡ true → IsHeld sized asked x more later
 held_sized sized asked x count bound later more h e = or_left (covers sized x later) (covers asked x more) (weaker sized x bound later h e)
 
-itself : (x : ℕ) → nat_eq x x ≡ true
-itself x = grind (arith, nat_tests)
-
 no_less : (u : ℕ) → nat_le u u ≡ true
 no_less u = grind (arith, nat_tests)
 
 covers_own : (x u : ℕ) (candidates : List Candidate) → covers (candidate u x ∷ candidates) x u ≡ true
-covers_own x u candidates = (λ i. (itself x i && no_less u i) || covers candidates x u)
+covers_own x u candidates = (λ i. (eq-eqb x x refl i && no_less u i) || covers candidates x u)
 
 pub held_pushed_sized : (sized news asked : List Candidate) (x count bound : ℕ) → IsPermutation (candidate bound x ∷ sized) news → IsHeld news asked x count bound
 held_pushed_sized sized news asked x count bound p = or_left (covers news x bound) (covers asked x count) (sym (list_any-IsPermutation (λ (c : Candidate). nat_eq c.column x && nat_le bound c.most) (candidate bound x ∷ sized) news p) ∙ covers_own x bound sized)

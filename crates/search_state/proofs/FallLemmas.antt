@@ -6,9 +6,10 @@ use Rattle.std.proofs.lemmas.Bool.Decides.{nat_tests}
 use Rattle.lake_model.specs.Layout.{is_among}
 use Rattle.search_model.specs.Segment.{Titled, rank}
 use Rattle.search_model.specs.Looks.{hits, seen_by}
-use Rattle.search_model.proofs.BoundLemmas.{one, count-cons, three_parts, among_counts}
+use Rattle.search_model.proofs.BoundLemmas.{three_parts, among_counts}
 use Rattle.search_model.proofs.FilterLemmas.{hits-append, after_all, Rising, all_hits, IsHit}
 use Rattle.std.proofs.lemmas.List.Elements.{All-from_recursion}
+use Rattle.list_laws.proofs.TestLemmas.{count-cons, once}
 
 -- ---- one more list
 
@@ -22,7 +23,7 @@ rank_below set l t h e =
     let more : rank set l + count_by (nat_eq l) set ≤ rank set t = both set in
     omega (arith, more, among_counts l set e)
   where
-    here : (s : ℕ) → one (nat_lt s l) + one (nat_eq l s) ≤ one (nat_lt s t)
+    here : (s : ℕ) → once (nat_lt s l) + once (nat_eq l s) ≤ once (nat_lt s t)
     here s = grind (arith, nat_tests)
 
     both : (s : List ℕ) → rank s l + count_by (nat_eq l) s ≤ rank s t
@@ -60,7 +61,7 @@ last_hit set qs i d up h some =
 abbrev pub bound_of : List ℕ → ℕ → List ℕ → ℕ
 bound_of set left found = length found + min left (length set - 1 - rank set (get_or found (length found - 1) 0))
 
-get_or_end : (xs : List ℕ) (x : ℕ) → get_or (xs ++ x ∷ []) (length (xs ++ x ∷ []) - 1) 0 ≡ x
+pub get_or_end : (xs : List ℕ) (x : ℕ) → get_or (xs ++ x ∷ []) (length (xs ++ x ∷ []) - 1) 0 ≡ x
 get_or_end [] x = refl
 get_or_end (y ∷ xs) x =
     let z : length (xs ++ x ∷ []) ≡ length xs + 1 = length-append xs (x ∷ []) in

@@ -24,6 +24,7 @@ use Rattle.segment_build.specs.Holding.{all_tokens, held_with, sets_for, HasMore
 use Rattle.segment_build.specs.Inverse.{lists_from, sets_in, sums_from, AreFlat, AreSets, IsSet}
 use Rattle.segment_build.proofs.HoldLemmas.{starts_ends}
 use Rattle.segment_build.proofs.InverseLemmas.{length-lists_from, length-postings, length-starts, sets_in_is}
+use Rattle.std.proofs.lemmas.Bool.{eq-eqb}
 
 -- ---- sums
 
@@ -53,9 +54,6 @@ differ a b h = grind (arith, nat_tests)
 differ_below : (a b : ℕ) → a < b → nat_eq a b ≡ false
 differ_below a b h = grind (arith, nat_tests)
 
-alike : (a b : ℕ) → a ≡ b → nat_eq a b ≡ true
-alike a b e = grind (arith, nat_tests)
-
 none_before : (j n : ℕ) (tokens : List Token) (keys : List Text) → j < n → list_any (nat_eq j) (tokens_from n tokens keys) ≡ false
 none_before j n [] keys h = refl
 none_before j n (token ∷ tokens) keys h = ap (λ (set : List ℕ). list_any (nat_eq j) set) (tokens_from-cons n token tokens keys) ∙ by (has_key keys token.key) (none_before j (n + 1) tokens keys (omega arith))
@@ -70,7 +68,7 @@ has_from n zero (token ∷ tokens) keys h =
     ap (λ (set : List ℕ). list_any (nat_eq (n + 0)) set) (tokens_from-cons n token tokens keys) ∙ by (has_key keys token.key) (none_before (n + 0) (n + 1) tokens keys (omega arith))
   where
     by : (b : Bool) → list_any (nat_eq (n + 0)) (tokens_from (n + 1) tokens keys) ≡ false → list_any (nat_eq (n + 0)) (front b n (tokens_from (n + 1) tokens keys)) ≡ b
-    by true later = ap (λ b. b || list_any (nat_eq (n + 0)) (tokens_from (n + 1) tokens keys)) (alike (n + 0) n (omega arith))
+    by true later = ap (λ b. b || list_any (nat_eq (n + 0)) (tokens_from (n + 1) tokens keys)) (eq-eqb (n + 0) n (omega arith))
     by false later = later
 has_from n (suc m) (token ∷ tokens) keys h =
     let e : n + suc m ≡ n + 1 + m = omega arith in

@@ -12,16 +12,12 @@ use Rattle.lake_model.specs.Texts.{Text}
 use Rattle.lake_model.specs.Tables.{Table}
 use Rattle.lake_model.specs.Answer.{Row, row_cmp, all_rows, answer, Query}
 use Rattle.lake_model.proofs.AnswerLemmas.{row_cmp_total, row_cmp_exact}
-use Rattle.lake_model.proofs.SortingLemmas.{Ordered, less, less_order, ordered_in_order, stays}
+use Rattle.lake_model.proofs.SortingLemmas.{Ordered, less, less_order, ordered_in_order, stays, by_test}
 use Rattle.search_laws.specs.Select.{best}
 use Rattle.search_laws.proofs.SelectLemmas.{best_append, best_IsPermutation}
 use Rattle.search_laws.proofs.TableLemmas.{all_rows-append}
 use Rattle.shard_laws.specs.Shards.{all_tables, sharded_answer, placed, shards_below}
 use Rattle.shard_laws.specs.ShardLaws.{MergedIsAnswer, PlacedIsAnswer}
-
-by_test : {G : Type 0} (b : Bool) → (b ≡ true → G) → (b ≡ false → G) → G
-by_test true f g = f refl
-by_test false f g = g refl
 
 take_again : {X : Type 0} (k : ℕ) (xs : List X) → take k (take k xs) ≡ take k xs
 take_again zero xs = refl

@@ -3,12 +3,13 @@ use Rattle.std.proofs.Common.{◌≡◌, ap, sym, ◌∙◌, ℕ, ◌^◌, ◌<�
 use Rattle.std.specs.Prelude.{IfOk, Result, Ok, Err}
 use Rattle.std.specs.List.{AllByRecursion}
 use Rattle.lake_model.specs.Texts.{Text}
-use Rattle.script_model.specs.Commands.{Batch, Command}
+use Rattle.script_model.specs.Commands.{AsOf, Batch, Command, Contain, DropTable, Like, Load, LoadFile, Merge, Replace, Search, Tables, Task}
 use Rattle.script_model.specs.Lanes.{IsOfLanes}
 use Rattle.script_model.specs.Options.{Options}
 use Rattle.record_model.specs.Rules.{Rules}
 use Rattle.trace_laws.specs.Hints.{Hint}
-use Rattle.trace_laws.specs.Named.{IsBatchNamed}
+use Rattle.list_laws.proofs.ListLemmas.{all_weaker}
+use Rattle.trace_laws.specs.Named.{IsBatchNamed, IsTaskNamed}
 use Rattle.trace_laws.specs.Passing.{VerdictDecides, verdict}
 use Rattle.trace_laws.specs.Reading.{groups_of, hint_read, is_cut}
 use Rattle.trace_laws.specs.Verdict.{all_commands, remade}
@@ -17,12 +18,44 @@ use Rattle.trace_numbers.specs.Positions.{numbers_pass}
 use Rattle.trace_ends.specs.Ends.{EndsDecide, IsWhole}
 use Rattle.trace_check.specs.Checking.{AreChecked, CheckerOf, HasRecord}
 use Rattle.trace_check.specs.Right.{AreOptionsOf, IsRight}
-use Rattle.trace_numbers.proofs.PassLemmas.{same_tests}
+use Rattle.trace_laws.proofs.NameLemmas.{name_clean}
+use Rattle.batch_work.specs.Named.{HasName, HaveNames}
+use Rattle.list_laws.proofs.TestLemmas.{same_tests}
 
 -- two facts of a result, taken together
 pub ok_both : {X E : Type 0} (result : Result X E) (P Q R : X → Type 0) → IfOk result P → IfOk result Q → ((x : X) → P x → Q x → R x) → IfOk result R
 ok_both (Ok x) P Q R p q both = both x p q
 ok_both (Err e) P Q R p q both = tt
+
+-- ---- names
+
+-- the name of a table has no space and no line feed
+task_named : (task : Task) → HasName task → IsTaskNamed task
+task_named (Load name body) h = name_clean name h
+task_named (LoadFile name file) h = name_clean name h
+task_named (DropTable name) h = name_clean name h
+task_named (Replace name body) h = name_clean name h
+task_named Tables h = tt
+task_named (Search k body) h = tt
+task_named (Like k name place) h = name_clean name h
+task_named (Contain a b body) h = tt
+task_named (AsOf asked k body) h = tt
+task_named (Merge all) h = tt
+
+pub all_named : (batches : List Batch) → AllByRecursion HaveNames batches → AllByRecursion IsBatchNamed batches
+all_named batches =
+    all_weaker HaveNames IsBatchNamed batches (λ (batch : Batch). all_weaker (λ (command : Command). HasName command.task) (λ (command : Command). IsTaskNamed command.task) batch (λ (command : Command). task_named command.task))
+
+-- what is known once the work of all batches is listed
+pub record AreListed (merge : Bool) (batches : List Batch) : Type 0 where
+  pub few : length (all_commands merge 1 batches) < 2 ^ 64
+  pub named : AllByRecursion IsBatchNamed batches
+
+pub listed : {X E : Type 0} (result : Result X E) (merge : Bool) (batches : List Batch) → IfOk result (λ x. length (all_commands merge 1 batches) < 2 ^ 64) → IfOk result (λ x. AllByRecursion HaveNames batches) → IfOk result (λ x. AreListed merge batches)
+listed (Ok x) merge batches few names = record { few = few; named = all_named batches names }
+listed (Err e) merge batches few names = tt
+
+-- ---- the verdict
 
 -- what is known of the batches and of all their commands
 pub record AreGiven (lanes : ℕ) (merge : Bool) (batches : List Batch) (commands : List Command) : Type 0 where
@@ -80,13 +113,13 @@ judged decide rules options lanes merge batches trace commands hints texts given
 
 -- ---- the two halves of the verdict
 
-pub right_of : VerdictDecides → (checker : CheckerOf) (trace : Text) (b : Bool) → AreChecked checker.options checker.batches → length (all_commands checker.options.merge 1 checker.batches) < 2 ^ 64
+pub right_of : VerdictDecides → (checker : CheckerOf) (trace : Text) (b : Bool) → AreChecked checker.options checker.batches → AreListed checker.options.merge checker.batches
     → b ≡ verdict checker.rules checker.options checker.batches trace → b ≡ true → HasRecord checker trace
-right_of law checker trace b known few is said =
-    (remade checker.rules checker.options checker.batches trace, (law checker.rules checker.options checker.batches trace known.lanes known.named known.traced few).0 (sym is ∙ said))
+right_of law checker trace b known listed is said =
+    (remade checker.rules checker.options checker.batches trace, (law checker.rules checker.options checker.batches trace known.lanes listed.named known.traced listed.few).0 (sym is ∙ said))
 
-pub none_of : VerdictDecides → (checker : CheckerOf) (trace : Text) (b : Bool) → AreChecked checker.options checker.batches → length (all_commands checker.options.merge 1 checker.batches) < 2 ^ 64
+pub none_of : VerdictDecides → (checker : CheckerOf) (trace : Text) (b : Bool) → AreChecked checker.options checker.batches → AreListed checker.options.merge checker.batches
     → b ≡ verdict checker.rules checker.options checker.batches trace → b ≡ false → HasRecord checker trace → ⊥
-none_of law checker trace b known few is said has =
-    let right = (law checker.rules checker.options checker.batches trace known.lanes known.named known.traced few).1 has.0 has.1 in
+none_of law checker trace b known listed is said has =
+    let right = (law checker.rules checker.options checker.batches trace known.lanes listed.named known.traced listed.few).1 has.0 has.1 in
     let no : false ≡ true = sym said ∙ is ∙ right in cc

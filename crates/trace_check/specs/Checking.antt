@@ -7,7 +7,6 @@ use Rattle.script_model.specs.Lanes.{IsOfLanes}
 use Rattle.script_model.specs.Options.{Options}
 use Rattle.record_model.specs.Record.{RunRecord}
 use Rattle.record_model.specs.Rules.{Rules}
-use Rattle.trace_laws.specs.Named.{IsBatchNamed}
 use Rattle.trace_laws.specs.Verdict.{IsTraceOf}
 
 -- the rules and the options of a run, and the batches of its script so far
@@ -23,8 +22,7 @@ checker_with rules options batches = record { rules = rules; options = options; 
 abbrev pub HasRecord : CheckerOf → Text → Type 0
 HasRecord checker trace = (made : RunRecord) × IsTraceOf checker.rules checker.options checker.batches trace made
 
--- Each command belongs to one of the lanes, each name in it is the name of a table, and replies are traced.
+-- Each command belongs to one of the lanes, and replies are traced.
 pub record AreChecked (options : Options) (batches : List Batch) : Type 0 where
   pub lanes : AllByRecursion (IsOfLanes options.lanes) batches
-  pub named : AllByRecursion IsBatchNamed batches
   pub traced : options.trace ≡ true

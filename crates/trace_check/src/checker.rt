@@ -1,14 +1,15 @@
 //! The checker, which takes the batches of a script one after another, and then the trace.
 ghost use Rattle.std.specs.Prelude.{◌≡◌, ◌<◌, ◌^◌, ◌∷◌, ◌++◌, [], IfOk, OnErr, OnOk, false, length, true};
+ghost use Rattle.std.specs.List.{AllByRecursion};
 ghost use Rattle.catalogue.specs.Kept.{IsWithin};
 ghost use Rattle.script_model.specs.Lanes.{IsOfLanes};
 ghost use Rattle.record_model.specs.Rules.{rules_with, wide_limits};
 ghost use Rattle.trace_laws.specs.Passing.{verdict};
 ghost use Rattle.trace_laws.specs.Verdict.{all_commands};
+ghost use Rattle.batch_work.specs.Named.{HaveNames};
 ghost use Rattle.trace_check.specs.Checking.{AreChecked, HasRecord, checker_with};
 
 use crate::judging::{Run, judge};
-use crate::names::batch_law;
 use catalogue::Limits;
 use commands::{Batch, Options};
 use no_memory::NoMemory;
@@ -55,14 +56,12 @@ impl Checker {
         }
     }
 
-    /// Adds the next batch of the script, at the cost of a walk over the commands. If memory runs out, it returns
-    /// `Err(NoMemory)` and nothing has changed.
+    /// Adds the next batch of the script. If memory runs out, it returns `Err(NoMemory)` and nothing has changed.
     pub fn add(&mut self, batch: Batch) -> Result<(), NoMemory>
         requires lanes { IsOfLanes self.old.options.lanes batch }
         ensures added { OnOk result (self.new ≡ checker_with self.old.rules self.old.options (self.old.batches ++ batch ∷ [])) }
         ensures kept { OnErr result (self.new ≡ self.old) }
     {
-        batch_law(&batch);
         self.batches.push(batch)?;
         Ok(())
     }
@@ -85,6 +84,7 @@ impl Checker {
         ensures value { IfOk result (λ yes. yes ≡ verdict self.now.rules self.now.options self.now.batches trace.now) }
         ensures known { AreChecked self.now.options self.now.batches }
         ensures few { IfOk result (λ yes. length (all_commands self.now.options.merge 1 self.now.batches) < 2 ^ 64) }
+        ensures names { IfOk result (λ yes. AllByRecursion HaveNames self.now.batches) }
     {
         let run = Run {
             keys: self.options.keys,

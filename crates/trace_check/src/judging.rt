@@ -5,10 +5,10 @@ ghost use Rattle.catalogue.specs.Kept.{IsWithin};
 ghost use Rattle.script_model.specs.Lanes.{IsOfLanes};
 ghost use Rattle.script_model.specs.Options.{Options as OptionsOf};
 ghost use Rattle.record_model.specs.Rules.{rules_with, wide_limits};
-ghost use Rattle.trace_laws.specs.Named.{IsBatchNamed};
 ghost use Rattle.trace_laws.specs.Passing.{verdict};
 ghost use Rattle.trace_laws.specs.Verdict.{all_commands};
 ghost use Rattle.trace_hints.specs.Told.{hint_as};
+ghost use Rattle.batch_work.specs.Named.{HaveNames};
 ghost use Rattle.batch_work.specs.Works.{works_of};
 ghost use Rattle.trace_check.specs.Right.{AreOptionsOf, IsRight};
 
@@ -65,9 +65,9 @@ fn are_right(
 pub(crate) fn judge(alloc: Global, run: &Run<'_>, trace: &[u8]) -> Result<bool, NoMemory>
     requires limits { IsWithin wide_limits run.now.limits }
     requires lanes { AllByRecursion (IsOfLanes run.now.lanes) run.now.batches.now }
-    requires named { AllByRecursion IsBatchNamed run.now.batches.now }
     ensures value { (options : OptionsOf) → AreOptionsOf run.now.lanes run.now.merge options → IfOk result (λ yes. yes ≡ verdict (rules_with run.now.keys run.now.limits) options run.now.batches.now trace.now) }
     ensures few { IfOk result (λ yes. length (all_commands run.now.merge 1 run.now.batches.now) < 2 ^ 64) }
+    ensures names { IfOk result (λ yes. AllByRecursion HaveNames run.now.batches.now) }
 {
     ends_law();
     let works = all_works(alloc, run.merge, run.batches)?;

@@ -3,7 +3,6 @@
 
 mod checker;
 mod judging;
-mod names;
 mod works;
 
 pub use checker::Checker;

@@ -17,12 +17,12 @@ use Rattle.trace_laws.specs.Hints.{Hint, Stands, Wanting, hint_of, reply_by}
 use Rattle.trace_laws.specs.Passing.{are_apart, batches_rise, is_filled, tells}
 use Rattle.trace_laws.specs.Rebuilt.{Hinted, hinted_with, is_at, pinned_of, put_by, rebuilt, stands_at}
 use Rattle.trace_laws.specs.Verdict.{all_commands, counted, hinted_zip}
-use Rattle.trace_laws.proofs.DecidingLemmas.{rebuilt_front}
+use Rattle.trace_laws.proofs.DecidingLemmas.{rebuilt_front, filled_at}
 use Rattle.trace_laws.proofs.PassingLemmas.{hint_is}
 use Rattle.trace_laws.proofs.RebuiltLemmas.{AddsOne, adds_one, hint_at}
 use Rattle.trace_numbers.specs.Positions.{IsOwner}
 use Rattle.trace_numbers.specs.Turns.{made_at}
-use Rattle.trace_numbers.proofs.ApartLemmas.{any_index, apart_same, filled_at, owner_found, told}
+use Rattle.trace_numbers.proofs.ApartLemmas.{any_index, apart_same, owner_found, told}
 use Rattle.trace_numbers.proofs.PassLemmas.{told_zip}
 use Rattle.trace_ends.specs.Fronts.{FrontsAreTaken, FrontsAreWhole, NextIsPut, NextIsRebuilt, ReplyIsMade, UnplannedIsNow, reply_at}
 use Rattle.trace_ends.specs.Within.{ArePositions, IsWithin}

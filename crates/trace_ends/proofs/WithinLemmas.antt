@@ -21,8 +21,9 @@ use Rattle.trace_laws.proofs.VerdictLemmas.{counted_append, zip_append}
 use Rattle.trace_numbers.specs.Positions.{accepted_of, numbers_pass, own_of}
 use Rattle.trace_numbers.specs.Turns.{made_at, planned_at}
 use Rattle.trace_numbers.proofs.ApartLemmas.{at_own, counted_is, own_stands, told}
-use Rattle.trace_numbers.proofs.PassLemmas.{low_lanes, merger_lanes, told_zip, zero_lanes, zip_lanes}
+use Rattle.trace_numbers.proofs.PassLemmas.{merger_lanes, told_zip, zero_lanes, zip_lanes}
 use Rattle.trace_ends.specs.Within.{AcceptedOwns, ArePositions, IsWithin, OwnerIsMade, PositionsWithin}
+use Rattle.trace_laws.proofs.RecordLemmas.{lanes_in}
 
 -- ---- one answer
 
@@ -100,7 +101,7 @@ batch_within lanes size from high merge next batch hints le of rising =
     let merges : List Command = merger_commands merge next batch in
     let hinted : List Hinted = hinted_zip (batch ++ merges) hints in
     lanes_within lanes size high hinted le
-    (zip_lanes lanes (batch ++ merges) hints (all_append (λ (c : Command). c.lane ≤ lanes) batch merges (low_lanes lanes batch of) (zero_lanes lanes merges (merger_lanes merge next batch))))
+    (zip_lanes lanes (batch ++ merges) hints (all_append (λ (c : Command). c.lane ≤ lanes) batch merges (lanes_in lanes batch of) (zero_lanes lanes merges (merger_lanes merge next batch))))
     (λ lane under. rises_down 0 from (mine hinted lane) high (omega arith) (rises_is from (mine hinted lane) high (in_range (lane_rises hinted from high) 0 (lanes + 1) lane rising (omega arith) (omega (arith, under)))))
 
 -- ---- the batches

@@ -78,16 +78,13 @@ goes_down lane lower low high ps le g = record {
   of = g.of;
 }
 
-self : (n : ℕ) → (n == n) ≡ true
-self n = let e : n ≡ n = refl in eq-eqb n n e
-
 goes_on : (low at high : ℕ) (command : Command) (whats : List What) (rest : Pairs) → AtMostOne whats → low + 1 ≤ at → at ≤ high → Goes command.lane at high rest
     → Goes command.lane low high (at_position at (map (entry_with (who_of command)) whats) ++ rest)
 goes_on low at high command [] rest one above below g = goes_down command.lane low at high rest (omega (arith, above)) g
 goes_on low at high command (what ∷ []) rest one above below g = record {
   climbs = (above, g.climbs);
   within = ((above, below), within_down low at high rest (omega (arith, above)) g.within);
-  of = (self command.lane, g.of);
+  of = (eq-eqb command.lane command.lane refl, g.of);
 }
 goes_on low at high command (what ∷ more ∷ whats) rest one above below g = absurd one
 

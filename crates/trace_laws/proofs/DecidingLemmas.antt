@@ -88,14 +88,14 @@ abbrev count_at : ℕ → List Hinted → ℕ
 count_at n [] = 0
 count_at n (h ∷ hinted) = once 1 (is_at n h.hint) + count_at n hinted
 
-shift : (k l : ℕ) → (suc k == suc l) ≡ (k == l)
+pub shift : (k l : ℕ) → (suc k == suc l) ≡ (k == l)
 shift k l = by (k == l) refl
   where
     by : (b : Bool) → (k == l) ≡ b → (suc k == suc l) ≡ b
     by true e = eq-eqb (suc k) (suc l) (ap suc (eqb-true k l e))
     by false e = grind (arith, nat_tests, e)
 
-one_position : (at n : ℕ) → total (λ l. once 1 (at == suc l)) n ≤ 1
+pub one_position : (at n : ℕ) → total (λ l. once 1 (at == suc l)) n ≤ 1
 one_position zero n = let none = total_zero (λ l. once 1 (0 == suc l)) n (λ l. let e : (0 == suc l) ≡ false = grind (arith, nat_tests) in ap (once 1) e) in omega (arith, none)
 one_position (suc k) n =
     let same = total_same (λ l. once 1 (suc k == suc l)) (λ l. once 1 (k == l)) n (λ l. ap (once 1) (shift k l)) in
@@ -134,7 +134,7 @@ none_count n hinted h = by (list_any (λ (h : Hinted). is_at n h.hint) hinted) r
     by true e = let some = some_count n hinted e in absurd (omega (arith, h, some))
     by false e = refl
 
-filled_at : (hinted : List Hinted) (n l : ℕ) → is_filled hinted n ≡ true → l < n → list_any (λ (h : Hinted). is_at (suc l) h.hint) hinted ≡ true
+pub filled_at : (hinted : List Hinted) (n l : ℕ) → is_filled hinted n ≡ true → l < n → list_any (λ (h : Hinted). is_at (suc l) h.hint) hinted ≡ true
 filled_at hinted zero l h below = absurd (omega (arith, below))
 filled_at hinted (suc n) l h below = by (l == n) refl (filled_at hinted n l k.1)
   where

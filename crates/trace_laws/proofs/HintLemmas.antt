@@ -1,17 +1,17 @@
 -- A right reply is the one that is made again at the positions of its hint, and what is made again there is right.
-use Rattle.std.proofs.Common.{◌≡◌, refl, ap, ◌∙◌, ℕ, ◌≤◌, inl, inr, List, [], ◌∷◌, Bool, true, false, arith, ◌<◌, ◌++◌, length, take}
+use Rattle.std.proofs.Common.{◌≡◌, refl, ap, ◌∙◌, ℕ, ◌≤◌, inl, inr, List, [], ◌∷◌, Bool, true, false, arith, ◌<◌, ◌++◌, length}
 use Rattle.std.proofs.lemmas.Bool.Decides.{nat_tests}
 use Rattle.std.specs.Prelude.{◌&&◌, nat_lt, nat_le}
-use Rattle.std.proofs.lemmas.List.{take-append-le}
 use Rattle.std.proofs.lemmas.Bool.{and_parts}
 use Rattle.record_model.specs.Rules.{Rules}
 use Rattle.lake_model.specs.Journal.{Entry}
 use Rattle.script_model.specs.Commands.{Command}
 use Rattle.record_model.specs.Replies.{Reply, Loaded, Dropped, Replaced, NoMemory}
-use Rattle.record_model.specs.Answered.{answer_to, Standing, Nowhere, Saw, Added, PlannedAndSaw, PlannedAndAdded, standing}
-use Rattle.record_model.specs.Right.{answer_by, pinned_by, made_by, IsPlaced, IsUnplaced, Moment, Rises, IsBehind}
+use Rattle.record_model.specs.Answered.{Standing, Nowhere, Saw, Added, PlannedAndSaw, PlannedAndAdded, standing}
+use Rattle.record_model.specs.Right.{answer_by, IsPlaced, IsUnplaced, Moment, Rises, IsBehind}
 use Rattle.trace_laws.specs.Hints.{hint_of, reply_by}
 use Rattle.trace_laws.specs.Checks.{is_behind, rises, PositionsDecide}
+use Rattle.record_model.proofs.RightLemmas.{IsWithin, answer_stays}
 
 -- ---- what is right is what is made again
 
@@ -67,17 +67,6 @@ pub positions_decide : PositionsDecide
 positions_decide low ms high = (rises_is low ms high, is_so_rising low ms high)
 
 -- ---- what is made again is right
-
--- both positions of a reply are within a journal
-pub record IsWithin (size : ℕ) (s : Standing) : Type 0 where
-  pub pinned : pinned_by s ≤ size
-  pub made : made_by s ≤ size
-
-pub answer_stays : (rules : Rules) (journal more : List Entry) (command : Command) (s : Standing) → IsWithin (length journal) s
-    → answer_by rules (journal ++ more) command s ≡ answer_by rules journal command s
-answer_stays rules journal more command s h =
-    ap (λ p. answer_to rules command.task p (take (made_by s) (journal ++ more))) (take-append-le (pinned_by s) journal more h.pinned)
-    ∙ ap (λ p. answer_to rules command.task (take (pinned_by s) journal) p) (take-append-le (made_by s) journal more h.made)
 
 made_right : (rules : Rules) (journal more : List Entry) (command : Command) (reply : Reply) (s : Standing) → IsWithin (length journal) s → reply ≡ answer_by rules (journal ++ more) command s
     → IsPlaced rules journal command reply s × IsUnplaced rules command reply s

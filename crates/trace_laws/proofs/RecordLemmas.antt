@@ -16,10 +16,10 @@ use Rattle.script_model.specs.Commands.{updates}
 use Rattle.script_model.specs.Lanes.{IsOfLanes}
 use Rattle.record_model.specs.Right.{Moment, moments, moments_by, Rises, IsPlaced, IsUnplaced, entries_by, accepted, between, IsRight, IsBatchRight, AreBatchesRight}
 use Rattle.list_laws.proofs.ListLemmas.{all_append, all_left, all_right, all_filter}
-use Rattle.record_model.proofs.RightLemmas.{rises_le, accepted_stay, all_placed_stay}
+use Rattle.record_model.proofs.RightLemmas.{rises_le, accepted_stay, all_placed_stay, IsWithin}
 use Rattle.record_model.proofs.PlayedLemmas.{merges_are}
 use Rattle.trace_laws.specs.Checks.{dones, IsMadeAgain, AreEntered, IsBatchChecked, AreBatchesChecked, ChecksDecide}
-use Rattle.trace_laws.proofs.HintLemmas.{right_is, again_right, IsWithin, rises_is, is_so_rising}
+use Rattle.trace_laws.proofs.HintLemmas.{right_is, again_right, rises_is, is_so_rising}
 use Rattle.trace_laws.proofs.OwnLemmas.{Pairs, owned, is_of}
 use Rattle.trace_laws.proofs.TotalLemmas.{total, total_same_up, total_share, total_filter}
 use Rattle.trace_laws.proofs.BatchLemmas.{own_are, of_lane, get_drop, callers_enumerated}
@@ -112,7 +112,7 @@ within_zip lanes [] answers h = tt
 within_zip lanes (c ∷ commands) [] h = tt
 within_zip lanes (c ∷ commands) (a ∷ answers) h = (h.0, within_zip lanes commands answers h.1)
 
-lanes_in : (lanes : ℕ) (batch : Batch) → IsOfLanes lanes batch → AllByRecursion (λ (c : Command). c.lane ≤ lanes) batch
+pub lanes_in : (lanes : ℕ) (batch : Batch) → IsOfLanes lanes batch → AllByRecursion (λ (c : Command). c.lane ≤ lanes) batch
 lanes_in lanes [] h = tt
 lanes_in lanes (c ∷ batch) h = (h.0.1, lanes_in lanes batch h.1)
 

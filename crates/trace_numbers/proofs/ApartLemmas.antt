@@ -1,5 +1,5 @@
 -- The positions of entries: no two at one position, and each position filled.
-use Rattle.std.proofs.Common.{◌≡◌, refl, ap, sym, ◌∙◌, subst, ℕ, zero, suc, ◌<◌, List, [], ◌∷◌, map, length, get_or, Bool, true, false, not, cond, Option, Some, None, arith}
+use Rattle.std.proofs.Common.{◌≡◌, refl, ap, sym, ◌∙◌, ℕ, zero, suc, ◌<◌, List, [], ◌∷◌, map, length, get_or, Bool, true, false, not, cond, Option, Some, None, arith}
 use Rattle.std.specs.Prelude.{◌==◌, ◌||◌, find, is_some, nat_lt, slice_get}
 use Rattle.std.specs.List.{list_any}
 use Rattle.std.proofs.lemmas.Bool.{eq-eqb, eqb-true, and_parts}
@@ -115,17 +115,6 @@ apart_by (x ∷ hinted) one = joined (is_apart x.hint hinted) (are_apart hinted)
 pub filled_by : (hinted : List Hinted) (n : ℕ) → ((l : ℕ) → l < n → list_any (λ (h : Hinted). is_at (suc l) h.hint) hinted ≡ true) → is_filled hinted n ≡ true
 filled_by hinted zero h = refl
 filled_by hinted (suc n) h = joined (list_any (λ (h : Hinted). is_at (suc n) h.hint) hinted) (is_filled hinted n) (h n (omega arith)) (filled_by hinted n (λ l low. h l (omega (arith, low))))
-
-pub filled_at : (hinted : List Hinted) (n l : ℕ) → is_filled hinted n ≡ true → l < n → list_any (λ (h : Hinted). is_at (suc l) h.hint) hinted ≡ true
-filled_at hinted zero l h below = absurd (omega (arith, below))
-filled_at hinted (suc n) l h below = by (l == n) refl (filled_at hinted n l k.1)
-  where
-    k : (list_any (λ (h : Hinted). is_at (suc n) h.hint) hinted ≡ true) × (is_filled hinted n ≡ true)
-    k = and_parts (list_any (λ (h : Hinted). is_at (suc n) h.hint) hinted) (is_filled hinted n) h
-
-    by : (b : Bool) → (l == n) ≡ b → (l < n → list_any (λ (h : Hinted). is_at (suc l) h.hint) hinted ≡ true) → list_any (λ (h : Hinted). is_at (suc l) h.hint) hinted ≡ true
-    by true e rest = subst (λ (m : ℕ). list_any (λ (h : Hinted). is_at (suc m) h.hint) hinted ≡ true) (sym (eqb-true l n e)) k.0
-    by false e rest = rest (grind (arith, nat_tests, e, below))
 
 -- ---- the laws
 

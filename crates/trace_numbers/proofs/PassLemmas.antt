@@ -20,13 +20,10 @@ use Rattle.trace_hints.specs.declared.hint.Hint.{Hint as Declared}
 use Rattle.trace_hints.specs.Told.{hint_as}
 use Rattle.trace_numbers.specs.Positions.{accepted_of, numbers_pass, rises_whole}
 use Rattle.trace_numbers.proofs.ApartLemmas.{counted_is, told}
+use Rattle.list_laws.proofs.TestLemmas.{same_tests}
+use Rattle.trace_laws.proofs.RecordLemmas.{lanes_in}
 
 -- ---- tests and lists
-
-pub same_tests : (a b : Bool) → (a ≡ true → b ≡ true) → (b ≡ true → a ≡ true) → a ≡ b
-same_tests true b h k = sym (h refl)
-same_tests false true h k = k refl
-same_tests false false h k = refl
 
 get_or-default : {X : Type 0} (xs : List X) (i : ℕ) (d e : X) → i < length xs → get_or xs i d ≡ get_or xs i e
 get_or-default [] i d e low = absurd (omega (arith, low))
@@ -141,10 +138,6 @@ pub merger_size : (merge : Bool) (next : ℕ) (batch : Batch) → length (merger
 merger_size false next batch = refl
 merger_size true next batch = length-map (range_with_len next (updates batch)) (λ n. command_with n 0 (Merge false)) ∙ length-range_with_len next (updates batch)
 
-pub low_lanes : (lanes : ℕ) (batch : Batch) → IsOfLanes lanes batch → AllByRecursion (λ (c : Command). c.lane ≤ lanes) batch
-low_lanes lanes [] h = tt
-low_lanes lanes (c ∷ batch) h = (h.0.1, low_lanes lanes batch h.1)
-
 pub below_lanes : (lanes size : ℕ) (batch : Batch) → size ≡ lanes + 1 → IsOfLanes lanes batch → AllByRecursion (λ (c : Command). c.lane < size) batch
 below_lanes lanes size [] e h = tt
 below_lanes lanes size (c ∷ batch) e h = let low : c.lane ≤ lanes = h.0.1 in (omega (arith, low, e), below_lanes lanes size batch e h.1)
@@ -190,7 +183,7 @@ batch_more lanes merge next from sync batch batches now behind rise of size sync
     let count : counted (hinted_zip commands hints) ≡ accepted_of hints = counted_is (hinted_zip commands hints) ∙ ap accepted_of (told_zip commands hints sized) in
     let to : from + counted (hinted_zip commands hints) ≡ sync = omega (arith, count, sync_is) in
     let within : AllByRecursion (λ (h : Hinted). h.command.lane ≤ lanes) (hinted_zip commands hints) =
-    zip_lanes lanes commands hints (all_append (λ (c : Command). c.lane ≤ lanes) batch (merger_commands merge next batch) (low_lanes lanes batch of) (zero_lanes lanes (merger_commands merge next batch) (merger_lanes merge next batch))) in
+    zip_lanes lanes commands hints (all_append (λ (c : Command). c.lane ≤ lanes) batch (merger_commands merge next batch) (lanes_in lanes batch of) (zero_lanes lanes (merger_commands merge next batch) (merger_lanes merge next batch))) in
     let test : rise ≡ list_all (lane_rises (hinted_zip commands hints) from sync) (range_with_len 0 (lanes + 1)) = rise_is ∙ pass_test lanes from sync (hinted_zip commands hints) within in
     let many : (length (hints ++ rest) == length (commands ++ later)) ≡ (length rest == length later) =
     ap (λ (n : ℕ). n == length (commands ++ later)) (length-append hints rest) ∙ ap (λ (n : ℕ). length hints + length rest == n) (length-append commands later) ∙ later_sizes (length hints) (length commands) (length rest) (length later) sized in

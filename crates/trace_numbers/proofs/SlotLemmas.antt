@@ -15,8 +15,9 @@ use Rattle.trace_hints.specs.declared.hint.Hint.{Hint as Declared}
 use Rattle.trace_hints.specs.Told.{hint_as}
 use Rattle.trace_numbers.specs.Positions.{AreOwners, accepted_of, own_of}
 use Rattle.trace_numbers.specs.Slots.{ArePut, IsFree}
-use Rattle.trace_numbers.proofs.ApartLemmas.{any_index, apart_by, apart_same, at_own, counted_is, filled_at, filled_by, index_any, own_stands, told}
+use Rattle.trace_numbers.proofs.ApartLemmas.{any_index, apart_by, apart_same, at_own, counted_is, filled_by, index_any, own_stands, told}
 use Rattle.trace_numbers.proofs.WithinLemmas.{filled_within}
+use Rattle.trace_laws.proofs.DecidingLemmas.{filled_at}
 
 -- ---- one more step
 

@@ -2,16 +2,16 @@
 use Rattle.std.proofs.Common.{◌≡◌, refl, ap, ℕ, zero, suc, ◌+◌, ◌<◌, ◌≤◌, List, [], ◌∷◌, get_or, Bool, true, false, Some, arith}
 use Rattle.std.specs.Prelude.{◌==◌, ◌||◌, nat_le}
 use Rattle.std.specs.List.{list_any}
-use Rattle.std.proofs.lemmas.Bool.{eq-eqb, eqb-true}
 use Rattle.std.proofs.lemmas.Bool.Decides.{nat_tests}
 use Rattle.record_model.specs.Answered.{Nowhere, Saw, Added, PlannedAndSaw, PlannedAndAdded}
 use Rattle.trace_laws.specs.Hints.{Hint, Wanting, Stands}
 use Rattle.trace_laws.specs.Rebuilt.{Hinted, is_at}
 use Rattle.trace_laws.specs.Verdict.{puts_one, counted}
 use Rattle.trace_laws.specs.Passing.{is_filled}
-use Rattle.trace_laws.proofs.TotalLemmas.{none_above, once, one_lane, total, total_both, total_same, total_zero}
+use Rattle.trace_laws.proofs.TotalLemmas.{none_above, once, total, total_both, total_same, total_zero}
 use Rattle.trace_numbers.specs.Positions.{own_of}
-use Rattle.trace_numbers.proofs.ApartLemmas.{filled_at, own_at, told}
+use Rattle.trace_numbers.proofs.ApartLemmas.{own_at, told}
+use Rattle.trace_laws.proofs.DecidingLemmas.{filled_at, one_position, shift}
 
 -- ---- how often a hint is at positions 1 to n + 1
 
@@ -22,25 +22,8 @@ abbrev all_inside : ℕ → List Hinted → ℕ
 all_inside n [] = 0
 all_inside n (h ∷ hinted) = inside n h.hint + all_inside n hinted
 
-shift : (k l : ℕ) → (suc k == suc l) ≡ (k == l)
-shift k l = by (k == l) refl
-  where
-    by : (b : Bool) → (k == l) ≡ b → (suc k == suc l) ≡ b
-    by true e = eq-eqb (suc k) (suc l) (ap suc (eqb-true k l e))
-    by false e = grind (arith, nat_tests, e)
-
 none_low : (n : ℕ) → total (λ l. once 1 (0 == suc l)) n ≡ 0
 none_low n = total_zero (λ l. once 1 (0 == suc l)) n (λ l. let e : (0 == suc l) ≡ false = grind (arith, nat_tests) in ap (once 1) e)
-
-one_position : (at n : ℕ) → total (λ l. once 1 (at == suc l)) n ≤ 1
-one_position zero n = let none = none_low n in omega (arith, none)
-one_position (suc k) n =
-    let same = total_same (λ l. once 1 (suc k == suc l)) (λ l. once 1 (k == l)) n (λ l. ap (once 1) (shift k l)) in
-    by (nat_le k n) refl same
-  where
-    by : (b : Bool) → nat_le k n ≡ b → total (λ l. once 1 (suc k == suc l)) n ≡ total (λ l. once 1 (k == l)) n → total (λ l. once 1 (suc k == suc l)) n ≤ 1
-    by true e same = omega (arith, same, one_lane k 1 n (grind (arith, nat_tests, e)))
-    by false e same = omega (arith, same, none_above k 1 n (grind (arith, nat_tests, e)))
 
 inside_few : (n : ℕ) (hint : Hint) → inside n hint ≤ puts_one hint
 inside_few n Wanting = let e = total_zero (λ l. 0) n (λ l. refl) in omega (arith, e)

@@ -8,7 +8,7 @@ use Rattle.trace_groups.specs.declared.groups.Group.{Group}
 use Rattle.trace_ends.proofs.EndLemmas.{joined_texts}
 use Rattle.batch_work.specs.declared.work.Work.{Work}
 use Rattle.batch_work.specs.Works.{work_of, works_of}
-use Rattle.trace_check.proofs.CheckLemmas.{AreGiven, AreRead, judged, ok_both}
+use Rattle.trace_check.proofs.CheckLemmas.{AreGiven, AreRead, all_named, judged, ok_both}
 use Rattle.trace_check.proofs.judging.judge.Goals as goal
 
 pub returns-clause-value : goal.returns-clause-value
@@ -17,11 +17,11 @@ returns-clause-value c options are =
     let text = λ (group : Group). group.text.now in
     let works = c.deref.result.now in
     let groups = c.deref-2.result.now in
-    let few : length (all_commands c.args.run.now.merge 1 c.args.run.now.batches.now) < 2 ^ 64 = omega (arith, c.in_ok-works.works.small, c.in_ok-works.works.ok, length-map c.in_ok-works.works.items work_of, ap (λ (cs : List Command). length cs) c.in_ok-works.ensures) in
+    let few : length (all_commands c.args.run.now.merge 1 c.args.run.now.batches.now) < 2 ^ 64 = omega (arith, c.in_ok-works.works.small, c.in_ok-works.works.ok, length-map c.in_ok-works.works.items work_of, ap (λ (cs : List Command). length cs) c.in_ok-works.ensures.works) in
     let given : AreGiven c.args.run.now.lanes c.args.run.now.merge c.args.run.now.batches.now (works_of works) = record {
       of = c.requires.lanes;
-      named = c.requires.named;
-      are = ap (λ (ws : List Work). works_of ws) c.deref.ensures.value ∙ c.in_ok-works.ensures;
+      named = all_named c.args.run.now.batches.now c.in_ok-works.ensures.names;
+      are = ap (λ (ws : List Work). works_of ws) c.deref.ensures.value ∙ c.in_ok-works.ensures.works;
       few = few;
     } in
     let hints_are = rw c.in-Some.is at c.in_ok-groups.ensures.hints in
