@@ -1,5 +1,5 @@
 -- The verdict, from what was read of a trace.
-use Rattle.std.proofs.Common.{◌≡◌, ap, sym, ◌∙◌, ℕ, ◌^◌, ◌<◌, List, Bool, true, false, flat_map, length, map, take, subst}
+use Rattle.std.proofs.Common.{◌≡◌, refl, ap, sym, ◌∙◌, ℕ, ◌^◌, ◌<◌, List, Bool, true, false, flat_map, length, map, take, subst}
 use Rattle.std.specs.Prelude.{IfOk, Result, Ok, Err}
 use Rattle.std.specs.List.{AllByRecursion}
 use Rattle.lake_model.specs.Texts.{Text}
@@ -79,6 +79,20 @@ decided decide rules options lanes merge batches trace commands hints texts give
     decide rules options batches trace commands hints texts (subst (λ (n : ℕ). AllByRecursion (IsOfLanes n) batches) (sym are.lanes_are) given.of) given.named are.traced
     (subst (λ (m : Bool). length (all_commands m 1 batches) < 2 ^ 64) (sym are.merge_is) given.few) same
     (hints_are ∙ ap (λ (cs : List Command). take (length cs) (map hint_read (groups_of trace))) same) texts_are
+
+-- a trace that is not cut is that of no run
+pub uncut : EndsDecide → (rules : Rules) (options : Options) (lanes : ℕ) (merge : Bool) (batches : List Batch) (trace : Text) → AreGiven lanes merge batches (all_commands merge 1 batches) → AreOptionsOf lanes merge options → is_cut trace ≡ false
+    → false ≡ verdict rules options batches trace
+uncut decide rules options lanes merge batches trace given are out = by (verdict rules options batches trace) refl
+  where
+    commands : List Command
+    commands = all_commands merge 1 batches
+
+    by : (b : Bool) → verdict rules options batches trace ≡ b → false ≡ b
+    by true said =
+        let cut = ((decided decide rules options lanes merge batches trace commands (take (length commands) (map hint_read (groups_of trace))) (map group_text (groups_of trace)) given are refl refl).0 said).0 in
+        sym out ∙ cut
+    by false said = refl
 
 -- the verdict is true exactly if the groups are right
 pub judged : EndsDecide → (rules : Rules) (options : Options) (lanes : ℕ) (merge : Bool) (batches : List Batch) (trace : Text) (commands : List Command) (hints : List Hint) (texts : List Text) → AreGiven lanes merge batches commands → AreOptionsOf lanes merge options

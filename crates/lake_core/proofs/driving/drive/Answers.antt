@@ -10,7 +10,7 @@ use Rattle.lake_core.proofs.WorkLemmas.{within_lanes}
 use Rattle.lake_core.proofs.driving.drive.Goals as goal
 
 pub share_out-requires : goal.share_out-requires
-share_out-requires c = within_lanes c.args.lanes c.args.merger c.args.batch.now (works_of c.deref.result.now) c.requires.lanes (ap works_of c.deref.ensures.value ∙ c.in_ok-works.ensures)
+share_out-requires c = within_lanes c.args.lanes c.args.merger c.args.batch.now (works_of c.deref.result.now) c.requires.lanes (ap works_of c.deref.ensures.value ∙ c.in_ok-works.ensures.works)
 
 pub play-requires-clause-ready : goal.play-requires-clause-ready
 play-requires-clause-ready c =
@@ -21,7 +21,7 @@ pub returns-clause-played : goal.returns-clause-played
 returns-clause-played c =
     let (denials, is) = c.play.ensures.played in
     let works = c.deref-2.result.now in
-    let all : works_of works ≡ c.args.batch.now ++ merges_of c.args.merger c.args.batch.now = ap works_of c.deref-2.ensures.value ∙ c.in_ok-works.ensures in
+    let all : works_of works ≡ c.args.batch.now ++ merges_of c.args.merger c.args.batch.now = ap works_of c.deref-2.ensures.value ∙ c.in_ok-works.ensures.works in
     let shared = subst (λ (commands : Batch). AreShared c.args.lanes commands c.in_ok-all.all.items) (ap works_of (c.deref.ensures.value ∙ sym c.deref-2.ensures.value)) c.in_ok-all.ensures in (
       denials,
       batch_played (rules_with c.args.keys c.args.catalogue.now.limits) c.args.lanes (length works) c.args.batch.now (works_of works) c.args.piece.now c.args.merger denials c.args.out.now.made c.room.new.self.made c.play.new.out.made

@@ -1,15 +1,28 @@
-use Rattle.std.proofs.Common.{ap, ◌∙◌, ◌^◌, ◌<◌, List, arith, flat_map, length, map}
+use Rattle.std.proofs.Common.{rules, ◌≡◌, refl, false, ap, ◌∙◌, ◌^◌, ◌<◌, List, arith, flat_map, length, map}
 use Rattle.std.proofs.lemmas.List.{length-map}
 use Rattle.script_model.specs.Commands.{Command}
 use Rattle.record_model.specs.Rules.{rules_with}
+use Rattle.trace_laws.specs.Reading.{is_cut}
 use Rattle.trace_laws.specs.Verdict.{all_commands}
 use Rattle.trace_hints.specs.Told.{hint_as}
 use Rattle.trace_groups.specs.declared.groups.Group.{Group}
 use Rattle.trace_ends.proofs.EndLemmas.{joined_texts}
 use Rattle.batch_work.specs.declared.work.Work.{Work}
 use Rattle.batch_work.specs.Works.{work_of, works_of}
-use Rattle.trace_check.proofs.CheckLemmas.{AreGiven, AreRead, all_named, judged, ok_both}
+use Rattle.trace_check.proofs.CheckLemmas.{AreGiven, AreRead, all_named, judged, ok_both, uncut}
 use Rattle.trace_check.proofs.judging.judge.Goals as goal
+
+pub returns-in_default-clause-value : goal.returns-in_default-clause-value
+returns-in_default-clause-value c options are =
+    let few : length (all_commands c.args.run.now.merge 1 c.args.run.now.batches.now) < 2 ^ 64 = omega (arith, c.in_ok-works.works.small, c.in_ok-works.works.ok, length-map c.in_ok-works.works.items work_of, ap (λ (cs : List Command). length cs) c.in_ok-works.ensures.works) in
+    let given : AreGiven c.args.run.now.lanes c.args.run.now.merge c.args.run.now.batches.now (all_commands c.args.run.now.merge 1 c.args.run.now.batches.now) = record {
+      of = c.requires.lanes;
+      named = all_named c.args.run.now.batches.now c.in_ok-works.ensures.names;
+      are = refl;
+      few = few;
+    } in
+    let out : is_cut c.args.trace.now ≡ false = search rules in
+    uncut c.ends_law.ensures (rules_with c.args.run.now.keys c.args.run.now.limits) options c.args.run.now.lanes c.args.run.now.merge c.args.run.now.batches.now c.args.trace.now given are out
 
 pub returns-clause-value : goal.returns-clause-value
 returns-clause-value c options are =

@@ -24,4 +24,4 @@ replay-requires-clause-positions c =
     let many = c.len-3.ensures ∙ sym c.deref-4.ensures.len in
     let same = ap (map hint_as) c.deref-3.ensures.value ∙ c.in_ok-hints.ensures ∙ (λ i. take (many i) (map hint (groups i))) in
     positions_of c.within_law.ensures.within c.args.batch.now c.from_ref-batches.result.now (works_of c.deref-4.result.now) _ _ _ c.from_ref-batches.ensures.value c.requires
-    (ap works_of c.deref-4.ensures.value ∙ c.in_ok-works.ensures) (sym c.in_ok-owners.ensures.variant) c.in_ok-find_owners.ensures.tests same
+    (ap works_of c.deref-4.ensures.value ∙ c.in_ok-works.ensures.works) (sym c.in_ok-owners.ensures.variant) c.in_ok-find_owners.ensures.tests same
