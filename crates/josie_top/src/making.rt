@@ -59,7 +59,9 @@ fn fill_record(
 {
     let options = made_options(alloc)?;
     let batch = made_batch(alloc, seed, tables, rows)?;
-    let mut catalogue = Catalogue::new(alloc, Limits::standard())?;
+    let Ok(mut catalogue) = Catalogue::new(alloc, Limits::standard()) else {
+        return Err(NoMemory);
+    };
     let mut past = Timeline::new(alloc);
     if drive(
         alloc,
