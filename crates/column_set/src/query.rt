@@ -47,9 +47,7 @@ impl QuerySet {
         ensures refused { IfErr result (λ e. (e ≡ QueryRefused.NoMemory) ⊎ (query_fault keys body.now ≡ Some e)) }
     {
         let lists = gather_lines(alloc, keys, body)?;
-        let Ok((keys, index)) = lists.into_indexed(alloc) else {
-            return Err(QueryRefused::NoMemory);
-        };
+        let (keys, index) = lists.into_indexed(alloc)?;
         if keys.len() as usize > MOST_KEYS {
             return Err(QueryRefused::TooManyValues);
         }
@@ -119,24 +117,18 @@ fn gather_lines(alloc: Global, keys: Keys, body: &[u8]) -> Result<KeyGatherer, Q
         let Ok(value) = str::from_utf8(line) else {
             return Err(QueryRefused::NotUtf8 { line: number });
         };
-        if lists.add(alloc, keys, value, &mut buffer).is_err() {
-            return Err(QueryRefused::NoMemory);
-        }
+        lists.add(alloc, keys, value, &mut buffer)?;
         rest = after;
     }
     Err(QueryRefused::NoMemory)
 }
 
 // Returns an empty gatherer with room for the keys of a body whose lines have about sixteen bytes.
-fn no_keys(alloc: Global, body: &[u8]) -> Result<KeyGatherer, QueryRefused>
+fn no_keys(alloc: Global, body: &[u8]) -> Result<KeyGatherer, NoMemory>
     ensures none { IfOk result (λ lists. (lists.finished ≡ []) × (lists.current ≡ [])) }
-    ensures refused { IfErr result (λ e. e ≡ QueryRefused.NoMemory) }
 {
     let lines = (body.len() / 16).min(MOST_KEYS) as u32;
-    match KeyGatherer::with_room(alloc, lines, lines) {
-        Ok(lists) => Ok(lists),
-        Err(_) => Err(QueryRefused::NoMemory),
-    }
+    KeyGatherer::with_room(alloc, lines, lines)
 }
 
 // Returns the index of the first line feed.

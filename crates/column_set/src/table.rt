@@ -62,12 +62,8 @@ impl TableSets {
         ensures refused { IfErr result (λ e. (e ≡ SetRefused.NoMemory) ⊎ (sets_fault keys raw.now ≡ Some e)) }
     {
         let sets = read_sets(alloc, keys, raw)?;
-        let Ok(names) = read_names(alloc, raw) else {
-            return Err(SetRefused::NoMemory);
-        };
-        let Ok(titles) = shared_titles(alloc, name, &names) else {
-            return Err(SetRefused::NoMemory);
-        };
+        let names = read_names(alloc, raw)?;
+        let titles = shared_titles(alloc, name, &names)?;
         let Some(key_bytes) = sets.byte_count() else {
             return Err(SetRefused::NoMemory);
         };
@@ -209,15 +205,12 @@ fn read_sets(alloc: Global, keys: Keys, raw: &RawTable) -> Result<KeyLists, SetR
     ensures sound { OnOk result (sets_fault keys raw.now ≡ None) }
     ensures refused { IfErr result (λ e. (e ≡ SetRefused.NoMemory) ⊎ (sets_fault keys raw.now ≡ Some e)) }
 {
-    let (Ok(mut lists), Ok(mut starts)) = (no_keys(alloc, raw), first_start(alloc, raw)) else {
-        return Err(SetRefused::NoMemory);
-    };
+    let mut lists = no_keys(alloc, raw)?;
+    let mut starts = first_start(alloc, raw)?;
     let mut buffer = String::new(alloc);
     for i in 0..raw.columns() {
         let place = i + 1;
-        let Ok(size) = read_keys(alloc, keys, raw, place, &mut lists, &mut buffer) else {
-            return Err(SetRefused::NoMemory);
-        };
+        let size = read_keys(alloc, keys, raw, place, &mut lists, &mut buffer)?;
         if size as usize > MOST_KEYS {
             return Err(SetRefused::TooManyValues { place });
         }

@@ -97,7 +97,8 @@ pub fn read_table(alloc: Global, bytes: &[u8], most: u32) -> Result<RawTable, Cs
 {
     let mut reader = open_reader(alloc, bytes);
     let mut row = ByteRecord::new(alloc);
-    let mut store = empty_store(alloc, bytes)?;
+    // While the store grows, it takes half as much memory again.
+    let mut store = Fields::with_capacity(alloc, bytes.len(), likely_fields(bytes))?;
     if !read_next(&mut reader, &mut row)? {
         return Err(CsvRefused::NoHeader);
     }
@@ -125,18 +126,6 @@ fn open_reader(alloc: Global, bytes: &[u8]) -> Reader<&[u8]>
         .has_headers(false)
         .flexible(true)
         .from_reader(alloc, behind_mark(bytes))
-}
-
-// Returns a store with room for the bytes and for the fields that they are likely to have. While a store grows, it takes half as
-// much memory again.
-fn empty_store(alloc: Global, bytes: &[u8]) -> Result<Fields, CsvRefused>
-    ensures empty { IfOk result (λ store. store ≡ []) }
-    ensures refused { IfErr result (λ e. e ≡ CsvRefused.NoMemory) }
-{
-    let Ok(store) = Fields::with_capacity(alloc, bytes.len(), likely_fields(bytes)) else {
-        return Err(CsvRefused::NoMemory);
-    };
-    Ok(store)
 }
 
 // Returns a sixteenth more than the number of fields that there are if the rest of the bytes is as their beginning, but no
@@ -227,9 +216,7 @@ fn add_fields(store: &mut Fields, row: &ByteRecord, number: u64) -> Result<(), C
                 field: i as u64 + 1,
             });
         };
-        if store.push(text).is_err() {
-            return Err(CsvRefused::NoMemory);
-        }
+        store.push(text)?;
     }
     Ok(())
 }

@@ -53,6 +53,36 @@ pub enum QueryRefused {
     NoMemory,
 }
 
+impl From<NoMemory> for CsvRefused {
+    ghost use Rattle.lake_model.specs.declared.CsvRefused.TheVariants as refused;
+
+    ghost from_gives = { λ _ e. e ≡ refused.NoMemory };
+
+    fn from(_error: NoMemory) -> CsvRefused {
+        CsvRefused::NoMemory
+    }
+}
+
+impl From<NoMemory> for SetRefused {
+    ghost use Rattle.lake_model.specs.declared.SetRefused.TheVariants as refused;
+
+    ghost from_gives = { λ _ e. e ≡ refused.NoMemory };
+
+    fn from(_error: NoMemory) -> SetRefused {
+        SetRefused::NoMemory
+    }
+}
+
+impl From<NoMemory> for QueryRefused {
+    ghost use Rattle.lake_model.specs.declared.QueryRefused.TheVariants as refused;
+
+    ghost from_gives = { λ _ e. e ≡ refused.NoMemory };
+
+    fn from(_error: NoMemory) -> QueryRefused {
+        QueryRefused::NoMemory
+    }
+}
+
 /// Who made an entry of the journal. The caller is a lane, 1 to 16, or 0 for the merger; the command is the number of
 /// the caller's command.
 #[derive(Clone, Copy, Debug, PartialEq, Eq)]

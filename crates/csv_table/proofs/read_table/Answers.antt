@@ -14,7 +14,7 @@ loop-records-init c =
     let found : c.in_ok-read_next.field-0 ≡ true = c.if-not-branch.false in
     let more = c.in_ok-read_next.ensures.more found in
     let header = c.in_ok-columns.ensures in
-    let flat = rw c.in_ok-store.ensures.empty at header.added in
+    let flat = rw c.in_ok-store.ensures at header.added in
     record {
       reading = more.0;
       narrow = omega (arith, header.ok.1, c.requires.high);

@@ -48,11 +48,10 @@ loop-number-preserved c =
     let line = c.next_line.result.0.now in
     let rest = all_lines c.next_line.result.1.now in
     let good : is_utf8 line ≡ true = is_utf8-from_IsUtf8 _ c.in-Ok.ensures.cases.1 in
-    let passed = sym c.is_err.ensures.value ∙ c.if-is_err.false in
     let seen = c.loop-number.lists.current in
-    let added = ok_then c.add.result passed c.add.ensures.added ∙ ap (λ value. option_map_or (add_key seen) (key c.args.keys value) seen) c.in-Ok.ensures.cases.0 in
+    let added = c.in_ok-add.ensures.added ∙ ap (λ value. option_map_or (add_key seen) (key c.args.keys value) seen) c.in-Ok.ensures.cases.0 in
     record {
-      none = ok_then c.add.result passed c.add.ensures.finished ∙ c.loop-number.invariant.none;
+      none = c.in_ok-add.ensures.finished ∙ c.loop-number.invariant.none;
       keys = c.loop-number.invariant.keys ∙ ap (λ (lines : List Text). fold add_key seen (filter_map (key c.args.keys) lines)) c.next_line.ensures ∙ fold-next (key c.args.keys) line rest seen
           ∙ ap (λ (keys : List Text). fold add_key keys (filter_map (key c.args.keys) rest)) (sym added);
       fault = c.loop-number.invariant.fault ∙ ap (line_fault c.loop-number.number) c.next_line.ensures ∙ line_fault-text c.loop-number.number line rest good;
