@@ -8,7 +8,12 @@ use crate::lock::HistoryLock;
 use crate::plays::{Commit, Meeting, Peek, Release, Take};
 use crate::view::View;
 use atomic_table::Seat;
+use std::hint;
 use std::sync::Wait;
+
+/// How often a caller looks at a lock that is held before it sleeps. A turn is over after a microsecond or two, which is the
+/// time of about this many looks; to sleep and to be woken takes many times as long.
+const LOOKS: u32 = 1_000;
 
 /// A seat of the lock's table.
 pub(crate) type LockSeat<V> = Seat<Option<V>, View<<V as Kept>::Entry>>;
@@ -22,7 +27,7 @@ impl<V: Kept> HistoryLock<V> {
         ensures won { HasWon V.list V.caller_of seat.old.me.0 result seat.new.me }
     {
         for _ in rt.forever() {
-            let found = self.table.shared.peek(0);
+            let found = self.look();
             if found % 2 == 1 {
                 self.table.shared.park(rt, 0, (found % (1 << 32)) as u32);
             } else if let Some(value) = self.try_take(seat, found) {
@@ -30,6 +35,18 @@ impl<V: Kept> HistoryLock<V> {
             }
         }
         unreachable!()
+    }
+
+    // Returns the word as soon as it shows that the lock is free, or, after a while, even if it does not.
+    fn look(&self) -> u64 {
+        for _ in 0..LOOKS {
+            let found = self.table.shared.peek(0);
+            if found % 2 == 0 {
+                return found;
+            }
+            hint::spin_loop();
+        }
+        self.table.shared.peek(0)
     }
 
     // Takes the lock and the value, if the word is still the even one that was found.
