@@ -47,8 +47,11 @@ fn spared(
     ensures { result ≡ spared (lengths_of (segment_at looks.now.version.parts part) tokens.now) read threshold estimate }
 {
     let lists = tokens.len() as u32;
+    // No other list is spared: more lists are left before these than the estimate, and fewer behind them than the threshold.
+    let first = read.max(lists.saturating_sub(estimate));
+    let end = lists.saturating_sub(threshold.saturating_sub(1));
     let mut sum = 0;
-    for place in read..lists {
+    for place in first..end {
         let length = length_of(looks, part, tokens[place as usize]);
         sum += spared_cost(length, lists - place, threshold, estimate);
     }
