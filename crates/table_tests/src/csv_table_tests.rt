@@ -1,5 +1,5 @@
 //! What bytes are read as and what they are refused for, on a few files whose answers were worked out by hand.
-use crate::{CsvRefused, RawTable, read_table};
+use csv_table::{CsvRefused, RawTable, read_table};
 use std::alloc::{AllocError, Global};
 use std::test::Fail;
 
@@ -20,34 +20,44 @@ fn commas(alloc: Global, count: u32) -> Result<Vec<u8>, AllocError> {
     Ok(line)
 }
 
+// Returns the table of these bytes, which has at most 1,024 columns.
+fn read(alloc: Global, bytes: &[u8]) -> Result<RawTable, Fail> {
+    Ok(read_table(alloc, bytes, 1_024)?)
+}
+
+// Returns a field, or `None` beyond the last row or column.
+fn field(table: &RawTable, row: u64, place: u32) -> Option<&str> {
+    if row > table.rows() || place == 0 || place > table.columns() {
+        return None;
+    }
+    Some(table.field(row, place))
+}
+
 #[test]
 fn fields_of_plain_rows(rt: HostRuntime) -> Result<(), Fail> {
-    let table = read_table(
-        rt.alloc(),
-        b"id,city\n1,Rome\n\n2,\"Oslo, \"\"N\"\"\"",
-        1_024,
-    )?;
-    assert!(rt; table.columns() == 2 && table.rows() == 2);
-    assert_eq!(rt; table.field(0, 1), "id");
-    assert_eq!(rt; table.field(0, 2), "city");
-    assert_eq!(rt; table.field(1, 2), "Rome");
-    assert_eq!(rt; table.field(2, 1), "2");
-    assert_eq!(rt; table.field(2, 2), "Oslo, \"N\"");
+    let table = read(rt.alloc(), b"id,city\n1,Rome\n\n2,\"Oslo, \"\"N\"\"\"")?;
+    assert_eq!(rt; (table.columns(), table.rows()), (2, 2));
+    for (row, place, want) in [
+        (0, 1, "id"),
+        (0, 2, "city"),
+        (1, 2, "Rome"),
+        (2, 1, "2"),
+        (2, 2, "Oslo, \"N\""),
+    ] {
+        assert_eq!(rt; field(&table, row, place), Some(want));
+    }
     Ok(())
 }
 
 // One byte order mark, lines that end in CR LF, and a line break within quotes, which is kept as it stands.
 #[test]
 fn mark_and_line_breaks(rt: HostRuntime) -> Result<(), Fail> {
-    let table = read_table(
-        rt.alloc(),
-        b"\xEF\xBB\xBFa,b\r\n\"x, y\",\"New\r\nYork\"\r\n",
-        1_024,
-    )?;
-    assert!(rt; table.columns() == 2 && table.rows() == 1);
-    assert_eq!(rt; table.field(0, 1), "a");
-    assert_eq!(rt; table.field(1, 1), "x, y");
-    assert_eq!(rt; table.field(1, 2), "New\r\nYork");
+    let bytes = b"\xEF\xBB\xBFa,b\r\n\"x, y\",\"New\r\nYork\"\r\n";
+    let table = read(rt.alloc(), bytes)?;
+    assert_eq!(rt; (table.columns(), table.rows()), (2, 1));
+    for (row, place, want) in [(0, 1, "a"), (1, 1, "x, y"), (1, 2, "New\r\nYork")] {
+        assert_eq!(rt; field(&table, row, place), Some(want));
+    }
     Ok(())
 }
 
@@ -104,8 +114,8 @@ fn width(rt: HostRuntime) -> Result<(), Fail> {
     for most in [2, 1_024, 4_096] {
         let widest = commas(rt.alloc(), most - 1)?;
         let table = read_table(rt.alloc(), widest.as_slice(), most)?;
-        assert!(rt; table.columns() == most && table.rows() == 0);
-        assert_eq!(rt; table.field(0, most), "");
+        assert_eq!(rt; (table.columns(), table.rows()), (most, 0));
+        assert_eq!(rt; field(&table, 0, most), Some(""));
         let wider = commas(rt.alloc(), most)?;
         assert_eq!(rt;
             refusal(read_table(rt.alloc(), wider.as_slice(), most)),

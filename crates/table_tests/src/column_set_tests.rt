@@ -1,7 +1,11 @@
-use crate::slots::hash_key;
-use crate::{Keys, Name, QueryRefused, QuerySet, Row, Rows, SharedTable, TableSets};
+//! Names, tables, queries and rows that were worked out by hand, and keys that were chosen to collide.
+ghost use Rattle.std.specs.Prelude.{◌<◌, ◌≤◌, length};
+ghost use Rattle.std.specs.Bool.{OnTrue};
+
+use column_set::{Keys, Name, QueryRefused, QuerySet, Row, Rows, SharedTable, TableSets};
 use csv_table::read_table;
 use std::alloc::Global;
+use std::hash::{FoldHasher, Hasher};
 use std::test::Fail;
 
 // Returns the table with this name and these CSV bytes.
@@ -14,6 +18,38 @@ fn table(alloc: Global, name: &[u8], bytes: &[u8]) -> Result<TableSets, Fail> {
         return Err(Fail::from("no sets"));
     };
     Ok(table)
+}
+
+// Returns whether the table has a column at the place.
+fn has_column(table: &TableSets, place: u32) -> bool
+    ensures low { OnTrue result (0 < place) }
+    ensures high { OnTrue result (place ≤ length table.now.columns) }
+{
+    place > 0 && place <= table.columns()
+}
+
+// Returns the number of keys of the column at a place.
+fn size(table: &TableSets, place: u32) -> Option<u32> {
+    if !has_column(table, place) {
+        return None;
+    }
+    Some(table.size(place))
+}
+
+// Returns a key of the column at a place, or the empty text beyond its last key.
+fn key(table: &TableSets, place: u32, i: u32) -> Option<&str> {
+    if !has_column(table, place) {
+        return None;
+    }
+    Some(table.key(place, i))
+}
+
+// Returns how many keys of a query are in the column at a place.
+fn overlap(table: &TableSets, place: u32, asked: &QuerySet) -> Option<u32> {
+    if !has_column(table, place) {
+        return None;
+    }
+    Some(table.overlap(place, asked))
 }
 
 // A name is not empty, and has no space, no control character and no byte beyond ASCII.
@@ -39,16 +75,12 @@ fn shared_values(rt: HostRuntime) -> Result<(), Fail> {
     let alloc = rt.alloc();
     let cities = table(alloc, b"t1", b"id,city\n1,Rome\n2,Oslo\n")?;
     let asked = query(alloc, b"rome\nOSLO\nParis")?;
-    assert_eq!(rt; cities.columns(), 2);
-    assert_eq!(rt;
-        (cities.members(), cities.key_bytes(), asked.len()),
-        (4, 10, 3)
-    );
-    assert_eq!(rt;
-        (cities.overlap(1, &asked), cities.overlap(2, &asked)),
-        (0, 2)
-    );
-    assert!(rt; cities.key(2, 1) == "oslo" && cities.key(2, 2) == "");
+    assert_eq!(rt; (cities.columns(), cities.members()), (2, 4));
+    assert_eq!(rt; (cities.key_bytes(), asked.len()), (10, 3));
+    assert_eq!(rt; overlap(&cities, 1, &asked), Some(0));
+    assert_eq!(rt; overlap(&cities, 2, &asked), Some(2));
+    assert_eq!(rt; key(&cities, 2, 1), Some("oslo"));
+    assert_eq!(rt; key(&cities, 2, 2), Some(""));
     Ok(())
 }
 
@@ -59,7 +91,7 @@ fn column_asked(rt: HostRuntime) -> Result<(), Fail> {
     let cities = table(alloc, b"t1", b"id,city\n1,Rome\n2,Oslo\n3,Bern\n")?;
     assert_eq!(rt; cities.columns(), 2);
     let asked = QuerySet::of_column(alloc, &cities, 2)?;
-    assert_eq!(rt; (asked.len(), cities.overlap(2, &asked)), (3, 3));
+    assert_eq!(rt; (asked.len(), overlap(&cities, 2, &asked)), (3, Some(3)));
     assert!(rt; asked.has("bern") && !asked.has("1"));
     Ok(())
 }
@@ -88,11 +120,16 @@ fn odd_columns(rt: HostRuntime) -> Result<(), Fail> {
 fn keys_in_turn(rt: HostRuntime) -> Result<(), Fail> {
     let body = "a,b\nA long value,E\u{301}x\nOx,\u{C9}x\n \u{A0},oX\noX,a LONG value\n";
     let mixed = table(rt.alloc(), b"mixed", body.as_bytes())?;
-    assert_eq!(rt; mixed.columns(), 2);
-    assert_eq!(rt; (mixed.size(1), mixed.size(2)), (2, 3));
-    assert!(rt; mixed.key(1, 0) == "a long value" && mixed.key(1, 1) == "ox");
-    assert!(rt; mixed.key(2, 0) == "e\u{301}x" && mixed.key(2, 1) == "ox");
-    assert!(rt; mixed.key(2, 2) == "a long value");
+    assert_eq!(rt; (size(&mixed, 1), size(&mixed, 2)), (Some(2), Some(3)));
+    for (place, i, want) in [
+        (1, 0, "a long value"),
+        (1, 1, "ox"),
+        (2, 0, "e\u{301}x"),
+        (2, 1, "ox"),
+        (2, 2, "a long value"),
+    ] {
+        assert_eq!(rt; key(&mixed, place, i), Some(want));
+    }
     Ok(())
 }
 
@@ -151,10 +188,7 @@ fn shared_by(alloc: Global, keys: Keys) -> Result<u32, Fail> {
     let Ok(asked) = QuerySet::read(alloc, keys, b"1\na\n") else {
         return Err(Fail::from("no query"));
     };
-    if table.columns() != 1 {
-        return Err(Fail::from("another width"));
-    }
-    Ok(table.overlap(1, &asked))
+    Ok(overlap(&table, 1, &asked).ok_or("no column")?)
 }
 
 // Values that only compatibility matching makes equal share a key only with keys of that kind.
@@ -169,6 +203,13 @@ fn kinds_of_keys(rt: HostRuntime) -> Result<(), Fail> {
 // the first sixteen bytes of these keys equals the next eight bytes, read as a little-endian number. The xor of the two
 // is a factor of the hash, so the hash is 0 whatever the last eight bytes are.
 const COLLIDING: &str = "joinablekewcbluzeevfwjbx";
+
+// Returns the hash of a key by the hasher that queries and tables use.
+fn hash_of(key: &str) -> u64 {
+    let mut hasher = FoldHasher::default();
+    hasher.write(key.as_bytes());
+    hasher.finish()
+}
 
 // Returns one line for each of `count` keys that share a hash, each with this end, and then the same lines again.
 fn colliding_lines(alloc: Global, count: u32, end: &str) -> Result<String, Fail> {
@@ -185,7 +226,7 @@ fn colliding_lines(alloc: Global, count: u32, end: &str) -> Result<String, Fail>
 #[test]
 fn colliding_query(rt: HostRuntime) -> Result<(), Fail> {
     let alloc = rt.alloc();
-    assert_eq!(rt; hash_key("joinablekewcbluzeevfwjbx00000007"), 0);
+    assert_eq!(rt; hash_of("joinablekewcbluzeevfwjbx00000007"), 0);
     let lines = colliding_lines(alloc, 300, "")?;
     let asked = query(alloc, lines.as_str().as_bytes())?;
     assert_eq!(rt; asked.len(), 300);
@@ -209,16 +250,17 @@ fn colliding_column(rt: HostRuntime) -> Result<(), Fail> {
     text.push_str(colliding_lines(alloc, 300, ",Rome")?.as_str())?;
     let flooded = table(alloc, b"flooded", text.as_str().as_bytes())?;
     assert_eq!(rt; flooded.columns(), 2);
-    assert_eq!(rt; (flooded.size(1), flooded.size(2)), (300, 1));
-    assert_eq!(rt; (flooded.members(), flooded.key_bytes()), (301, 9_604));
-    assert!(rt; flooded.key(2, 0) == "rome");
-    let asked = QuerySet::of_column(alloc, &flooded, 1)?;
     assert_eq!(rt;
-        (flooded.overlap(1, &asked), flooded.overlap(2, &asked)),
-        (300, 0)
+        (size(&flooded, 1), size(&flooded, 2)),
+        (Some(300), Some(1))
     );
+    assert_eq!(rt; (flooded.members(), flooded.key_bytes()), (301, 9_604));
+    assert_eq!(rt; key(&flooded, 2, 0), Some("rome"));
+    let asked = QuerySet::of_column(alloc, &flooded, 1)?;
+    assert_eq!(rt; overlap(&flooded, 1, &asked), Some(300));
+    assert_eq!(rt; overlap(&flooded, 2, &asked), Some(0));
     let lines = colliding_lines(alloc, 200, "")?;
     let fewer = query(alloc, lines.as_str().as_bytes())?;
-    assert_eq!(rt; flooded.overlap(1, &fewer), 200);
+    assert_eq!(rt; overlap(&flooded, 1, &fewer), Some(200));
     Ok(())
 }
