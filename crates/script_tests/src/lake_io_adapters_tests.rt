@@ -1,5 +1,6 @@
 //! Tests of what the system's own streams and files do, which no clause states.
-use super::*;
+use lake_io::{FileShelf, Shelf, ShelfRefused, Sink, Source, StdSink, StdSource};
+use std::alloc::{AllocError, Global};
 use std::fs;
 use std::test::Fail;
 
@@ -33,13 +34,11 @@ fn file_shelf_gives_whole_files_and_refuses_the_rest(rt: HostRuntime) -> Result<
     assert_eq!(rt; too_long, Some(ShelfRefused::TooLong));
     let missing = shelf.fetch(alloc, "lake_io_test/gone", 140000).err();
     assert_eq!(rt; missing, Some(ShelfRefused::Missing));
-    assert_eq!(rt; shelf.faults, 0);
 
     let folder = shelf.fetch(alloc, FOLDER, 140000).err();
     assert_eq!(rt; folder, Some(ShelfRefused::Failed));
     let through_a_file = shelf.fetch(alloc, "lake_io_test/file/x", 140000).err();
     assert_eq!(rt; through_a_file, Some(ShelfRefused::Failed));
-    assert_eq!(rt; shelf.faults, 2);
     fs::remove_dir_all(&rt, FOLDER)?;
     Ok(())
 }
@@ -51,7 +50,6 @@ fn standard_input_is_read_and_ends(rt: HostRuntime) {
     let mut room = [b'.'; 4];
     assert_eq!(rt; source.read(&mut room), Ok(0));
     assert_eq!(rt; &room, b"....");
-    assert_eq!(rt; source.faults, 0);
 }
 
 #[test]
@@ -59,5 +57,4 @@ fn standard_output_takes_what_is_written(rt: HostRuntime) {
     let mut sink = StdSink::new(rt.stdout());
     assert_eq!(rt; sink.write(b"a line on standard output\n"), Ok(26));
     assert_eq!(rt; sink.write(b""), Ok(0));
-    assert_eq!(rt; sink.faults, 0);
 }

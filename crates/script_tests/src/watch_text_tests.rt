@@ -1,5 +1,4 @@
 //! The text of worked runs, byte for byte. All columns are named c.
-use crate::{push_end, tell_entries};
 use catalogue::{Entry, Who};
 use column_set::{Keys, Name, QuerySet, SharedTable, TableSets};
 use column_watch::Watches;
@@ -8,6 +7,7 @@ use segment_core::Numbers;
 use std::alloc::Global;
 use std::process::Abort;
 use std::test::Fail;
+use watch_text::{push_end, tell_entries};
 
 const WHO: Who = Who {
     caller: 1,

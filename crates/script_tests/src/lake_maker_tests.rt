@@ -1,6 +1,6 @@
 //! A small lake, and the summary of an empty record.
-use crate::{made_batch, write_summary};
 use commands::Task;
+use lake_maker::{made_batch, write_summary};
 use run_record::RunRecord;
 use std::test::Fail;
 

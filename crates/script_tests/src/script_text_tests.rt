@@ -1,7 +1,7 @@
 //! Worked scripts, with what the rules give for each by hand.
 
-use super::*;
 use lake_io::{MemoryShelf, MemorySource};
+use script_text::{Batch, FileBody, Gather, ScriptEnd, ScriptLimits, Task};
 use std::alloc::{AllocError, Global};
 use std::str;
 use std::test::Fail;

@@ -1,6 +1,6 @@
 //! Tests of what no clause states: that the calls succeed while there is enough memory, on small runs worked out by
 //! hand.
-use super::*;
+use lake_io::{Failed, MemoryShelf, MemorySink, MemorySource, Shelf, ShelfRefused, Sink, Source};
 use std::test::Fail;
 
 #[test]

@@ -1,11 +1,11 @@
 //! The text of each reply, byte for byte.
-use crate::{Answered, By, Reply, RunRecord, write_replies};
 use catalogue::Entry;
 use column_set::{KeptRow, KeptRows, Keys, Name, Row, SharedTable, TableSets, Titles};
 use commands::{Options, Order};
 use csv_table::read_table;
 use lake_model::{Which, Who};
 use no_memory::NoMemory;
+use reply_text::{Answered, By, Reply, RunRecord, write_replies};
 use segment_core::{Layout, Numbers, Places, TableLines};
 use std::alloc::Global;
 use std::process::Abort;

@@ -1,5 +1,5 @@
 //! Words that are read and words that are refused.
-use super::{Mode, WordsRefused, read_words};
+use command_line::{Mode, WordsRefused, read_words};
 use commands::Options;
 use lake_model::Keys;
 use std::alloc::Global;
