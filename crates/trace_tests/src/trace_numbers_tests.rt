@@ -2,13 +2,13 @@
 ghost use Rattle.std.specs.Prelude.{IfOk};
 ghost use Rattle.script_model.specs.Lanes.{IsOfLanes};
 
-use crate::{Plan, Turn, find_owners, plans_of, turns_of};
 use column_set::Name;
 use commands::{Batch, Command, Task};
 use std::alloc::Global;
 use std::process::Abort;
 use std::test::Fail;
 use trace_hints::Hint;
+use trace_numbers::{Plan, Turn, find_owners, plans_of, turns_of};
 
 // Makes a batch in which each of these lanes, which are 1 and 2, drops a table.
 fn drops(alloc: Global, lanes: &[u32]) -> Result<Batch, Fail>

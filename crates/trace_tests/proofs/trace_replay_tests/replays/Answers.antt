@@ -8,7 +8,7 @@ use Rattle.trace_hints.specs.Told.{hint_as}
 use Rattle.trace_numbers.specs.Positions.{numbers_pass}
 use Rattle.trace_ends.specs.Within.{ArePositions, PositionsWithin}
 use Rattle.batch_work.specs.Works.{works_of}
-use Rattle.trace_replay.proofs.tests.replays.Goals as goal
+use Rattle.trace_tests.proofs.trace_replay_tests.replays.Goals as goal
 
 -- for one batch without a merger
 positions_of : PositionsWithin → (batch : Batch) (batches : List Batch) (commands : List Command) (told hints : List Hint) (passed : Bool) → batches ≡ batch ∷ [] → IsOfLanes 2 batch → commands ≡ batch ++ []

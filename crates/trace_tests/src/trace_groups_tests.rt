@@ -1,8 +1,8 @@
 //! Tests of the groups of traces as a run writes them, and of texts that are not traces.
-use crate::cut_trace;
 use std::alloc::Global;
 use std::process::Abort;
 use std::test::Fail;
+use trace_groups::cut_trace;
 use trace_hints::Hint;
 
 const TRACE: &str =

@@ -1,15 +1,14 @@
 //! Tests with traces of small runs, written by hand, and with one thing changed.
-ghost use Rattle.std.specs.Prelude.{◌≡◌, ◌≤◌, IfOk, true};
+ghost use Rattle.std.specs.Prelude.{◌≡◌, IfOk};
 ghost use Rattle.script_model.specs.Lanes.{IsOfLanes};
-ghost use Rattle.commands.specs.Tasks.{IsTaskInRange};
 
-use crate::Checker;
+use crate::making::{load, search};
 use catalogue::Limits;
-use column_set::Name;
-use commands::{Batch, Body, Command, Options, Task};
+use commands::{Batch, Options};
 use lake_model::Keys;
 use std::alloc::Global;
 use std::test::Fail;
+use trace_check::Checker;
 
 // Makes a checker of traced runs on two lanes, with or without a merger.
 fn checker(alloc: Global, merge: bool) -> Checker
@@ -49,44 +48,6 @@ fn judge_two(
     checker.add(first)?;
     checker.add(second)?;
     Ok(checker.verdict(trace.as_bytes())?)
-}
-
-// Makes a command.
-fn command(number: u64, lane: u32, task: Task) -> Command
-    requires lane { 1 ≤ lane }
-    requires task { IsTaskInRange task }
-    ensures { result.lane ≡ lane }
-{
-    Command { number, lane, task }
-}
-
-// Makes a body of these bytes.
-fn body(alloc: Global, text: &str) -> Result<Body, Fail> {
-    Ok(Body::new(Vec::from_slice(alloc, text.as_bytes())?).ok_or("no body")?)
-}
-
-// Makes the load of a table of one column with the value x.
-fn load(alloc: Global, number: u64, lane: u32, table: &str) -> Result<Command, Fail>
-    requires { 1 ≤ lane }
-    ensures { IfOk result (λ command. command.lane ≡ lane) }
-{
-    let task = Task::Load {
-        name: Name::read(table.as_bytes()).ok_or("no name")?,
-        body: body(alloc, "c\nx\n")?,
-    };
-    Ok(command(number, lane, task))
-}
-
-// Makes a search for that value.
-fn search(alloc: Global, number: u64, lane: u32) -> Result<Command, Fail>
-    requires { 1 ≤ lane }
-    ensures { IfOk result (λ command. command.lane ≡ lane) }
-{
-    let task = Task::Search {
-        k: 9,
-        body: body(alloc, "x\n")?,
-    };
-    Ok(command(number, lane, task))
 }
 
 // Makes a batch of a load and a search, both on lane 1.

@@ -1,8 +1,8 @@
 //! Tests of the hints of lines as a run writes them, and of the last positions of two lanes.
-use crate::{Hint, hint_of_lines, one_more};
 use std::alloc::Global;
 use std::process::Abort;
 use std::test::Fail;
+use trace_hints::{Hint, hint_of_lines, one_more};
 
 // Checks the hint that two lines give.
 fn tells(

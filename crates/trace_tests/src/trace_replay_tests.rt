@@ -1,60 +1,18 @@
 //! Tests with traces of small runs, like those in the checks of the repository, unchanged and with one thing changed.
-ghost use Rattle.std.specs.Prelude.{◌≡◌, ◌≤◌, IfOk};
+ghost use Rattle.std.specs.Prelude.{IfOk};
 ghost use Rattle.script_model.specs.Lanes.{IsOfLanes};
-ghost use Rattle.commands.specs.Tasks.{IsTaskInRange};
 
-use crate::{hints_of, replay};
+use crate::making::{body, command, load, name, search};
 use batch_work::works_of;
 use catalogue::Limits;
-use column_set::Name;
-use commands::{Batch, Body, Command, Task};
+use commands::{Batch, Task};
 use lake_model::Keys;
 use std::alloc::Global;
 use std::test::Fail;
 use trace_ends::within_law;
 use trace_groups::cut_trace;
 use trace_numbers::find_owners;
-
-// Reads a text as a name.
-fn name(text: &str) -> Result<Name, Fail> {
-    Ok(Name::read(text.as_bytes()).ok_or("no name")?)
-}
-
-// Makes a body of these bytes.
-fn body(alloc: Global, text: &str) -> Result<Body, Fail> {
-    Ok(Body::new(Vec::from_slice(alloc, text.as_bytes())?).ok_or("no body")?)
-}
-
-// Makes a command.
-fn command(number: u64, lane: u32, task: Task) -> Command
-    requires lane { 1 ≤ lane }
-    requires task { IsTaskInRange task }
-    ensures { result.lane ≡ lane }
-{
-    Command { number, lane, task }
-}
-
-// Makes the load of a table of one column with the key x, on lane 1.
-fn load(alloc: Global, number: u64, table: &str) -> Result<Command, Fail>
-    ensures { IfOk result (λ command. command.lane ≡ 1) }
-{
-    let task = Task::Load {
-        name: name(table)?,
-        body: body(alloc, "c\nx\n")?,
-    };
-    Ok(command(number, 1, task))
-}
-
-// Makes a search for that key, on lane 1.
-fn search(alloc: Global, number: u64) -> Result<Command, Fail>
-    ensures { IfOk result (λ command. command.lane ≡ 1) }
-{
-    let task = Task::Search {
-        k: 9,
-        body: body(alloc, "x\n")?,
-    };
-    Ok(command(number, 1, task))
-}
+use trace_replay::{hints_of, replay};
 
 // Makes a batch in which lane 1 loads two tables, searches them and drops the first.
 fn drops(alloc: Global) -> Result<Batch, Fail>
@@ -62,9 +20,9 @@ fn drops(alloc: Global) -> Result<Batch, Fail>
 {
     let task = Task::Drop { name: name("a")? };
     let commands = [
-        load(alloc, 1, "a")?,
-        load(alloc, 2, "b")?,
-        search(alloc, 3)?,
+        load(alloc, 1, 1, "a")?,
+        load(alloc, 2, 1, "b")?,
+        search(alloc, 3, 1)?,
         command(4, 1, task),
     ];
     Ok(Batch::new(Vec::from_array(alloc, commands)?))
@@ -79,11 +37,11 @@ fn merges(alloc: Global) -> Result<Batch, Fail>
         body: body(alloc, "c\ny\n")?,
     };
     let commands = [
-        load(alloc, 1, "a")?,
-        load(alloc, 2, "b")?,
+        load(alloc, 1, 1, "a")?,
+        load(alloc, 2, 1, "b")?,
         command(3, 1, Task::Merge { all: true }),
         command(4, 2, task),
-        search(alloc, 5)?,
+        search(alloc, 5, 1)?,
     ];
     Ok(Batch::new(Vec::from_array(alloc, commands)?))
 }
@@ -144,7 +102,7 @@ fn another_number_in_an_answer(rt: HostRuntime) -> Result<(), Fail> {
 #[test]
 fn an_answer_of_another_position(rt: HostRuntime) -> Result<(), Fail> {
     let alloc = rt.alloc();
-    let commands = [load(alloc, 1, "a")?, command(2, 2, Task::Tables)];
+    let commands = [load(alloc, 1, 1, "a")?, command(2, 2, Task::Tables)];
     let batch = Batch::new(Vec::from_array(alloc, commands)?);
     let journal = "journal 1\n  1 load lane 1 command 1 a\n";
     let listed = "2 tables 1 at 1\n  a columns 1 members 1\n";
