@@ -2,10 +2,10 @@
 //! gets its turn.
 ghost use Rattle.std.specs.Prelude.{◌≡◌, ◌∷◌, [], IfOk};
 
-use crate::{Bounds, Lake};
 use catalogue::{Limits, ReplaceRefused, What};
 use column_set::{Keys, Name, SharedTable, TableSets};
 use csv_table::read_table;
+use lake::{Bounds, Lake};
 use segment_build::build;
 use segment_core::Segment;
 use std::alloc::Global;

@@ -5,50 +5,19 @@ ghost use Rattle.script_model.specs.Lanes.{IsOfLanes};
 ghost use Rattle.record_model.specs.Record.{empty};
 ghost use Rattle.lake_model.specs.declared.Keys.TheVariants.{Canonical};
 ghost use Rattle.script_model.specs.Options.{options_with};
-ghost use Rattle.commands.specs.Tasks.{IsTaskInRange};
 
-use crate::{Standard, answer_batch, open_desks};
+use crate::making::{body, command, load, name};
 use catalogue::Limits;
-use column_set::{Keys, Name};
-use commands::{Batch, Body, Command, FileBody, Options, Task};
+use column_set::Keys;
+use commands::{Batch, FileBody, Options, Task};
 use lake::Lake;
+use lake_desk::{Standard, answer_batch, open_desks};
 use lake_io::NoGate;
 use run_record::{Reply, RunRecord};
 use std::alloc::Global;
 use std::sync::Wait;
 use std::test::Fail;
 use std::thread::Threads;
-
-// Reads a text as a name.
-pub(crate) fn name(text: &str) -> Result<Name, Fail> {
-    Ok(Name::read(text.as_bytes()).ok_or("no name")?)
-}
-
-// Makes a body of these bytes.
-pub(crate) fn body(alloc: Global, text: &str) -> Result<Body, Fail> {
-    Ok(Body::new(Vec::from_slice(alloc, text.as_bytes())?).ok_or("no body")?)
-}
-
-// Makes a command.
-pub(crate) fn command(number: u64, lane: u32, task: Task) -> Command
-    requires lane { 1 ≤ lane }
-    requires task { IsTaskInRange task }
-    ensures { result.lane ≡ lane }
-{
-    Command { number, lane, task }
-}
-
-// Makes the load of a table of one column with one key.
-fn load(alloc: Global, number: u64, lane: u32, table: &str) -> Result<Command, Fail>
-    requires { 1 ≤ lane }
-    ensures { IfOk result (λ command. command.lane ≡ lane) }
-{
-    let task = Task::Load {
-        name: name(table)?,
-        body: body(alloc, "c\nx\n")?,
-    };
-    Ok(command(number, lane, task))
-}
 
 // Makes a batch in which lane 1 loads two tables, asks for the live ones, for columns like one of them and for what was
 // live after the first load, drops a table that does not exist, loads a file that does not exist, and merges.
@@ -70,8 +39,8 @@ fn one_of_each(alloc: Global) -> Result<Batch, Fail>
         file: FileBody::Missing,
     };
     let commands = [
-        load(alloc, 1, 1, "a")?,
-        load(alloc, 2, 1, "b")?,
+        load(alloc, 1, "a", "c\nx\n")?,
+        load(alloc, 2, "b", "c\nx\n")?,
         command(3, 1, Task::Tables),
         command(4, 1, like),
         command(5, 1, past),

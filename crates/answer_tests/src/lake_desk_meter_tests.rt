@@ -2,12 +2,12 @@
 //! each like, and nothing else.
 ghost use Rattle.std.specs.Prelude.{◌≡◌, ◌≤◌, IfOk};
 
-use crate::tests::{body, command, name};
-use crate::{LakeDesk, Standard};
+use crate::making::{CENSUS, STATIONS, WEATHER, body, command, like, load};
 use catalogue::Limits;
 use column_set::Keys;
 use commands::{Command, Task};
 use lake::{Lake, Pass};
+use lake_desk::{LakeDesk, Standard};
 use lake_io::NoGate;
 use lane_run::Desk;
 use run_record::{By, Reply};
@@ -15,36 +15,6 @@ use std::alloc::Global;
 use std::sync::Wait;
 use std::test::Fail;
 use std::thread::Threads;
-
-// Three tables: of weather stations, of the weather and of a census.
-const STATIONS: &str =
-    "\u{feff}station_id,city,country\r\n1,\"São Paulo, SP\",Brazil\r\n2,Zürich,Switzerland\r\n3,\"New\nYork\",USA\r\n";
-
-const WEATHER: &str = "place,temp\nZÜRICH,12\n\"São Paulo, SP\",25\nLima,18\n";
-
-const CENSUS: &str =
-    "City,Country,Pop\nzürich,switzerland,400000\nOslo,Norway,700000\n\"são paulo, sp\",Brazil,12000000\n";
-
-// Makes the load of a table with this text.
-fn load(alloc: Global, number: u64, table: &str, text: &str) -> Result<Command, Fail> {
-    let task = Task::Load {
-        name: name(table)?,
-        body: body(alloc, text)?,
-    };
-    Ok(command(number, 1, task))
-}
-
-// Makes the search for the columns that are most like the one at a place of a table.
-fn like(number: u64, table: &str, place: u32) -> Result<Command, Fail>
-    requires { 1 ≤ place }
-{
-    let task = Task::Like {
-        k: 10,
-        name: name(table)?,
-        place,
-    };
-    Ok(command(number, 1, task))
-}
 
 // Makes three tables, their merge, and a search that is decided by the rarest of four keys.
 fn one_list_decides(alloc: Global) -> Result<Vec<Command>, Fail> {

@@ -1,5 +1,5 @@
 use Rattle.std.proofs.Common.{◌≡◌}
-use Rattle.lake_desk.proofs.meter_tests.metered.Given as goal
+use Rattle.answer_tests.proofs.lake_desk_meter_tests.metered.Given as goal
 
 -- a desk stays at its lake
 abbrev pub invariant-loop-command : goal.invariant-loop-command

@@ -1,13 +1,13 @@
 //! Tests of lanes whose steps are taken in several orders, with merges among them.
 ghost use Rattle.std.specs.Prelude.{◌≡◌, ◌≤◌, ◌<◌, ◌^◌, IfOk};
 ghost use Rattle.script_model.specs.Lanes.{IsOfLanes};
-ghost use Rattle.commands.specs.Tasks.{IsTaskInRange};
 
-use super::drive;
+use crate::making::{body, command, load, name};
 use asof_search::Timeline;
 use catalogue::{Catalogue, Limits};
-use column_set::{Keys, Name};
-use commands::{Batch, Body, Command, Task};
+use column_set::Keys;
+use commands::{Batch, Command, Task};
+use lake_core::drive;
 use run_record::{Reply, RunRecord};
 use std::alloc::Global;
 use std::test::Fail;
@@ -44,34 +44,11 @@ fn kind_of(reply: &Reply) -> Kind {
     }
 }
 
-// Reads a text as a name.
-pub(crate) fn name(text: &str) -> Result<Name, Fail> {
-    Ok(Name::read(text.as_bytes()).ok_or("no name")?)
-}
-
-// Makes a body of these bytes.
-pub(crate) fn body(alloc: Global, text: &str) -> Result<Body, Fail> {
-    Ok(Body::new(Vec::from_slice(alloc, text.as_bytes())?).ok_or("no body")?)
-}
-
-// Makes a command.
-pub(crate) fn command(number: u64, lane: u32, task: Task) -> Command
-    requires lane { 1 ≤ lane }
-    requires task { IsTaskInRange task }
-    ensures { result.lane ≡ lane }
-{
-    Command { number, lane, task }
-}
-
 // Makes the load of a table of one column with one key, on lane 1.
-fn load(alloc: Global, number: u64, table: &str) -> Result<Command, Fail>
+fn load_x(alloc: Global, number: u64, table: &str) -> Result<Command, Fail>
     ensures { IfOk result (λ command. command.lane ≡ 1) }
 {
-    let task = Task::Load {
-        name: name(table)?,
-        body: body(alloc, "c\nx\n")?,
-    };
-    Ok(command(number, 1, task))
+    load(alloc, number, table, "c\nx\n")
 }
 
 // Makes a search for that key.
@@ -114,7 +91,7 @@ fn searches_of_the_past(alloc: Global) -> Result<Batch, Fail>
     ensures { IfOk result (λ batch. IsOfLanes 2 batch) }
 {
     let commands = [
-        load(alloc, 1, "a1")?,
+        load_x(alloc, 1, "a1")?,
         drop_table(2, 1, "a1")?,
         search_past(alloc, 3, 1)?,
         search_past(alloc, 4, 2)?,
@@ -127,8 +104,8 @@ fn searches(alloc: Global) -> Result<Batch, Fail>
     ensures { IfOk result (λ batch. IsOfLanes 2 batch) }
 {
     let commands = [
-        load(alloc, 1, "a1")?,
-        load(alloc, 2, "a2")?,
+        load_x(alloc, 1, "a1")?,
+        load_x(alloc, 2, "a2")?,
         drop_table(3, 2, "a2")?,
         search(alloc, 4, 2)?,
         search(alloc, 5, 1)?,
@@ -141,10 +118,10 @@ fn merges(alloc: Global) -> Result<Batch, Fail>
     ensures { IfOk result (λ batch. IsOfLanes 2 batch) }
 {
     let commands = [
-        load(alloc, 1, "a1")?,
-        load(alloc, 2, "a2")?,
-        load(alloc, 3, "a3")?,
-        load(alloc, 4, "a4")?,
+        load_x(alloc, 1, "a1")?,
+        load_x(alloc, 2, "a2")?,
+        load_x(alloc, 3, "a3")?,
+        load_x(alloc, 4, "a4")?,
         command(5, 1, Task::Merge { all: false }),
         command(6, 2, Task::Merge { all: false }),
     ];
@@ -156,10 +133,10 @@ fn updates(alloc: Global) -> Result<Batch, Fail>
     ensures { IfOk result (λ batch. IsOfLanes 2 batch) }
 {
     let commands = [
-        load(alloc, 1, "a1")?,
-        load(alloc, 2, "a2")?,
-        load(alloc, 3, "a3")?,
-        load(alloc, 4, "a4")?,
+        load_x(alloc, 1, "a1")?,
+        load_x(alloc, 2, "a2")?,
+        load_x(alloc, 3, "a3")?,
+        load_x(alloc, 4, "a4")?,
         drop_table(5, 1, "a1")?,
     ];
     Ok(Batch::new(Vec::from_array(alloc, commands)?))
