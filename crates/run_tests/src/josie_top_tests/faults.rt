@@ -1,7 +1,7 @@
 //! Runs over several batches in which each call of the source, of the sink and of the store fails in turn: the status,
 //! and what was written, are those of the table of statuses.
 use super::{SOUND, Streams, ends_with};
-use crate::Status;
+use josie_top::Status;
 use std::alloc::Global;
 use std::test::*;
 

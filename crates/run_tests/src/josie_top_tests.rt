@@ -1,5 +1,5 @@
 //! Runs over streams in memory, which work or fail.
-use super::{GivenWhy, Reason, RunRecord, Status, run};
+use josie_top::{GivenWhy, Reason, RunRecord, Status, run};
 use lake_io::{Gate, MemoryShelf, MemorySink, MemorySource, NoGate, Point};
 use std::alloc::Global;
 use std::sync::Wait;
