@@ -3,4 +3,3 @@ mod PutLemmas
 mod BlockLemmas
 mod TimelineLemmas
 mod TakeLemmas
-mod TestLemmas

@@ -10,6 +10,3 @@ mod timeline;
 
 pub use refusal::PastRefused;
 pub use timeline::{Timeline, past_law};
-
-#[cfg(test)]
-mod tests;

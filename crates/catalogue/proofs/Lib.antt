@@ -5,7 +5,6 @@ pub mod PutLemmas
 pub mod LoadLemmas
 pub mod DropLemmas
 pub mod ReplaceLemmas
-pub mod KeySegment
 pub mod ThereLemmas
 pub mod MarksLemmas
 pub mod SwapLemmas

@@ -17,6 +17,3 @@ pub use refusal::{DropRefused, LoadRefused, ReplaceRefused, SwapRefused};
 
 /// The limits of a lake: the most that its counts may be. `Limits::standard()` returns those of a lake as shipped.
 pub type Limits = Counts;
-
-#[cfg(test)]
-mod tests;

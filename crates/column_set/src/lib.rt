@@ -23,8 +23,3 @@ pub use query::QuerySet;
 pub use row::{KeptRow, KeptRows, Row, Rows};
 pub use table::{SharedTable, TableSets};
 pub use titles::Titles;
-
-#[cfg(test)]
-mod sorted_tests;
-#[cfg(test)]
-mod tests;

@@ -9,6 +9,3 @@ mod watched;
 mod watches;
 
 pub use watches::Watches;
-
-#[cfg(test)]
-mod tests;

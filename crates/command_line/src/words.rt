@@ -421,6 +421,3 @@ pub fn read_words(alloc: Global, words: &[String]) -> Result<Mode, WordsRefused>
         _ => Err(WordsRefused::Usage),
     }
 }
-
-#[cfg(test)]
-mod tests;

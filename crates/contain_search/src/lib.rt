@@ -11,6 +11,3 @@ mod probing;
 
 pub use contain::{PreparedContain, prepare_contain};
 pub use part_columns::Answer;
-
-#[cfg(test)]
-mod tests;

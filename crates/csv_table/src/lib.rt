@@ -226,6 +226,3 @@ fn add_fields(store: &mut Fields, row: &ByteRecord, number: u64) -> Result<(), C
 pub fn table_law()
     ensures { (most : ℕ) (rows : List Record) → (table_fault most rows ≡ None) ↔ IsTable most rows }
 {}
-
-#[cfg(test)]
-mod tests;

@@ -13,5 +13,4 @@ pub mod GoingLemmas
 pub mod LoopLemmas
 pub mod PartsLemmas
 pub mod SureLemmas
-pub mod LakeLemmas
 pub mod OfferLemmas

@@ -16,6 +16,3 @@ mod sure;
 
 pub use part_columns::Answer;
 pub use search::{Prepared, prepare};
-
-#[cfg(test)]
-mod tests;

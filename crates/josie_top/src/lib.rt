@@ -178,6 +178,3 @@ pub fn run<R: Threads + Wait + Sync, S: Source, K: Sink, F: Shelf, G: Gate + Syn
         Err(refused) => status_of_refused(refused),
     }
 }
-
-#[cfg(test)]
-mod tests;

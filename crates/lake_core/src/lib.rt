@@ -6,8 +6,3 @@ mod driving;
 mod lane;
 
 pub use driving::drive;
-
-#[cfg(test)]
-mod meter_tests;
-#[cfg(test)]
-mod tests;

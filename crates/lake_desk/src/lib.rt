@@ -13,8 +13,3 @@ mod opening;
 pub use batch::answer_batch;
 pub use desk::LakeDesk;
 pub use opening::{Standard, Wide, open_desks};
-
-#[cfg(test)]
-mod meter_tests;
-#[cfg(test)]
-mod tests;

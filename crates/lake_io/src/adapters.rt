@@ -263,6 +263,3 @@ impl<R: Files> Shelf for FileShelf<'_, R> {
         answer
     }
 }
-
-#[cfg(test)]
-mod tests;

@@ -20,8 +20,6 @@ mod adapters;
 mod memory_shelf;
 mod memory_sink;
 mod memory_source;
-#[cfg(test)]
-mod tests;
 
 pub use adapters::{FileShelf, StdSink, StdSource};
 pub use memory_shelf::MemoryShelf;

@@ -11,6 +11,3 @@ mod table;
 
 pub use batch::made_batch;
 pub use summary::write_summary;
-
-#[cfg(test)]
-mod tests;

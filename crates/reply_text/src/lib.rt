@@ -13,6 +13,3 @@ pub use journal::push_journal;
 pub use run_record::{Answered, By, Reply, RunRecord};
 pub use text::{push_rows, push_traced_answer, write_replies};
 pub use words::{Word, push_bytes, push_line, push_number};
-
-#[cfg(test)]
-mod tests;

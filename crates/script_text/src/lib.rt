@@ -19,6 +19,3 @@ pub use fetch::fetch_file;
 pub use gather::Gather;
 pub use refused::ScriptEnd;
 pub use script_model::{Reason, ScriptLimits};
-
-#[cfg(test)]
-mod tests;

@@ -4,4 +4,3 @@ pub mod AddLemmas
 pub mod HoldLemmas
 pub mod BuildLemmas
 pub mod StretchLemmas
-pub mod WorkedSegment

@@ -1,4 +1,3 @@
 pub mod Filling
 pub mod Inverse
 pub mod Holding
-pub mod Worked

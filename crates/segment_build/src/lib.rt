@@ -8,8 +8,3 @@ mod segment;
 
 pub use segment::build;
 pub use segment_core::Segment;
-
-#[cfg(test)]
-mod pin_tests;
-#[cfg(test)]
-mod tests;

@@ -6,6 +6,3 @@ mod order;
 mod title;
 
 pub use order::{TitleOrder, order_columns};
-
-#[cfg(test)]
-mod tests;

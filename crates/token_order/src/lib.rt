@@ -14,6 +14,3 @@ mod vocab;
 pub use places::member_count;
 pub use search_model::TokenAt;
 pub use vocab::{TokenLists, Vocab};
-
-#[cfg(test)]
-mod tests;

@@ -6,6 +6,3 @@ mod judging;
 mod works;
 
 pub use checker::Checker;
-
-#[cfg(test)]
-mod tests;

@@ -5,6 +5,3 @@ mod groups;
 mod lines;
 
 pub use groups::{Group, cut_trace};
-
-#[cfg(test)]
-mod tests;

@@ -7,6 +7,3 @@ mod lows;
 
 pub use hint::{Hint, hint_of_lines};
 pub use lows::one_more;
-
-#[cfg(test)]
-mod tests;

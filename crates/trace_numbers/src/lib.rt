@@ -13,9 +13,6 @@ pub use numbers::find_owners;
 pub use order::{Plan, Turn, planned_at, plans_of, turns_of};
 pub use owners::Owners;
 
-#[cfg(test)]
-mod tests;
-
 /// What passes has passed the tests on numbers; the entry at a position is rebuilt from the command of its owner; and
 /// there are as many owners as entries.
 pub fn numbers_law()

@@ -9,6 +9,3 @@ mod trace;
 mod turns;
 
 pub use replaying::{hints_of, replay};
-
-#[cfg(test)]
-mod tests;

@@ -262,6 +262,3 @@ fn put_in_place(buffer: &mut String, text: String) -> Result<(), NoMemory>
     buffer.push_str(text.as_str())?;
     Ok(())
 }
-
-#[cfg(test)]
-mod tests;

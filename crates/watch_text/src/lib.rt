@@ -6,6 +6,3 @@
 mod told;
 
 pub use told::{push_end, tell_entries};
-
-#[cfg(test)]
-mod tests;

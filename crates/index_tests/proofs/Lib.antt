@@ -1,0 +1,2 @@
+pub mod WorkedSegment
+pub mod KeySegment

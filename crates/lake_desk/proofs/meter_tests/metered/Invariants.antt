@@ -1,6 +1,0 @@
-use Rattle.std.proofs.Common.{◌≡◌}
-use Rattle.lake_desk.proofs.meter_tests.metered.Given as goal
-
--- a desk stays at its lake
-abbrev pub invariant-loop-command : goal.invariant-loop-command
-invariant-loop-command g l = l.desk.lock ≡ l.initial.desk.lock

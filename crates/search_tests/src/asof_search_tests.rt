@@ -1,0 +1,195 @@
+//! Tests timelines of small lakes, whose live tables at each position were worked out by hand.
+ghost use Rattle.std.specs.Prelude.{◌≡◌, ◌<◌, [], ℕ, length, map, option_map, unwrap_or, IfOk, IfSome};
+ghost use Rattle.lake_model.specs.Layout.{layout};
+ghost use Rattle.lake_model.specs.Tables.{Table};
+ghost use Rattle.catalogue.specs.Swaps.{IsMergeOf};
+
+use crate::making::{WHO, drop_table, empty, load, segment, table};
+use asof_search::{PastRefused, Timeline};
+use catalogue::Catalogue;
+use column_set::SharedTable;
+use segment_core::{Merged, Numbers, Plan, Segment};
+use std::alloc::Global;
+use std::process::Abort;
+use std::sync::Arc;
+use std::test::Fail;
+
+fn replace(lake: &mut Catalogue, alloc: Global, title: &str, text: &str) -> Result<(), Fail> {
+    let table = table(alloc, title, text)?;
+    let segment = segment(alloc, &table)?;
+    if lake.replace(WHO, table, segment).is_err() {
+        return Err(Fail::from("a replace was refused"));
+    }
+    Ok(())
+}
+
+// Returns the positions of the loads that a plan keeps.
+fn kept_positions(alloc: Global, kept: &[(u64, SharedTable)]) -> Result<Vec<u64>, Fail>
+    ensures { IfOk result (λ all. all.items ≡ map (λ (load : ℕ × Table). load.0) kept.now) }
+{
+    let mut all = Vec::new(alloc);
+    for (position, _) in kept {
+        all.push(*position)?;
+    }
+    Ok(all)
+}
+
+// Returns the segment of the one table that is kept, or none if none is kept.
+fn kept_segment(alloc: Global, kept: &[(u64, SharedTable)]) -> Result<Option<Arc<Segment>>, Fail>
+    ensures tables { IfOk result (λ segment. unwrap_or (option_map (λ s. s.value) segment) [] ≡ map (λ (load : ℕ × Table). load.1) kept.now) }
+    ensures some { IfOk result (λ segment. IfSome segment (λ s. 0 < length s.value)) }
+{
+    match kept {
+        [] => Ok(None),
+        [(_, table)] => Ok(Some(segment(alloc, table)?)),
+        _ => Err(Fail::from("more than one table is kept")),
+    }
+}
+
+// Returns what the first two parts are merged into.
+fn merged(lake: &Catalogue, alloc: Global) -> Result<Merged, Fail>
+    ensures at { IfOk result (λ merged. merged.at ≡ length lake.now.journal) }
+    ensures merges { IfOk result (λ merged. IsMergeOf (layout lake.now.journal) merged) }
+{
+    let _journal = lake.journal();
+    let pin = lake.pin()?;
+    if pin.parts() < 2 {
+        return Err(Fail::from("no two parts"));
+    }
+    let Plan { from, kept, at } = pin.plan_run(alloc, 0, 2)?;
+    let segment = kept_segment(alloc, &kept)?;
+    let kept = Numbers::new(kept_positions(alloc, &kept)?);
+    Ok(Merged {
+        from,
+        kept,
+        segment,
+        at,
+    })
+}
+
+// Merges the first two parts, of which at most one table is live.
+fn merge(lake: &mut Catalogue, alloc: Global) -> Result<(), Fail> {
+    let merged = merged(lake, alloc)?;
+    if lake.swap(WHO, merged).is_err() {
+        return Err(Fail::from("a swap was refused"));
+    }
+    Ok(())
+}
+
+// Returns the timeline of a small lake's journal.
+fn retell(alloc: Global, lake: &Catalogue) -> Result<Timeline, Fail> {
+    let counts = lake.counts();
+    if counts.updates > 1_000 || counts.members > 1_000 {
+        return Err(Fail::from("a large lake"));
+    }
+    let mut timeline = Timeline::new(alloc);
+    timeline.take_all(lake.journal())?;
+    Ok(timeline)
+}
+
+// Expects the name, the columns and the members of each table that was live after the first `asked` entries.
+fn expect(
+    rt: &(impl Abort + AllocGlobal),
+    timeline: &mut Timeline,
+    asked: u64,
+    want: &[(&str, u32, u64)],
+) -> Result<(), Fail> {
+    let Ok(pin) = timeline.pin(asked) else {
+        return Err(Fail::from("no pin"));
+    };
+    let tables = pin.tables(rt.alloc())?;
+    assert_eq!(rt; pin.at(), asked);
+    assert_eq!(rt; tables.list().len(), want.len(), "at {asked}");
+    for (line, (title, columns, members)) in tables.list().iter().zip(want) {
+        assert_eq!(rt; line.0.text(), *title, "at {asked}");
+        assert_eq!(rt; line.1, *columns, "at {asked}");
+        assert_eq!(rt; line.2, *members, "at {asked}");
+    }
+    Ok(())
+}
+
+// A table is loaded, dropped, loaded again with other values, and replaced by a wider one.
+#[test]
+fn one_name(rt: HostRuntime) -> Result<(), Fail> {
+    let alloc = rt.alloc();
+    let mut lake = empty(alloc)?;
+    load(&mut lake, alloc, "a", "x\nkey\n")?;
+    drop_table(&mut lake, "a")?;
+    load(&mut lake, alloc, "a", "x\none\ntwo\n")?;
+    replace(&mut lake, alloc, "a", "x,y\none,two\nkey,two\n")?;
+    let mut timeline = retell(alloc, &lake)?;
+    assert_eq!(rt; timeline.taken(), 4);
+    expect(&rt, &mut timeline, 4, &[("a", 2, 3)])?;
+    expect(&rt, &mut timeline, 0, &[])?;
+    expect(&rt, &mut timeline, 1, &[("a", 1, 1)])?;
+    expect(&rt, &mut timeline, 2, &[])?;
+    expect(&rt, &mut timeline, 3, &[("a", 1, 2)])
+}
+
+// The tables are in the order of their loads, and a replace puts its table at the end. A merge, which is the fourth
+// entry, changes nothing.
+#[test]
+fn order_and_a_merge(rt: HostRuntime) -> Result<(), Fail> {
+    let alloc = rt.alloc();
+    let mut lake = empty(alloc)?;
+    load(&mut lake, alloc, "a", "x\nkey\n")?;
+    load(&mut lake, alloc, "b", "x\none\ntwo\n")?;
+    drop_table(&mut lake, "a")?;
+    merge(&mut lake, alloc)?;
+    load(&mut lake, alloc, "a", "x\nkey\n")?;
+    replace(&mut lake, alloc, "b", "x\none\n")?;
+    let mut timeline = retell(alloc, &lake)?;
+    expect(&rt, &mut timeline, 2, &[("a", 1, 1), ("b", 1, 2)])?;
+    expect(&rt, &mut timeline, 3, &[("b", 1, 2)])?;
+    expect(&rt, &mut timeline, 4, &[("b", 1, 2)])?;
+    expect(&rt, &mut timeline, 5, &[("b", 1, 2), ("a", 1, 1)])?;
+    expect(&rt, &mut timeline, 6, &[("a", 1, 1), ("b", 1, 1)])
+}
+
+// One position is pinned twice in a row, and again after another.
+#[test]
+fn one_position_again(rt: HostRuntime) -> Result<(), Fail> {
+    let alloc = rt.alloc();
+    let mut lake = empty(alloc)?;
+    load(&mut lake, alloc, "a", "x\nkey\n")?;
+    drop_table(&mut lake, "a")?;
+    load(&mut lake, alloc, "b", "x\none\ntwo\n")?;
+    let mut timeline = retell(alloc, &lake)?;
+    expect(&rt, &mut timeline, 1, &[("a", 1, 1)])?;
+    expect(&rt, &mut timeline, 1, &[("a", 1, 1)])?;
+    expect(&rt, &mut timeline, 3, &[("b", 1, 2)])?;
+    expect(&rt, &mut timeline, 3, &[("b", 1, 2)])?;
+    expect(&rt, &mut timeline, 1, &[("a", 1, 1)])
+}
+
+// Returns a lake of three hundred tables of one value, n0 to n299.
+fn large_lake(alloc: Global) -> Result<Catalogue, Fail> {
+    let mut lake = empty(alloc)?;
+    for i in 0..300u32 {
+        let title = format!(in alloc; "n{i}")?;
+        load(&mut lake, alloc, &title, "x\nkey\n")?;
+    }
+    Ok(lake)
+}
+
+// Positions around the end of the first block of 256 tables, and one more than there are.
+#[test]
+fn blocks(rt: HostRuntime) -> Result<(), Fail> {
+    let alloc = rt.alloc();
+    let lake = large_lake(alloc)?;
+    let mut timeline = retell(alloc, &lake)?;
+    for asked in [300u64, 0, 255, 256, 257] {
+        let Ok(pin) = timeline.pin(asked) else {
+            return Err(Fail::from("no pin"));
+        };
+        let tables = pin.tables(alloc)?;
+        assert_eq!(rt; tables.list().len() as u64, asked);
+        let parts = if asked > 256 { 2 } else { asked.min(1) };
+        assert_eq!(rt; u64::from(pin.parts()), parts, "at {asked}");
+    }
+    let Err(refused) = timeline.pin(301) else {
+        return Err(Fail::from("a pin of what is to come"));
+    };
+    assert_eq!(rt; refused, PastRefused::Later { at: 300 });
+    Ok(())
+}

@@ -1,5 +1,0 @@
-use Rattle.script_model.specs.Lanes.{IsOfLanes}
-use Rattle.trace_numbers.proofs.tests.drops.Given as goal
-
-abbrev pub invariant-loop-index : goal.invariant-loop-index
-invariant-loop-index l = IsOfLanes 2 l.commands.items
