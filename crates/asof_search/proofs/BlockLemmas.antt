@@ -1,6 +1,6 @@
 -- Blocks of puts, and the parts over them.
 use Rattle.std.proofs.Common.{◌≡◌, ◌≢◌, nat_eq, refl, ap, sym, ◌∙◌, subst, ℕ, zero, suc, ◌+◌, ◌-◌, ◌*◌, ◌<◌, ◌≤◌, List, [], ◌∷◌, ◌++◌, Bool, true, false, not, ◌&&◌, length, get_or, arith, drop, take, map, min, append_assoc, append-nil, Result, Ok, Err, inl, inr}
-use Rattle.std.specs.Prelude.{flat_map, slice_set, sum_by, ◌⊎◌, IfOk}
+use Rattle.std.specs.Prelude.{slice_set, sum_by, ◌⊎◌, IfOk}
 use Rattle.std.specs.List.{AllByRecursion, filter}
 use Rattle.std.proofs.lemmas.List.{drop-drop, drop-map, drop_min, get_or-set_other, get_or-set_same, length-append, length-drop, length-set, length-take, map-append, take-append-le, take-append-drop, take-map, take_min, take_more}
 use Rattle.std.proofs.Math.ListN.{drop_of_length-le}
@@ -10,9 +10,10 @@ use Rattle.std.proofs.lemmas.Bool.Decides.{eqb_tells}
 use Rattle.std.proofs.lemmas.List.Concat.{flat_map-append}
 use Rattle.std.proofs.lemmas.List.Sums.{sum_by-append, sum_by-cons}
 use Rattle.lake_model.specs.Tables.{Table, members}
+use Rattle.layout_laws.specs.Places.{places_of}
 use Rattle.lake_model.specs.Layout.{Part, Place, positions_of}
 use Rattle.list_laws.specs.Distinct.{Rises, AreDistinct}
-use Rattle.list_laws.proofs.ListLemmas.{all_unmap, all_weaker, filter_none, rises_distinct, rises_left}
+use Rattle.list_laws.proofs.ListLemmas.{all_unmap, all_weaker, filter_none, rises_distinct, rises_left, rises_right}
 use Rattle.std.proofs.lemmas.List.Elements.{filter-append}
 use Rattle.segment_core.specs.Versions.{live_of, part_with, places_with}
 use Rattle.asof_search.specs.Puts.{AreBlocks, IsKeptAt, IsOfBlock, PutOf, has_ended, place_of, positions_put, tables_put, was_live}
@@ -41,9 +42,6 @@ positions_are asked [] = refl
 positions_are asked (put ∷ puts) = ap (λ ns. put.position ∷ ns) (positions_are asked puts)
 
 -- ---- the parts so far
-
-abbrev pub places_of : List Part → List Place
-places_of parts = flat_map (λ part. part.places) parts
 
 -- b parts are made, over the first blocks; the rest is still to come.
 pub record IsUnderWay (size asked b : ℕ) (puts rest : List PutOf) (parts : List Part) : Type 0 where
@@ -89,11 +87,6 @@ module _ (size asked b : ℕ) (puts rest : List PutOf) (parts : List Part) (h : 
       let all : positions_of parts ++ positions_put rest ≡ positions_put puts =
       ap (λ ns. positions_of parts ++ ns) (sym (positions_are asked rest)) ∙ sym (map-append (λ (p : Place). p.position) (places_of parts) (map (place_of asked) rest)) ∙ ap (map (λ (p : Place). p.position)) h.all ∙ positions_are asked puts in
       rises_distinct (positions_of parts) (rises_left (positions_of parts) (positions_put rest) (subst Rises (sym all) rising))
-
--- if numbers rise, so does any rest of them
-pub rises_right : (ms ns : List ℕ) → Rises (ms ++ ns) → Rises ns
-rises_right [] ns h = h
-rises_right (m ∷ ms) ns h = rises_right ms ns h.1
 
 pub rest_rises : (puts rest : List PutOf) (n : ℕ) → rest ≡ drop n puts → Rises (positions_put puts) → Rises (positions_put rest)
 rest_rises puts rest n e h =

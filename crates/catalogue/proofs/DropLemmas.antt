@@ -22,9 +22,10 @@ use Rattle.catalogue.specs.Parts.{load_of, is_of}
 use Rattle.catalogue.specs.Refusals.{drop_refusal}
 use Rattle.list_laws.proofs.ListLemmas.{all_weaker, find_none, distinct_filter}
 use Rattle.catalogue.proofs.ListLemmas.{le_from, map_none}
-use Rattle.catalogue.proofs.PlaceLemmas.{places_of, unmarked, HasPlaces, name_same, name_is, name_differs, names_of_tables}
+use Rattle.layout_laws.specs.Places.{places_of}
+use Rattle.catalogue.proofs.PlaceLemmas.{HasPlaces, name_same, name_is, name_differs, names_of_tables}
 use Rattle.catalogue.proofs.KeptLemmas.{counts_with, is_legal_behind-push, merging-push}
-use Rattle.layout_laws.proofs.LiveLemmas.{places_marked, positions_dropped as marked_positions}
+use Rattle.layout_laws.proofs.LiveLemmas.{places_marked, positions_dropped as marked_positions, unmarked}
 
 pub filled_mark : (name : Text) (parts : List Part) → AllByRecursion HasPlaces parts → AllByRecursion HasPlaces (map (mark name) parts)
 filled_mark name [] h = tt

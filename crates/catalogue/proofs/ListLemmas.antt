@@ -1,21 +1,11 @@
--- Lists whose numbers rise, lists of distinct elements, and what a search finds.
-use Rattle.std.proofs.Common.{◌≡◌, refl, ap, sym, ◌∙◌, subst, ℕ, zero, suc, ◌+◌, ◌<◌, ◌≤◌, List, [], ◌∷◌, ◌++◌, Bool, true, false, cond, Option, Some, None, is_some, arith}
-use Rattle.std.specs.Prelude.{find, option_map, nat_lt, slice_index}
+-- What a search finds, and when it finds nothing.
+use Rattle.std.proofs.Common.{◌≡◌, refl, ap, sym, ◌∙◌, subst, ℕ, ◌≤◌, List, [], ◌∷◌, ◌++◌, Bool, true, false, cond, Option, Some, None, is_some, arith}
+use Rattle.std.specs.Prelude.{find, option_map, nat_lt}
 use Rattle.std.specs.List.{AllByRecursion}
-use Rattle.std.specs.List.Sorted.{IsStrictlyIncreasing}
 use Rattle.std.proofs.lemmas.Bool.Decides.{nat_tests}
-use Rattle.list_laws.proofs.ListLemmas.{all_at}
-use Rattle.list_laws.specs.Distinct.{Rises}
 
 pub le_from : (a b : ℕ) → nat_lt a b ≡ false → b ≤ a
 le_from a b h = grind (arith, nat_tests)
-
-pub rises_increasing : (ns : List ℕ) → Rises ns → IsStrictlyIncreasing ns
-rises_increasing [] h k lt = absurd (omega arith)
-rises_increasing (n ∷ ns) h zero lt = all_at (λ later. n < later) ns 0 0 h.0 (omega arith)
-rises_increasing (n ∷ ns) h (suc k) lt =
-    let next : suc k + 1 ≡ suc (k + 1) = omega arith in
-    subst (λ (j : ℕ). slice_index (n ∷ ns) (suc k) < slice_index (n ∷ ns) j) (sym next) (rises_increasing ns h.1 k (omega arith))
 
 -- what a search finds
 pub open_by : {X : Type 0} (b : Bool) (x : X) (rest : Option X) → cond b (Some x) rest ≡ None → (b ≡ false) × (rest ≡ None)

@@ -12,7 +12,8 @@ use Rattle.segment_core.specs.Versions.{marks_of}
 use Rattle.catalogue.specs.Carried.{is_first, marks_along, run_marks}
 use Rattle.catalogue.specs.Swaps.{kept_marks}
 use Rattle.list_laws.proofs.ListLemmas.{all_weaker, filter_agree}
-use Rattle.catalogue.proofs.PlaceLemmas.{places_of, positions_in}
+use Rattle.layout_laws.specs.Places.{places_of}
+use Rattle.layout_laws.specs.Steps.{positions_in}
 use Rattle.layout_laws.proofs.WeightLemmas.{kept_of}
 
 abbrev pub marks_in : List Place → List Bool

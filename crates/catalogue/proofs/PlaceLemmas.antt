@@ -1,12 +1,14 @@
 -- The places of a layout: how a mark changes them, and what follows for them from the positions and the names.
 use Rattle.std.proofs.Common.{◌≡◌, refl, ap, sym, ◌∙◌, subst, inl, inr, ◌⊎◌, ℕ, zero, suc, ◌<◌, List, [], ◌∷◌, ◌++◌, Bool, true, false, not, ◌||◌, cond, map, length, get_or, slice_set, Some, is_some, arith}
 use Rattle.std.specs.Prelude.{find, option_map, bytes_eq}
-use Rattle.std.specs.List.{AllByRecursion, list_any, flat_map, filter}
+use Rattle.std.specs.List.{AllByRecursion, list_any}
 use Rattle.std.proofs.lemmas.Bool.{false_from_ne_true}
 use Rattle.std.proofs.lemmas.List.{map-append, get_or-map}
 use Rattle.std.proofs.lemmas.Slice.Eq.{bytes_eq-Decides}
 use Rattle.lake_model.specs.Texts.{Text}
 use Rattle.lake_model.specs.Journal.{has_name}
+use Rattle.layout_laws.specs.Places.{places_of}
+use Rattle.layout_laws.specs.Steps.{positions_in}
 use Rattle.lake_model.specs.Layout.{Place, Part, mark, mark_place, positions_of}
 use Rattle.search_model.specs.Arrays.{no_table}
 use Rattle.segment_core.specs.Distinct.{unmarked_names}
@@ -17,18 +19,10 @@ use Rattle.catalogue.specs.Parts.{load_of, is_of}
 use Rattle.list_laws.proofs.ListLemmas.{all_left, all_right, all_weaker, all_unmap, all_filter, all_passed, distinct_left, distinct_right, distinct_apart, all_at}
 use Rattle.std.proofs.lemmas.List.Elements.{filter-append}
 use Rattle.catalogue.proofs.ListLemmas.{find_all, find_passed, map_some}
-
-abbrev pub places_of : List Part → List Place
-places_of parts = flat_map (λ (part : Part). part.places) parts
-
-abbrev pub unmarked : List Place → List Place
-unmarked places = filter (λ place. not place.marked) places
+use Rattle.layout_laws.proofs.LiveLemmas.{unmarked}
 
 abbrev pub names_in : List Place → List Text
 names_in places = map (λ place. place.table.name) (unmarked places)
-
-abbrev pub positions_in : List Place → List ℕ
-positions_in places = map (λ place. place.position) places
 
 abbrev pub HasPlaces : Part → Type 0
 HasPlaces part = 0 < length part.places

@@ -5,7 +5,7 @@ use Rattle.std.proofs.lemmas.List.{take-append-drop, length-take, length-drop}
 use Rattle.lake_model.specs.Tables.{Table}
 use Rattle.lake_model.specs.Journal.{Entry}
 use Rattle.lake_model.specs.Layout.{Place, Part, is_among, is_legal, layout, may_swap, positions_of, run_of, unmarked_of}
-use Rattle.layout_laws.specs.Steps.{numbers_of}
+use Rattle.layout_laws.specs.Steps.{numbers_of, positions_in}
 use Rattle.layout_laws.specs.Weight.{does_merge}
 use Rattle.layout_laws.proofs.LaidLemmas.{laid_out, positions_split}
 use Rattle.list_laws.proofs.ListLemmas.{rises_distinct, distinct_left, distinct_right, filter_agree}
@@ -14,7 +14,7 @@ use Rattle.layout_laws.proofs.RunLemmas.{Run}
 use Rattle.list_laws.specs.Distinct.{AreDistinct}
 use Rattle.segment_core.specs.Plans.{MergedOf, kept_loads, named}
 use Rattle.catalogue.specs.Swaps.{IsMergeOf, kept_tables, numbers_in}
-use Rattle.catalogue.proofs.PlaceLemmas.{places_of, positions_in}
+use Rattle.layout_laws.specs.Places.{places_of}
 
 pub numbers_named : (run : List Part) → numbers_in (named run) ≡ numbers_of run
 numbers_named [] = refl

@@ -19,8 +19,10 @@ use Rattle.catalogue.specs.Parts.{load_of, is_of}
 use Rattle.list_laws.proofs.ListLemmas.{all_append, all_weaker, distinct_push, rises_push}
 use Rattle.std.proofs.lemmas.List.Elements.{filter-append}
 use Rattle.catalogue.proofs.ListLemmas.{le_from, map_none, find_push}
-use Rattle.catalogue.proofs.PlaceLemmas.{places_of, unmarked, names_append, names_in}
+use Rattle.layout_laws.specs.Places.{places_of}
+use Rattle.catalogue.proofs.PlaceLemmas.{names_append, names_in}
 use Rattle.catalogue.proofs.KeptLemmas.{parts_kept, positions_differ}
+use Rattle.layout_laws.proofs.LiveLemmas.{unmarked}
 
 -- the part of one load or replace
 abbrev pub loaded_part : ℕ → Table → Part

@@ -13,7 +13,7 @@ use Rattle.lake_model.specs.Journal.{Entry, Replaced, is_live, live, counts, loa
 use Rattle.lake_model.specs.Layout.{Part, layout, mark, positions_of}
 use Rattle.lake_model.specs.Limits.{Bounded, is_passed, replace_bounds}
 use Rattle.lake_model.proofs.LayoutLemmas.{live_more, layout_more, searchable-drop, searchable-replace}
-use Rattle.layout_laws.proofs.LiveLemmas.{lacks_name, positions_dropped}
+use Rattle.layout_laws.proofs.LiveLemmas.{lacks_name, positions_dropped, unmarked}
 use Rattle.segment_core.specs.Distinct.{unmarked_names}
 use Rattle.list_laws.specs.Distinct.{AreDistinct, Rises}
 use Rattle.segment_core.specs.Versions.{VersionOf, live_of, marked_and_added, marked_at, part_at, version_with}
@@ -23,7 +23,8 @@ use Rattle.catalogue.specs.Parts.{load_of}
 use Rattle.catalogue.specs.Refusals.{replace_refusal}
 use Rattle.list_laws.proofs.ListLemmas.{all_append, find_none, distinct_filter, distinct_push}
 use Rattle.catalogue.proofs.ListLemmas.{map_none}
-use Rattle.catalogue.proofs.PlaceLemmas.{places_of, unmarked, HasPlaces, names_of_tables}
+use Rattle.layout_laws.specs.Places.{places_of}
+use Rattle.catalogue.proofs.PlaceLemmas.{HasPlaces, names_of_tables}
 use Rattle.catalogue.proofs.KeptLemmas.{counts_with, is_legal_behind-push, merging-push}
 use Rattle.catalogue.proofs.PutLemmas.{Fits, few_by, fits_by, load_push, loaded_part, names_push, positions_push, put_bytes, put_differ, put_members, put_past, put_positions, put_rise}
 use Rattle.catalogue.proofs.DropLemmas.{either_none, filled_mark, load_drop, one_less}

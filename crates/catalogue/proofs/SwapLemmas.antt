@@ -13,7 +13,7 @@ use Rattle.lake_model.specs.Layout.{Place, Part, layout, is_among, is_legal, may
 use Rattle.lake_model.proofs.LayoutLemmas.{layout_more}
 use Rattle.list_laws.specs.Distinct as laws
 use Rattle.layout_laws.specs.LayoutLaws.{IsLaidOut}
-use Rattle.layout_laws.specs.Steps.{ArePlaces, numbers_of}
+use Rattle.layout_laws.specs.Steps.{ArePlaces, numbers_of, positions_in}
 use Rattle.layout_laws.specs.Weight.{does_merge}
 use Rattle.layout_laws.proofs.IndexLemmas.{first_of, swapped_at, run_within, positions_fewer}
 use Rattle.layout_laws.proofs.LaidLemmas.{laid_out, positions_split}
@@ -21,7 +21,8 @@ use Rattle.layout_laws.proofs.LawLemmas.{live_swap, counts_swap, stays}
 use Rattle.list_laws.proofs.ListLemmas.{map_filter, distinct_left, distinct_right}
 use Rattle.layout_laws.proofs.LiveLemmas.{loads_more}
 use Rattle.layout_laws.proofs.RunLemmas.{places_same}
-use Rattle.layout_laws.proofs.SwapLemmas.{kept_places, one_part, swapped}
+use Rattle.layout_laws.specs.Places.{kept_places, places_of}
+use Rattle.layout_laws.proofs.SwapLemmas.{one_part, swapped}
 use Rattle.segment_core.specs.Distinct.{unmarked_names}
 use Rattle.list_laws.specs.Distinct.{AreDistinct, Rises}
 use Rattle.segment_core.specs.Plans.{MergedOf, replaced}
@@ -31,11 +32,10 @@ use Rattle.catalogue.specs.Kept.{IsKept}
 use Rattle.catalogue.specs.Parts.{is_of}
 use Rattle.catalogue.specs.Swaps.{kept_marks, kept_tables, numbers_in, swap_refusal, IsMergeOf}
 use Rattle.catalogue.proofs.ListLemmas.{map_none}
-use Rattle.catalogue.proofs.PlaceLemmas.{places_of, positions_in}
 use Rattle.catalogue.proofs.KeptLemmas.{is_legal_behind-push, merging-push, names_differ, positions_differ}
 use Rattle.catalogue.proofs.MarksLemmas.{marks_in}
 use Rattle.catalogue.proofs.ThereLemmas.{numbers_there}
-use Rattle.layout_laws.proofs.WeightLemmas.{kept_of}
+use Rattle.layout_laws.proofs.WeightLemmas.{kept_of, one_at_most}
 
 distinct_same : (ns : List ℕ) → laws.AreDistinct ns → AreDistinct ns
 distinct_same [] h = tt
@@ -145,10 +145,6 @@ pub replaced_is : (at : ℕ) (parts : List Part) (from : List (ℕ × List ℕ))
 replaced_is at parts from kept first part distinct may h is =
     (λ i. take (h i) parts ++ (is i ++ drop (h i + sym (length-map from (λ (p : ℕ × List ℕ). p.0)) i) parts)) ∙ sym (swapped_at at parts (numbers_in from) kept distinct may)
 
-length_one : (at : ℕ) (places : List Place) → length (one_part at places) ≤ 1
-length_one at [] = omega arith
-length_one at (p ∷ ps) = omega arith
-
 fewer_parts : (at : ℕ) (parts : List Part) (planned kept : List ℕ) → laws.AreDistinct (numbers_of parts) → may_swap parts planned kept ≡ true → length (swapped at planned kept parts) ≤ length parts
 fewer_parts at parts planned kept distinct may =
     let f = first_of planned parts in
@@ -161,7 +157,7 @@ fewer_parts at parts planned kept distinct may =
       ap (λ (ps : List Part). length ps) (swapped_at at parts planned kept distinct may),
       length-append (take f parts) (one ++ drop (f + length planned) parts),
       length-append one (drop (f + length planned) parts),
-      length_one at (kept_places kept (run_of planned parts)),
+      one_at_most at (kept_places kept (run_of planned parts)),
       length-take f parts,
       length-drop (f + length planned) parts,
     )

@@ -1,10 +1,10 @@
 -- Which planned parts a layout has, and where.
-use Rattle.std.proofs.Common.{◌≡◌, refl, ap, sym, ◌∙◌, subst, inl, inr, ◌⊎◌, ℕ, zero, suc, ◌+◌, ◌<◌, List, [], ◌∷◌, ◌++◌, Bool, true, false, not, ◌||◌, ◌&&◌, cond, length, get_or, take, drop, Some, None, arith}
+use Rattle.std.proofs.Common.{◌≡◌, refl, ap, sym, ◌∙◌, subst, inl, inr, ◌⊎◌, ℕ, zero, suc, ◌+◌, ◌<◌, List, [], ◌∷◌, Bool, true, false, not, ◌||◌, ◌&&◌, cond, length, get_or, take, drop, Some, None, arith}
 use Rattle.std.specs.Prelude.{find, nat_eq, bytes_eq}
 use Rattle.std.specs.List.{AllByRecursion, list_all}
 use Rattle.std.proofs.Math.Seq.{drop-cons}
 use Rattle.std.proofs.lemmas.Bool.{eqb-true, eq-eqb, not-false, or_cases, or_left, or_right, and_parts}
-use Rattle.std.proofs.lemmas.List.{get_or-map, map-append, length-map}
+use Rattle.std.proofs.lemmas.List.{get_or-map, length-map}
 use Rattle.lake_model.specs.Layout.{Part, Place, is_among, may_swap, positions_of}
 use Rattle.list_laws.specs.Distinct as laws
 use Rattle.layout_laws.specs.Steps.{numbers_of}
@@ -15,7 +15,8 @@ use Rattle.list_laws.specs.Distinct.{AreDistinct, Lacks}
 use Rattle.segment_core.specs.Positions.{StandsAt, loads_of}
 use Rattle.segment_core.specs.Versions.{part_at, part_with}
 use Rattle.catalogue.specs.Swaps.{is_there, numbers_in}
-use Rattle.catalogue.proofs.PlaceLemmas.{HasPlaces, places_of, name_differs}
+use Rattle.catalogue.proofs.PlaceLemmas.{HasPlaces, name_differs}
+use Rattle.segment_core.proofs.PositionLemmas.{positions-cons}
 
 abbrev pub is_it : ℕ → List ℕ → Part → Bool
 is_it number positions part = nat_eq part.number number && bytes_eq (loads_of part) positions
@@ -27,9 +28,6 @@ and_false false b h = refl
 or_false : (a b : Bool) → b ≡ false → (a || b) ≡ a
 or_false true b h = refl
 or_false false b h = h
-
-positions_cons : (part : Part) (parts : List Part) → positions_of (part ∷ parts) ≡ loads_of part ++ positions_of parts
-positions_cons part parts = map-append (λ (place : Place). place.position) part.places (places_of parts)
 
 -- no part is without positions
 pub none_empty : (parts : List Part) (number : ℕ) → AllByRecursion HasPlaces parts → is_there parts (number, []) ≡ false
@@ -46,7 +44,7 @@ lacks_it part number first rest h =
 pub none_lacks : (parts : List Part) (number first : ℕ) (rest : List ℕ) → Lacks (positions_of parts) first → is_there parts (number, first ∷ rest) ≡ false
 none_lacks [] number first rest h = refl
 none_lacks (part ∷ parts) number first rest h =
-    let split = subst (λ (ns : List ℕ). Lacks ns first) (positions_cons part parts) h in
+    let split = subst (λ (ns : List ℕ). Lacks ns first) (positions-cons part parts) h in
     let other : ℕ → Type 0 = λ n. n ≡ first → ⊥ in
     ap (λ b. b || is_there parts (number, first ∷ rest)) (lacks_it part number first rest (all_left other (loads_of part) (positions_of parts) split)) ∙ none_lacks parts number first rest (all_right other (loads_of part) (positions_of parts) split)
 
@@ -61,20 +59,20 @@ stands_behind part parts n k i h = record { part_there = omega (arith, h.part_th
 stands_lacks : (parts : List Part) (n k i : ℕ) → StandsAt parts n k i → Lacks (positions_of parts) n → ⊥
 stands_lacks [] n k i h lacks = omega (arith, h.part_there)
 stands_lacks (part ∷ parts) n zero i h lacks =
-    let split = subst (λ (ns : List ℕ). Lacks ns n) (positions_cons part parts) lacks in
+    let split = subst (λ (ns : List ℕ). Lacks ns n) (positions-cons part parts) lacks in
     all_at (λ m. m ≡ n → ⊥) (loads_of part) i 0 (all_left (λ (m : ℕ). m ≡ n → ⊥) (loads_of part) (positions_of parts) split) (place_within part i h.place_there) h.position_is
 stands_lacks (part ∷ parts) n (suc k) i h lacks =
-    let split = subst (λ (ns : List ℕ). Lacks ns n) (positions_cons part parts) lacks in
+    let split = subst (λ (ns : List ℕ). Lacks ns n) (positions-cons part parts) lacks in
     stands_lacks parts n k i (stands_behind part parts n k i h) (all_right (λ (m : ℕ). m ≡ n → ⊥) (loads_of part) (positions_of parts) split)
 
 pub only_there : (parts : List Part) (number first : ℕ) (rest : List ℕ) (k i : ℕ) → AreDistinct (positions_of parts) → StandsAt parts first k i → is_there parts (number, first ∷ rest) ≡ is_it number (first ∷ rest) (part_at parts k)
 only_there [] number first rest k i h stands = absurd (omega (arith, stands.part_there))
 only_there (part ∷ parts) number first rest zero i h stands =
-    let split = subst AreDistinct (positions_cons part parts) h in
+    let split = subst AreDistinct (positions-cons part parts) h in
     let apart = all_at (Lacks (positions_of parts)) (loads_of part) i 0 (distinct_apart (loads_of part) (positions_of parts) split) (place_within part i stands.place_there) in
     or_false (is_it number (first ∷ rest) part) (is_there parts (number, first ∷ rest)) (none_lacks parts number first rest (subst (Lacks (positions_of parts)) stands.position_is apart))
 only_there (part ∷ parts) number first rest (suc k) i h stands =
-    let split = subst AreDistinct (positions_cons part parts) h in
+    let split = subst AreDistinct (positions-cons part parts) h in
     let behind = stands_behind part parts first k i stands in
     let lacks : Lacks (loads_of part) first = all_weaker (Lacks (positions_of parts)) (λ n. n ≡ first → ⊥) (loads_of part) (λ n l e. stands_lacks parts first k i behind (subst (Lacks (positions_of parts)) e l)) (distinct_apart (loads_of part) (positions_of parts) split) in
     ap (λ b. b || is_there parts (number, first ∷ rest)) (lacks_it part number first rest lacks) ∙ only_there parts number first rest k i (distinct_right (loads_of part) (positions_of parts) split) behind

@@ -1,9 +1,10 @@
 -- Merges that a catalogue can swap in, and what refuses one.
-use Rattle.std.specs.Prelude.{◌≡◌, ℕ, ◌&&◌, Bool, true, List, length, map, filter, find, flat_map, not, nat_eq, bytes_eq, Option, option_map}
+use Rattle.std.specs.Prelude.{◌≡◌, ℕ, ◌&&◌, Bool, true, List, length, map, find, not, nat_eq, bytes_eq, Option, option_map}
 use Rattle.std.specs.List.{list_any}
 use Rattle.lake_model.specs.Tables.{Table}
 use Rattle.lake_model.specs.Journal.{Entry}
-use Rattle.lake_model.specs.Layout.{Place, Part, layout, is_among, may_swap, run_of}
+use Rattle.lake_model.specs.Layout.{Part, layout, may_swap, run_of}
+use Rattle.layout_laws.specs.Places.{kept_places}
 use Rattle.layout_laws.specs.Weight.{does_merge}
 use Rattle.segment_core.specs.Plans.{MergedOf, named}
 use Rattle.segment_core.specs.Positions.{loads_of}
@@ -18,10 +19,7 @@ numbers_in from = map (λ planned. planned.0) from
 abbrev pub is_there : List Part → ℕ × List ℕ → Bool
 is_there parts planned = list_any (λ part. nat_eq part.number planned.0 && bytes_eq (loads_of part) planned.1) parts
 
--- the places of the kept positions of parts, in layout order, with their tables and their marks
-abbrev pub kept_places : List ℕ → List Part → List Place
-kept_places kept parts = filter (λ place. is_among kept place.position) (flat_map (λ part. part.places) parts)
-
+-- the tables and the marks of the kept positions of parts
 abbrev pub kept_tables : List ℕ → List Part → List Table
 kept_tables kept parts = map (λ place. place.table) (kept_places kept parts)
 

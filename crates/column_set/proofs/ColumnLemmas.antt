@@ -1,5 +1,5 @@
 -- A table from its titles and the sets of its columns: how many columns it has, its titles, the set at a place, and the sums.
-use Rattle.std.proofs.Common.{◌≡◌, refl, ap, sym, ◌∙◌, ℕ, zero, suc, ◌-◌, ◌<◌, ◌≤◌, List, [], ◌∷◌, map, length, arith, drop, get_or, subst}
+use Rattle.std.proofs.Common.{◌≡◌, refl, ap, sym, ◌∙◌, ℕ, ◌-◌, ◌<◌, ◌≤◌, List, [], ◌∷◌, map, length, arith, drop, get_or, subst}
 use Rattle.std.specs.Prelude.{bytes_eq, sum_by}
 use Rattle.std.specs.List.{AllByRecursion, IsDistinct}
 use Rattle.std.proofs.lemmas.List.FromFn.{length-map-range_with_len}
@@ -8,7 +8,8 @@ use Rattle.lake_model.specs.declared.Keys.{Keys}
 use Rattle.lake_model.specs.Texts.{Text}
 use Rattle.lake_model.specs.Records.{Record, column_at, column_count, field_at, field_keys, places_of, table_of}
 use Rattle.lake_model.specs.Tables.{Column, Table, Titles, column_with, table_with, titles_of, titles_with, keys_at, members, key_bytes}
-use Rattle.column_set.proofs.DistinctLemmas.{distinct_differ}
+use Rattle.lake_model.proofs.DistinctLemmas.{distinct_differ}
+use Rattle.list_laws.proofs.ListLemmas.{all_at, all_map, all_of}
 use Rattle.column_set.specs.Columns.{HasDistinctKeys, IsHeld, IsSmall, columns_with, table_from}
 
 length-columns_with : (names : List Text) (sets : List (List Text)) → length names ≡ length sets → length (columns_with names sets) ≡ length sets
@@ -44,15 +45,6 @@ all-columns_with P [] sets h = tt
 all-columns_with P (name ∷ names) [] h = tt
 all-columns_with P (name ∷ names) (keys ∷ sets) h = (h.0, all-columns_with P names sets h.1)
 
-all-map : {X Y : Type 0} (P : Y → Type 0) (f : X → Y) → ((x : X) → P (f x)) → (xs : List X) → AllByRecursion P (map f xs)
-all-map P f h [] = tt
-all-map P f h (x ∷ xs) = (h x, all-map P f h xs)
-
-all-at : {X : Type 0} (P : X → Type 0) (xs : List X) (i : ℕ) (d : X) → AllByRecursion P xs → i < length xs → P (get_or xs i d)
-all-at P [] i d h within = absurd (omega arith)
-all-at P (x ∷ xs) zero d h within = h.0
-all-at P (x ∷ xs) (suc i) d h within = all-at P xs i d h.1 (omega arith)
-
 members-table_from : (titles : Titles) (sets : List (List Text)) → length titles.columns ≡ length sets → members (table_from titles sets) ≡ sum_by (λ keys. length keys) sets
 members-table_from titles sets as_many = sum_by-columns_with (λ keys. length keys) titles.columns sets as_many
 
@@ -81,10 +73,10 @@ module _ {titles : Titles} {sets : List (List Text)} {members key_bytes : ℕ} (
     keys_held = ap (λ ss. get_or ss (place - 1) []) (sym (sets-columns_with titles.columns sets held.as_many)) ∙ ap (λ t. keys_at t place) is
 
     pub small_held : length (get_or sets (place - 1) []) ≤ 4194304
-    small_held = all-at IsSmall sets (place - 1) [] held.small place_held
+    small_held = all_at IsSmall sets (place - 1) [] held.small place_held
 
     pub different_at : IsDistinct bytes_eq (get_or sets (place - 1) [])
-    different_at = all-at (IsDistinct bytes_eq) sets (place - 1) [] held.different place_held
+    different_at = all_at (IsDistinct bytes_eq) sets (place - 1) [] held.different place_held
 
 -- the table that was read: its titles and its sets are of the same places
 module _ (kind : Keys) (name : Text) (rows : List Record) (names : List Text) (sets : List (List Text)) (named : names ≡ map (field_at rows 0) (places_of rows)) (read : sets ≡ map (λ place. (column_at kind rows place).keys) (places_of rows)) where
@@ -97,7 +89,7 @@ module _ (kind : Keys) (name : Text) (rows : List Record) (names : List Text) (s
   different_read : AllByRecursion (IsDistinct bytes_eq) sets
   different_read =
       let P : List (List Text) → Type 0 = AllByRecursion (IsDistinct bytes_eq) in
-      subst P (sym read) (all-map (IsDistinct bytes_eq) (λ place. (column_at kind rows place).keys) (λ place. distinct_differ (field_keys kind place (drop 1 rows))) (places_of rows))
+      subst P (sym read) (all_map (IsDistinct bytes_eq) (λ place. (column_at kind rows place).keys) (places_of rows) (all_of (λ place. IsDistinct bytes_eq (column_at kind rows place).keys) (places_of rows) (λ place. distinct_differ (field_keys kind place (drop 1 rows)))))
 
   pub held_read : length sets ≤ 4096 → AllByRecursion IsSmall sets → (titles : Titles) → titles ≡ titles_with name names → (count bytes : ℕ) → count ≡ sum_by (λ keys. length keys) sets → bytes ≡ sum_by (λ keys. sum_by (λ key. length key) keys) sets → IsHeld titles sets count bytes
   held_read narrow small titles is count bytes counted weighed =

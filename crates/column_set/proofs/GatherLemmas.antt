@@ -8,7 +8,7 @@ use Rattle.std.proofs.lemmas.Slice.Eq.{bytes_eq-Decides}
 use Rattle.std.proofs.Math.Seq.{drop-length, take-length}
 use Rattle.lake_model.specs.Texts.{Text}
 use Rattle.lake_model.specs.Tables.{add_key, distinct, has_key}
-use Rattle.column_set.proofs.DistinctLemmas.{added_differ, distinct_keeps}
+use Rattle.lake_model.proofs.DistinctLemmas.{added_differ, distinct_keeps}
 use Rattle.column_set.proofs.OverlapLemmas.{flipped}
 use Rattle.column_set.specs.Slots.{IsFree, IsSlottedSet, hash_of, home_of}
 use Rattle.column_set.proofs.SlotLemmas.{set_push}

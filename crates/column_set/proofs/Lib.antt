@@ -1,8 +1,7 @@
 pub mod AsciiLemmas
 pub mod ColumnLemmas
-pub mod DistinctLemmas
 pub mod GatherLemmas
-pub mod KeyLemmas
+pub mod HasLemmas
 pub mod SlotLemmas
 pub mod LineLemmas
 pub mod ListsLemmas

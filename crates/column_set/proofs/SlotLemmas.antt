@@ -11,7 +11,7 @@ use Rattle.std.proofs.lemmas.List.Folds.{list_any_at, list_any_none}
 use Rattle.std.proofs.lemmas.Slice.Eq.{bytes_eq-Decides}
 use Rattle.lake_model.specs.Texts.{Text}
 use Rattle.lake_model.specs.Tables.{has_key}
-use Rattle.column_set.proofs.DistinctLemmas.{no_repeat}
+use Rattle.lake_model.proofs.DistinctLemmas.{no_repeat}
 use Rattle.column_set.specs.Slots.{AreFree, Holds, IsAhead, IsFree, IsSlotted, IsSlottedSet, Passes, Reaches, hash_of, home_of, most_probes, next_of}
 
 -- one step more

@@ -19,7 +19,8 @@ use Rattle.column_watch.specs.Held.{HasColumns, IsColumn, IsCounted}
 use Rattle.column_watch.specs.Hits.{hit_keys}
 use Rattle.column_watch.specs.Index.{has_query}
 use Rattle.column_watch.specs.declared.overlaps.Hit.{Hit}
-use Rattle.column_watch.proofs.HolderLemmas.{bit_once, once}
+use Rattle.column_watch.proofs.HolderLemmas.{bit_once}
+use Rattle.list_laws.proofs.TestLemmas.{once}
 
 pub count_more : {X : Type 0} (p : X → Bool) (xs : List X) (i : ℕ) (d : X) → i < length xs → count_by p (take (i + 1) xs) ≡ count_by p (take i xs) + once (p (get_or xs i d))
 count_more p xs i d h =

@@ -1,11 +1,12 @@
 -- The queries that hold a key, as the bits of a mask.
-use Rattle.std.proofs.Common.{◌≡◌, refl, ap, ◌∙◌, ℕ, zero, suc, ◌^◌, ◌<◌, List, Bool, true, false, ◌||◌, arith, cond, map, max, nat_eq}
+use Rattle.std.proofs.Common.{◌≡◌, refl, ap, ◌∙◌, ℕ, zero, suc, ◌^◌, ◌<◌, List, true, false, ◌||◌, arith, map, max, nat_eq}
 use Rattle.std.specs.Int.{bit_at}
 use Rattle.std.specs.Int.RustNames.{bit_or}
 use Rattle.std.proofs.lemmas.Nat.Bits.{bit_at-lt, bit_at-pow_other, bit_at-pow_same, bit_at-zero, bit_at_or}
 use Rattle.lake_model.specs.Texts.{Text}
 use Rattle.column_watch.specs.Held.{StateOf}
 use Rattle.column_watch.specs.Index.{has_query}
+use Rattle.list_laws.proofs.TestLemmas.{once}
 
 abbrev pub keys_of : List StateOf → List (List Text)
 keys_of states = map (λ state. state.keys) states
@@ -30,9 +31,6 @@ either (suc (suc m)) n h k = absurd (omega arith)
 
 pub query_of_both : (a b w : ℕ) → has_query (bit_or a b) w ≡ (has_query a w || has_query b w)
 query_of_both a b w = ap (λ (n : ℕ). nat_eq n 1) (bit_at_or a b w) ∙ either (bit_at a w) (bit_at b w) (bit_at-lt a w) (bit_at-lt b w)
-
-abbrev pub once : Bool → ℕ
-once b = cond b 1 0
 
 -- a bit is one if the query holds the key, and else zero
 pub bit_once : (mask w : ℕ) → bit_at mask w ≡ once (has_query mask w)

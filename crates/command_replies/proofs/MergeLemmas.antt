@@ -15,7 +15,7 @@ use Rattle.lake_model.specs.Journal.{Entry, What, Loaded, Dropped, Replaced, Swa
 use Rattle.lake_model.specs.Layout.{Place, Part, Shown, layout, is_legal, shown, shown_with, shown_layout, unmarked_of}
 use Rattle.lake_model.specs.Plan.{plan, plan_of, planned_parts}
 use Rattle.layout_laws.specs.Steps.{positions_in}
-use Rattle.layout_laws.proofs.SwapLemmas.{places_of}
+use Rattle.layout_laws.specs.Places.{places_of}
 use Rattle.layout_laws.proofs.RunLemmas.{Run}
 use Rattle.layout_laws.proofs.LiveLemmas.{unmarked, places_split, unmarked_three}
 use Rattle.layout_laws.proofs.LaidLemmas.{laid_out}

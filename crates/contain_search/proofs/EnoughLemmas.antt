@@ -1,5 +1,5 @@
 -- A count that is broken off once it cannot become high enough.
-use Rattle.std.proofs.Common.{◌≡◌, refl, ap, subst, ℕ, ◌+◌, ◌-◌, ◌<◌, ◌≤◌, List, Bool, cond, drop, length, take, arith}
+use Rattle.std.proofs.Common.{◌≡◌, refl, ap, subst, ℕ, ◌+◌, ◌-◌, ◌<◌, List, Bool, cond, drop, length, take, arith}
 use Rattle.std.specs.List.{count_by}
 use Rattle.std.proofs.lemmas.List.{length-drop}
 use Rattle.std.proofs.lemmas.List.Sums.{count_by-le-length, sum_by-take-drop}
@@ -8,8 +8,8 @@ use Rattle.lake_model.specs.Layout.{is_among}
 use Rattle.part_columns.proofs.ProbeLemmas.{probe_counts}
 use Rattle.part_columns.specs.declared.tally.Tally.{Tally}
 use Rattle.part_columns.specs.Tallies.{tally_of}
-use Rattle.search_model.proofs.FilterLemmas.{Rising}
 use Rattle.search_model.specs.Looks.{hits}
+use Rattle.list_laws.specs.Distinct.{Rises}
 
 -- the whole count
 pub all_counted : (least count told : ℕ) → told ≡ count → IsExactFrom least count told
@@ -33,7 +33,7 @@ counted_on least before count told is = record {
 }
 
 -- the number for the tokens after the last hit, plus the count of the tally, is exact from `least` on for all tokens
-pub probed_from : (set qs : List ℕ) (i least wanted told : ℕ) (left tail : List ℕ) (tally : Tally) → Rising set → Rising qs → 0 < tally.count → tally ≡ tally_of set (hits set (take i qs))
+pub probed_from : (set qs : List ℕ) (i least wanted told : ℕ) (left tail : List ℕ) (tally : Tally) → Rises set → Rises qs → 0 < tally.count → tally ≡ tally_of set (hits set (take i qs))
     → left ≡ drop i qs → tail ≡ drop (tally.position + 1) set → wanted ≡ least - tally.count → IsExactFrom wanted (count_by (is_among left) tail) told → IsExactFrom least (length (hits set qs)) (tally.count + told)
 probed_from set qs i least wanted told left tail tally over up some e l t w is =
     let count = count_by (is_among left) tail in

@@ -18,6 +18,7 @@ use Rattle.search_model.specs.declared.Look.{Look}
 use Rattle.search_model.specs.declared.Look.TheVariants.{Probe}
 use Rattle.search_model.specs.Looks.{hits, Searched}
 use Rattle.search_model.specs.Segment.{Titled}
+use Rattle.list_laws.proofs.TestLemmas.{once}
 
 abbrev Numbered : Type 0
 Numbered = ℕ × Titled
@@ -82,9 +83,6 @@ module _ (least : ℕ) (part : Searched) where
     probes_are_needed = probes_from (enumerate_from 0 part.segment.columns)
 
 -- ---- how many columns may hold enough
-
-abbrev once : Bool → ℕ
-once b = cond b 1 0
 
 few_from : (p : ℕ × Titled → Bool) (q : ℕ × List ℕ → Bool) (n : ℕ) (cs : List Titled) (sets : List (List ℕ)) → length sets ≡ length cs → ((i : ℕ) (c : Titled) → i < length sets → p (n + i, c) ≡ true → q (n + i, get_or sets i []) ≡ true)
     → length (map (λ c. c.0) (filter p (enumerate_from n cs))) ≤ count_by q (enumerate_from n sets)

@@ -16,7 +16,7 @@ pub row_cmp_total : IsTotalOrder row_cmp
 row_cmp_total = then_total (back_total (on_total (λ (r : Row). r.overlap) nat_cmp_total)) (then_total (on_total (λ (r : Row). r.table) nat_list_cmp_total)
     (then_total (on_total (λ (r : Row). r.column) nat_list_cmp_total) (on_total (λ (r : Row). r.place) nat_cmp_total)))
 
-both_equal : (a b : Ordering) → ordering_then a b ≡ Equal → (a ≡ Equal) × (b ≡ Equal)
+pub both_equal : (a b : Ordering) → ordering_then a b ≡ Equal → (a ≡ Equal) × (b ≡ Equal)
 both_equal Less b e = cc
 both_equal Equal b e = (refl, e)
 both_equal Greater b e = cc

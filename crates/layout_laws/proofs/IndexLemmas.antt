@@ -8,7 +8,8 @@ use Rattle.lake_model.specs.Layout.{Part, is_among, run_of, may_swap, positions_
 use Rattle.list_laws.specs.Distinct.{AreDistinct}
 use Rattle.layout_laws.specs.Steps.{numbers_of}
 use Rattle.list_laws.proofs.ListLemmas.{length_filter_le}
-use Rattle.layout_laws.proofs.SwapLemmas.{kept_places, one_part, swapped}
+use Rattle.layout_laws.specs.Places.{kept_places}
+use Rattle.layout_laws.proofs.SwapLemmas.{one_part, swapped}
 use Rattle.layout_laws.proofs.RunLemmas.{opened, swapped_is}
 use Rattle.layout_laws.proofs.LaidLemmas.{swaps_run, positions_split, positions_swapped}
 

@@ -15,7 +15,8 @@ use Rattle.layout_laws.specs.Steps.{numbers_of, positions_in, live_loads}
 use Rattle.layout_laws.specs.LayoutLaws.{IsLaidOut}
 use Rattle.list_laws.proofs.ListLemmas.{all_append, all_left, all_right, all_weaker, all_map, all_filter, map_filter, distinct_push, distinct_filter, rises_push, rises_thinner, and_assoc}
 use Rattle.std.proofs.lemmas.List.Elements.{filter-append}
-use Rattle.layout_laws.proofs.SwapLemmas.{loaded_place, places_of, kept_places, one_part, swapped}
+use Rattle.layout_laws.specs.Places.{kept_places, places_of}
+use Rattle.layout_laws.proofs.SwapLemmas.{loaded_place, one_part, swapped}
 use Rattle.layout_laws.proofs.StayLemmas.{layout_numbers, layout_before}
 use Rattle.layout_laws.proofs.RunLemmas.{MaySwap, opened, run_stands, swapped_is}
 use Rattle.layout_laws.proofs.LiveLemmas.{loads_more, unmarked, places-append, places_marked, positions_dropped, places_swapped, places_split, unmarked_three, unmarked_dropped, unmarked_kept, lacks_names, lacks_name}

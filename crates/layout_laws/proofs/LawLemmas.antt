@@ -21,7 +21,7 @@ use Rattle.layout_laws.specs.LayoutLaws.{PassesOverSwaps, AnswersStay, SwapsStay
 use Rattle.list_laws.proofs.ListLemmas.{all_weaker, all_map, test_all, find_none, rises_distinct}
 use Rattle.layout_laws.proofs.StayLemmas.{has_number, layout_numbers}
 use Rattle.layout_laws.proofs.RunLemmas.{swap_later, positions_same, places_same}
-use Rattle.layout_laws.proofs.SwapLemmas.{places_of}
+use Rattle.layout_laws.specs.Places.{places_of}
 use Rattle.layout_laws.proofs.LaidLemmas.{laid_none, laid_out, legal_journal}
 use Rattle.layout_laws.proofs.PlanLemmas.{is_planned_run, run_may_swap, run_does_merge}
 use Rattle.layout_laws.proofs.WeightLemmas.{weight_swap, light_behind}

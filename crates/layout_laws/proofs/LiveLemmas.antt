@@ -12,7 +12,8 @@ use Rattle.list_laws.specs.Distinct.{Lacks}
 use Rattle.layout_laws.specs.Steps.{positions_in, loads_after, loads_from, live_loads}
 use Rattle.list_laws.proofs.ListLemmas.{not_both, texts_same, all_weaker, all_map, all_passed, none_any, filter_filter}
 use Rattle.std.proofs.lemmas.List.Elements.{filter-append}
-use Rattle.layout_laws.proofs.SwapLemmas.{places_of, kept_places, one_part}
+use Rattle.layout_laws.specs.Places.{kept_places, places_of}
+use Rattle.layout_laws.proofs.SwapLemmas.{one_part}
 
 -- ---- one more entry
 

@@ -14,7 +14,7 @@ use Rattle.list_laws.specs.Distinct.{Lacks, AreDistinct}
 use Rattle.layout_laws.specs.Steps.{numbers_of, positions_in}
 use Rattle.layout_laws.specs.Weight.{does_merge}
 use Rattle.list_laws.proofs.ListLemmas.{all_weaker, all_both, all_map, all_unmap, all_filter, map_filter, distinct_left, distinct_right, filter_agree}
-use Rattle.layout_laws.proofs.SwapLemmas.{places_of}
+use Rattle.layout_laws.specs.Places.{places_of}
 use Rattle.layout_laws.proofs.RunLemmas.{MaySwap, closed, Run, run_is, lacks_among}
 use Rattle.layout_laws.proofs.LiveLemmas.{unmarked}
 use Rattle.layout_laws.proofs.LaidLemmas.{positions_split}

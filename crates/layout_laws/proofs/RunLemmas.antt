@@ -10,7 +10,8 @@ use Rattle.list_laws.specs.Distinct.{Lacks, AreDistinct}
 use Rattle.layout_laws.specs.Steps.{numbers_of, positions_in, ArePlaces, AreParts}
 use Rattle.list_laws.proofs.ListLemmas.{joined, same_texts, texts_same, all_left, all_right, all_weaker, all_both, all_of, all_unmap, all_tested, test_all, any_none, filter_all, filter_none, distinct_right, distinct_apart}
 use Rattle.std.proofs.lemmas.List.Elements.{filter-append}
-use Rattle.layout_laws.proofs.SwapLemmas.{places_of, is_planned, kept_places, one_part, swapped, swapped_here}
+use Rattle.layout_laws.specs.Places.{kept_places, places_of}
+use Rattle.layout_laws.proofs.SwapLemmas.{is_planned, one_part, swapped, swapped_here}
 use Rattle.layout_laws.proofs.StayLemmas.{swapped_run, numbers_same, stay_from, layout-append, layout_numbers, layout_before, has_number}
 
 -- ---- what a swap requires of the parts that it takes

@@ -12,7 +12,8 @@ use Rattle.list_laws.specs.Distinct.{Lacks, AreDistinct}
 use Rattle.layout_laws.specs.Steps.{numbers_of, IsSamePlace, ArePlaces, IsSamePart, AreParts}
 use Rattle.list_laws.proofs.ListLemmas.{split_bool, not_both, all_append, all_weaker, all_both, all_map, all_unmap, all_filter, all_passed, any_none, none_any, filter_all, distinct_push, distinct_filter}
 use Rattle.std.proofs.lemmas.List.Elements.{filter-append}
-use Rattle.layout_laws.proofs.SwapLemmas.{is_planned, kept_places, one_part, all_one, swapped, swapped_here, swapped_next, all_swapped, all_marked, all_after}
+use Rattle.layout_laws.specs.Places.{kept_places}
+use Rattle.layout_laws.proofs.SwapLemmas.{is_planned, one_part, all_one, swapped, swapped_here, swapped_next, all_swapped, all_marked, all_after}
 
 -- ---- a journal that continues
 

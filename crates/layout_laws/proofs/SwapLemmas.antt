@@ -1,11 +1,12 @@
 -- What an entry does to the parts of a layout, part by part.
 use Rattle.std.proofs.Common.{◌≡◌, refl, ap, sym, ◌∙◌, subst, ℕ, suc, ◌+◌, List, [], ◌∷◌, ◌++◌, Bool, true, false, not, cond, map, take, drop, arith}
-use Rattle.std.specs.List.{AllByRecursion, filter, flat_map, prefix_len}
+use Rattle.std.specs.List.{AllByRecursion, filter, prefix_len}
 use Rattle.lake_model.specs.Texts.{Text}
 use Rattle.lake_model.specs.Tables.{Table}
 use Rattle.lake_model.specs.Journal.{What, Loaded, Dropped, Replaced, Swapped}
 use Rattle.lake_model.specs.Layout.{Place, Part, parts_after, mark, merged, is_among}
 use Rattle.list_laws.proofs.ListLemmas.{split_bool, all_append, all_filter}
+use Rattle.layout_laws.specs.Places.{kept_places}
 
 abbrev pub part_of : ℕ → List Place → Part
 part_of number places = record { number = number; places = places }
@@ -13,14 +14,8 @@ part_of number places = record { number = number; places = places }
 abbrev pub loaded_place : ℕ → Table → Place
 loaded_place position table = record { position = position; table = table; marked = false }
 
-abbrev pub places_of : List Part → List Place
-places_of parts = flat_map (λ part. part.places) parts
-
 abbrev pub is_planned : List ℕ → Part → Bool
 is_planned planned part = is_among planned part.number
-
-abbrev pub kept_places : List ℕ → List Part → List Place
-kept_places kept parts = filter (λ place. is_among kept place.position) (places_of parts)
 
 -- one part of these places, or none if there are none
 abbrev pub one_part : ℕ → List Place → List Part

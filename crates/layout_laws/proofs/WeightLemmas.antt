@@ -17,15 +17,14 @@ use Rattle.layout_laws.specs.Steps.{numbers_of}
 use Rattle.layout_laws.specs.Weight.{weight, swaps, does_merge, merges, do_merge_behind}
 use Rattle.layout_laws.specs.LayoutLaws.{IsLaidOut}
 use Rattle.list_laws.proofs.ListLemmas.{same_texts, length_filter_le, map_filter}
-use Rattle.layout_laws.proofs.SwapLemmas.{part_of, loaded_place, places_of, kept_places, one_part, swapped}
+use Rattle.layout_laws.specs.Places.{kept_places, places_of}
+use Rattle.layout_laws.proofs.SwapLemmas.{part_of, loaded_place, one_part, swapped}
 use Rattle.layout_laws.proofs.LiveLemmas.{unmarked, places_marked, places_swapped, places_split}
 use Rattle.layout_laws.proofs.PlanLemmas.{marked_in}
 use Rattle.layout_laws.proofs.LaidLemmas.{swaps_run, laid_more}
+use Rattle.list_laws.proofs.TestLemmas.{once}
 
 -- ---- marks
-
-abbrev once : Bool → ℕ
-once b = cond b 1 0
 
 marks_places : (parts : List Part) → sum_by marks parts ≡ marked_in (places_of parts)
 marks_places [] = refl
@@ -113,7 +112,7 @@ pub weight_replace : (position : ℕ) (parts : List Part) (table : Table) → Ar
 weight_replace position parts table h =
     omega (arith, weight_load position (map (mark table.name) parts) table, weight_drop position parts table.name h)
 
-one_at_most : (number : ℕ) (places : List Place) → length (one_part number places) ≤ 1
+pub one_at_most : (number : ℕ) (places : List Place) → length (one_part number places) ≤ 1
 one_at_most number [] = omega arith
 one_at_most number (place ∷ places) = omega arith
 

@@ -1,7 +1,8 @@
 -- What holds of each element, filters, lists of distinct elements, strictly increasing numbers, and the results of searches.
-use Rattle.std.proofs.Common.{◌≡◌, refl, ap, sym, ◌∙◌, ℕ, zero, suc, ◌+◌, ◌<◌, ◌≤◌, List, [], ◌∷◌, ◌++◌, Bool, true, false, ◌||◌, ◌&&◌, cond, map, length, get_or, drop, Some, None, inl, inr, arith, eqb as nat_eq}
-use Rattle.std.specs.Prelude.{find, bytes_eq}
+use Rattle.std.proofs.Common.{◌≡◌, refl, ap, sym, ◌∙◌, subst, ℕ, zero, suc, ◌+◌, ◌<◌, ◌≤◌, List, [], ◌∷◌, ◌++◌, Bool, true, false, ◌||◌, ◌&&◌, cond, map, length, get_or, drop, Some, None, inl, inr, arith, eqb as nat_eq}
+use Rattle.std.specs.Prelude.{find, bytes_eq, slice_index}
 use Rattle.std.specs.List.{AllByRecursion, filter, list_any, list_all}
+use Rattle.std.specs.List.Sorted.{IsStrictlyIncreasing}
 use Rattle.std.proofs.lemmas.Bool.{and_parts, cases_lt, or_parts}
 use Rattle.std.proofs.lemmas.Bool.Decides.{nat_tests}
 use Rattle.std.proofs.lemmas.Slice.Eq.{bytes_eq-Decides}
@@ -179,6 +180,18 @@ distinct_append {X} (x ∷ xs) ys h k apart = (all_append (λ (z : X). z ≡ x �
 pub rises_left : (ms ns : List ℕ) → Rises (ms ++ ns) → Rises ms
 rises_left [] ns h = tt
 rises_left (m ∷ ms) ns h = (all_left (λ later. m < later) ms ns h.0, rises_left ms ns h.1)
+
+pub rises_right : (ms ns : List ℕ) → Rises (ms ++ ns) → Rises ns
+rises_right [] ns h = h
+rises_right (m ∷ ms) ns h = rises_right ms ns h.1
+
+-- each number is below the next
+pub rises_strictly : (ns : List ℕ) → Rises ns → IsStrictlyIncreasing ns
+rises_strictly [] h k low = absurd (omega arith)
+rises_strictly (n ∷ ns) h zero low = all_at (λ later. n < later) ns 0 0 h.0 (omega arith)
+rises_strictly (n ∷ ns) h (suc k) low =
+    let next : suc k + 1 ≡ suc (k + 1) = omega arith in
+    subst (λ (j : ℕ). slice_index (n ∷ ns) (suc k) < slice_index (n ∷ ns) j) (sym next) (rises_strictly ns h.1 k (omega arith))
 
 above_none : (x : ℕ) (ns : List ℕ) → AllByRecursion (λ later. x < later) ns → list_any (nat_eq x) ns ≡ false
 above_none x [] h = refl

@@ -1,5 +1,5 @@
 -- The tokens that are asked of a part, the room for its looks, and what its tokens say of its keys.
-use Rattle.std.proofs.Common.{◌≡◌, refl, ap, sym, ◌∙◌, ℕ, ◌+◌, ◌<◌, ◌≤◌, List, [], ◌∷◌, Bool, true, false, ◌&&◌, ◌||◌, cond, map, length, get_or, drop, arith, Vec, Global}
+use Rattle.std.proofs.Common.{◌≡◌, refl, ap, sym, ◌∙◌, ℕ, ◌+◌, ◌<◌, ◌≤◌, List, [], ◌∷◌, Bool, true, false, ◌&&◌, ◌||◌, map, length, get_or, drop, arith, Vec, Global}
 use Rattle.std.specs.Prelude.{bytes_eq}
 use Rattle.std.specs.Cmp.Lexicographic.{bytes_decides}
 use Rattle.std.specs.List.{AllByRecursion, IsDistinct, count_by, sum_by}
@@ -19,6 +19,7 @@ use Rattle.search_state.specs.State.{column_at}
 use Rattle.segment_core.specs.Versions.{part_at, part_with, segment_at, segment_of, VersionOf}
 use Rattle.part_columns.specs.Room.{asked_in, looks_bound, looks_in}
 use Rattle.part_columns.proofs.SegmentLists.{token_within}
+use Rattle.list_laws.proofs.TestLemmas.{once}
 use Rattle.std.proofs.Math.Bool.{and-true, or-true}
 
 -- ---- the tokens that are held for a part
@@ -49,9 +50,6 @@ weaker x (y ∷ ys) all h = (ap (λ b. bytes_eq y x || b) h.0 ∙ or-true (bytes
 all_there : (xs : List Text) → AllByRecursion (λ y. has_key xs y ≡ true) xs
 all_there [] = tt
 all_there (x ∷ xs) = (ap (λ b. b || has_key xs x) ((bytes_decides x x).1 refl), weaker x xs xs (all_there xs))
-
-abbrev once : Bool → ℕ
-once b = cond b 1 0
 
 both : (keys all xs : List Text) → AllByRecursion (λ y. has_key all y ≡ true) xs → count_by (λ t. has_key keys t && has_key all t) xs ≡ count_by (has_key keys) xs
 both keys all [] h = refl

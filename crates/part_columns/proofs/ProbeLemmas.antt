@@ -4,39 +4,35 @@ use Rattle.std.specs.Prelude.{MatchResult, Result, Ok, Err, is_ok}
 use Rattle.std.specs.List.{AllByRecursion, count_by}
 use Rattle.std.specs.List.Sorted.{IsBinarySearchResult, IsStrictlyIncreasing}
 use Rattle.std.specs.Ordering.{nat_cmp}
-use Rattle.std.proofs.lemmas.Bool.{cases_lt, ne_eqb}
+use Rattle.std.proofs.lemmas.Bool.{cases_lt}
 use Rattle.std.proofs.lemmas.Bool.Decides.{nat_tests}
 use Rattle.std.proofs.lemmas.List.{length-drop, take-append-drop, take_all}
 use Rattle.std.proofs.lemmas.List.Elements.{All-from_recursion}
 use Rattle.std.proofs.lemmas.List.Sorted.{searched}
 use Rattle.std.proofs.lemmas.List.Sums.{count_by-le-length, length-filter}
 use Rattle.lake_model.specs.Layout.{is_among}
-use Rattle.search_model.proofs.BoundLemmas.{prefix_filter, hits_le_count}
+use Rattle.search_model.proofs.BoundLemmas.{hits_le_count, rank_front}
 use Rattle.search_model.specs.Looks.{hits}
 use Rattle.search_model.specs.Segment.{rank}
 use Rattle.segment_core.proofs.PositionLemmas.{rise_far}
 use Rattle.part_columns.specs.declared.tally.Tally.{Tally}
 use Rattle.part_columns.specs.Tallies.{most_of, tally_of}
 use Rattle.search_state.proofs.FallLemmas.{rank_within}
-use Rattle.search_model.proofs.BoundLemmas.{among_counts}
-use Rattle.search_model.proofs.FilterLemmas.{Rising, after_all, all_hits, hits-append, IsHit, rising_right, distinct_rising}
+use Rattle.search_model.proofs.FilterLemmas.{after_all, all_hits, hits-append, IsHit, distinct_rising}
 use Rattle.list_laws.proofs.TestLemmas.{count-cons, once}
-use Rattle.std.proofs.Math.Bool.{or-true}
+use Rattle.list_laws.specs.Distinct.{Rises}
+use Rattle.list_laws.proofs.ListLemmas.{rises_right}
 
 -- ---- lists of distinct numbers
 
 -- as many of the one are in the other as of the other in the one
-both_ways : (xs ys : List ℕ) → Rising xs → Rising ys → count_by (is_among xs) ys ≡ count_by (is_among ys) xs
+both_ways : (xs ys : List ℕ) → Rises xs → Rises ys → count_by (is_among xs) ys ≡ count_by (is_among ys) xs
 both_ways xs ys up over = omega (arith, hits_le_count ys xs (distinct_rising ys over), hits_le_count xs ys (distinct_rising xs up))
 
 -- ---- the tokens of a set after one of its own
 
-rank_front : (l : ℕ) (set : List ℕ) → AllByRecursion (λ y. l < y) set → rank set l ≡ 0
-rank_front l [] h = refl
-rank_front l (s ∷ set) h = let lt = h.0 in let e : nat_lt s l ≡ false = grind (arith, nat_tests) in omega (arith, count-cons (λ o. nat_lt o l) s set, ap once e, rank_front l set h.1)
-
 -- the tokens of the set above l are those after l
-among_tail : (set : List ℕ) (l t : ℕ) → Rising set → is_among set l ≡ true → l < t → is_among set t ≡ is_among (drop (rank set l + 1) set) t
+among_tail : (set : List ℕ) (l t : ℕ) → Rises set → is_among set l ≡ true → l < t → is_among set t ≡ is_among (drop (rank set l + 1) set) t
 among_tail [] l t up e h = absurd (let f : false ≡ true = e in cc)
 among_tail (s ∷ set) l t up e h = by (λ there. among_tail set l t up.1 there h) (nat_eq l s) refl
   where
@@ -67,11 +63,11 @@ same_counts : (p q : ℕ → Bool) (ts : List ℕ) (l : ℕ) → AllByRecursion 
 same_counts p q [] l h w = refl
 same_counts p q (t ∷ ts) l h w = omega (arith, count-cons p t ts, count-cons q t ts, ap once (w t h.0), same_counts p q ts l h.1 w)
 
-pub rising_drop : (n : ℕ) (xs : List ℕ) → Rising xs → Rising (drop n xs)
-rising_drop n xs up = rising_right (take n xs) (drop n xs) (subst Rising (sym (take-append-drop n xs)) up)
+pub rising_drop : (n : ℕ) (xs : List ℕ) → Rises xs → Rises (drop n xs)
+rising_drop n xs up = rises_right (take n xs) (drop n xs) (subst Rises (sym (take-append-drop n xs)) up)
 
 -- After the last hit l, a probe finds the rest of what the set and the query share.
-pub probed_overlap : (set qs : List ℕ) (i : ℕ) → Rising set → Rising qs → 0 < length (hits set (take i qs))
+pub probed_overlap : (set qs : List ℕ) (i : ℕ) → Rises set → Rises qs → 0 < length (hits set (take i qs))
     → length (hits set qs) ≡ length (hits set (take i qs)) + count_by (is_among (drop i qs)) (drop (rank set (get_or (hits set (take i qs)) (length (hits set (take i qs)) - 1) 0) + 1) set)
 probed_overlap set qs i over up some =
     let found = hits set (take i qs) in
@@ -80,21 +76,12 @@ probed_overlap set qs i over up some =
     let tail = drop (rank set l + 1) set in
     let hit : IsHit (is_among set) (take i qs) l = All-from_recursion (IsHit (is_among set) (take i qs)) found (all_hits (is_among set) (take i qs)) (length found - 1) 0 (omega arith) in
     let parts : take i qs ++ drop i qs ≡ qs = take-append-drop i qs in
-    let above : AllByRecursion (λ t. l < t) left = after_all (take i qs) left l (subst Rising (sym parts) up) hit.1 in
+    let above : AllByRecursion (λ t. l < t) left = after_all (take i qs) left l (subst Rises (sym parts) up) hit.1 in
     let whole : length (hits set qs) ≡ length found + length (hits set left) = ap (λ xs. length (hits set xs)) (sym parts) ∙ ap length (hits-append set (take i qs) left) ∙ length-append found (hits set left) in
     let same : count_by (is_among set) left ≡ count_by (is_among tail) left = same_counts (is_among set) (is_among tail) left l above (λ t h. among_tail set l t over hit.0 h) in
     omega (arith, whole, length-filter (is_among set) left, same, both_ways tail left (rising_drop (rank set l + 1) set over) (rising_drop i qs up))
 
 -- ---- what a binary search finds
-
-pub rises_strictly : (xs : List ℕ) → Rising xs → IsStrictlyIncreasing xs
-rises_strictly [] h k l = absurd (omega arith)
-rises_strictly (x ∷ []) h k l = absurd (omega arith)
-rises_strictly (x ∷ y ∷ ys) h zero l = h.0.0
-rises_strictly (x ∷ y ∷ ys) h (suc k) l =
-    let e : suc k + 1 ≡ suc (k + 1) = omega arith in
-    let later = rises_strictly (y ∷ ys) h.1 k (omega arith) in
-    omega (arith, later, ap (λ (n : ℕ). get_or (x ∷ y ∷ ys) n 0) e)
 
 stands : (xs : List ℕ) (x i : ℕ) → i < length xs → get_or xs i 0 ≡ x → is_among xs x ≡ true
 stands [] x i h e = absurd (omega arith)
@@ -135,7 +122,7 @@ position_within set qs i tally some e =
     let hit : IsHit (is_among set) (take i qs) (get_or found (length found - 1) 0) = All-from_recursion (IsHit (is_among set) (take i qs)) found (all_hits (is_among set) (take i qs)) (length found - 1) 0 (let n = is.2 in omega arith) in
     omega (arith, is.1, rank_within set (get_or found (length found - 1) 0) hit.0)
 
-pub probe_counts : (set qs : List ℕ) (i count : ℕ) (left tail : List ℕ) (tally : Tally) → Rising set → Rising qs → 0 < tally.count → tally ≡ tally_of set (hits set (take i qs))
+pub probe_counts : (set qs : List ℕ) (i count : ℕ) (left tail : List ℕ) (tally : Tally) → Rises set → Rises qs → 0 < tally.count → tally ≡ tally_of set (hits set (take i qs))
     → left ≡ drop i qs → tail ≡ drop (tally.position + 1) set → count ≡ count_by (is_among left) tail → tally.count + count ≡ length (hits set qs)
 probe_counts set qs i count left tail tally over up some e l t n =
     let found = hits set (take i qs) in
@@ -149,7 +136,7 @@ size_of set [] tally some e = let n = ap (λ (t : Tally). t.count) e in absurd (
 size_of set (t ∷ ts) tally some e = ap (λ (t : Tally). t.size) e
 
 -- if the tally of a column counts as many tokens as its bound, the column has exactly these
-pub hits_settled : (set qs : List ℕ) (i : ℕ) (tally : Tally) → Rising set → Rising qs → 0 < tally.count → tally ≡ tally_of set (hits set (take i qs)) → most_of (length qs - i) tally ≤ tally.count → tally.count ≡ length (hits set qs)
+pub hits_settled : (set qs : List ℕ) (i : ℕ) (tally : Tally) → Rises set → Rises qs → 0 < tally.count → tally ≡ tally_of set (hits set (take i qs)) → most_of (length qs - i) tally ≤ tally.count → tally.count ≡ length (hits set qs)
 hits_settled set qs i tally over up some e low =
     let found = hits set (take i qs) in
     let is = last_of set found tally some e in
@@ -161,9 +148,6 @@ hits_settled set qs i tally over up some e low =
     let by_left = count_by-le-length (is_among tail) left in
     let same = both_ways tail left (rising_drop (rank set last + 1) set over) (rising_drop i qs up) in
     omega (arith, is.0, is.1, size_of set found tally some e, behind, by_tail, by_left, same, length-drop (rank set last + 1) set, length-drop i qs, low)
-
-pub hits_few : (set qs : List ℕ) → length (hits set qs) ≤ length qs
-hits_few set qs = prefix_filter set qs
 
 pub rest_is : (i : ℕ) (qs : List ℕ) → take (length qs - i) (drop i qs) ≡ drop i qs
 rest_is i qs = take_all (length qs - i) (drop i qs) (omega (arith, length-drop i qs))
@@ -177,7 +161,7 @@ above x y (z ∷ zs) l h = (omega (arith, l, h.0), above x y zs l h.1)
 strict_behind : (x : ℕ) (xs : List ℕ) → IsStrictlyIncreasing (x ∷ xs) → IsStrictlyIncreasing xs
 strict_behind x xs up k h = let e : suc k + 1 ≡ suc (k + 1) = omega arith in subst (λ (n : ℕ). get_or xs k 0 < get_or (x ∷ xs) n 0) e (up (suc k) (omega arith))
 
-rises : (xs : List ℕ) → IsStrictlyIncreasing xs → Rising xs
+rises : (xs : List ℕ) → IsStrictlyIncreasing xs → Rises xs
 rises [] up = tt
 rises (x ∷ []) up = (tt, tt)
 rises (x ∷ y ∷ ys) up =

@@ -1,5 +1,5 @@
 -- The touched columns: one more, and none after a clearing.
-use Rattle.std.proofs.Common.{◌≡◌, refl, ap, sym, ◌∙◌, subst, inl, inr, ℕ, zero, suc, ◌+◌, ◌-◌, ◌^◌, ◌<◌, ◌≤◌, List, [], ◌∷◌, ◌++◌, Bool, true, false, ◌||◌, length, replicate, set, get_or, drop, take, cond, arith, append-nil, length-append, eqb as nat_eq}
+use Rattle.std.proofs.Common.{◌≡◌, refl, ap, sym, ◌∙◌, subst, inl, inr, ℕ, zero, suc, ◌+◌, ◌-◌, ◌^◌, ◌<◌, ◌≤◌, List, [], ◌∷◌, ◌++◌, Bool, true, false, ◌||◌, length, replicate, set, get_or, drop, take, arith, append-nil, length-append, eqb as nat_eq}
 use Rattle.std.specs.List.{AllByRecursion, count_by}
 use Rattle.std.proofs.Math.ListN.{length-set}
 use Rattle.std.proofs.Math.Seq.{drop-cons}
@@ -12,9 +12,7 @@ use Rattle.search_model.proofs.BoundLemmas.{among_counts}
 use Rattle.part_columns.specs.declared.tally.Tally.{Tally}
 use Rattle.part_columns.specs.Columns.{AreTouched, columns_with, is_touched, IsClean, IsKept, IsListed, tallies_in}
 use Rattle.part_columns.specs.Tallies.{no_tally, tally_at, tally_with}
-
-abbrev once : Bool → ℕ
-once b = cond b 1 0
+use Rattle.list_laws.proofs.TestLemmas.{once}
 
 at_most_one : (b : Bool) → once b ≤ 1
 at_most_one true = omega arith

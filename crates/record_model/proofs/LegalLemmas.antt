@@ -112,10 +112,10 @@ reply_follows stay rules command false pinned behind now whole legal =
 -- ---- a legal play
 
 -- commands of these lanes or of the merger
-abbrev AreWithin : ℕ → List Command → Type 0
+abbrev pub AreWithin : ℕ → List Command → Type 0
 AreWithin n commands = AllByRecursion (λ command. command.lane ≤ n) commands
 
-abbrev AreCallers : ℕ → List Entry → Type 0
+abbrev pub AreCallers : ℕ → List Entry → Type 0
 AreCallers n entries = AllByRecursion (λ e. e.who.caller ≤ n) entries
 
 record IsLawful (n : ℕ) (journal : List Entry) : Type 0 where
@@ -136,7 +136,7 @@ all_set P [] i x h k = tt
 all_set P (y ∷ xs) zero x h k = (k, h.1)
 all_set P (y ∷ xs) (suc i) x h k = (h.0, all_set P xs i x h.1 k)
 
-are_callers : (n : ℕ) (command : Command) (whats : List What) → command.lane ≤ n → AreCallers n (map (entry_with (who_of command)) whats)
+pub are_callers : (n : ℕ) (command : Command) (whats : List What) → command.lane ≤ n → AreCallers n (map (entry_with (who_of command)) whats)
 are_callers n command [] h = tt
 are_callers n command (what ∷ whats) h = (h, are_callers n command whats h)
 
@@ -185,12 +185,12 @@ play_lawful stay rules n order denials state lawful = steps_lawful stay rules n 
 
 -- ---- a batch, and a record
 
-within_batch : (n : ℕ) (batch : Batch) → IsOfLanes n batch → AreWithin n batch
+pub within_batch : (n : ℕ) (batch : Batch) → IsOfLanes n batch → AreWithin n batch
 within_batch n [] lanes = tt
 within_batch n (command ∷ batch) lanes = (lanes.0.1, within_batch n batch lanes.1)
 
 -- the merger is caller 0
-within_merges : (n : ℕ) (merges : List Command) → AllByRecursion (λ command. command.lane ≡ 0) merges → AreWithin n merges
+pub within_merges : (n : ℕ) (merges : List Command) → AllByRecursion (λ command. command.lane ≡ 0) merges → AreWithin n merges
 within_merges n [] h = tt
 within_merges n (command ∷ merges) h = (let zeroth : command.lane ≡ 0 = h.0 in omega (arith, zeroth), within_merges n merges h.1)
 

@@ -28,7 +28,7 @@ use Rattle.script_model.specs.Commands.{Task, Load, LoadFile, DropTable, Replace
 use Rattle.record_model.specs.Replies.{Reply, NoMemory, Past, Later, Repeated, Unknown, Loaded, Dropped, Replaced, fault_reply, Fault, FileFault, OfCsv, OfSets, OfQuery, OfFile, FailedFault, MissingFault, TooLongFault, csv_reply, sets_reply, query_reply, file_reply, unless_lake_full, drop_reply, like_table, like_column, merge_planned, merge_gone}
 use Rattle.record_model.specs.Answered.{TableRead, IsTable, NoTable, QueryRead, IsQuery, NoQuery, file_read, load_answer, replace_answer, search_answer, contain_answer, past_answer, policy_of, loads, replaces, swaps, table_read, query_read, answer_to, change_of, has_pin, Standing, Nowhere, Saw, Added, PlannedAndSaw, PlannedAndAdded, standing, is_accepted}
 use Rattle.record_model.specs.Play.{Done, done_with, who_of, entries_of, reply_or_denied}
-use Rattle.record_model.specs.Right.{Moment, moments, moments_by, Rises, IsPlaced, IsUnplaced, own_entries, entries_by, at_position, accepted, IsRight}
+use Rattle.record_model.specs.Right.{Moment, moments, moments_by, MomentsRise, IsPlaced, IsUnplaced, own_entries, entries_by, at_position, accepted, IsRight}
 
 -- ---- the possible replies to a command
 
@@ -154,7 +154,7 @@ pub record FitsBy (rules : Rules) (command : Command) (pinned now : List Entry) 
   pub placed : IsPlaced rules (now ++ added) command reply s
   pub unplaced : IsUnplaced rules command reply s
   pub entries : own_entries command.lane now added ≡ entries_by rules (now ++ added) command reply s
-  pub rises : Rises (length pinned) (moments_by s) (length (now ++ added))
+  pub rises : MomentsRise (length pinned) (moments_by s) (length (now ++ added))
 
 abbrev pub Fits : Rules → Command → List Entry → List Entry → Reply → Type 0
 Fits rules command pinned now reply = FitsBy rules command pinned now reply (standing reply) (entries_of rules pinned command reply)
@@ -242,7 +242,7 @@ reply_fits rules false command pinned now prefix same = shape_fits rules command
 -- ---- one more answer of a lane
 
 pub right_step : (rules : Rules) (lane : ℕ) (before behind : List Entry) (done : List Done) (command : Command) (pinned : List Entry) (reply : Reply) → command.lane ≡ lane
-    → IsRight rules lane before behind done → Rises (length before) (moments done) (length pinned) → Fits rules command pinned (before ++ behind) reply
+    → IsRight rules lane before behind done → MomentsRise (length before) (moments done) (length pinned) → Fits rules command pinned (before ++ behind) reply
     → IsRight rules lane before (behind ++ entries_of rules pinned command reply) (done ++ done_with command reply ∷ [])
 right_step rules lane before behind done command pinned reply mine right rises fits =
     let now : List Entry = before ++ behind in
@@ -261,9 +261,9 @@ right_step rules lane before behind done command pinned reply mine right rises f
       placed = subst (λ j. AllByRecursion (λ d. IsPlaced rules j d.command d.reply (standing d.reply)) (done ++ last)) same
           (all_append (λ (d : Done). IsPlaced rules (now ++ added) d.command d.reply (standing d.reply)) done last
           (all_placed_stay rules now added done (length before) (length now) (omega arith) right.positions right.placed) (fits.placed, tt));
-      positions = subst (λ (ms : List Moment). Rises (length before) ms (length (before ++ (behind ++ added)))) (sym (flat_map-append (λ (d : Done). moments_by (standing d.reply)) done last))
+      positions = subst (λ (ms : List Moment). MomentsRise (length before) ms (length (before ++ (behind ++ added)))) (sym (flat_map-append (λ (d : Done). moments_by (standing d.reply)) done last))
           (rises_on (length before) (moments done) (length pinned) (moments last) (length (before ++ (behind ++ added))) rises
-          (subst (λ (j : List Entry). Rises (length pinned) (moments last) (length j)) same
-          (subst (λ (ms : List Moment). Rises (length pinned) ms (length (now ++ added))) (sym (append-nil (moments_by (standing reply)))) fits.rises)));
+          (subst (λ (j : List Entry). MomentsRise (length pinned) (moments last) (length j)) same
+          (subst (λ (ms : List Moment). MomentsRise (length pinned) ms (length (now ++ added))) (sym (append-nil (moments_by (standing reply)))) fits.rises)));
       unplaced = all_append (λ (d : Done). IsUnplaced rules d.command d.reply (standing d.reply)) done last right.unplaced (fits.unplaced, tt);
     }

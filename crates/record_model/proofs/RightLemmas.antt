@@ -12,7 +12,7 @@ use Rattle.record_model.specs.Replies.{Reply}
 use Rattle.record_model.specs.Answered.{answer_to, Standing, Nowhere, Saw, Added, PlannedAndSaw, PlannedAndAdded, standing}
 use Rattle.record_model.specs.Play.{Done, entries_of}
 use Rattle.list_laws.proofs.ListLemmas.{all_append}
-use Rattle.record_model.specs.Right.{Moment, moments, moments_by, IsBehind, Rises, pinned_by, made_by, answer_by, IsPlaced, IsUnplaced, own_entries, entries_by, at_position, accepted, IsRight}
+use Rattle.record_model.specs.Right.{Moment, moments, moments_by, IsBehind, MomentsRise, pinned_by, made_by, answer_by, IsPlaced, IsUnplaced, own_entries, entries_by, at_position, accepted, IsRight}
 
 -- ---- positions
 
@@ -20,11 +20,11 @@ behind_le : (own : Bool) (low at high : ℕ) → IsBehind own low at → at ≤ 
 behind_le true low at high h k = omega (arith, h, k)
 behind_le false low at high h k = omega (arith, h, k)
 
-pub rises_le : (low : ℕ) (ms : List Moment) (high : ℕ) → Rises low ms high → low ≤ high
+pub rises_le : (low : ℕ) (ms : List Moment) (high : ℕ) → MomentsRise low ms high → low ≤ high
 rises_le low [] high h = h
 rises_le low (m ∷ ms) high h = behind_le m.own low m.at high h.0 (rises_le m.at ms high h.1)
 
-pub rises_up : (low : ℕ) (ms : List Moment) (high higher : ℕ) → high ≤ higher → Rises low ms high → Rises low ms higher
+pub rises_up : (low : ℕ) (ms : List Moment) (high higher : ℕ) → high ≤ higher → MomentsRise low ms high → MomentsRise low ms higher
 rises_up low [] high higher up h = omega (arith, up, h)
 rises_up low (m ∷ ms) high higher up h = (h.0, rises_up m.at ms high higher up h.1)
 
@@ -32,15 +32,15 @@ behind_down : (own : Bool) (lower low at : ℕ) → lower ≤ low → IsBehind o
 behind_down true lower low at down h = omega (arith, down, h)
 behind_down false lower low at down h = omega (arith, down, h)
 
-pub rises_down : (lower low : ℕ) (ms : List Moment) (high : ℕ) → lower ≤ low → Rises low ms high → Rises lower ms high
+pub rises_down : (lower low : ℕ) (ms : List Moment) (high : ℕ) → lower ≤ low → MomentsRise low ms high → MomentsRise lower ms high
 rises_down lower low [] high down h = omega (arith, down, h)
 rises_down lower low (m ∷ ms) high down h = (behind_down m.own lower low m.at down h.0, h.1)
 
-pub rises_on : (low : ℕ) (ms : List Moment) (mid : ℕ) (ns : List Moment) (high : ℕ) → Rises low ms mid → Rises mid ns high → Rises low (ms ++ ns) high
+pub rises_on : (low : ℕ) (ms : List Moment) (mid : ℕ) (ns : List Moment) (high : ℕ) → MomentsRise low ms mid → MomentsRise mid ns high → MomentsRise low (ms ++ ns) high
 rises_on low [] mid ns high h k = rises_down low mid ns high h k
 rises_on low (m ∷ ms) mid ns high h k = (h.0, rises_on m.at ms mid ns high h.1 k)
 
-rises_split : (low : ℕ) (ms ns : List Moment) (high : ℕ) → Rises low (ms ++ ns) high → (mid : ℕ) × Rises low ms mid × Rises mid ns high
+rises_split : (low : ℕ) (ms ns : List Moment) (high : ℕ) → MomentsRise low (ms ++ ns) high → (mid : ℕ) × MomentsRise low ms mid × MomentsRise mid ns high
 rises_split low [] ns high h = (low, omega arith, h)
 rises_split low (m ∷ ms) ns high h = let rest = rises_split m.at ms ns high h.1 in (rest.0, (h.0, rest.1), rest.2)
 
@@ -51,7 +51,7 @@ pub record IsWithin (size : ℕ) (s : Standing) : Type 0 where
   pub pinned : pinned_by s ≤ size
   pub made : made_by s ≤ size
 
-within : (s : Standing) (low high size : ℕ) → high ≤ size → Rises low (moments_by s) high → IsWithin size s
+within : (s : Standing) (low high size : ℕ) → high ≤ size → MomentsRise low (moments_by s) high → IsWithin size s
 within Nowhere low high size le h = record { pinned = omega arith; made = omega arith }
 within (Saw at) low high size le h = record { pinned = omega (arith, le, h.1); made = omega (arith, le, h.1) }
 within (Added at) low high size le h = record { pinned = omega (arith, le, h.1); made = omega (arith, le, h.1) }
@@ -81,7 +81,7 @@ entries_stay rules journal more command reply (PlannedAndSaw pinned at) h = refl
 entries_stay rules journal more command reply (PlannedAndAdded pinned at) h = ap (λ p. at_position at (entries_of rules p command reply)) (take-append-le pinned journal more h.pinned)
 
 -- what a list of answers states of a journal, it states of one that goes on
-pub all_placed_stay : (rules : Rules) (journal more : List Entry) (done : List Done) (low high : ℕ) → high ≤ length journal → Rises low (moments done) high
+pub all_placed_stay : (rules : Rules) (journal more : List Entry) (done : List Done) (low high : ℕ) → high ≤ length journal → MomentsRise low (moments done) high
     → AllByRecursion (λ d. IsPlaced rules journal d.command d.reply (standing d.reply)) done
     → AllByRecursion (λ d. IsPlaced rules (journal ++ more) d.command d.reply (standing d.reply)) done
 all_placed_stay rules journal more [] low high le rises h = h
@@ -91,7 +91,7 @@ all_placed_stay rules journal more (d ∷ done) low high le rises h =
     let inside : IsWithin (length journal) (standing d.reply) = within (standing d.reply) low parts.0 (length journal) (omega (arith, below, le)) parts.1 in
     (placed_stays rules journal more d.command d.reply (standing d.reply) inside h.0, all_placed_stay rules journal more done parts.0 high le parts.2 h.1)
 
-pub accepted_stay : (rules : Rules) (journal more : List Entry) (done : List Done) (low high : ℕ) → high ≤ length journal → Rises low (moments done) high
+pub accepted_stay : (rules : Rules) (journal more : List Entry) (done : List Done) (low high : ℕ) → high ≤ length journal → MomentsRise low (moments done) high
     → accepted rules (journal ++ more) done ≡ accepted rules journal done
 accepted_stay rules journal more [] low high le rises = refl
 accepted_stay rules journal more (d ∷ done) low high le rises =
@@ -124,7 +124,7 @@ none_own lane n (e ∷ more) h = ap (λ b. cond b ((n, e) ∷ filter (λ (e : �
 
 -- ---- the two laws
 
-longer : (before behind more : List Entry) → length (before ++ behind) ≤ length (before ++ (behind ++ more))
+pub longer : (before behind more : List Entry) → length (before ++ behind) ≤ length (before ++ (behind ++ more))
 longer before behind more = omega (arith, length-append before behind, length-append before (behind ++ more), length-append behind more)
 
 -- Answers that are right stay right when entries of others follow.
@@ -159,8 +159,8 @@ right_on rules lane before behind more done later first second =
       placed = subst (λ j. AllByRecursion (λ d. IsPlaced rules j d.command d.reply (standing d.reply)) (done ++ later)) same
           (all_append (λ (d : Done). IsPlaced rules ((before ++ behind) ++ more) d.command d.reply (standing d.reply)) done later
           (all_placed_stay rules (before ++ behind) more done (length before) (length (before ++ behind)) (omega arith) first.positions first.placed) second.placed);
-      positions = subst (λ (ms : List Moment). Rises (length before) ms (length (before ++ (behind ++ more)))) (sym (flat_map-append (λ (d : Done). moments_by (standing d.reply)) done later))
+      positions = subst (λ (ms : List Moment). MomentsRise (length before) ms (length (before ++ (behind ++ more)))) (sym (flat_map-append (λ (d : Done). moments_by (standing d.reply)) done later))
           (rises_on (length before) (moments done) (length (before ++ behind)) (moments later) (length (before ++ (behind ++ more))) first.positions
-          (subst (λ (j : List Entry). Rises (length (before ++ behind)) (moments later) (length j)) same second.positions));
+          (subst (λ (j : List Entry). MomentsRise (length (before ++ behind)) (moments later) (length j)) same second.positions));
       unplaced = all_append (λ (d : Done). IsUnplaced rules d.command d.reply (standing d.reply)) done later first.unplaced second.unplaced;
     }

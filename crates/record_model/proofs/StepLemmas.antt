@@ -6,18 +6,18 @@ use Rattle.std.proofs.lemmas.List.{append-nil, length-take-le}
 use Rattle.std.proofs.Math.Seq.{take-append_seam}
 use Rattle.std.proofs.lemmas.Bool.Decides.{nat_tests}
 use Rattle.record_model.specs.Rules.{Rules}
-use Rattle.record_model.proofs.RightLemmas.{AreOthers, right_stays}
+use Rattle.record_model.proofs.RightLemmas.{AreOthers, right_stays, longer}
 use Rattle.record_model.proofs.PlayLemmas.{IsPrefix, reply_fits, right_step}
 use Rattle.lake_model.specs.Journal.{What, Entry, entry_with}
 use Rattle.script_model.specs.Commands.{Command, Batch}
 use Rattle.record_model.specs.Replies.{Reply}
 use Rattle.record_model.specs.Answered.{answer_to, adds, has_pin}
 use Rattle.record_model.specs.Play.{done_with, Lane, lane_with, Play, play_with, who_of, entries_of, reply_or_denied, answered, step_of, lane_step, step_at, step, play, with_denials, lane_of, lanes_of, play_batch}
-use Rattle.record_model.specs.Right.{Moment, moments, Rises, IsRight}
+use Rattle.record_model.specs.Right.{Moment, moments, MomentsRise, IsRight}
 
 abbrev pub PinIs : ℕ → List Moment → ℕ → Option ℕ → Type 0
 PinIs low ms size None = ⊤
-PinIs low ms size (Some at) = Rises low ms at × (at ≤ size)
+PinIs low ms size (Some at) = MomentsRise low ms at × (at ≤ size)
 
 -- a lane in the middle of a batch
 pub record LaneIs (rules : Rules) (before behind : List Entry) (l : ℕ) (lane : Lane) : Type 0 where
@@ -66,9 +66,6 @@ are_of : (command : Command) (whats : List What) → AreOf command.lane (map (en
 are_of command [] = tt
 are_of command (what ∷ whats) = (refl, are_of command whats)
 
-grows : (before behind added : List Entry) → length (before ++ behind) ≤ length (before ++ (behind ++ added))
-grows before behind added = omega (arith, length-append before behind, length-append before (behind ++ added), length-append behind added)
-
 pin_up : (low : ℕ) (ms : List Moment) (size bigger : ℕ) (pin : Option ℕ) → size ≤ bigger → PinIs low ms size pin → PinIs low ms bigger pin
 pin_up low ms size bigger None le h = tt
 pin_up low ms size bigger (Some at) le h = (h.0, omega (arith, le, h.1))
@@ -77,7 +74,7 @@ lane_stays : (rules : Rules) (before behind added : List Entry) (caller m : ℕ)
 lane_stays rules before behind added caller m lane apart of h = record {
   right = right_stays rules m before behind added lane.done (others caller m added apart of) h.right;
   mine = h.mine;
-  pinned = pin_up (length before) (moments lane.done) (length (before ++ behind)) (length (before ++ (behind ++ added))) lane.pin (grows before behind added) h.pinned;
+  pinned = pin_up (length before) (moments lane.done) (length (before ++ behind)) (length (before ++ (behind ++ added))) lane.pin (longer before behind added) h.pinned;
 }
 
 lanes_stay : (rules : Rules) (before behind added : List Entry) (caller n : ℕ) (lanes : List Lane) → caller < n → AreOf caller added → LanesAre rules before behind n lanes → LanesAre rules before (behind ++ added) n lanes
@@ -102,7 +99,7 @@ lanes_go rules before behind added n (x ∷ lanes) (suc l) lane of h k =
 -- ---- steps
 
 answered_keeps : (rules : Rules) (denied : Bool) (before behind : List Entry) (lanes : List Lane) (l : ℕ) (lane : Lane) (command : Command) (todo : List Command) (pinned : List Entry)
-    → LanesAre rules before behind 0 lanes → LaneIs rules before behind l lane → lane.todo ≡ command ∷ todo → IsPrefix pinned (before ++ behind) → Rises (length before) (moments lane.done) (length pinned)
+    → LanesAre rules before behind 0 lanes → LaneIs rules before behind l lane → lane.todo ≡ command ∷ todo → IsPrefix pinned (before ++ behind) → MomentsRise (length before) (moments lane.done) (length pinned)
     → (has_pin command.task ≡ false → pinned ≡ before ++ behind) → PlayIs rules before (answered rules denied (before ++ behind) lanes l lane.done command todo pinned)
 answered_keeps rules denied before behind lanes l lane command todo pinned all here first prefix rises same =
     let reply : Reply = reply_or_denied denied (answer_to rules command.task pinned (before ++ behind)) in
@@ -139,9 +136,9 @@ step_of_keeps rules denied before behind lanes l lane command todo true None all
     let at : l ≡ 0 + l = omega arith in
     record { behind = behind; journal = refl; lanes = lanes_set rules before behind 0 lanes l (lane_with (command ∷ todo) (Some (length (before ++ behind))) lane.done) all (subst (λ (m : ℕ). LaneIs rules before behind m (lane_with (command ∷ todo) (Some (length (before ++ behind))) lane.done)) at one) }
 step_of_keeps rules denied before behind lanes l lane command todo true (Some at) all here first kind pin =
-    let held : Rises (length before) (moments lane.done) at × (at ≤ length (before ++ behind)) = subst (PinIs (length before) (moments lane.done) (length (before ++ behind))) pin here.pinned in
+    let held : MomentsRise (length before) (moments lane.done) at × (at ≤ length (before ++ behind)) = subst (PinIs (length before) (moments lane.done) (length (before ++ behind))) pin here.pinned in
     answered_keeps rules denied before behind lanes l lane command todo (take at (before ++ behind)) all here first (taken_prefix at (before ++ behind) held.1)
-    (subst (λ (n : ℕ). Rises (length before) (moments lane.done) n) (sym (taken_length at (before ++ behind) held.1)) held.0) (λ other. absurd (let f : true ≡ false = sym kind ∙ other in cc))
+    (subst (λ (n : ℕ). MomentsRise (length before) (moments lane.done) n) (sym (taken_length at (before ++ behind) held.1)) held.0) (λ other. absurd (let f : true ≡ false = sym kind ∙ other in cc))
 step_of_keeps rules denied before behind lanes l lane command todo false pin all here first kind was =
     answered_keeps rules denied before behind lanes l lane command todo (before ++ behind) all here first (self_prefix (before ++ behind)) here.right.positions (λ _. refl)
 
@@ -182,7 +179,8 @@ own_lane l (command ∷ batch) = by (command.lane == l) refl (own_lane l batch)
     by true e h = ((let z : command.lane ≡ l = grind (arith, nat_tests, e) in z), h)
     by false e h = h
 
-none_done : (rules : Rules) (l : ℕ) (before : List Entry) → IsRight rules l before [] []
+-- an empty list of answers is right if nothing was added
+pub none_done : (rules : Rules) (l : ℕ) (before : List Entry) → IsRight rules l before [] []
 none_done rules l before = record { entries = refl; placed = tt; positions = omega (arith, length-append before []); unplaced = tt }
 
 lanes_start : (rules : Rules) (before : List Entry) (batch : Batch) (n count : ℕ) → LanesAre rules before [] n (map (lane_of batch) (range_with_len n count))

@@ -4,7 +4,7 @@ use Rattle.std.specs.List.{AllByRecursion}
 use Rattle.record_model.specs.Rules.{Rules}
 use Rattle.script_model.specs.Commands.{Command, Batch}
 use Rattle.record_model.specs.Answered.{answer_to}
-use Rattle.record_model.specs.Record.{answered_with, RunRecord}
+use Rattle.record_model.specs.Record.{answered_with, Answered, RunRecord}
 use Rattle.record_model.specs.Play.{who_of, reply_or_denied, entries_of}
 
 -- the record after one more command, which is answered at the journal of that moment; `denied` says that memory runs
@@ -19,6 +19,10 @@ unfoldable pub in_turn : Rules → List Command → List Bool → RunRecord → 
 in_turn rules [] denials before = before
 in_turn rules (command ∷ commands) [] before = in_turn rules commands [] (after_command rules before command false)
 in_turn rules (command ∷ commands) (denied ∷ denials) before = in_turn rules commands denials (after_command rules before command denied)
+
+-- the record with more answers
+abbrev pub with_answers : List Answered → RunRecord → RunRecord
+with_answers answers made = record made { answers = made.answers ++ answers }
 
 -- the record after a batch: the length of the journal is added to its syncs
 abbrev pub with_sync : RunRecord → RunRecord

@@ -20,6 +20,9 @@ pub record RunRecord : Type 0 where
   pub syncs : List ℕ
   pub ended : Bool
 
+abbrev pub made_of : Options → List Entry → List Answered → List ℕ → Bool → RunRecord
+made_of options journal answers syncs ended = record { options = options; journal = journal; answers = answers; syncs = syncs; ended = ended }
+
 abbrev pub empty : Options → RunRecord
 empty options = record { options = options; journal = []; answers = []; syncs = []; ended = false }
 

@@ -39,9 +39,9 @@ IsBehind false low at = low ≤ at
 
 -- the positions never fall, from the lower bound to the upper one, and the position of an own entry is greater than
 -- each before it
-abbrev pub Rises : ℕ → List Moment → ℕ → Type 0
-Rises low [] high = low ≤ high
-Rises low (moment ∷ moments) high = IsBehind moment.own low moment.at × Rises moment.at moments high
+abbrev pub MomentsRise : ℕ → List Moment → ℕ → Type 0
+MomentsRise low [] high = low ≤ high
+MomentsRise low (moment ∷ moments) high = IsBehind moment.own low moment.at × MomentsRise moment.at moments high
 
 -- ---- replies
 
@@ -104,7 +104,7 @@ accepted rules journal done = flat_map (λ d. entries_by rules journal d.command
 pub record IsRight (rules : Rules) (lane : ℕ) (before behind : List Entry) (done : List Done) : Type 0 where
   pub entries : own_entries lane before behind ≡ accepted rules (before ++ behind) done
   pub placed : AllByRecursion (λ d. IsPlaced rules (before ++ behind) d.command d.reply (standing d.reply)) done
-  pub positions : Rises (length before) (moments done) (length (before ++ behind))
+  pub positions : MomentsRise (length before) (moments done) (length (before ++ behind))
   pub unplaced : AllByRecursion (λ d. IsUnplaced rules d.command d.reply (standing d.reply)) done
 
 -- ---- a record

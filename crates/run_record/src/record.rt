@@ -75,7 +75,8 @@ pub struct RunRecord {
 
 impl Model for RunRecord {
     ghost use Rattle.std.specs.Prelude.{vec_capacity};
-    ghost use Rattle.run_record.specs.Rooms.{RecordOf, made_of, record_with, HasRoom};
+    ghost use Rattle.record_model.specs.Record.{made_of};
+    ghost use Rattle.run_record.specs.Rooms.{RecordOf, record_with, HasRoom};
 
     ghost Value = { RecordOf };
 

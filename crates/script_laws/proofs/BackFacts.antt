@@ -22,14 +22,12 @@ use Rattle.script_laws.specs.Printed.{AreNumberedFrom, AreTasks, IsBody, IsTask,
 use Rattle.script_laws.specs.ScriptLaws.{ReadsBack}
 use Rattle.script_laws.proofs.LineFacts.{body_no_feed, dotted_no_end, kept_whole, line_ends, line_no_feed, lines_back, undotted_back}
 use Rattle.script_laws.proofs.SayFacts.{says_line, task_said}
+use Rattle.script_text.specs.Readings.{open_with}
 
 -- a reading by its parts
 abbrev reading_of : ℕ → ℕ → ℕ → Batch → ℕ → Option Open → List Text → List File → Reading
 reading_of lines used numbered commands bytes block asked later =
     record { lines = lines; used = used; numbered = numbered; commands = commands; bytes = bytes; block = block; asked = asked; later = later }
-
-abbrev open_of : ℕ → ℕ → Front → List ℕ → Open
-open_of line lane front body = record { line = line; lane = lane; front = front; body = body }
 
 -- Lines lead from one reading to another, whatever the number of lines and bytes is.
 record Leads (by : Grammar) (before : Reading) (lines : List Text) (numbered : ℕ) (commands : Batch) (bytes : ℕ) (block : Option Open) (asked : List Text) (later : List File) : Type 0 where
@@ -65,30 +63,30 @@ module _ (limits : ScriptLimits) (lanes : ℕ) where
 
   block_line : (line : Text) (l u n : ℕ) (commands : Batch) (bytes opened_at lane : ℕ) (front : Front) (body : List ℕ) (asked : List Text) (later : List File)
       → length (body ++ line_text line) ≤ limits.block → bytes + length (body ++ line_text line) ≤ limits.bytes
-      → turn_of by (dotted line) (reading_of l u n commands bytes (Some (open_of opened_at lane front body)) asked later)
-      ≡ Goes (reading_of (l + 1) (u + (length (dotted line) + 1)) n commands bytes (Some (open_of opened_at lane front (body ++ line_text line))) asked later)
+      → turn_of by (dotted line) (reading_of l u n commands bytes (Some (open_with opened_at lane front body)) asked later)
+      ≡ Goes (reading_of (l + 1) (u + (length (dotted line) + 1)) n commands bytes (Some (open_with opened_at lane front (body ++ line_text line))) asked later)
   block_line line l u n commands bytes opened_at lane front body asked later small few =
-      let block : Open = open_of opened_at lane front body in
-      cond-false (is_end (dotted line)) (Goes (block_ended (open_of opened_at lane front body) (reading_of (l + 1) (u + (length (dotted line) + 1)) n commands bytes (Some (open_of opened_at lane front body)) asked later))) _ (dotted_no_end line)
-      ∙ ap (λ (text : List ℕ). unless_fault (body_fault by bytes text) (reading_of (l + 1) (u + (length (dotted line) + 1)) n commands bytes (Some (open_of opened_at lane front body)) asked later)
-      (Goes (reading_of (l + 1) (u + (length (dotted line) + 1)) n commands bytes (Some (open_of opened_at lane front text)) asked later)))
+      let block : Open = open_with opened_at lane front body in
+      cond-false (is_end (dotted line)) (Goes (block_ended (open_with opened_at lane front body) (reading_of (l + 1) (u + (length (dotted line) + 1)) n commands bytes (Some (open_with opened_at lane front body)) asked later))) _ (dotted_no_end line)
+      ∙ ap (λ (text : List ℕ). unless_fault (body_fault by bytes text) (reading_of (l + 1) (u + (length (dotted line) + 1)) n commands bytes (Some (open_with opened_at lane front body)) asked later)
+      (Goes (reading_of (l + 1) (u + (length (dotted line) + 1)) n commands bytes (Some (open_with opened_at lane front text)) asked later)))
       (ap (λ (text : Text). (body ++ text) ++ 0x0A ∷ []) (undotted_back line) ∙ append_assoc body line (0x0A ∷ []))
-      ∙ ap (λ (b : Bool). unless_fault (if b then Some reason.BlockTooLong else if nat_lt limits.bytes (bytes + length (body ++ line_text line)) then Some reason.BatchBytes else None) (reading_of (l + 1) (u + (length (dotted line) + 1)) n commands bytes (Some (open_of opened_at lane front body)) asked later)
-      (Goes (reading_of (l + 1) (u + (length (dotted line) + 1)) n commands bytes (Some (open_of opened_at lane front (body ++ line_text line))) asked later)))
+      ∙ ap (λ (b : Bool). unless_fault (if b then Some reason.BlockTooLong else if nat_lt limits.bytes (bytes + length (body ++ line_text line)) then Some reason.BatchBytes else None) (reading_of (l + 1) (u + (length (dotted line) + 1)) n commands bytes (Some (open_with opened_at lane front body)) asked later)
+      (Goes (reading_of (l + 1) (u + (length (dotted line) + 1)) n commands bytes (Some (open_with opened_at lane front (body ++ line_text line))) asked later)))
       (le-ltb limits.block (length (body ++ line_text line)) small)
-      ∙ ap (λ (b : Bool). unless_fault (if b then Some reason.BatchBytes else None) (reading_of (l + 1) (u + (length (dotted line) + 1)) n commands bytes (Some (open_of opened_at lane front body)) asked later)
-      (Goes (reading_of (l + 1) (u + (length (dotted line) + 1)) n commands bytes (Some (open_of opened_at lane front (body ++ line_text line))) asked later)))
+      ∙ ap (λ (b : Bool). unless_fault (if b then Some reason.BatchBytes else None) (reading_of (l + 1) (u + (length (dotted line) + 1)) n commands bytes (Some (open_with opened_at lane front body)) asked later)
+      (Goes (reading_of (l + 1) (u + (length (dotted line) + 1)) n commands bytes (Some (open_with opened_at lane front (body ++ line_text line))) asked later)))
       (le-ltb limits.bytes (bytes + length (body ++ line_text line)) few)
 
   -- the lines of a body, and the one that ends it
   block_back : (lines : List Text) (l u n : ℕ) (commands : Batch) (bytes opened_at lane : ℕ) (front : Front) (body : List ℕ) (asked : List Text) (later : List File)
       → length (body ++ flat_map line_text lines) ≤ limits.block → bytes + length (body ++ flat_map line_text lines) ≤ limits.bytes
-      → Leads by (reading_of l u n commands bytes (Some (open_of opened_at lane front body)) asked later) (map dotted lines ++ codes "." ∷ [])
+      → Leads by (reading_of l u n commands bytes (Some (open_with opened_at lane front body)) asked later) (map dotted lines ++ codes "." ∷ [])
       (n + 1) (commands ++ command_with (n + 1) lane (closed front (body ++ flat_map line_text lines)) ∷ []) (bytes + length (body ++ flat_map line_text lines)) None asked later
   block_back [] l u n commands bytes opened_at lane front body asked later small few = record {
     line = l + 1;
     used = u + 2;
-    went = one_line (reading_of l u n commands bytes (Some (open_of opened_at lane front body)) asked later) (block_ended (open_of opened_at lane front body) (reading_of (l + 1) (u + 2) n commands bytes (Some (open_of opened_at lane front body)) asked later)) (codes ".") refl
+    went = one_line (reading_of l u n commands bytes (Some (open_with opened_at lane front body)) asked later) (block_ended (open_with opened_at lane front body) (reading_of (l + 1) (u + 2) n commands bytes (Some (open_with opened_at lane front body)) asked later)) (codes ".") refl
         ∙ ap (λ (text : List ℕ). read_with [] (Stands (reading_of (l + 1) (u + 2) (n + 1) (commands ++ command_with (n + 1) lane (closed front text) ∷ []) (bytes + length text) None asked later))) (sym (append-nil body));
   }
   block_back (line ∷ lines) l u n commands bytes opened_at lane front body asked later small few =
@@ -99,7 +97,7 @@ module _ (limits : ScriptLimits) (lanes : ℕ) where
       record {
         line = others.line;
         used = others.used;
-        went = then_lines (reading_of l u n commands bytes (Some (open_of opened_at lane front body)) asked later) _ (dotted line) (map dotted lines ++ codes "." ∷ [])
+        went = then_lines (reading_of l u n commands bytes (Some (open_with opened_at lane front body)) asked later) _ (dotted line) (map dotted lines ++ codes "." ∷ [])
             (block_line line l u n commands bytes opened_at lane front body asked later (omega (arith, small, size, front_size)) (omega (arith, few, size, front_size)))
             ∙ others.went
             ∙ ap (λ (text : List ℕ). read_with [] (Stands (reading_of others.line others.used (n + 1) (commands ++ command_with (n + 1) lane (closed front text) ∷ []) (bytes + length text) None asked later))) (sym all);
@@ -138,12 +136,12 @@ module _ (limits : ScriptLimits) (lanes : ℕ) where
         let whole : flat_map line_text (lines_of body).ended ≡ body =
         sym (append-nil (flat_map line_text (lines_of body).ended)) ∙ ap (λ (rest : Text). flat_map line_text (lines_of body).ended ++ rest) (sym of_lines.0) ∙ lines_back body in
         let size : length (flat_map line_text (lines_of body).ended) ≡ length body = ap length whole in
-        let now : Reading = reading_of (l + 1) (u + (length (line_of task) + 1)) n commands bytes (Some (open_of (l + 1) lane front [])) asked later in
+        let now : Reading = reading_of (l + 1) (u + (length (line_of task) + 1)) n commands bytes (Some (open_with (l + 1) lane front [])) asked later in
         let others = block_back (lines_of body).ended (l + 1) (u + (length (line_of task) + 1)) n commands bytes (l + 1) lane front [] asked later (omega (arith, size, of_lines.1)) (omega (arith, size, few)) in
         record {
           line = others.line;
           used = others.used;
-          went = then_lines (reading_of l u n commands bytes None asked later) (reading_of (l + 1) (u + (length (line_of task) + 1)) n commands bytes (Some (open_of (l + 1) lane front [])) asked later) (line_of task) (block_lines body)
+          went = then_lines (reading_of l u n commands bytes None asked later) (reading_of (l + 1) (u + (length (line_of task) + 1)) n commands bytes (Some (open_with (l + 1) lane front [])) asked later) (line_of task) (block_lines body)
               (command_turn task l u n commands bytes asked later is fits
               ∙ ap (λ (s : Said). does by s (reading_of (l + 1) (u + (length (line_of task) + 1)) n commands bytes None asked later)) e
               ∙ cond-false _ (Fails reason.BatchCommands asked) (Goes (opened lane front (reading_of (l + 1) (u + (length (line_of task) + 1)) n commands bytes None asked later))) (lt-leb limits.commands (length commands) room))

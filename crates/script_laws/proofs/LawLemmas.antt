@@ -7,7 +7,8 @@ use Rattle.script_model.specs.Script.{grammar_of, start}
 use Rattle.script_laws.specs.Printed.{AreNumberedFrom}
 use Rattle.script_laws.specs.ScriptLaws.{AreNumbered, AreOfLanes}
 use Rattle.script_laws.proofs.GoingFacts.{Keeps, OfLanes, commands_stay}
-use Rattle.script_laws.proofs.SaidFacts.{HoldsOf, IsLaneOf, said_holds}
+use Rattle.script_laws.proofs.SaidFacts.{HoldsOf, said_holds}
+use Rattle.script_text.specs.Fronts.{IsLane}
 
 -- ---- what a line says of lanes
 
@@ -48,7 +49,7 @@ numbered limits lanes bytes files =
 
 -- ---- lanes
 
-lanes_push : (lanes n lane : ℕ) (batch : Batch) (task : Task) → IsOfLanes lanes batch → IsLaneOf lanes lane → IsOfLanes lanes (batch ++ command_with n lane task ∷ [])
+lanes_push : (lanes n lane : ℕ) (batch : Batch) (task : Task) → IsOfLanes lanes batch → IsLane lanes lane → IsOfLanes lanes (batch ++ command_with n lane task ∷ [])
 lanes_push lanes n lane [] task h l = (l, tt)
 lanes_push lanes n lane (command ∷ batch) task h l = (h.0, lanes_push lanes n lane batch task h.1 l)
 
@@ -56,7 +57,7 @@ lanes_front : (lanes : ℕ) (batch others : Batch) → IsOfLanes lanes (batch ++
 lanes_front lanes [] others h = tt
 lanes_front lanes (command ∷ batch) others h = (h.0, lanes_front lanes batch others h.1)
 
-lanes_keep : (lanes : ℕ) → Keeps (λ batch n. IsOfLanes lanes batch) (IsLaneOf lanes)
+lanes_keep : (lanes : ℕ) → Keeps (λ batch n. IsOfLanes lanes batch) (IsLane lanes)
 lanes_keep lanes = record {
   none = tt;
   more = λ batch n lane task h l. lanes_push lanes (n + 1) lane batch task h l;
@@ -65,5 +66,5 @@ lanes_keep lanes = record {
 
 pub of_its_lanes : AreOfLanes
 of_its_lanes limits lanes bytes files some =
-    (commands_stay (λ batch n. IsOfLanes lanes batch) (IsLaneOf lanes) (lanes_keep lanes) (grammar_of limits lanes)
-    (λ text. said_holds (OfLanes (IsLaneOf lanes)) (IsLaneOf lanes) (of_lanes (IsLaneOf lanes)) lanes text (omega arith, some) (λ lane is. is)) (start files) bytes (tt, tt)).1
+    (commands_stay (λ batch n. IsOfLanes lanes batch) (IsLane lanes) (lanes_keep lanes) (grammar_of limits lanes)
+    (λ text. said_holds (OfLanes (IsLane lanes)) (IsLane lanes) (of_lanes (IsLane lanes)) lanes text (omega arith, some) (λ lane is. is)) (start files) bytes (tt, tt)).1

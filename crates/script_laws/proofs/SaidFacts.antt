@@ -10,6 +10,7 @@ use Rattle.script_model.specs.Saying.{Does, Fetches, Form, Front, Nothing, Opens
 use Rattle.script_model.specs.declared.Reason.TheVariants as reason
 use Rattle.script_model.specs.Words.{behind_word, digits_value, first_word, is_number, number, number_of, number_or_zero}
 use Rattle.script_model.proofs.NumberLemmas.{positive}
+use Rattle.script_text.specs.Fronts.{IsLane}
 
 -- It holds of all that a line may say in such a lane; a whole command that a line says is no fetch of a file.
 pub record HoldsOf (P : Said → Type 0) (L : ℕ → Type 0) : Type 0 where
@@ -19,10 +20,6 @@ pub record HoldsOf (P : Said → Type 0) (L : ℕ → Type 0) : Type 0 where
   pub does : (lane : ℕ) (task : Task) → L lane → is_fetch task ≡ false → P (Does lane task)
   pub opens : (lane : ℕ) (front : Front) → L lane → P (Opens lane front)
   pub fetches : (lane : ℕ) (name path : Text) → L lane → P (Fetches lane name path)
-
--- a lane that exists
-abbrev pub IsLaneOf : ℕ → ℕ → Type 0
-IsLaneOf lanes lane = (0 < lane) × (lane ≤ lanes)
 
 -- the number of a word is at least 1
 number_some : (word : Text) (lane : ℕ) → number_of word ≡ Some lane → 0 < lane
@@ -99,7 +96,7 @@ module _ (P : Said → Type 0) (L : ℕ → Type 0) (holds : HoldsOf P L) where
   by_lane lanes None text l = holds.wrong reason.Words
   by_lane lanes (Some lane) text l = by_cond _ _ _ (holds.wrong reason.Words) (by_high lanes lane text (nat_lt lanes lane) refl (l lane refl))
 
-  pub said_holds : (lanes : ℕ) (text : Text) → L 1 → ((lane : ℕ) → IsLaneOf lanes lane → L lane) → P (said lanes text)
+  pub said_holds : (lanes : ℕ) (text : Text) → L 1 → ((lane : ℕ) → IsLane lanes lane → L lane) → P (said lanes text)
   said_holds lanes text one l =
       by_cond _ _ _ holds.nothing
       (by_cond _ _ _ (by_lane lanes (number_of (drop 1 (first_word text))) (behind_word text) (λ lane is low. l lane (number_some (drop 1 (first_word text)) lane is, low)))

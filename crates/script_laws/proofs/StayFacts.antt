@@ -17,7 +17,8 @@ use Rattle.script_model.specs.Words.{NoFeed, without_return}
 use Rattle.script_model.proofs.LinesLemmas.{lines_whole}
 use Rattle.list_laws.proofs.ListLemmas.{all_append}
 use Rattle.script_model.proofs.ScriptLemmas.{batches_first, read_on}
-use Rattle.script_laws.specs.ScriptLaws.{BatchesStay, SyncedStay, line_batches, lines_text}
+use Rattle.script_laws.specs.ScriptLaws.{BatchesStay, SyncedStay, line_batches}
+use Rattle.script_text.specs.Gathering.{lines_text}
 
 pub batches_stay : BatchesStay
 batches_stay limits lanes text more files fits =

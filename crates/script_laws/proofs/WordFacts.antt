@@ -7,6 +7,7 @@ use Rattle.lake_model.specs.Texts.{Text}
 use Rattle.script_model.specs.Words.{behind_spaces, behind_word, first_word, is_space, words}
 use Rattle.script_laws.specs.Printed.{with_word}
 use Rattle.list_laws.proofs.ListLemmas.{drop_seam}
+use Rattle.script_text.proofs.WordLemmas.{is_letter, is_some_word}
 
 -- a word has at least one byte, and no space
 abbrev pub IsWord : Text → Type 0
@@ -15,9 +16,6 @@ IsWord word = (0 < length word) × AllByRecursion (λ byte. is_space byte ≡ fa
 -- a text that does not begin with a space
 abbrev pub BeginsWell : Text → Type 0
 BeginsWell text = is_space (get_or text 0 0) ≡ false
-
-abbrev is_letter : ℕ → Bool
-is_letter byte = not (is_space byte)
 
 letters_before : (word rest : Text) → AllByRecursion (λ byte. is_space byte ≡ false) word → prefix_len is_letter (with_word word rest) ≡ length word
 letters_before [] rest h = refl
@@ -88,9 +86,6 @@ split_alone : (word : Text) → AllByRecursion (λ byte. is_space byte ≡ false
 split_alone [] h = refl
 split_alone (byte ∷ word) h =
     ap (λ (b : Bool). cond b ([] ∷ slice_split is_space word) (onto_first byte (slice_split is_space word))) h.0 ∙ ap (onto_first byte) (split_alone word h.1)
-
-abbrev is_some_word : Text → Bool
-is_some_word word = not (length word == 0)
 
 keeps_word : (word : Text) (others : List Text) → 0 < length word → filter is_some_word (word ∷ others) ≡ word ∷ filter is_some_word others
 keeps_word [] others h = absurd (omega (arith, h))

@@ -8,8 +8,9 @@ use Rattle.script_model.specs.Lanes.{IsOfLanes}
 use Rattle.script_model.specs.Reading.{Stands, read, read_with}
 use Rattle.script_model.specs.Saying.{Sync, said}
 use Rattle.script_model.specs.Script.{Whole, commands, commands_with, grammar_of, start}
-use Rattle.script_model.specs.Words.{line_text, NoFeed, without_return}
+use Rattle.script_model.specs.Words.{NoFeed, without_return}
 use Rattle.script_laws.specs.Printed.{AreNumberedFrom, IsPrintable, files_of, printed}
+use Rattle.script_text.specs.Gathering.{lines_text}
 
 -- the commands of all batches, in order
 abbrev pub all_commands : List Batch → Batch
@@ -35,10 +36,6 @@ line_batches limits lanes text files = (read (grammar_of limits lanes) (read_wit
 abbrev pub BatchesStay : Type 0
 BatchesStay = (limits : ScriptLimits) (lanes : ℕ) (text more : Text) (files : List File) → length (text ++ more) ≤ limits.input
     → (later : List Batch) × ((commands limits lanes (text ++ more) files).batches ≡ line_batches limits lanes text files ++ later)
-
--- lines, each with its line feed
-abbrev pub lines_text : List Text → Text
-lines_text lines = flat_map line_text lines
 
 -- A script whose last line is a `sync` has the first batches of every longer script.
 abbrev pub SyncedStay : Type 0

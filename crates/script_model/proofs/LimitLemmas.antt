@@ -11,7 +11,7 @@ use Rattle.script_model.specs.Reading.{Grammar, Reading, Reached, Stands, AtFaul
 use Rattle.script_model.specs.Script.{Whole, FaultAt, Commands, commands_with, commands_from, within, ended, begun_fault, unless_begun_fault}
 
 -- the result for an input, from its beginning within the limit and whether it exceeds the limit
-abbrev given_by : Grammar → Reading → Text → Bool → Commands
+abbrev pub given_by : Grammar → Reading → Text → Bool → Commands
 given_by grammar reading beginning over =
     let made = read grammar (read_with [] (Stands reading)) (lines_of beginning).ended in
     ended grammar over (lines_of beginning).rest made.batches made.reached

@@ -22,7 +22,8 @@ use Rattle.script_text.specs.Parts.{HasSameRules, IsFaultOf, IsHeldFault}
 use Rattle.script_text.specs.Readings.{Turns}
 use Rattle.script_text.specs.Runs.{LeadsOn}
 use Rattle.script_text.proofs.EndLemmas.{commands_end}
-use Rattle.script_text.proofs.ProgressLemmas.{Progress, after_turn, cut_push, fetched_by_join, goes_line, line_goes, lines_lead, none_so_far, reads_more, read_push, size_of_line, whole_push}
+use Rattle.script_text.proofs.ProgressLemmas.{Progress, cut_push, fetched_by_join, goes_line, line_goes, lines_lead, none_so_far, reads_more, read_push, size_of_line, whole_push}
+use Rattle.script_model.proofs.ScriptLemmas.{after_turn}
 
 -- the source was not read and is unchanged, or it was read late
 abbrev pub ReadsLate : Type 0 → Gathering → List ℕ → List File → Type 0

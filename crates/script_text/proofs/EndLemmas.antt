@@ -12,17 +12,11 @@ use Rattle.lake_model.specs.Texts.{Lines, Text, lines_of, lines_with, onto_lines
 use Rattle.script_model.specs.Reading.{Fails, Goes, Grammar, LinesRead, Open, Reading, Stands, AtFault, Turn, block_ended, body_after, body_fault, counted, does, is_end, line_fault, line_in, read, read_with, turn_of, turned, undotted, unless_fault, with_body}
 use Rattle.script_model.specs.Script.{Commands, FaultAt, begun_fault, commands_from, commands_with, end_turned, ended, grammar_of, last_turn, unless_begun_fault, within}
 use Rattle.script_model.specs.Words.{NoFeed, without_return}
-use Rattle.script_model.proofs.LimitLemmas.{commands_past}
+use Rattle.script_model.proofs.LimitLemmas.{commands_past, given_by}
 use Rattle.script_model.proofs.ScriptLemmas.{lines_none}
 use Rattle.script_model.specs.Commands.{File}
 use Rattle.script_text.specs.Gathering.{reading_at}
 use Rattle.script_text.specs.Readings.{too_long}
-
--- what an input gives, by its beginning within the limit and by whether it passes the limit
-abbrev given_by : Grammar → Reading → Text → Bool → Commands
-given_by grammar reading beginning over =
-    let made = read grammar (read_with [] (Stands reading)) (lines_of beginning).ended in
-    ended grammar over (lines_of beginning).rest made.batches made.reached
 
 -- what lines give, if they are these
 abbrev by_lines : Grammar → Reading → Bool → Lines → Commands

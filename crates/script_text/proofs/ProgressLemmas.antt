@@ -8,27 +8,18 @@ use Rattle.std.proofs.lemmas.List.{length-take-le}
 use Rattle.lake_io.specs.Files as shelf
 use Rattle.lake_model.specs.Texts.{Text}
 use Rattle.script_model.specs.Commands.{Batch, File}
-use Rattle.script_model.specs.Reading.{Fails, Gives, Goes, Grammar, LinesRead, Reading, Stands, Turn, read, read_with, turn_of, turned}
-use Rattle.script_model.specs.Script.{Commands, FaultAt, commands_from, commands_with}
+use Rattle.script_model.specs.Reading.{Grammar, LinesRead, Reading, Stands, Turn, read, read_with, turn_of, turned}
+use Rattle.script_model.specs.Script.{commands_from}
 use Rattle.script_model.specs.Words.{line_text, NoFeed}
 use Rattle.script_model.proofs.LinesLemmas.{commands_lines}
-use Rattle.script_model.proofs.ScriptLemmas.{commands_line, read_on}
-use Rattle.script_text.specs.Gathering.{grammar, lines_text, reading_at}
+use Rattle.script_model.proofs.ScriptLemmas.{commands_line, read_on, after_turn}
+use Rattle.script_text.specs.Gathering.{lines_text, reading_at}
 use Rattle.script_text.specs.Inputs.{Came, EndsLine}
 use Rattle.script_text.specs.declared.refused.ScriptEnd.{ScriptEnd}
 use Rattle.script_text.specs.declared.refused.ScriptEnd.TheVariants.{NoMemory, ReadFault, Script}
 use Rattle.script_text.specs.Outcomes.{AreFetched, AreFetchedSoFar, FetchedBy}
 use Rattle.script_text.specs.Readings.{Turns}
 use Rattle.script_text.specs.Runs.{LeadsOn}
-
--- what an input gives after a turn
-abbrev pub with_batches : List Batch → Commands → Commands
-with_batches given made = commands_with (given ++ made.batches) made.end made.asked
-
-abbrev pub after_turn : Grammar → ℕ → Turn → Text → Commands
-after_turn grammar line (Goes reading) more = commands_from grammar reading more
-after_turn grammar line (Gives batch reading) more = with_batches (batch ∷ []) (commands_from grammar reading more)
-after_turn grammar line (Fails why asked) more = commands_with [] (FaultAt line why) asked
 
 -- the lines that were read, of the bytes held before and those given since, and what is held now
 pub record Progress (from : Grammar) (before : Reading) (held_before : List ℕ) (left_before left_now : Option (List ℕ)) (files : Option (List shelf.File)) (faults_before faults_now : ℕ) (now : Reading) (held : List ℕ) : Type 0 where

@@ -12,10 +12,10 @@ use Rattle.lake_model.specs.Texts.{Text}
 use Rattle.script_model.specs.Words.{behind_spaces, behind_word, first_word, is_space, words}
 use Rattle.script_text.specs.Fronts.{IsNotOne, has_none}
 
-abbrev is_some_word : Text → Bool
+abbrev pub is_some_word : Text → Bool
 is_some_word word = not (length word == 0)
 
-abbrev is_letter : ℕ → Bool
+abbrev pub is_letter : ℕ → Bool
 is_letter byte = not (is_space byte)
 
 -- ---- the first word of a text whose leading spaces were dropped

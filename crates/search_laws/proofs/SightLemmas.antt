@@ -7,7 +7,7 @@ use Rattle.list_laws.proofs.ListLemmas.{all_append, all_of, all_weaker, distinct
 use Rattle.list_laws.specs.Distinct.{AreDistinct, Lacks, Rises}
 use Rattle.lake_model.specs.Layout.{Part}
 use Rattle.lake_model.specs.Texts.{Text}
-use Rattle.search_model.proofs.FilterLemmas.{Rising, rising}
+use Rattle.search_model.proofs.FilterLemmas.{rising}
 use Rattle.search_model.specs.Contain.{contain_log, contain_looks, is_probed, is_unmarked, lists_needed, need, of_all_tables, probes_needed, reads_needed, seen_behind}
 use Rattle.search_model.specs.declared.Look.TheVariants.{Probe, Read}
 use Rattle.search_model.specs.Looks.{hits, searched, Searched}
@@ -16,10 +16,6 @@ use Rattle.search_laws.specs.Laws.{FewNotSeen, NoneTwice, sight_of}
 
 abbrev Sight : Type 0
 Sight = Bool × ℕ × ℕ
-
-as_rises : (ns : List ℕ) → Rising ns → Rises ns
-as_rises [] h = tt
-as_rises (n ∷ ns) h = (h.0, as_rises ns h.1)
 
 rises_take : (i : ℕ) (ns : List ℕ) → Rises ns → Rises (take i ns)
 rises_take i ns h = rises_left (take i ns) (drop i ns) (subst Rises (sym (take-append-drop i ns)) h)
@@ -117,7 +113,7 @@ module _ (keys : List Text) (least : ℕ) where
   all_apart [] h = tt
   all_apart (part ∷ parts) h =
       subst (λ (ss : List Sight). AreDistinct ss) (sym (sights_cons part parts))
-      (distinct_append (sights least (looks_at part)) (parts_sights parts) (part_apart least (looks_at part) (as_rises (looks_at part).query (rising (looks_at part).segment.tokens keys))) (all_apart parts h.1)
+      (distinct_append (sights least (looks_at part)) (parts_sights parts) (part_apart least (looks_at part) (rising (looks_at part).segment.tokens keys)) (all_apart parts h.1)
       (all_weaker (λ (s : Sight). s.1 ≡ part.number) (Lacks (parts_sights parts)) _
       (λ r k. all_weaker (λ (s : Sight). s.1 ≡ part.number → ⊥) (λ s. s ≡ r → ⊥) _ (λ s no e. no (ap (λ (t : Sight). t.1) e ∙ k)) (elsewhere part.number parts h.0))
       (all_here least (looks_at part))))

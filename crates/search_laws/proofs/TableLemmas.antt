@@ -1,7 +1,7 @@
 -- The rows of a part are those of its unmarked tables; its tokens are distinct, and all keys are tokens.
 use Rattle.std.proofs.Common.{◌≡◌, refl, ap, sym, ◌∙◌, subst, ℕ, zero, suc, ◌+◌, ◌<◌, List, [], ◌∷◌, ◌++◌, map, Bool, true, false, not, ◌&&◌, ◌||◌, length, arith, cond, get_or, ltb as nat_lt}
 use Rattle.std.specs.Prelude.{bytes_eq}
-use Rattle.std.specs.List.{filter, AllByRecursion, flat_map, enumerate_from, IsDistinct}
+use Rattle.std.specs.List.{filter, flat_map, enumerate_from, IsDistinct}
 use Rattle.std.specs.List.Sorted.{IsPermutation}
 use Rattle.std.proofs.lemmas.List.{map-append, get_or-map}
 use Rattle.std.proofs.lemmas.List.Concat.{flat_map-append}
@@ -18,8 +18,10 @@ use Rattle.search_model.specs.Looks.{Searched, searched, is_eligible, row_with}
 use Rattle.std.proofs.lemmas.List.Elements.{filter-append}
 use Rattle.lake_model.proofs.SortingLemmas.{in_order_moves}
 use Rattle.search_model.proofs.OverlapLemmas as texts
-use Rattle.search_model.proofs.TokenLemmas.{distinct_differs, distinct_has, flips}
+use Rattle.lake_model.proofs.DistinctLemmas.{distinct_differ, distinct_keeps}
+use Rattle.search_model.proofs.TokenLemmas.{flips, keys_back}
 use Rattle.search_laws.proofs.PartLemmas.{IsPartOf, rows_of_part, row_for, shares}
+use Rattle.list_laws.proofs.ListLemmas.{any_none}
 
 -- ---- rows
 
@@ -113,19 +115,11 @@ all_rows-append query xs ys =
 
 -- ---- tokens
 
-none_equal : (x : Text) (xs : List Text) → AllByRecursion (λ y. bytes_eq x y ≡ false) xs → has_key xs x ≡ false
-none_equal x [] h = refl
-none_equal x (y ∷ ys) h = ap (λ b. b || has_key ys x) h.0 ∙ none_equal x ys h.1
-
 -- the same in the terms of the lemmas on overlaps
 pub as_texts : (xs : List Text) → IsDistinct bytes_eq xs → texts.Distinct xs
 unfolding IsDistinct
 as_texts [] h = tt
-as_texts (x ∷ xs) h = (none_equal x xs h.0, as_texts xs h.1)
-
-keys_back : (columns : List Titled) (keys : List Text) → map (λ t. t.key) (map (token_of columns) keys) ≡ keys
-keys_back columns [] = refl
-keys_back columns (key ∷ keys) = ap (λ us. key ∷ us) (keys_back columns keys)
+as_texts (x ∷ xs) h = (any_none (bytes_eq x) xs h.0, as_texts xs h.1)
 
 module _ (columns : List Titled) where
   abbrev all : List Text
@@ -138,7 +132,7 @@ module _ (columns : List Titled) where
       (IsPermutation-map (λ (t : Token). t.key) (map (token_of columns) (distinct all)) (in_order token_cmp (map (token_of columns) (distinct all))) (in_order_moves token_cmp (map (token_of columns) (distinct all))))
 
   pub tokens_distinct : texts.Distinct (map (λ t. t.key) (tokens_of columns))
-  tokens_distinct = as_texts (map (λ t. t.key) (tokens_of columns)) (IsDistinct-IsPermutation bytes_eq flips (distinct all) (map (λ t. t.key) (tokens_of columns)) keys_moved (distinct_differs all))
+  tokens_distinct = as_texts (map (λ t. t.key) (tokens_of columns)) (IsDistinct-IsPermutation bytes_eq flips (distinct all) (map (λ t. t.key) (tokens_of columns)) keys_moved (distinct_differ all))
 
   in_all : (cs : List Titled) (i : ℕ) (d : Titled) (x : Text) → i < length cs → has_key (get_or cs i d).column.keys x ≡ true → has_key (flat_map (λ (c : Titled). c.column.keys) cs) x ≡ true
   in_all [] i d x h e = absurd (omega arith)
@@ -150,7 +144,7 @@ module _ (columns : List Titled) where
       or_true false = refl
 
   pub tokens_have : (i : ℕ) (d : Titled) (x : Text) → i < length columns → has_key (get_or columns i d).column.keys x ≡ true → has_key (map (λ t. t.key) (tokens_of columns)) x ≡ true
-  tokens_have i d x h e = sym (list_any-IsPermutation (bytes_eq x) (distinct all) (map (λ t. t.key) (tokens_of columns)) keys_moved) ∙ distinct_has x all ∙ in_all columns i d x h e
+  tokens_have i d x h e = sym (list_any-IsPermutation (bytes_eq x) (distinct all) (map (λ t. t.key) (tokens_of columns)) keys_moved) ∙ distinct_keeps all x ∙ in_all columns i d x h e
 
 -- a searched part's sets and query are the tokens of its columns and of the query
 pub is_part : (query : Query) (part : Part) → IsPartOf query (searched query part)

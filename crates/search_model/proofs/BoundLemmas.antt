@@ -1,7 +1,7 @@
 -- No column shares more tokens with the query than its bound says.
-use Rattle.std.proofs.Common.{◌≡◌, refl, ap, sym, ◌∙◌, ℕ, ◌+◌, ◌-◌, ◌<◌, ◌≤◌, List, [], ◌∷◌, Bool, true, false, ◌||◌, length, arith, cond, eqb as nat_eq, ltb as nat_lt}
+use Rattle.std.proofs.Common.{◌≡◌, refl, ap, sym, ◌∙◌, ℕ, ◌+◌, ◌-◌, ◌<◌, ◌≤◌, List, [], ◌∷◌, Bool, true, false, ◌||◌, length, arith, eqb as nat_eq, ltb as nat_lt}
 use Rattle.std.specs.List.{count_by, AllByRecursion}
-use Rattle.std.proofs.lemmas.List.Sums.{sum_by-cons, length-filter, count_by-le-length}
+use Rattle.std.proofs.lemmas.List.Sums.{length-filter, count_by-le-length}
 use Rattle.std.proofs.lemmas.Bool.Decides.{nat_tests}
 use Rattle.search_model.specs.Segment.{rank}
 use Rattle.search_model.specs.Looks.{hits}
@@ -68,6 +68,11 @@ among_above l (d ∷ ds) h s e = elim (nat_eq s d) as (λ b. nat_eq s d ≡ b �
   | true ↦ λ t k. let lt = h.0 in let at : s ≡ d = grind (arith, nat_tests) in let less : l < s = omega arith in grind (arith, nat_tests)
   | false ↦ λ f k. among_above l ds h.1 s k
 ] refl e
+
+-- the tokens above it all come after it
+pub rank_front : (l : ℕ) (set : List ℕ) → AllByRecursion (λ y. l < y) set → rank set l ≡ 0
+rank_front l [] h = refl
+rank_front l (s ∷ set) h = let lt = h.0 in let e : nat_lt s l ≡ false = grind (arith, nat_tests) in omega (arith, count-cons (λ o. nat_lt o l) s set, ap once e, rank_front l set h.1)
 
 -- the position filter: after the last shared token, a set has no more tokens than those that follow it
 pub position_filter : (set left : List ℕ) (l : ℕ) → is_among set l ≡ true → Distinct left → AllByRecursion (λ t. l < t) left → length (hits set left) ≤ length set - 1 - rank set l

@@ -12,11 +12,9 @@ use Rattle.search_model.proofs.OverlapLemmas.{tokens_from, tokens_from-cons, fro
 use Rattle.lake_model.specs.Texts.{Text}
 use Rattle.lake_model.specs.Tables.{has_key, overlap}
 use Rattle.lake_model.specs.Layout.{is_among}
+use Rattle.list_laws.specs.Distinct.{Rises}
+use Rattle.list_laws.proofs.ListLemmas.{all_right, rises_right}
 use Rattle.std.proofs.lemmas.Bool.{eq-eqb}
-
-abbrev pub Rising : List ℕ → Type 0
-Rising [] = Unit {0}
-Rising (x ∷ xs) = AllByRecursion (λ y. x < y) xs × Rising xs
 
 pub lower : (m n : ℕ) (xs : List ℕ) → m ≤ n → AllByRecursion (λ y. n ≤ y) xs → AllByRecursion (λ y. m ≤ y) xs
 lower m n [] h a = tt
@@ -26,35 +24,27 @@ strict : (n : ℕ) (xs : List ℕ) → AllByRecursion (λ y. n + 1 ≤ y) xs →
 strict n [] a = tt
 strict n (x ∷ xs) a = ((let f = a.0 in omega arith), strict n xs a.1)
 
-rising_from : (n : ℕ) (tokens : List Token) (keys : List Text) → AllByRecursion (λ y. n ≤ y) (tokens_from n tokens keys) × Rising (tokens_from n tokens keys)
+rising_from : (n : ℕ) (tokens : List Token) (keys : List Text) → AllByRecursion (λ y. n ≤ y) (tokens_from n tokens keys) × Rises (tokens_from n tokens keys)
 rising_from n [] keys = (tt, tt)
 rising_from n (token ∷ tokens) keys =
-    subst (λ (xs : List ℕ). AllByRecursion (λ y. n ≤ y) xs × Rising xs) (sym (tokens_from-cons n token tokens keys)) (by (rising_from (n + 1) tokens keys) (has_key keys token.key))
+    subst (λ (xs : List ℕ). AllByRecursion (λ y. n ≤ y) xs × Rises xs) (sym (tokens_from-cons n token tokens keys)) (by (rising_from (n + 1) tokens keys) (has_key keys token.key))
   where
     later : List ℕ
     later = tokens_from (n + 1) tokens keys
 
-    by : AllByRecursion (λ y. n + 1 ≤ y) (tokens_from (n + 1) tokens keys) × Rising (tokens_from (n + 1) tokens keys) → (b : Bool)
-        → AllByRecursion (λ y. n ≤ y) (front b n (tokens_from (n + 1) tokens keys)) × Rising (front b n (tokens_from (n + 1) tokens keys))
+    by : AllByRecursion (λ y. n + 1 ≤ y) (tokens_from (n + 1) tokens keys) × Rises (tokens_from (n + 1) tokens keys) → (b : Bool)
+        → AllByRecursion (λ y. n ≤ y) (front b n (tokens_from (n + 1) tokens keys)) × Rises (front b n (tokens_from (n + 1) tokens keys))
     by h true = ((omega arith, lower n (n + 1) _ (omega arith) h.0), (strict n _ h.0, h.1))
     by h false = (lower n (n + 1) _ (omega arith) h.0, h.1)
 
-pub rising : (tokens : List Token) (keys : List Text) → Rising (tokens_in tokens keys)
+pub rising : (tokens : List Token) (keys : List Text) → Rises (tokens_in tokens keys)
 rising tokens keys = (rising_from 0 tokens keys).1
 
-right_part : (P : ℕ → Type 0) (xs ys : List ℕ) → AllByRecursion P (xs ++ ys) → AllByRecursion P ys
-right_part P [] ys h = h
-right_part P (x ∷ xs) ys h = right_part P xs ys h.1
-
-pub rising_right : (xs ys : List ℕ) → Rising (xs ++ ys) → Rising ys
-rising_right [] ys h = h
-rising_right (x ∷ xs) ys h = rising_right xs ys h.1
-
 -- what is in the first part is below all of the second
-pub after_all : (xs ys : List ℕ) (l : ℕ) → Rising (xs ++ ys) → is_among xs l ≡ true → AllByRecursion (λ t. l < t) ys
+pub after_all : (xs ys : List ℕ) (l : ℕ) → Rises (xs ++ ys) → is_among xs l ≡ true → AllByRecursion (λ t. l < t) ys
 after_all [] ys l h e = absurd (let f : false ≡ true = e in cc)
 after_all (x ∷ xs) ys l h e = elim (nat_eq l x) as (λ b. nat_eq l x ≡ b → (b || is_among xs l) ≡ true → AllByRecursion (λ t. l < t) ys) [
-  | true ↦ λ t k. let at : x ≡ l = grind (arith, nat_tests) in subst (λ (m : ℕ). AllByRecursion (λ t. m < t) ys) at (right_part (λ t. x < t) xs ys h.0)
+  | true ↦ λ t k. let at : x ≡ l = grind (arith, nat_tests) in subst (λ (m : ℕ). AllByRecursion (λ t. m < t) ys) at (all_right (λ t. x < t) xs ys h.0)
   | false ↦ λ f k. after_all xs ys l h.1 k
 ] refl e
 
@@ -62,7 +52,7 @@ not_above : (x : ℕ) (xs : List ℕ) → AllByRecursion (λ y. x < y) xs → is
 not_above x [] h = refl
 not_above x (y ∷ ys) h = let lt = h.0 in let e : nat_eq x y ≡ false = grind (arith, nat_tests) in ap (λ b. b || is_among ys x) e ∙ not_above x ys h.1
 
-pub distinct_rising : (xs : List ℕ) → Rising xs → Distinct xs
+pub distinct_rising : (xs : List ℕ) → Rises xs → Distinct xs
 distinct_rising [] h = tt
 distinct_rising (x ∷ xs) h = (not_above x xs h.0, distinct_rising xs h.1)
 
@@ -105,8 +95,8 @@ overlap_bounded tokens query c column i dq dt w some =
     let l = get_or found (length found - 1) 0 in
     let hit : IsHit (is_among set) (take i qs) l = All-from_recursion (IsHit (is_among set) (take i qs)) found (all_hits (is_among set) (take i qs)) (length found - 1) 0 (omega arith) in
     let parts : take i qs ++ drop i qs ≡ qs = take-append-drop i qs in
-    let up : Rising (take i qs ++ drop i qs) = subst Rising (sym parts) (rising tokens query) in
-    let behind = position_filter set (drop i qs) l hit.0 (distinct_rising (drop i qs) (rising_right (take i qs) (drop i qs) up)) (after_all (take i qs) (drop i qs) l up hit.1) in
+    let up : Rises (take i qs ++ drop i qs) = subst Rises (sym parts) (rising tokens query) in
+    let behind = position_filter set (drop i qs) l hit.0 (distinct_rising (drop i qs) (rises_right (take i qs) (drop i qs) up)) (after_all (take i qs) (drop i qs) l up hit.1) in
     let whole : length (hits set qs) ≡ length found + length (hits set (drop i qs)) = ap (λ xs. length (hits set xs)) (sym parts) ∙ ap length (hits-append set (take i qs) (drop i qs)) ∙ length-append found (hits set (drop i qs)) in
     omega (arith, overlap_is_hits tokens query c.column.keys dq dt w, whole, behind, prefix_filter set (drop i qs), length-drop i qs)
 

@@ -1,33 +1,29 @@
 -- The tokens, from any list that has each key once.
-use Rattle.std.proofs.Common.{◌≡◌, refl, ap, sym, ◌∙◌, ℕ, suc, ◌+◌, ◌<◌, List, [], ◌∷◌, ◌++◌, Bool, true, false, ◌||◌, cond, map, length, get_or, arith}
-use Rattle.std.specs.Prelude.{bytes_eq, fold}
+use Rattle.std.proofs.Common.{◌≡◌, refl, ap, sym, ◌∙◌, ℕ, suc, ◌+◌, ◌<◌, List, [], ◌∷◌, Bool, true, false, ◌||◌, map, length, get_or, arith}
+use Rattle.std.specs.Prelude.{bytes_eq}
 use Rattle.std.specs.Bool.{Decides}
-use Rattle.std.specs.Cmp.{IsTotalOrder, IsEquivalence}
-use Rattle.std.specs.Ordering.{ordering_then, is_lt}
-use Rattle.std.specs.declared.cmp.Ordering.{Ordering}
-use Rattle.std.specs.declared.cmp.Ordering.TheVariants.{Less, Equal, Greater}
+use Rattle.std.specs.Cmp.{IsTotalOrder}
+use Rattle.std.specs.Ordering.{is_lt}
+use Rattle.std.specs.declared.cmp.Ordering.TheVariants.{Equal}
 use Rattle.std.specs.List.{list_any, IsDistinct, AllByRecursion, flat_map, remove, count_by}
 use Rattle.std.specs.List.Sorted.{IsPermutation, IsSortedBy}
 use Rattle.std.proofs.lemmas.Cmp.{then_total, on_total, nat_cmp_total, nat_list_cmp_total}
 use Rattle.std.proofs.lemmas.Map.Lookups.{exact_unsigned, exact_bytes}
-use Rattle.std.proofs.lemmas.Map.Keys.{IsDistinct-IsPermutation, IsDistinct-push}
-use Rattle.std.proofs.lemmas.List.Folds.{list_any-append}
+use Rattle.std.proofs.lemmas.Map.Keys.{IsDistinct-IsPermutation}
 use Rattle.std.proofs.lemmas.List.Sorted.{IsPermutation-refl, IsPermutation-sym, IsPermutation-trans, IsPermutation-cons, IsPermutation-remove, IsPermutation-map, list_any-IsPermutation}
 use Rattle.std.proofs.lemmas.List.Sums.{sum_by-cons, sum_by-append}
 use Rattle.std.proofs.lemmas.Slice.Eq.{bytes_eq-Decides}
 use Rattle.search_model.specs.Segment.{Titled, Token, token_cmp, token_of, tokens_of}
+use Rattle.lake_model.proofs.AnswerLemmas.{both_equal}
+use Rattle.lake_model.proofs.DistinctLemmas.{distinct_differ, distinct_keeps}
 use Rattle.lake_model.proofs.SortingLemmas.{in_order-IsPermutation, sorted_is}
 use Rattle.lake_model.specs.Sorting.{in_order}
 use Rattle.lake_model.specs.Texts.{Text}
-use Rattle.lake_model.specs.Tables.{distinct, has_key, add_key}
+use Rattle.lake_model.specs.Tables.{distinct, has_key}
+use Rattle.list_laws.proofs.TestLemmas.{once}
 
 pub token_cmp_total : IsTotalOrder token_cmp
 token_cmp_total = then_total (on_total (λ (t : Token). t.frequency) nat_cmp_total) (on_total (λ (t : Token). t.key) nat_list_cmp_total)
-
-both_equal : (a b : Ordering) → ordering_then a b ≡ Equal → (a ≡ Equal) × (b ≡ Equal)
-both_equal Less b e = cc
-both_equal Equal b e = (refl, e)
-both_equal Greater b e = cc
 
 pub token_cmp_exact : (a b : Token) → token_cmp a b ≡ Equal → a ≡ b
 token_cmp_exact a b e =
@@ -44,7 +40,7 @@ same_test false false P Q d e f g = refl
 pub flips : (x y : Text) → bytes_eq x y ≡ bytes_eq y x
 flips x y = same_test _ _ _ _ (bytes_eq-Decides x y) (bytes_eq-Decides y x) (λ e. sym e) (λ e. sym e)
 
-itself : (x : Text) → bytes_eq x x ≡ true
+pub itself : (x : Text) → bytes_eq x x ≡ true
 itself x = (bytes_eq-Decides x x).1 refl
 
 abbrev Found : Text → List Text → Type 0
@@ -82,69 +78,19 @@ permutation (x ∷ xs) ys d e h =
     by q true u v s f g = f refl ∙ sym (g refl)
     by q false u v s f g = s
 
-equivalence : IsEquivalence bytes_eq
-equivalence = record { refl = itself; symm = flips; congr = λ x y z e. ap (λ (w : Text). bytes_eq w z) ((bytes_eq-Decides x y).0 e) }
-
-insert_one : (seen : List Text) (t : Text) (b : Bool) → list_any (bytes_eq t) seen ≡ b → IsDistinct bytes_eq seen → IsDistinct bytes_eq (cond b seen (seen ++ t ∷ []))
-insert_one seen t true e h = h
-insert_one seen t false e h = IsDistinct-push equivalence seen t h e
-
-distinct_insert : (seen texts : List Text) → IsDistinct bytes_eq seen → IsDistinct bytes_eq (fold add_key seen texts)
-distinct_insert seen [] h = h
-distinct_insert seen (t ∷ texts) h = distinct_insert (add_key seen t) texts (insert_one seen t (list_any (bytes_eq t) seen) refl h)
-
--- the keys of a set are distinct
-pub distinct_differs : (texts : List Text) → IsDistinct bytes_eq (distinct texts)
-unfolding IsDistinct
-distinct_differs texts = distinct_insert [] texts tt
-
-or_false : (a : Bool) → a ≡ (a || false)
-or_false true = refl
-or_false false = refl
-
-or_more : (a b c : Bool) → ((a || b) || c) ≡ (a || (b || c))
-or_more true b c = refl
-or_more false b c = refl
-
-seen_one : (q t : Text) (seen : List Text) (b : Bool) → list_any (bytes_eq t) seen ≡ b → list_any (bytes_eq q) (cond b seen (seen ++ t ∷ [])) ≡ (list_any (bytes_eq q) seen || bytes_eq q t)
-seen_one q t seen false e = list_any-append (bytes_eq q) seen (t ∷ []) ∙ ap (λ b. list_any (bytes_eq q) seen || b) (sym (or_false (bytes_eq q t)))
-seen_one q t seen true e = by (bytes_eq q t) refl
-  where
-    or_true : (a : Bool) → (a || true) ≡ true
-    or_true true = refl
-    or_true false = refl
-
-    by : (b : Bool) → bytes_eq q t ≡ b → list_any (bytes_eq q) seen ≡ (list_any (bytes_eq q) seen || bytes_eq q t)
-    by true same = ap (λ (z : Text). list_any (bytes_eq z) seen) ((bytes_eq-Decides q t).0 same) ∙ e ∙ sym (or_true (list_any (bytes_eq q) seen)) ∙ ap (λ b. list_any (bytes_eq q) seen || b) (sym same)
-    by false other = or_false (list_any (bytes_eq q) seen) ∙ ap (λ b. list_any (bytes_eq q) seen || b) (sym other)
-
-members_insert : (q : Text) (seen texts : List Text) → list_any (bytes_eq q) (fold add_key seen texts) ≡ (list_any (bytes_eq q) seen || list_any (bytes_eq q) texts)
-members_insert q seen [] = or_false (list_any (bytes_eq q) seen)
-members_insert q seen (t ∷ texts) =
-    members_insert q (add_key seen t) texts
-    ∙ ap (λ b. b || list_any (bytes_eq q) texts) (seen_one q t seen (list_any (bytes_eq t) seen) refl)
-    ∙ or_more (list_any (bytes_eq q) seen) (bytes_eq q t) (list_any (bytes_eq q) texts)
-
--- and a key is in the set if it is among the texts
-pub distinct_has : (q : Text) (texts : List Text) → list_any (bytes_eq q) (distinct texts) ≡ list_any (bytes_eq q) texts
-distinct_has q texts = members_insert q [] texts
-
 -- the tokens of some columns, from their distinct keys in any order
 pub tokens_from : (columns : List Titled) (keys : List Text) → IsDistinct bytes_eq keys → ((q : Text) → list_any (bytes_eq q) (flat_map (λ c. c.column.keys) columns) ≡ list_any (bytes_eq q) keys)
     → in_order token_cmp (map (token_of columns) keys) ≡ tokens_of columns
 unfolding tokens_of
 tokens_from columns keys d h =
     let all = flat_map (λ (c : Titled). c.column.keys) columns in
-    in_order-IsPermutation token_cmp_total token_cmp_exact _ _ (IsPermutation-map (token_of columns) _ _ (permutation (distinct all) keys (distinct_differs all) d (λ q. distinct_has q all ∙ h q)))
+    in_order-IsPermutation token_cmp_total token_cmp_exact _ _ (IsPermutation-map (token_of columns) _ _ (permutation (distinct all) keys (distinct_differ all) d (λ q. distinct_keeps all q ∙ h q)))
 
 -- from sorted keys: the result of `sort` and of a walk that skips equal neighbours
 pub tokens_from_sorted : (columns : List Titled) (keys : List Text) → IsDistinct bytes_eq keys → ((q : Text) → list_any (bytes_eq q) (flat_map (λ c. c.column.keys) columns) ≡ list_any (bytes_eq q) keys)
     → (tokens : List Token) → IsSortedBy (λ a b. is_lt (token_cmp a b)) tokens → IsPermutation (map (token_of columns) keys) tokens → tokens ≡ tokens_of columns
 tokens_from_sorted columns keys d h tokens up same =
     sorted_is token_cmp_total token_cmp_exact tokens up ∙ in_order-IsPermutation token_cmp_total token_cmp_exact _ _ same ∙ tokens_from columns keys d h
-
-abbrev once : Bool → ℕ
-once b = cond b 1 0
 
 one_more : (b l : Bool) (n rest : ℕ) → n ≡ once b + rest → rest ≡ once l → (b ≡ true → l ≡ false) → n ≡ once (b || l)
 one_more true l n rest e f g = let z : once l ≡ 0 = ap once (g refl) in omega arith
@@ -167,3 +113,8 @@ frequency_flat key (c ∷ columns) d =
     let rest = frequency_flat key columns d.1 in
     let first = sum_by-cons (λ (o : Titled). once (has_key o.column.keys key)) c columns in
     omega (arith, split, here, rest, first)
+
+-- a token is made with its key
+pub keys_back : (columns : List Titled) (keys : List Text) → map (λ t. t.key) (map (token_of columns) keys) ≡ keys
+keys_back columns [] = refl
+keys_back columns (key ∷ keys) = ap (λ ks. key ∷ ks) (keys_back columns keys)

@@ -2,7 +2,7 @@
 use Rattle.std.proofs.Common.{◌≡◌, refl, ap, sym, ◌∙◌, ℕ, zero, suc, ◌+◌, ◌-◌, ◌<◌, ◌≤◌, List, [], ◌∷◌, ◌++◌, map, Bool, true, false, not, ◌&&◌, ◌||◌, length, arith, cond, take, get_or, Some, eqb as nat_eq, ltb as nat_lt, leb as nat_le, length-append}
 use Rattle.std.specs.List.{filter, AllByRecursion, count_by, slice_get}
 use Rattle.std.specs.Ordering.{is_lt}
-use Rattle.std.proofs.lemmas.List.Sums.{sum_by-cons, sum_by-append}
+use Rattle.std.proofs.lemmas.List.Sums.{sum_by-append}
 use Rattle.std.proofs.lemmas.Bool.Decides.{nat_tests}
 use Rattle.lake_model.specs.Sorting.{in_order}
 use Rattle.lake_model.specs.Answer.{Row, row_cmp, Query}
@@ -11,13 +11,13 @@ use Rattle.search_model.specs.Segment.{Titled}
 use Rattle.search_model.specs.Looks.{Searched, Progress, is_known, is_eligible, beats, worst, known_rows, row_with, hits}
 use Rattle.lake_model.proofs.SortingLemmas.{less_order, ordered_in_order, Ordered, irreflexive}
 use Rattle.lake_model.proofs.AnswerLemmas.{row_cmp_total, row_cmp_exact}
-use Rattle.search_model.proofs.FilterLemmas.{Rising}
 use Rattle.search_laws.specs.Select.{no_later, IsBehind}
 use Rattle.search_laws.proofs.SelectLemmas.{count_in_order}
 use Rattle.search_laws.proofs.PartLemmas.{row_for, candidates, known_rows_are}
 use Rattle.search_state.specs.State.{seen_at, open_at, column_at}
 use Rattle.search_state.proofs.FallLemmas.{bound_falls, hits_more}
 use Rattle.list_laws.proofs.TestLemmas.{count-cons, once}
+use Rattle.list_laws.specs.Distinct.{Rises}
 
 abbrev less : Row → Row → Bool
 less a b = is_lt (row_cmp a b)
@@ -142,7 +142,7 @@ falls_later c n u h = elim (nat_eq n u) as (λ t. nat_eq n u ≡ t → less (row
 ] refl
 
 -- and when one more list is read
-pub closed_at_read : (query : Query) (before : List Row) (part : Searched) (progress : Progress) (x : ℕ) → Rising part.query → progress.read < length part.query → IsClosed query before part progress x
+pub closed_at_read : (query : Query) (before : List Row) (part : Searched) (progress : Progress) (x : ℕ) → Rises part.query → progress.read < length part.query → IsClosed query before part progress x
     → IsClosed query before part (record progress { read = progress.read + 1 }) x
 closed_at_read query before part progress x up within h =
     let next = record progress { read = progress.read + 1 } in

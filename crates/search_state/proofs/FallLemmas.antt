@@ -7,9 +7,10 @@ use Rattle.lake_model.specs.Layout.{is_among}
 use Rattle.search_model.specs.Segment.{Titled, rank}
 use Rattle.search_model.specs.Looks.{hits, seen_by}
 use Rattle.search_model.proofs.BoundLemmas.{three_parts, among_counts}
-use Rattle.search_model.proofs.FilterLemmas.{hits-append, after_all, Rising, all_hits, IsHit}
+use Rattle.search_model.proofs.FilterLemmas.{hits-append, after_all, all_hits, IsHit}
 use Rattle.std.proofs.lemmas.List.Elements.{All-from_recursion}
 use Rattle.list_laws.proofs.TestLemmas.{count-cons, once}
+use Rattle.list_laws.specs.Distinct.{Rises}
 
 -- ---- one more list
 
@@ -34,13 +35,13 @@ pub rank_within : (set : List ℕ) (t : ℕ) → is_among set t ≡ true → ran
 rank_within set t e = omega (arith, three_parts t set, among_counts t set e)
 
 -- the last hit comes before the next token
-last_below : (set qs : List ℕ) (i d : ℕ) → Rising qs → i < length qs → 0 < length (hits set (take i qs)) → get_or (hits set (take i qs)) (length (hits set (take i qs)) - 1) 0 < get_or qs i d
+last_below : (set qs : List ℕ) (i d : ℕ) → Rises qs → i < length qs → 0 < length (hits set (take i qs)) → get_or (hits set (take i qs)) (length (hits set (take i qs)) - 1) 0 < get_or qs i d
 last_below set qs i d up h some =
     let found = hits set (take i qs) in
     let l = get_or found (length found - 1) 0 in
     let hit : IsHit (is_among set) (take i qs) l = All-from_recursion (IsHit (is_among set) (take i qs)) found (all_hits (is_among set) (take i qs)) (length found - 1) 0 (omega arith) in
     let parts : take i qs ++ drop i qs ≡ qs = take-append-drop i qs in
-    let above : AllByRecursion (λ t. l < t) (drop i qs) = after_all (take i qs) (drop i qs) l (subst Rising (sym parts) up) hit.1 in
+    let above : AllByRecursion (λ t. l < t) (drop i qs) = after_all (take i qs) (drop i qs) l (subst Rises (sym parts) up) hit.1 in
     first (drop i qs) l above (drop-cons qs i d h)
   where
     drop-cons : (qs : List ℕ) (i d : ℕ) → i < length qs → (rest : List ℕ) × (drop i qs ≡ get_or qs i d ∷ rest)
@@ -51,7 +52,7 @@ last_below set qs i d up h some =
     first : (ts : List ℕ) (l : ℕ) → AllByRecursion (λ t. l < t) ts → (rest : List ℕ) × (ts ≡ get_or qs i d ∷ rest) → l < get_or qs i d
     first ts l a e = (subst (λ (us : List ℕ). AllByRecursion (λ t. l < t) us) e.1 a).0
 
-pub last_hit : (set qs : List ℕ) (i d : ℕ) → Rising qs → i < length qs → 0 < length (hits set (take i qs)) → is_among set (get_or (hits set (take i qs)) (length (hits set (take i qs)) - 1) 0) ≡ true
+pub last_hit : (set qs : List ℕ) (i d : ℕ) → Rises qs → i < length qs → 0 < length (hits set (take i qs)) → is_among set (get_or (hits set (take i qs)) (length (hits set (take i qs)) - 1) 0) ≡ true
 last_hit set qs i d up h some =
     let found = hits set (take i qs) in
     let hit : IsHit (is_among set) (take i qs) (get_or found (length found - 1) 0) = All-from_recursion (IsHit (is_among set) (take i qs)) found (all_hits (is_among set) (take i qs)) (length found - 1) 0 (omega arith) in
@@ -69,7 +70,7 @@ get_or_end (y ∷ xs) x =
     ap (λ (n : ℕ). get_or (y ∷ (xs ++ x ∷ [])) n 0) e ∙ get_or_end xs x
 
 -- With one more list, no bound of a column that was seen rises.
-pub bound_falls : (set qs : List ℕ) (i : ℕ) → Rising qs → i < length qs → 0 < length (hits set (take i qs))
+pub bound_falls : (set qs : List ℕ) (i : ℕ) → Rises qs → i < length qs → 0 < length (hits set (take i qs))
     → bound_of set (length qs - (i + 1)) (hits set (take (i + 1) qs)) ≤ bound_of set (length qs - i) (hits set (take i qs))
 bound_falls set qs i up h some = by (is_among set (get_or qs i 0)) refl
   where

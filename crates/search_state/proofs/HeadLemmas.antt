@@ -16,6 +16,7 @@ use Rattle.lake_model.proofs.AnswerLemmas.{row_cmp_total}
 use Rattle.search_model.specs.Ranks.{AreRanks}
 use Rattle.search_state.specs.State.{Candidate, Covers, AreCovered, IsTop, seen_at, open_at, column_at}
 use Rattle.search_model.specs.Arrays.{no_titled}
+use Rattle.std.proofs.lemmas.List.{get_or_default}
 
 -- ---- the first of a list in order
 
@@ -90,11 +91,6 @@ module _ (keep : Numbered → Bool) (make : Numbered → Seen) (x : ℕ) where
 module _ (query : Query) (part : Searched) (progress : Progress) (last : Option Row) (x : ℕ) (within : x < length part.segment.columns) (open_x : open_at query part progress last x ≡ true)
     (before_it : (y : ℕ) → y < length part.segment.columns → open_at query part progress last y ≡ true → y < x → is_lt (row_cmp (seen_at part progress x).bound (seen_at part progress y).bound) ≡ true)
     (behind_it : (y : ℕ) → y < length part.segment.columns → open_at query part progress last y ≡ true → x < y → is_lt (row_cmp (seen_at part progress y).bound (seen_at part progress x).bound) ≡ false) where
-  any_default : (i : ℕ) (d e : Titled) (cs : List Titled) → i < length cs → get_or cs i d ≡ get_or cs i e
-  any_default i d e [] h = absurd (omega arith)
-  any_default zero d e (c ∷ cs) h = refl
-  any_default (suc i) d e (c ∷ cs) h = any_default i d e cs (omega arith)
-
   abbrev IsBefore : Seen → Type 0
   IsBefore s = is_lt (row_cmp (seen_at part progress x).bound s.bound) ≡ true
 
@@ -105,7 +101,7 @@ module _ (query : Query) (part : Searched) (progress : Progress) (last : Option 
   each_open y c l m e k =
       let z : y - 0 ≡ y = omega arith in
       let h : y < length part.segment.columns = omega arith in
-      let at : c ≡ column_at part y = e ∙ ap (λ (i : ℕ). get_or part.segment.columns i c) z ∙ any_default y c no_titled part.segment.columns h in
+      let at : c ≡ column_at part y = e ∙ ap (λ (i : ℕ). get_or part.segment.columns i c) z ∙ get_or_default part.segment.columns y c no_titled h in
       let o : open_at query part progress last y ≡ true = ap (λ (d : Titled). is_open query part progress last y d) (sym at) ∙ k in (
         λ lt. ap (λ (d : Titled). is_lt (row_cmp (seen_at part progress x).bound (seen part progress y d).bound)) at ∙ before_it y h o lt,
         λ lt. ap (λ (d : Titled). is_lt (row_cmp (seen part progress y d).bound (seen_at part progress x).bound)) at ∙ behind_it y h o lt,
@@ -116,7 +112,7 @@ module _ (query : Query) (part : Searched) (progress : Progress) (last : Option 
   pub first_by_rows : (rest : List Seen) × (open_columns query part progress last ≡ seen_at part progress x ∷ rest)
   first_by_rows =
       let z : x - 0 ≡ x = omega arith in
-      let at : column_at part x ≡ get_or part.segment.columns (x - 0) (column_at part x) = any_default x no_titled (column_at part x) part.segment.columns within ∙ ap (λ (i : ℕ). get_or part.segment.columns i (column_at part x)) (sym z) in
+      let at : column_at part x ≡ get_or part.segment.columns (x - 0) (column_at part x) = get_or_default part.segment.columns x no_titled (column_at part x) within ∙ ap (λ (i : ℕ). get_or part.segment.columns i (column_at part x)) (sym z) in
       let found = split_at (λ c. is_open query part progress last c.0 c.1) (λ c. seen part progress c.0 c.1) x IsBefore IsBehindIt 0 part.segment.columns (column_at part x) (omega arith) (omega (arith, within)) at open_x each_open in
       let total = on_total (λ (s : Seen). s.bound) row_cmp_total in
       let first = first_in_order total found.0 found.1 (seen_at part progress x) found.3 found.4 in

@@ -23,7 +23,8 @@ use Rattle.token_order.specs.Vocabulary.{frequencies_of}
 use Rattle.segment_build.specs.Holding.{all_tokens, held_with, sets_for, HasMore}
 use Rattle.segment_build.specs.Inverse.{lists_from, sets_in, sums_from, AreFlat, AreSets, IsSet}
 use Rattle.segment_build.proofs.HoldLemmas.{starts_ends}
-use Rattle.segment_build.proofs.InverseLemmas.{length-lists_from, length-postings, length-starts, sets_in_is}
+use Rattle.segment_build.proofs.InverseLemmas.{length-lists_from, length-postings, sets_in_is}
+use Rattle.segment_core.proofs.ListsLemmas.{length-starts_of}
 use Rattle.std.proofs.lemmas.Bool.{eq-eqb}
 
 -- ---- sums
@@ -198,7 +199,7 @@ module _ (tables : List Table) (owners : List Owner) (tokens : List TokenAt) (li
       ∙ sym (starts_sums 0 lists)
 
   pub one_more : length list_starts ≡ length (all_tokens tables) + 1
-  one_more = ap length list_bounds ∙ length-starts 0 (lists_from sets 0 (length (all_tokens tables))) ∙ ap (λ (n : ℕ). n + 1) (length-lists_from sets 0 (length (all_tokens tables)))
+  one_more = ap length list_bounds ∙ length-starts_of 0 (lists_from sets 0 (length (all_tokens tables))) ∙ ap (λ (n : ℕ). n + 1) (length-lists_from sets 0 (length (all_tokens tables)))
 
   counted : length (all_tokens tables) ≡ length list_starts - 1
   counted = omega (arith, one_more)

@@ -20,8 +20,8 @@ use Rattle.segment_core.specs.Among.{found_by}
 use Rattle.hash_directory.specs.Buckets.{AreIn, FilterOf, may_have}
 use Rattle.segment_core.specs.Hashes.{hash_of, token_number, IsByHash, IsHashed}
 use Rattle.segment_core.specs.declared.hashes.HashedToken.{HashedToken}
-use Rattle.segment_core.proofs.FoundLemmas.{each_key, itself, looked_up, tokens_differ}
-use Rattle.search_model.proofs.TokenLemmas.{flips}
+use Rattle.segment_core.proofs.FoundLemmas.{each_key, looked_up, tokens_differ}
+use Rattle.search_model.proofs.TokenLemmas.{flips, itself}
 
 -- the keys of tokens in their order by hash, and those of them that are in a set
 abbrev pub keys_by : List Token → List HashedToken → List Text

@@ -25,7 +25,9 @@ use Rattle.segment_core.specs.Among.{found_by, hit_keys}
 use Rattle.segment_core.specs.declared.segment.Hit.{Hit}
 use Rattle.search_model.proofs.FilterLemmas.{rising}
 use Rattle.search_model.proofs.OverlapLemmas.{front, tokens_from, tokens_from-cons}
-use Rattle.search_model.proofs.TokenLemmas.{distinct_differs, flips}
+use Rattle.lake_model.proofs.DistinctLemmas.{distinct_differ}
+use Rattle.search_model.proofs.TokenLemmas.{flips, itself, keys_back}
+use Rattle.list_laws.specs.Distinct.{Rises}
 
 -- ---- one key at a time
 
@@ -78,9 +80,6 @@ none_from key n (t ∷ tokens) h = tokens_from-cons n t tokens (key ∷ []) ∙ 
     by : (b : Bool) → (b || list_any (λ t. bytes_eq t.key key) tokens) ≡ false → (list_any (λ t. bytes_eq t.key key) tokens ≡ false → tokens_from (n + 1) tokens (key ∷ []) ≡ []) → front (b || false) n (tokens_from (n + 1) tokens (key ∷ [])) ≡ []
     by true e rest = absurd (let f : true ≡ false = e in cc)
     by false e rest = rest e
-
-pub itself : (x : Text) → bytes_eq x x ≡ true
-itself x = (bytes_eq-Decides x x).1 refl
 
 others : (first key : Text) (tokens : List Token) → first ≡ key → AllByRecursion (λ y. bytes_eq first y ≡ false) (map (λ t. t.key) tokens) → list_any (λ t. bytes_eq t.key key) tokens ≡ false
 others first key [] e h = refl
@@ -145,10 +144,6 @@ hit_more tokens keys hits i d found h apart is =
 
 -- ---- the keys of the tokens are distinct
 
-keys_back : (columns : List Titled) (keys : List Text) → map (λ t. t.key) (map (token_of columns) keys) ≡ keys
-keys_back columns [] = refl
-keys_back columns (key ∷ keys) = ap (λ (ks : List Text). key ∷ ks) (keys_back columns keys)
-
 pub tokens_differ : (tables : List Table) → IsDistinct bytes_eq (map (λ t. t.key) (segment tables).tokens)
 unfolding segment tokens_of
 tokens_differ tables =
@@ -156,15 +151,11 @@ tokens_differ tables =
     let keys = distinct (flat_map (λ (c : Titled). c.column.keys) columns) in
     let made = map (token_of columns) keys in
     let key : Token → Text = λ t. t.key in
-    IsDistinct-IsPermutation bytes_eq flips _ _ (IsPermutation-map key _ _ (in_order_moves token_cmp made)) (subst (IsDistinct bytes_eq) (sym (keys_back columns keys)) (distinct_differs (flat_map (λ (c : Titled). c.column.keys) columns)))
+    IsDistinct-IsPermutation bytes_eq flips _ _ (IsPermutation-map key _ _ (in_order_moves token_cmp made)) (subst (IsDistinct bytes_eq) (sym (keys_back columns keys)) (distinct_differ (flat_map (λ (c : Titled). c.column.keys) columns)))
 
 -- ---- sorted
 
-abbrev Rising : List ℕ → Type 0
-Rising [] = Unit {0}
-Rising (x ∷ xs) = AllByRecursion (λ y. x < y) xs × Rising xs
-
-below : (xs : List ℕ) → Rising xs → (k d : ℕ) → k + 1 < length xs → get_or xs k d < get_or xs (k + 1) d
+below : (xs : List ℕ) → Rises xs → (k d : ℕ) → k + 1 < length xs → get_or xs k d < get_or xs (k + 1) d
 below [] r k d h = absurd (omega arith)
 below (x ∷ []) r k d h = absurd (omega arith)
 below (x ∷ y ∷ xs) r zero d h = r.0.0
@@ -173,7 +164,7 @@ below (x ∷ y ∷ xs) r (suc k) d h = let e : suc k + 1 ≡ suc (k + 1) = omega
 not_less : (a b : ℕ) → a < b → is_lt (nat_cmp b a) ≡ false
 not_less a b h = grind (arith, nat_tests)
 
-sorted_rising : (xs : List ℕ) → Rising xs → IsSorted nat_cmp xs
+sorted_rising : (xs : List ℕ) → Rises xs → IsSorted nat_cmp xs
 sorted_rising xs r k d low h = not_less _ _ (below xs r k d h)
 
 -- the tokens of a set, sorted

@@ -5,7 +5,7 @@ use Rattle.std.specs.Cmp.{nat_cmp_is}
 use Rattle.std.specs.Cmp.Lexicographic.{slice_cmp}
 use Rattle.std.specs.List.{list_any, enumerate_from, slice_range, All}
 use Rattle.std.specs.List.Sorted.{IsNonDecreasingBy, IsPartitionPoint, IsPermutation, IsSortedByKey}
-use Rattle.std.specs.Ordering.{is_eq, is_lt, nat_cmp, ordering_index, ordering_then}
+use Rattle.std.specs.Ordering.{is_eq, is_lt, nat_cmp, ordering_index}
 use Rattle.std.specs.declared.cmp.Ordering.{Ordering}
 use Rattle.std.specs.declared.cmp.Ordering.TheVariants.{Less, Equal, Greater}
 use Rattle.std.proofs.Math.Seq.{take-length}
@@ -27,6 +27,7 @@ use Rattle.hash_directory.specs.Buckets.{IsNear}
 use Rattle.segment_core.specs.Hashes.{hash_at, hash_of, hashed_from, sorted_by, token_hash, token_number, IsByHash, IsHashed, IsOneOf}
 use Rattle.segment_core.specs.declared.hashes.HashedToken.{HashedToken}
 use Rattle.segment_core.proofs.SegmentLemmas.{no_token}
+use Rattle.search_model.proofs.RankLemmas.{first_late}
 
 -- ---- the tokens' numbers
 
@@ -92,11 +93,6 @@ abbrev behind : List ℕ → List ℕ
 behind [] = []
 behind (n ∷ ns) = ns
 
-lower_of : (o r : Ordering) → is_lt (ordering_then o r) ≡ false → is_lt o ≡ false
-lower_of Less r e = e
-lower_of Equal r e = refl
-lower_of Greater r e = refl
-
 not_more : (a b : ℕ) → is_lt (nat_cmp b a) ≡ false → a ≤ b
 not_more a b e = elim (cases_lt b a) [
   | inl l ↦ absurd (let f : true ≡ false = ap is_lt (nat_cmp_is b a Less l) ∙ e in cc)
@@ -119,7 +115,7 @@ module _ (tables : List Table) (order : List HashedToken) (is : IsByHash tables 
       let x = get_or order i d in
       let y = get_or order j d in
       let far = sorted_far (λ x y. is_lt (slice_cmp nat_cmp (sorted_by tokens x) (sorted_by tokens y))) (ranks_by nat_list_cmp_total (sorted_by tokens)) order is.rising i j d l m in
-      not_more x.hash y.hash (lower_of (nat_cmp y.hash x.hash) (slice_cmp nat_cmp (key_of tokens y.token) (key_of tokens x.token)) far)
+      not_more x.hash y.hash (first_late (nat_cmp y.hash x.hash) (slice_cmp nat_cmp (key_of tokens y.token) (key_of tokens x.token)) far)
 
   pub hashes_rise : IsNonDecreasingBy (λ (n : ℕ). n) (map token_hash order)
   hashes_rise i j d l m =

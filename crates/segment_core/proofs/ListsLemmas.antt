@@ -5,7 +5,7 @@ use Rattle.std.proofs.lemmas.List.{drop-take, drop-drop}
 use Rattle.std.proofs.Math.Seq.{take-append_seam, drop-append-add}
 use Rattle.search_model.specs.Arrays.{starts_of, all_of}
 
-length-starts_of : {X : Type 0} (n : ℕ) (lists : List (List X)) → length (starts_of n lists) ≡ length lists + 1
+pub length-starts_of : {X : Type 0} (n : ℕ) (lists : List (List X)) → length (starts_of n lists) ≡ length lists + 1
 length-starts_of n [] = refl
 length-starts_of n (l ∷ lists) = omega (arith, length-starts_of (n + length l) lists)
 

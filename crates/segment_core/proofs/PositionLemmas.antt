@@ -39,7 +39,7 @@ lacks_by (x ∷ xs) n h = (h zero (omega arith), lacks_by xs n (λ i l. h (suc i
 
 -- ---- parts whose positions increase
 
-positions-cons : (part : Part) (parts : List Part) → positions_of (part ∷ parts) ≡ loads_of part ++ positions_of parts
+pub positions-cons : (part : Part) (parts : List Part) → positions_of (part ∷ parts) ≡ loads_of part ++ positions_of parts
 positions-cons part parts = map-append (λ (place : Place). place.position) part.places (flat_map (λ (part : Part). part.places) parts)
 
 length-positions : (part : Part) (parts : List Part) → length (positions_of (part ∷ parts)) ≡ length (loads_of part) + length (positions_of parts)

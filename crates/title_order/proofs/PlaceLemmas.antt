@@ -12,13 +12,9 @@ use Rattle.lake_model.specs.Tables.{Table}
 use Rattle.search_model.specs.Ranks.{number_cmp, AreInverse, AreRanks}
 use Rattle.search_model.specs.Segment.{columns_of, segment}
 use Rattle.search_model.proofs.RankLemmas.{ranks_are}
-use Rattle.title_order.specs.Titles.{AreNumbers, ArePlaces, IsPlace}
-
--- each is below the number of them
-pub numbers_below : (numbers : List ℕ) → AreNumbers numbers → All (λ n. n < length numbers) numbers
-numbers_below numbers all =
-    All-permutation (λ n. n < length numbers) (range_with_len 0 (length numbers)) numbers all
-    (λ k d b. let h : k < length numbers = omega (arith, b, length-range_with_len 0 (length numbers)) in omega (arith, get_or-range_with_len 0 (length numbers) k d h))
+use Rattle.title_order.specs.Titles.{IsPlace}
+use Rattle.token_order.specs.Counted.{AreNumbers, ArePlaces}
+use Rattle.token_order.proofs.OrderLemmas.{numbers_below}
 
 differ : (m n : ℕ) → m < n → eqb m n ≡ false
 differ m n l = elim (eqb_tells m n) [

@@ -17,8 +17,9 @@ use Rattle.search_model.specs.Arrays.{no_titled, titled_at}
 use Rattle.search_model.specs.Looks.{row_with}
 use Rattle.search_model.specs.Ranks.{number_cmp}
 use Rattle.search_model.specs.Segment.{Titled}
-use Rattle.title_order.specs.Titles.{by_title, rows_of, AreMoreTitles, AreNumbered, AreNumbers, IsTitle}
+use Rattle.title_order.specs.Titles.{by_title, rows_of, AreMoreTitles, AreNumbered, IsTitle}
 use Rattle.title_order.specs.declared.title.Title.{Title}
+use Rattle.token_order.specs.Counted.{AreNumbers}
 
 -- ---- more columns
 

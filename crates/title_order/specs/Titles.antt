@@ -1,7 +1,5 @@
 -- Columns with the values by which they are sorted, and lists of numbers with their indices.
 use Rattle.std.specs.Prelude.{◌≡◌, ℕ, ◌<◌, ◌^◌, List, ◌++◌, get_or, length, map}
-use Rattle.std.specs.List.{range_with_len}
-use Rattle.std.specs.List.Sorted.{IsPermutation}
 use Rattle.std.specs.Cmp.Lexicographic.{slice_cmp}
 use Rattle.std.specs.Ordering.{nat_cmp, ordering_then}
 use Rattle.std.specs.declared.cmp.Ordering.{Ordering}
@@ -37,15 +35,6 @@ pub record AreMoreTitles (old new : List Title) (columns : List Titled) : Type 0
 abbrev pub IsTitle : List Titled → Title → Type 0
 IsTitle columns title = title.row ≡ row_with 0 (titled_at columns title.number)
 
--- the numbers below the length of the list, in some order
-abbrev pub AreNumbers : List ℕ → Type 0
-AreNumbers numbers = IsPermutation (range_with_len 0 (length numbers)) numbers
-
 -- the number is at this index
 abbrev pub IsPlace : List ℕ → ℕ → ℕ → Type 0
 IsPlace numbers number place = (place < length numbers) × (get_or numbers place 0 ≡ number)
-
--- the index of each number
-pub record ArePlaces (numbers places : List ℕ) : Type 0 where
-  pub long : length places ≡ length numbers
-  pub each : (n : ℕ) → n < length numbers → IsPlace numbers n (get_or places n 0)

@@ -3,7 +3,7 @@ ghost use Rattle.std.specs.Prelude.{◌≡◌, ◌<◌, ◌^◌, length, map, If
 ghost use Rattle.std.specs.List.Sorted.{IsSorted};
 ghost use Rattle.search_model.specs.Ranks.{number_cmp, AreInverse, AreRanks};
 ghost use Rattle.search_model.specs.Segment.{columns_of, segment};
-ghost use Rattle.title_order.specs.Titles.{AreNumbers, ArePlaces};
+ghost use Rattle.token_order.specs.Counted.{AreNumbers, ArePlaces};
 
 use crate::title::{Title, all_titles};
 use column_set::SharedTable;

@@ -15,7 +15,7 @@ use Rattle.std.proofs.lemmas.Map.Keys.{IsDistinct-IsPermutation, IsDistinct-tail
 use Rattle.std.proofs.lemmas.Map.Lookups.{exact_bytes}
 use Rattle.std.proofs.lemmas.Slice.Eq.{bytes_eq-Decides}
 use Rattle.lake_model.specs.Texts.{Text}
-use Rattle.token_order.proofs.SortLemmas.{Rises, less}
+use Rattle.token_order.proofs.SortLemmas.{TextsRise, less}
 use Rattle.search_model.proofs.TokenLemmas.{flips}
 
 -- distinct keys are still distinct in another order
@@ -51,7 +51,7 @@ less_than x y up n = by (slice_cmp nat_cmp x y) refl
     by Equal e = absurd (no_more x y n (exact_bytes x y e))
     by Greater e = absurd (let f : less y x ≡ true = ap is_lt (nat_list_cmp_total.antisymm y x) ∙ ap (λ r. is_lt (ordering_reverse r)) e in let g : true ≡ false = sym f ∙ up in cc)
 
-before : (xs : List Text) → Rises xs → IsDistinct bytes_eq xs → (i j : ℕ) → i < j → j < length xs → slice_cmp nat_cmp (get_or xs i []) (get_or xs j []) ≡ Less
+before : (xs : List Text) → TextsRise xs → IsDistinct bytes_eq xs → (i j : ℕ) → i < j → j < length xs → slice_cmp nat_cmp (get_or xs i []) (get_or xs j []) ≡ Less
 before [] r d i j l b = absurd (omega arith)
 before (x ∷ xs) r d i zero l b = absurd (omega arith)
 before (x ∷ xs) r d zero (suc j) l b = less_than x (get_or xs j []) (All-from_recursion (λ y. less y x ≡ false) xs r.0 j [] (omega arith)) (apart_at (x ∷ xs) d 0 (suc j) l b)
@@ -63,7 +63,7 @@ level_itself Equal e = refl
 level_itself Greater e = cc
 
 -- distinct increasing keys compare as their indices
-pub places_compare : (xs : List Text) → Rises xs → IsDistinct bytes_eq xs → (i j : ℕ) → i < length xs → j < length xs → slice_cmp nat_cmp (get_or xs i []) (get_or xs j []) ≡ nat_cmp i j
+pub places_compare : (xs : List Text) → TextsRise xs → IsDistinct bytes_eq xs → (i j : ℕ) → i < length xs → j < length xs → slice_cmp nat_cmp (get_or xs i []) (get_or xs j []) ≡ nat_cmp i j
 places_compare xs r d i j b c = elim (cases_lt i j) [
   | inl l ↦ before xs r d i j l c ∙ nat_cmp_is i j Less l
   | inr g ↦ elim (cases_lt j i) [

@@ -29,7 +29,7 @@ use Rattle.token_order.proofs.NameLemmas.{differ_moved, places_compare, same_pla
 use Rattle.token_order.proofs.PlaceLemmas.{length-keys_of}
 use Rattle.token_order.proofs.RankLemmas.{runs_named}
 use Rattle.token_order.proofs.RunLemmas.{runs_differ, runs_long, runs_rise}
-use Rattle.token_order.proofs.SortLemmas.{Rises, rises, sorted_from_rises}
+use Rattle.token_order.proofs.SortLemmas.{TextsRise, rises, sorted_from_rises}
 use Rattle.token_order.proofs.TokenLemmas.{tokens_are}
 
 pub run_cmp_total : IsTotalOrder run_cmp
@@ -52,8 +52,8 @@ numbered runs moved ranked perm =
 
 -- ---- a list of all numbers, and their indices
 
-below : (ranks : List ℕ) → AreNumbers ranks → All (λ r. r < length ranks) ranks
-below ranks all =
+pub numbers_below : (ranks : List ℕ) → AreNumbers ranks → All (λ r. r < length ranks) ranks
+numbers_below ranks all =
     All-permutation (λ r. r < length ranks) (range_with_len 0 (length ranks)) ranks all
     (λ k d b. let h : k < length ranks = omega (arith, b, length-range_with_len 0 (length ranks)) in omega (arith, get_or-range_with_len 0 (length ranks) k d h))
 
@@ -66,7 +66,7 @@ pub rank_below : (runs : List Run) (i : ℕ) (d : Run) → AreNumbers (map rank_
 rank_below runs i d all h =
     let ranks = map rank_of runs in
     let inside : i < length ranks = omega (arith, h, length-map runs rank_of) in
-    omega (arith, below ranks all i 0 inside, get_or-map rank_of runs i d 0 h, length-map runs rank_of)
+    omega (arith, numbers_below ranks all i 0 inside, get_or-map rank_of runs i d 0 h, length-map runs rank_of)
 
 -- a run has the rank of its number
 pub rank_here : (runs : List Run) (i : ℕ) (d : Run) → i < length runs → IsSlot runs (get_or runs i d).rank i
@@ -92,7 +92,7 @@ number_at tokens i h =
     get_or-map (λ (t : ℕ × Token). t.0) (enumerate_from 0 tokens) i (0, token_with [] 0) 0 b ∙ ap (λ (t : ℕ × Token). t.0) (get_or-enumerate_from 0 tokens i (0, token_with [] 0) h) ∙ z
 
 -- the indices are the tokens' numbers by key, if the keys of the numbers are distinct and increase
-pub places_by_key : (tokens : List Token) (names : List Text) (ranks places : List ℕ) → Rises names → IsDistinct bytes_eq names → IsPermutation names (map (λ t. t.key) tokens) → AreNumbers ranks → length ranks ≡ length tokens
+pub places_by_key : (tokens : List Token) (names : List Text) (ranks places : List ℕ) → TextsRise names → IsDistinct bytes_eq names → IsPermutation names (map (λ t. t.key) tokens) → AreNumbers ranks → length ranks ≡ length tokens
     → ((t : ℕ) → t < length tokens → key_of tokens t ≡ get_or names (get_or ranks t 0) []) → ArePlaces ranks places → IsByKey tokens places
 places_by_key tokens names ranks places rise differ moved all long key are =
     let keys = map (λ (t : Token). t.key) tokens in
@@ -103,7 +103,7 @@ places_by_key tokens names ranks places rise differ moved all long key are =
     let named : (r : ℕ) → r < length ranks → key_of tokens (at r) ≡ get_or names r [] = λ r b. key (at r) (omega (arith, (are.each r b).0, long)) ∙ ap (λ (n : ℕ). get_or names n []) (are.each r b).1 in
     let back : (t : ℕ) → t < length tokens → at (get_or ranks t 0) ≡ t = λ t b.
     (let r = get_or ranks t 0 in
-    let inside : r < length ranks = below ranks all t 0 (omega (arith, b, long)) in
+    let inside : r < length ranks = numbers_below ranks all t 0 (omega (arith, b, long)) in
     same_place keys apart (at r) t (omega (arith, (are.each r inside).0, long, count)) (omega (arith, b, count)) (named r inside ∙ sym (key t b))) in
     let all_places : map at (range_with_len 0 (length ranks)) ≡ places =
     ext_get_or 0 (map at (range_with_len 0 (length ranks))) places (omega (arith, length-map (range_with_len 0 (length ranks)) at, length-range_with_len 0 (length ranks), are.long))
@@ -160,7 +160,7 @@ module _ (tables : List Table) (columns : List ColumnAt) (runs ordered : List Ru
   abbrev HasRank : Run → Type 0
   HasRank run = IsRank names (pointed_by tables columns run.first) run.rank
 
-  rise : Rises names
+  rise : TextsRise names
   rise = runs_rise (sorted_keys tables) (rises (sorted_keys tables) counted.sorted)
 
   differ : IsDistinct bytes_eq names

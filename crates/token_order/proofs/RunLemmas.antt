@@ -8,7 +8,8 @@ use Rattle.lake_model.specs.Texts.{Text}
 use Rattle.search_model.specs.Segment.{Token}
 use Rattle.search_model.specs.Arrays.{token_with}
 use Rattle.token_order.specs.Runs.{runs_from, runs_of}
-use Rattle.token_order.proofs.SortLemmas.{Rises, beyond_all, differ_back, less}
+use Rattle.token_order.proofs.SortLemmas.{TextsRise, beyond_all, differ_back, less}
+use Rattle.list_laws.proofs.TestLemmas.{once}
 
 abbrev longer : Token → Token
 longer first = token_with first.key (first.frequency + 1)
@@ -33,12 +34,12 @@ all_both P Q R f [] h g = tt
 all_both P Q R f (x ∷ xs) h g = (f x h.0 g.0, all_both P Q R f xs h.1 g.1)
 
 -- the keys after one that differs
-others : (first : Token) (key : Text) (keys : List Text) → Rises (first.key ∷ key ∷ keys) → bytes_eq key first.key ≡ false → AllByRecursion (λ y. bytes_eq first.key y ≡ false) (key ∷ keys)
+others : (first : Token) (key : Text) (keys : List Text) → TextsRise (first.key ∷ key ∷ keys) → bytes_eq key first.key ≡ false → AllByRecursion (λ y. bytes_eq first.key y ≡ false) (key ∷ keys)
 others first key keys r e = (differ_back first.key key e, beyond_all first.key key keys r.0.0 e r.1.0)
 
 -- ---- no key has two runs
 
-differ_then : (first : Token) (key : Text) (keys : List Text) (b : Bool) → bytes_eq key first.key ≡ b → Rises (first.key ∷ key ∷ keys) → IsDistinct bytes_eq (map (λ t. t.key) (runs_from (longer first) keys)) → IsDistinct bytes_eq (map (λ t. t.key) (runs_from (token_with key 1) keys))
+differ_then : (first : Token) (key : Text) (keys : List Text) (b : Bool) → bytes_eq key first.key ≡ b → TextsRise (first.key ∷ key ∷ keys) → IsDistinct bytes_eq (map (λ t. t.key) (runs_from (longer first) keys)) → IsDistinct bytes_eq (map (λ t. t.key) (runs_from (token_with key 1) keys))
     → IsDistinct bytes_eq (map (λ t. t.key) (runs_then b first key keys))
 unfolding IsDistinct
 differ_then first key keys true e r u v = u
@@ -46,29 +47,29 @@ differ_then first key keys false e r u v =
     let apart = others first key keys r e in
     (all_keys (λ y. bytes_eq first.key y ≡ false) (runs_from (token_with key 1) keys) (all_from (λ y. bytes_eq first.key y ≡ false) (token_with key 1) keys apart.0 apart.1), v)
 
-differ_from : (first : Token) (keys : List Text) → Rises (first.key ∷ keys) → IsDistinct bytes_eq (map (λ t. t.key) (runs_from first keys))
+differ_from : (first : Token) (keys : List Text) → TextsRise (first.key ∷ keys) → IsDistinct bytes_eq (map (λ t. t.key) (runs_from first keys))
 unfolding IsDistinct
 differ_from first [] r = (tt, tt)
 differ_from first (key ∷ keys) r = differ_then first key keys (bytes_eq key first.key) refl r (differ_from (longer first) keys (r.0.1, r.1.1)) (differ_from (token_with key 1) keys r.1)
 
-pub runs_differ : (keys : List Text) → Rises keys → IsDistinct bytes_eq (map (λ t. t.key) (runs_of keys))
+pub runs_differ : (keys : List Text) → TextsRise keys → IsDistinct bytes_eq (map (λ t. t.key) (runs_of keys))
 unfolding IsDistinct
 runs_differ [] r = tt
 runs_differ (key ∷ keys) r = differ_from (token_with key 1) keys r
 
 -- ---- the keys of the runs increase
 
-rise_then : (first : Token) (key : Text) (keys : List Text) (b : Bool) → Rises (first.key ∷ key ∷ keys) → Rises (map (λ t. t.key) (runs_from (longer first) keys)) → Rises (map (λ t. t.key) (runs_from (token_with key 1) keys))
-    → Rises (map (λ t. t.key) (runs_then b first key keys))
+rise_then : (first : Token) (key : Text) (keys : List Text) (b : Bool) → TextsRise (first.key ∷ key ∷ keys) → TextsRise (map (λ t. t.key) (runs_from (longer first) keys)) → TextsRise (map (λ t. t.key) (runs_from (token_with key 1) keys))
+    → TextsRise (map (λ t. t.key) (runs_then b first key keys))
 rise_then first key keys true r u v = u
 rise_then first key keys false r u v =
     (all_keys (λ y. less y first.key ≡ false) (runs_from (token_with key 1) keys) (all_from (λ y. less y first.key ≡ false) (token_with key 1) keys r.0.0 r.0.1), v)
 
-rise_from : (first : Token) (keys : List Text) → Rises (first.key ∷ keys) → Rises (map (λ t. t.key) (runs_from first keys))
+rise_from : (first : Token) (keys : List Text) → TextsRise (first.key ∷ keys) → TextsRise (map (λ t. t.key) (runs_from first keys))
 rise_from first [] r = (tt, tt)
 rise_from first (key ∷ keys) r = rise_then first key keys (bytes_eq key first.key) r (rise_from (longer first) keys (r.0.1, r.1.1)) (rise_from (token_with key 1) keys r.1)
 
-pub runs_rise : (keys : List Text) → Rises keys → Rises (map (λ t. t.key) (runs_of keys))
+pub runs_rise : (keys : List Text) → TextsRise keys → TextsRise (map (λ t. t.key) (runs_of keys))
 runs_rise [] r = tt
 runs_rise (key ∷ keys) r = rise_from (token_with key 1) keys r
 
@@ -96,9 +97,6 @@ runs_have q [] = refl
 runs_have q (key ∷ keys) = has_from q (token_with key 1) keys
 
 -- ---- as long as the key is frequent
-
-abbrev once : Bool → ℕ
-once b = cond b 1 0
 
 abbrev times : ℕ → Bool → ℕ
 times n b = cond b n 0
@@ -130,7 +128,7 @@ often_first : (first : Token) (keys : List Text) → AllByRecursion (λ y. bytes
 often_first first keys h =
     omega (arith, ap (times first.frequency) ((bytes_eq-Decides first.key first.key).1 refl), count_none first.key keys h)
 
-counted_then : (first : Token) (key : Text) (keys : List Text) (b : Bool) → bytes_eq key first.key ≡ b → Rises (first.key ∷ key ∷ keys)
+counted_then : (first : Token) (key : Text) (keys : List Text) (b : Bool) → bytes_eq key first.key ≡ b → TextsRise (first.key ∷ key ∷ keys)
     → AllByRecursion (λ t. t.frequency ≡ often (longer first) keys t.key) (runs_from (longer first) keys)
     → AllByRecursion (λ t. t.frequency ≡ often (token_with key 1) keys t.key) (runs_from (token_with key 1) keys)
     → AllByRecursion (λ t. t.frequency ≡ often first (key ∷ keys) t.key) (runs_then b first key keys)
@@ -146,11 +144,11 @@ counted_then first key keys false e r u v =
           (λ t h g. h ∙ often_next first key keys t.key (differ_back t.key first.key g)) (runs_from (token_with key 1) keys) v behind,
     )
 
-counted_from : (first : Token) (keys : List Text) → Rises (first.key ∷ keys) → AllByRecursion (λ t. t.frequency ≡ often first keys t.key) (runs_from first keys)
+counted_from : (first : Token) (keys : List Text) → TextsRise (first.key ∷ keys) → AllByRecursion (λ t. t.frequency ≡ often first keys t.key) (runs_from first keys)
 counted_from first [] r = (often_first first [] tt, tt)
 counted_from first (key ∷ keys) r = counted_then first key keys (bytes_eq key first.key) refl r (counted_from (longer first) keys (r.0.1, r.1.1)) (counted_from (token_with key 1) keys r.1)
 
-pub runs_counted : (keys : List Text) → Rises keys → AllByRecursion (λ t. t.frequency ≡ count_by (bytes_eq t.key) keys) (runs_of keys)
+pub runs_counted : (keys : List Text) → TextsRise keys → AllByRecursion (λ t. t.frequency ≡ count_by (bytes_eq t.key) keys) (runs_of keys)
 runs_counted [] r = tt
 runs_counted (key ∷ keys) r =
     all_both (λ (t : Token). t.frequency ≡ often (token_with key 1) keys t.key) (λ (t : Token). t.frequency ≡ often (token_with key 1) keys t.key) (λ (t : Token). t.frequency ≡ count_by (bytes_eq t.key) (key ∷ keys))

@@ -1,35 +1,22 @@
--- The result of a sort by a key, and sorted keys.
+-- Sorted keys, and keys that differ from those after them.
 use Rattle.std.proofs.Common.{◌≡◌, refl, ap, sym, ◌∙◌, subst, ℕ, zero, suc, ◌+◌, ◌<◌, List, [], ◌∷◌, map, length, get_or, Bool, true, false, arith}
 use Rattle.std.specs.Prelude.{bytes_eq}
 use Rattle.std.specs.List.{AllByRecursion}
-use Rattle.std.specs.List.Sorted.{IsSorted, IsSortedBy, IsSortedByClosure, IsSortedByKey}
-use Rattle.std.specs.Fn.{Called, ComparesAs}
-use Rattle.std.specs.Cmp.{IsStrictWeakOrder, IsTotalOrder}
+use Rattle.std.specs.List.Sorted.{IsSorted, IsSortedBy, IsSortedByKey}
+use Rattle.std.specs.Cmp.{IsStrictWeakOrder}
 use Rattle.std.specs.Cmp.Lexicographic.{slice_cmp}
 use Rattle.std.specs.Ordering.{is_lt, nat_cmp, ordering_reverse}
 use Rattle.std.specs.declared.cmp.Ordering.{Ordering}
 use Rattle.std.specs.declared.cmp.Ordering.TheVariants.{Less, Equal, Greater}
 use Rattle.std.proofs.lemmas.Cmp.{nat_list_cmp_total}
-use Rattle.std.proofs.lemmas.Fn.{always_returns_same}
 use Rattle.std.proofs.lemmas.List.{get_or-map, length-map}
 use Rattle.std.proofs.lemmas.List.Elements.{recursion_from_All}
 use Rattle.std.proofs.lemmas.List.Sorted.{ranks_by, sorted_far}
 use Rattle.std.proofs.lemmas.Map.Lookups.{exact_bytes}
 use Rattle.std.proofs.lemmas.Slice.Eq.{bytes_eq-Decides}
 use Rattle.lake_model.specs.Texts.{Text}
-use denote.Ref.{Bor}
-use denote.Param.Members.{Mut}
 
--- the result of `sort_unstable_by` if each call of its closure compares two keys
-pub sorted_by_key : {X K : Type 0} {R : K → K → Ordering} → IsTotalOrder R → (key : X → K) → {F : Type 0} {g : Mut F (Bor X × (Bor X × Unit {0})) Ordering} {f : F} (xs : List X)
-    → IsSortedByClosure g f xs
-    → ((a : Bor X × (Bor X × Unit {0})) (r : Ordering) (f' : F) → Called g f a r f' → (r ≡ R (key a.0.now) (key a.1.0.now)) × (f' ≡ f)) → IsSortedByKey key R xs
-sorted_by_key {X = X} {R = R} total key {g = g} {f = f} xs up h =
-    let less : X → X → Bool = λ x y. is_lt (R (key x) (key y)) in
-    let by : ComparesAs g less f = always_returns_same g (λ a r. is_lt r ≡ is_lt (R (key a.0.now) (key a.1.0.now))) f (λ a r f' k. (ap is_lt (h a r f' k).0, (h a r f' k).1)) in
-    up less (ranks_by total key) by
-
--- so the keys are sorted
+-- the keys of what is sorted by them are sorted
 pub sorted_map : {X K : Type 0} (R : K → K → Ordering) (key : X → K) (xs : List X) → IsSortedByKey key R xs → IsSorted R (map key xs)
 sorted_map R key [] up k d low h = absurd (omega arith)
 sorted_map R key (x ∷ xs) up k d low h =
@@ -42,9 +29,9 @@ abbrev pub less : Text → Text → Bool
 less a b = is_lt (slice_cmp nat_cmp a b)
 
 -- no key is less than one before it
-abbrev pub Rises : List Text → Type 0
-Rises [] = Unit {0}
-Rises (x ∷ xs) = AllByRecursion (λ y. less y x ≡ false) xs × Rises xs
+abbrev pub TextsRise : List Text → Type 0
+TextsRise [] = Unit {0}
+TextsRise (x ∷ xs) = AllByRecursion (λ y. less y x ≡ false) xs × TextsRise xs
 
 order : IsStrictWeakOrder less
 order = ranks_by nat_list_cmp_total (λ (x : Text). x)
@@ -55,12 +42,12 @@ tail_sorted x xs up k d a b =
     let e : suc k + 1 ≡ suc (k + 1) = omega arith in
     subst (λ (n : ℕ). less (get_or (x ∷ xs) n d) (get_or xs k d) ≡ false) e at
 
-pub rises : (xs : List Text) → IsSorted (slice_cmp nat_cmp) xs → Rises xs
+pub rises : (xs : List Text) → IsSorted (slice_cmp nat_cmp) xs → TextsRise xs
 rises [] up = tt
 rises (x ∷ xs) up =
     (recursion_from_All (λ y. less y x ≡ false) xs (λ k d b. sorted_far less order (x ∷ xs) up 0 (suc k) d (omega arith) (omega arith)), rises xs (tail_sorted x xs up))
 
-pub sorted_from_rises : (xs : List Text) → Rises xs → IsSorted (slice_cmp nat_cmp) xs
+pub sorted_from_rises : (xs : List Text) → TextsRise xs → IsSorted (slice_cmp nat_cmp) xs
 sorted_from_rises [] r k d a b = absurd (omega arith)
 sorted_from_rises (x ∷ []) r k d a b = absurd (omega arith)
 sorted_from_rises (x ∷ y ∷ xs) r zero d a b = r.0.0

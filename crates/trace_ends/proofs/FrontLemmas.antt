@@ -28,6 +28,7 @@ use Rattle.trace_ends.specs.Fronts.{FrontsAreTaken, FrontsAreWhole, NextIsPut, N
 use Rattle.trace_ends.specs.Within.{ArePositions, IsWithin}
 use Rattle.trace_ends.proofs.EndLemmas.{tested_at, zip_get}
 use Rattle.trace_ends.proofs.WithinLemmas.{owner_made, positions_within, unplanned_same}
+use Rattle.trace_ends.specs.Ends.{journal_of}
 
 -- ---- each position has at most one entry
 
@@ -165,16 +166,12 @@ owner_at commands hints size q one_each apart filled low =
     let owner : IsOwner (told hinted) (q + 1) found.0 = record { stands = stands; only = λ i at. apart_same hinted (q + 1) i found.0 apart at stands } in
     (found.0, subst (λ (hs : List Hint). IsOwner hs (q + 1) found.0) (told_zip commands hints one_each) owner)
 
--- the journal that results from all hints
-abbrev whole_of : Rules → List Command → List Hint → List Entry
-whole_of rules commands hints = rebuilt rules (hinted_zip commands hints) (counted (hinted_zip commands hints))
-
 -- each position has one owner, and each reply that is made again over the whole journal has its hint
 record Replies (rules : Rules) (commands : List Command) (hints : List Hint) : Type 0 where
   are : ArePositions commands hints
   apart : are_apart (hinted_zip commands hints) ≡ true
   filled : is_filled (hinted_zip commands hints) (counted (hinted_zip commands hints)) ≡ true
-  tell : list_all (tells rules (whole_of rules commands hints)) (hinted_zip commands hints) ≡ true
+  tell : list_all (tells rules (journal_of rules commands hints)) (hinted_zip commands hints) ≡ true
 
 one_longer : (rules : Rules) (commands : List Command) (hints : List Hint) (q : ℕ) → Replies rules commands hints → q < counted (hinted_zip commands hints)
     → length (rebuilt rules (hinted_zip commands hints) q) ≡ q → length (rebuilt rules (hinted_zip commands hints) (suc q)) ≡ suc q
@@ -186,9 +183,9 @@ one_longer rules commands hints q replies low long =
     let made = owner_made hints q owner.0 owner.1 in
     let command : Command = get_or commands owner.0 c in
     let hint : Hint = get_or hints owner.0 Wanting in
-    let same : reply_by rules (whole_of rules commands hints) command hint ≡ reply_at rules (rebuilt rules hinted q) command hint = reply_made rules commands hints (rebuilt rules hinted q) q owner.0 c are refl long made.2 in
-    let again : hint_of (reply_by rules (whole_of rules commands hints) command hint) ≡ hint =
-    hint_is (hint_of (reply_by rules (whole_of rules commands hints) command hint)) hint (tested_at (tells rules (whole_of rules commands hints)) commands hints owner.0 c are.one_each (omega (arith, are.one_each, made.0)) replies.tell) in
+    let same : reply_by rules (journal_of rules commands hints) command hint ≡ reply_at rules (rebuilt rules hinted q) command hint = reply_made rules commands hints (rebuilt rules hinted q) q owner.0 c are refl long made.2 in
+    let again : hint_of (reply_by rules (journal_of rules commands hints) command hint) ≡ hint =
+    hint_is (hint_of (reply_by rules (journal_of rules commands hints) command hint)) hint (tested_at (tells rules (journal_of rules commands hints)) commands hints owner.0 c are.one_each (omega (arith, are.one_each, made.0)) replies.tell) in
     let put = next_put rules commands hints (rebuilt rules hinted q) q owner.0 c are.one_each owner.1 refl (sym (ap hint_of same) ∙ again) in
     let e : q + 1 ≡ suc q = omega arith in
     let grown = ap (λ (n : ℕ). length (rebuilt rules hinted n)) e in

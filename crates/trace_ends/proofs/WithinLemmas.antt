@@ -8,7 +8,7 @@ use Rattle.script_model.specs.Commands.{Batch, Command, updates}
 use Rattle.script_model.specs.Lanes.{IsOfLanes}
 use Rattle.record_model.specs.Answered.{Nowhere, Saw, Added, PlannedAndSaw, PlannedAndAdded}
 use Rattle.record_model.specs.Play.{merger_commands}
-use Rattle.record_model.specs.Right.{Moment, Rises}
+use Rattle.record_model.specs.Right.{Moment, MomentsRise}
 use Rattle.record_model.proofs.RightLemmas.{rises_down, rises_le}
 use Rattle.trace_laws.specs.Hints.{Hint, Stands, Wanting}
 use Rattle.trace_laws.specs.Passing.{are_apart, batches_rise, is_filled, lane_rises, moments_of}
@@ -21,9 +21,10 @@ use Rattle.trace_laws.proofs.VerdictLemmas.{counted_append, zip_append}
 use Rattle.trace_numbers.specs.Positions.{accepted_of, numbers_pass, own_of}
 use Rattle.trace_numbers.specs.Turns.{made_at, planned_at}
 use Rattle.trace_numbers.proofs.ApartLemmas.{at_own, counted_is, own_stands, told}
-use Rattle.trace_numbers.proofs.PassLemmas.{merger_lanes, told_zip, zero_lanes, zip_lanes}
+use Rattle.trace_numbers.proofs.PassLemmas.{merger_lanes, told_zip, zip_lanes}
 use Rattle.trace_ends.specs.Within.{AcceptedOwns, ArePositions, IsWithin, OwnerIsMade, PositionsWithin}
-use Rattle.trace_laws.proofs.RecordLemmas.{lanes_in}
+use Rattle.trace_numbers.proofs.SlotLemmas.{stands_below}
+use Rattle.record_model.proofs.LegalLemmas.{within_batch, within_merges}
 
 -- ---- one answer
 
@@ -36,7 +37,7 @@ unplanned_same (Stands (PlannedAndSaw pinned at)) e = cc
 unplanned_same (Stands (PlannedAndAdded pinned at)) e = cc
 
 -- an answer whose positions rise up to some bound
-within : (size : ℕ) (hint : Hint) (ms : List Moment) (high : ℕ) → high ≤ size → Rises 0 (moments_of hint ++ ms) high → IsWithin size hint
+within : (size : ℕ) (hint : Hint) (ms : List Moment) (high : ℕ) → high ≤ size → MomentsRise 0 (moments_of hint ++ ms) high → IsWithin size hint
 within size Wanting ms high le h = record { made = omega arith; pinned = omega arith; own = λ p e. cc; planned = λ p e. cc; unplanned = unplanned_same Wanting }
 within size (Stands Nowhere) ms high le h = record { made = omega arith; pinned = omega arith; own = λ p e. cc; planned = λ p e. cc; unplanned = unplanned_same (Stands Nowhere) }
 within size (Stands (Saw at)) ms high le h =
@@ -78,21 +79,21 @@ within size (Stands (PlannedAndAdded pinned at)) ms high le h =
 abbrev AreWithin : ℕ → List Hinted → Type 0
 AreWithin size hinted = AllByRecursion (λ (h : Hinted). IsWithin size h.hint) hinted
 
-rises_behind : (low : ℕ) (ms ns : List Moment) (high : ℕ) → Rises low (ms ++ ns) high → Rises 0 ns high
+rises_behind : (low : ℕ) (ms ns : List Moment) (high : ℕ) → MomentsRise low (ms ++ ns) high → MomentsRise 0 ns high
 rises_behind low [] ns high h = rises_down 0 low ns high (omega arith) h
 rises_behind low (m ∷ ms) ns high h = rises_behind m.at ms ns high h.1
 
 lanes_within : (lanes size high : ℕ) (hinted : List Hinted) → high ≤ size → AllByRecursion (λ (h : Hinted). h.command.lane ≤ lanes) hinted
-    → ((lane : ℕ) → lane ≤ lanes → Rises 0 (mine hinted lane) high) → AreWithin size hinted
+    → ((lane : ℕ) → lane ≤ lanes → MomentsRise 0 (mine hinted lane) high) → AreWithin size hinted
 lanes_within lanes size high [] le of rising = tt
 lanes_within lanes size high (h ∷ hinted) le of rising = (
-  within size h.hint (mine hinted h.command.lane) high le (subst (λ (ms : List Moment). Rises 0 ms high) (own_first h hinted h.command.lane (eq-eqb h.command.lane h.command.lane refl)) (rising h.command.lane of.0)),
+  within size h.hint (mine hinted h.command.lane) high le (subst (λ (ms : List Moment). MomentsRise 0 ms high) (own_first h hinted h.command.lane (eq-eqb h.command.lane h.command.lane refl)) (rising h.command.lane of.0)),
   lanes_within lanes size high hinted le of.1 (λ lane under. by lane (h.command.lane == lane) refl (rising lane under)),
 )
   where
-    by : (lane : ℕ) (b : Bool) → (h.command.lane == lane) ≡ b → Rises 0 (mine (h ∷ hinted) lane) high → Rises 0 (mine hinted lane) high
-    by lane true e k = rises_behind 0 (moments_of h.hint) (mine hinted lane) high (subst (λ (ms : List Moment). Rises 0 ms high) (own_first h hinted lane e) k)
-    by lane false e k = subst (λ (ms : List Moment). Rises 0 ms high) (other_first h hinted lane e) k
+    by : (lane : ℕ) (b : Bool) → (h.command.lane == lane) ≡ b → MomentsRise 0 (mine (h ∷ hinted) lane) high → MomentsRise 0 (mine hinted lane) high
+    by lane true e k = rises_behind 0 (moments_of h.hint) (mine hinted lane) high (subst (λ (ms : List Moment). MomentsRise 0 ms high) (own_first h hinted lane e) k)
+    by lane false e k = subst (λ (ms : List Moment). MomentsRise 0 ms high) (other_first h hinted lane e) k
 
 batch_within : (lanes size from high : ℕ) (merge : Bool) (next : ℕ) (batch : Batch) (hints : List Hint) → high ≤ size → IsOfLanes lanes batch
     → list_all (lane_rises (hinted_zip (batch ++ merger_commands merge next batch) hints) from high) (range_with_len 0 (lanes + 1)) ≡ true
@@ -101,7 +102,7 @@ batch_within lanes size from high merge next batch hints le of rising =
     let merges : List Command = merger_commands merge next batch in
     let hinted : List Hinted = hinted_zip (batch ++ merges) hints in
     lanes_within lanes size high hinted le
-    (zip_lanes lanes (batch ++ merges) hints (all_append (λ (c : Command). c.lane ≤ lanes) batch merges (lanes_in lanes batch of) (zero_lanes lanes merges (merger_lanes merge next batch))))
+    (zip_lanes lanes (batch ++ merges) hints (all_append (λ (c : Command). c.lane ≤ lanes) batch merges (within_batch lanes batch of) (within_merges lanes merges (merger_lanes merge next batch))))
     (λ lane under. rises_down 0 from (mine hinted lane) high (omega arith) (rises_is from (mine hinted lane) high (in_range (lane_rises hinted from high) 0 (lanes + 1) lane rising (omega arith) (omega (arith, under)))))
 
 -- ---- the batches
@@ -149,11 +150,6 @@ positions_within lanes merge batches commands hints of is passed = subst (λ (cs
 
 -- ---- owners
 
-stands_within : (hints : List Hint) (n i : ℕ) → is_at n (get_or hints i Wanting) ≡ true → i < length hints
-stands_within [] n i h = cc
-stands_within (x ∷ hints) n zero h = omega arith
-stands_within (x ∷ hints) n (suc i) h = let low = stands_within hints n i h in omega (arith, low)
-
 made_before : (hint : Hint) (before : ℕ) → own_of hint ≡ Some (before + 1) → made_at hint ≡ before
 made_before Wanting before e = cc
 made_before (Stands Nowhere) before e = cc
@@ -165,7 +161,7 @@ made_before (Stands (PlannedAndAdded pinned at)) before e = let same : at ≡ be
 pub owner_made : OwnerIsMade
 owner_made hints before index owner =
     let own : own_of (get_or hints index Wanting) ≡ Some (before + 1) = at_own (get_or hints index Wanting) (before + 1) owner.stands in
-    (stands_within hints (before + 1) index owner.stands, own, made_before (get_or hints index Wanting) before own)
+    (stands_below hints (before + 1) index owner.stands, own, made_before (get_or hints index Wanting) before own)
 
 pub accepted_owns : AcceptedOwns
 accepted_owns hints owners i are inside has = by (own_of (get_or hints i Wanting)) refl has

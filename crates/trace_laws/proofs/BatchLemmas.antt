@@ -11,7 +11,7 @@ use Rattle.script_model.specs.Commands.{Command, Task, Load, LoadFile, DropTable
 use Rattle.record_model.specs.Replies.{Reply}
 use Rattle.record_model.specs.Answered.{Standing, Nowhere, Saw, Added, PlannedAndSaw, PlannedAndAdded, standing, change_of, adds, is_accepted, TableRead, IsTable, NoTable, table_read, file_read, loads, replaces, swaps, policy_of}
 use Rattle.record_model.specs.Play.{Done, who_of}
-use Rattle.record_model.specs.Right.{Moment, moments, moments_by, Rises, entries_by, at_position, accepted, between}
+use Rattle.record_model.specs.Right.{Moment, moments, moments_by, MomentsRise, entries_by, at_position, accepted, between}
 use Rattle.list_laws.proofs.ListLemmas.{all_append, all_left, all_right}
 use Rattle.record_model.proofs.RightLemmas.{rises_le}
 use Rattle.trace_laws.specs.Checks.{AreEntered}
@@ -88,8 +88,8 @@ goes_on low at high command (what ∷ []) rest one above below g = record {
 }
 goes_on low at high command (what ∷ more ∷ whats) rest one above below g = absurd one
 
-step_goes : (rules : Rules) (low high : ℕ) (journal : List Entry) (command : Command) (reply : Reply) (s : Standing) (ms : List Moment) (rest : Pairs) → Rises low (moments_by s ++ ms) high
-    → ((mid : ℕ) → Rises mid ms high → Goes command.lane mid high rest) → Goes command.lane low high (entries_by rules journal command reply s ++ rest)
+step_goes : (rules : Rules) (low high : ℕ) (journal : List Entry) (command : Command) (reply : Reply) (s : Standing) (ms : List Moment) (rest : Pairs) → MomentsRise low (moments_by s ++ ms) high
+    → ((mid : ℕ) → MomentsRise mid ms high → Goes command.lane mid high rest) → Goes command.lane low high (entries_by rules journal command reply s ++ rest)
 step_goes rules low high journal command reply Nowhere ms rest rises more = more low rises
 step_goes rules low high journal command reply (Saw at) ms rest rises more = goes_down command.lane low at high rest rises.0 (more at rises.1)
 step_goes rules low high journal command reply (Added at) ms rest rises more =
@@ -107,7 +107,7 @@ step_goes rules low high journal command reply (PlannedAndAdded pinned at) ms re
 abbrev pub AreLane : ℕ → List Done → Type 0
 AreLane lane done = AllByRecursion (λ d. d.command.lane ≡ lane) done
 
-accepted_goes : (rules : Rules) (lane low high : ℕ) (journal : List Entry) (done : List Done) → AreLane lane done → Rises low (moments done) high → Goes lane low high (accepted rules journal done)
+accepted_goes : (rules : Rules) (lane low high : ℕ) (journal : List Entry) (done : List Done) → AreLane lane done → MomentsRise low (moments done) high → Goes lane low high (accepted rules journal done)
 accepted_goes rules lane low high journal [] of rises = record { climbs = tt; within = tt; of = tt }
 accepted_goes rules lane low high journal (d ∷ done) of rises =
     subst (λ (l : ℕ). Goes l low high (accepted rules journal (d ∷ done))) of.0
@@ -170,7 +170,7 @@ callers_enumerated lanes n (e ∷ es) h = (h.0, callers_enumerated lanes (n + 1)
 -- lane's own entries are those of its accepted answers.
 pub own_are : (rules : Rules) (lanes from to : ℕ) (journal : List Entry) (done : List Done) → AllByRecursion (λ d. d.command.lane ≤ lanes) done
     → AllByRecursion (λ e. e.who.caller ≤ lanes) (between from to journal)
-    → ((lane : ℕ) → lane ≤ lanes → Rises from (moments (of_lane lane done)) to)
+    → ((lane : ℕ) → lane ≤ lanes → MomentsRise from (moments (of_lane lane done)) to)
     → AreEntered journal (accepted rules journal done) → length (between from to journal) ≤ length (accepted rules journal done)
     → (lane : ℕ) → lane ≤ lanes → owned lane (from + 1) (between from to journal) ≡ accepted rules journal (of_lane lane done)
 own_are rules lanes from to journal done of callers rises entered many lane le =

@@ -84,7 +84,7 @@ all_filled rules journal done (suc n) tells le =
 
 -- ---- no two updates at one position
 
-abbrev count_at : ℕ → List Hinted → ℕ
+abbrev pub count_at : ℕ → List Hinted → ℕ
 count_at n [] = 0
 count_at n (h ∷ hinted) = once 1 (is_at n h.hint) + count_at n hinted
 
@@ -119,7 +119,7 @@ total_counted (h ∷ hinted) n =
     let and_parts = total_both (λ l. count_at (suc l) (h ∷ hinted)) (λ l. once 1 (is_at (suc l) h.hint)) (λ l. count_at (suc l) hinted) n (λ l. refl) in
     omega (arith, and_parts, one_hint h.hint n, total_counted hinted n)
 
-some_count : (n : ℕ) (hinted : List Hinted) → list_any (λ (h : Hinted). is_at n h.hint) hinted ≡ true → 1 ≤ count_at n hinted
+pub some_count : (n : ℕ) (hinted : List Hinted) → list_any (λ (h : Hinted). is_at n h.hint) hinted ≡ true → 1 ≤ count_at n hinted
 some_count n [] h = cc
 some_count n (x ∷ hinted) h = by (is_at n x.hint) h (some_count n hinted)
   where

@@ -8,7 +8,7 @@ use Rattle.lake_model.specs.Journal.{Entry}
 use Rattle.script_model.specs.Commands.{Command}
 use Rattle.record_model.specs.Replies.{Reply, Loaded, Dropped, Replaced, NoMemory}
 use Rattle.record_model.specs.Answered.{Standing, Nowhere, Saw, Added, PlannedAndSaw, PlannedAndAdded, standing}
-use Rattle.record_model.specs.Right.{answer_by, IsPlaced, IsUnplaced, Moment, Rises, IsBehind}
+use Rattle.record_model.specs.Right.{answer_by, IsPlaced, IsUnplaced, Moment, MomentsRise, IsBehind}
 use Rattle.trace_laws.specs.Hints.{hint_of, reply_by}
 use Rattle.trace_laws.specs.Checks.{is_behind, rises, PositionsDecide}
 use Rattle.record_model.proofs.RightLemmas.{IsWithin, answer_stays}
@@ -55,11 +55,11 @@ is_so_behind : (own : Bool) (low at : ℕ) → IsBehind own low at → is_behind
 is_so_behind true low at h = true_lt low at h
 is_so_behind false low at h = true_le low at h
 
-pub rises_is : (low : ℕ) (ms : List Moment) (high : ℕ) → rises low ms high ≡ true → Rises low ms high
+pub rises_is : (low : ℕ) (ms : List Moment) (high : ℕ) → rises low ms high ≡ true → MomentsRise low ms high
 rises_is low [] high h = le_true low high h
 rises_is low (m ∷ ms) high h = let k = and_parts (is_behind m.own low m.at) (rises m.at ms high) h in (behind_is m.own low m.at k.0, rises_is m.at ms high k.1)
 
-pub is_so_rising : (low : ℕ) (ms : List Moment) (high : ℕ) → Rises low ms high → rises low ms high ≡ true
+pub is_so_rising : (low : ℕ) (ms : List Moment) (high : ℕ) → MomentsRise low ms high → rises low ms high ≡ true
 is_so_rising low [] high h = true_le low high h
 is_so_rising low (m ∷ ms) high h = ap (λ b. b && rises m.at ms high) (is_so_behind m.own low m.at h.0) ∙ is_so_rising m.at ms high h.1
 

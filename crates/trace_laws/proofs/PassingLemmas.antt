@@ -29,6 +29,7 @@ use Rattle.trace_laws.proofs.BatchLemmas.{of_lane}
 use Rattle.trace_laws.proofs.RecordLemmas.{checks_decide, AreWithinLanes, all_lanes, batch_within, entered_all, HasEntries}
 use Rattle.trace_laws.proofs.RebuiltLemmas.{AddsOne, adds_one, IsOrdered, IsOrderly, all_ordered}
 use Rattle.trace_laws.proofs.VerdictLemmas.{reply_hint, zip_hints, all_hinted, sizes, counted_append, hinted_append, IsLow, IsLowReply, all_low}
+use Rattle.record_model.proofs.LegalLemmas.{AreCallers, are_callers}
 
 -- ---- hints
 
@@ -431,19 +432,12 @@ checked_from rules lanes merge next journal from (batch ∷ batches) answers who
 abbrev AreWithinHinted : ℕ → List Hinted → Type 0
 AreWithinHinted lanes hinted = AllByRecursion (λ (h : Hinted). h.command.lane ≤ lanes) hinted
 
-abbrev AreCallers : ℕ → List Entry → Type 0
-AreCallers lanes entries = AllByRecursion (λ (e : Entry). e.who.caller ≤ lanes) entries
-
-callers_of : (lanes : ℕ) (command : Command) (whats : List What) → command.lane ≤ lanes → AreCallers lanes (map (entry_with (who_of command)) whats)
-callers_of lanes command [] h = tt
-callers_of lanes command (what ∷ whats) h = (h, callers_of lanes command whats h)
-
 callers_put : (rules : Rules) (lanes n : ℕ) (journal : List Entry) (hinted : List Hinted) → AreWithinHinted lanes hinted → AreCallers lanes (put_by rules journal (find (λ (h : Hinted). is_at n h.hint) hinted))
 callers_put rules lanes n journal [] h = tt
 callers_put rules lanes n journal (x ∷ hinted) h = by (is_at n x.hint) (callers_put rules lanes n journal hinted h.1)
   where
     by : (b : Bool) → AreCallers lanes (put_by rules journal (find (λ (h : Hinted). is_at n h.hint) hinted)) → AreCallers lanes (put_by rules journal (cond b (Some x) (find (λ (h : Hinted). is_at n h.hint) hinted)))
-    by true rest = callers_of lanes x.command (change_of rules x.command.task (take (pinned_of x.hint) journal)) h.0
+    by true rest = are_callers lanes x.command (change_of rules x.command.task (take (pinned_of x.hint) journal)) h.0
     by false rest = rest
 
 rebuilt_callers : (rules : Rules) (lanes n : ℕ) (hinted : List Hinted) → AreWithinHinted lanes hinted → AreCallers lanes (rebuilt rules hinted n)

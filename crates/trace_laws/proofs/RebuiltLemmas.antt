@@ -27,7 +27,7 @@ use Rattle.record_model.specs.Answered.{TableRead, IsTable, NoTable, table_read,
 use Rattle.record_model.specs.Play.{Done, who_of, merger_commands}
 use Rattle.script_model.specs.Commands.{updates}
 use Rattle.script_model.specs.Lanes.{IsOfLanes}
-use Rattle.record_model.specs.Right.{Moment, moments, moments_by, Rises, answer_by, entries_by, at_position, accepted, between, AreBatchesRight}
+use Rattle.record_model.specs.Right.{Moment, moments, moments_by, MomentsRise, answer_by, entries_by, at_position, accepted, between, AreBatchesRight}
 use Rattle.list_laws.proofs.ListLemmas.{all_append, not_both}
 use Rattle.trace_laws.specs.Hints.{Hint, Stands, hint_of, reply_by}
 use Rattle.trace_laws.specs.Checks.{dones, IsMadeAgain, AreEntered}
@@ -239,7 +239,7 @@ lane_has n lane (d ∷ done) h = by (d.command.lane == lane) h (lane_has n lane 
 
 -- ---- a batch
 
-ordered_of : (s : Standing) (ms : List Moment) (low high : ℕ) → Rises low (moments_by s ++ ms) high → IsOrdered s
+ordered_of : (s : Standing) (ms : List Moment) (low high : ℕ) → MomentsRise low (moments_by s ++ ms) high → IsOrdered s
 ordered_of Nowhere ms low high h = tt
 ordered_of (Saw at) ms low high h = tt
 ordered_of (Added at) ms low high h = let first : low < at = h.0 in omega (arith, first)
@@ -249,7 +249,7 @@ ordered_of (PlannedAndAdded pinned at) ms low high h = h.1.0
 abbrev pub IsOrderly : Done → Type 0
 IsOrderly d = IsOrdered (standing d.reply)
 
-pub all_ordered : (low high : ℕ) (done : List Done) → Rises low (moments done) high → AllByRecursion IsOrderly done
+pub all_ordered : (low high : ℕ) (done : List Done) → MomentsRise low (moments done) high → AllByRecursion IsOrderly done
 all_ordered low high [] h = tt
 all_ordered low high (d ∷ done) h =
     let next = rises_rest (standing d.reply) (moments done) low high h in

@@ -14,7 +14,7 @@ use Rattle.record_model.specs.Answered.{Standing, Nowhere, Saw, Added, PlannedAn
 use Rattle.record_model.specs.Play.{Done, merger_commands}
 use Rattle.script_model.specs.Commands.{updates}
 use Rattle.script_model.specs.Lanes.{IsOfLanes}
-use Rattle.record_model.specs.Right.{Moment, moments, moments_by, Rises, IsPlaced, IsUnplaced, entries_by, accepted, between, IsRight, IsBatchRight, AreBatchesRight}
+use Rattle.record_model.specs.Right.{Moment, moments, moments_by, MomentsRise, IsPlaced, IsUnplaced, entries_by, accepted, between, IsRight, IsBatchRight, AreBatchesRight}
 use Rattle.list_laws.proofs.ListLemmas.{all_append, all_left, all_right, all_filter}
 use Rattle.record_model.proofs.RightLemmas.{rises_le, accepted_stay, all_placed_stay, IsWithin}
 use Rattle.record_model.proofs.PlayedLemmas.{merges_are}
@@ -23,6 +23,7 @@ use Rattle.trace_laws.proofs.HintLemmas.{right_is, again_right, rises_is, is_so_
 use Rattle.trace_laws.proofs.OwnLemmas.{Pairs, owned, is_of}
 use Rattle.trace_laws.proofs.TotalLemmas.{total, total_same_up, total_share, total_filter}
 use Rattle.trace_laws.proofs.BatchLemmas.{own_are, of_lane, get_drop, callers_enumerated}
+use Rattle.record_model.proofs.LegalLemmas.{within_batch, within_merges}
 
 -- ---- the journal up to the end of a batch
 
@@ -48,14 +49,14 @@ all_drop P (suc n) (e ∷ es) h = all_drop P n es h.1
 
 -- ---- what passes is right
 
-within_by : (s : Standing) (ms : List Moment) (low high size : ℕ) → high ≤ size → Rises low (moments_by s ++ ms) high → IsWithin size s
+within_by : (s : Standing) (ms : List Moment) (low high size : ℕ) → high ≤ size → MomentsRise low (moments_by s ++ ms) high → IsWithin size s
 within_by Nowhere ms low high size le h = record { pinned = omega arith; made = omega arith }
 within_by (Saw at) ms low high size le h = let k = rises_le at ms high h.1 in record { pinned = omega (arith, le, k); made = omega (arith, le, k) }
 within_by (Added at) ms low high size le h = let k = rises_le at ms high h.1 in record { pinned = omega (arith, le, k); made = omega (arith, le, k) }
 within_by (PlannedAndSaw pinned at) ms low high size le h = let k = rises_le at ms high h.1.1 in record { pinned = omega (arith, le, k, h.1.0); made = omega (arith, le, k) }
 within_by (PlannedAndAdded pinned at) ms low high size le h = let k = rises_le at ms high h.1.1 in record { pinned = omega (arith, le, k, h.1.0); made = omega (arith, le, k) }
 
-pub rises_rest : (s : Standing) (ms : List Moment) (low high : ℕ) → Rises low (moments_by s ++ ms) high → (mid : ℕ) × Rises mid ms high
+pub rises_rest : (s : Standing) (ms : List Moment) (low high : ℕ) → MomentsRise low (moments_by s ++ ms) high → (mid : ℕ) × MomentsRise mid ms high
 rises_rest Nowhere ms low high h = (low, h)
 rises_rest (Saw at) ms low high h = (at, h.1)
 rises_rest (Added at) ms low high h = (at, h.1)
@@ -68,7 +69,7 @@ ArePlaced rules journal done = AllByRecursion (λ d. IsPlaced rules journal d.co
 abbrev pub AreUnplaced : Rules → List Done → Type 0
 AreUnplaced rules done = AllByRecursion (λ d. IsUnplaced rules d.command d.reply (standing d.reply)) done
 
-all_again_right : (rules : Rules) (journal more : List Entry) (done : List Done) (low high : ℕ) → high ≤ length journal → Rises low (moments done) high
+all_again_right : (rules : Rules) (journal more : List Entry) (done : List Done) (low high : ℕ) → high ≤ length journal → MomentsRise low (moments done) high
     → AllByRecursion (IsMadeAgain rules (journal ++ more)) done → ArePlaced rules journal done × AreUnplaced rules done
 all_again_right rules journal more [] low high le rises h = (tt, tt)
 all_again_right rules journal more (d ∷ done) low high le rises h =
@@ -82,7 +83,7 @@ AreWithinLanes lanes done = AllByRecursion (λ d. d.command.lane ≤ lanes) done
 
 -- one lane of a batch
 lane_right : (rules : Rules) (lanes from to : ℕ) (journal : List Entry) (done : List Done) → from ≤ to → to ≤ length journal → AreWithinLanes lanes done
-    → AllByRecursion (λ e. e.who.caller ≤ lanes) journal → ((lane : ℕ) → lane ≤ lanes → Rises from (moments (of_lane lane done)) to)
+    → AllByRecursion (λ e. e.who.caller ≤ lanes) journal → ((lane : ℕ) → lane ≤ lanes → MomentsRise from (moments (of_lane lane done)) to)
     → AllByRecursion (IsMadeAgain rules journal) done → AreEntered journal (accepted rules journal done) → to ≡ from + length (accepted rules journal done)
     → (lane : ℕ) → lane ≤ lanes → IsRight rules lane (take from journal) (between from to journal) (of_lane lane done)
 lane_right rules lanes from to journal done le within of callers rises again entered many lane under =
@@ -100,8 +101,8 @@ lane_right rules lanes from to journal done le within of callers rises again ent
     record {
       entries = ap (λ (n : ℕ). owned lane (n + 1) (between from to journal)) start ∙ own ∙ sym (ap (λ (j : List Entry). accepted rules j mine) parts) ∙ stays ∙ sym (ap (λ (j : List Entry). accepted rules j mine) joined);
       placed = subst (λ (j : List Entry). ArePlaced rules j mine) (sym joined) made.0;
-      positions = subst (λ (n : ℕ). Rises n (moments mine) (length (take from journal ++ between from to journal))) (sym start)
-          (subst (λ (n : ℕ). Rises from (moments mine) n) (sym (ap (λ (j : List Entry). length j) joined ∙ stop)) (rises lane under));
+      positions = subst (λ (n : ℕ). MomentsRise n (moments mine) (length (take from journal ++ between from to journal))) (sym start)
+          (subst (λ (n : ℕ). MomentsRise from (moments mine) n) (sym (ap (λ (j : List Entry). length j) joined ∙ stop)) (rises lane under));
       unplaced = made.1;
     }
 
@@ -112,18 +113,10 @@ within_zip lanes [] answers h = tt
 within_zip lanes (c ∷ commands) [] h = tt
 within_zip lanes (c ∷ commands) (a ∷ answers) h = (h.0, within_zip lanes commands answers h.1)
 
-pub lanes_in : (lanes : ℕ) (batch : Batch) → IsOfLanes lanes batch → AllByRecursion (λ (c : Command). c.lane ≤ lanes) batch
-lanes_in lanes [] h = tt
-lanes_in lanes (c ∷ batch) h = (h.0.1, lanes_in lanes batch h.1)
-
-merger_in : (lanes : ℕ) (merges : List Command) → AllByRecursion (λ (c : Command). c.lane ≡ 0) merges → AllByRecursion (λ (c : Command). c.lane ≤ lanes) merges
-merger_in lanes [] h = tt
-merger_in lanes (c ∷ merges) h = (let zeroth : c.lane ≡ 0 = h.0 in omega (arith, zeroth), merger_in lanes merges h.1)
-
 pub batch_within : (lanes next : ℕ) (merge : Bool) (batch : Batch) (answers : List Answered) → IsOfLanes lanes batch → AreWithinLanes lanes (dones (batch ++ merger_commands merge next batch) answers)
 batch_within lanes next merge batch answers h =
     within_zip lanes (batch ++ merger_commands merge next batch) answers
-    (all_append (λ (c : Command). c.lane ≤ lanes) batch (merger_commands merge next batch) (lanes_in lanes batch h) (merger_in lanes (merger_commands merge next batch) (merges_are merge next batch)))
+    (all_append (λ (c : Command). c.lane ≤ lanes) batch (merger_commands merge next batch) (within_batch lanes batch h) (within_merges lanes (merger_commands merge next batch) (merges_are merge next batch)))
 
 -- ---- batches that pass are right
 
@@ -217,7 +210,7 @@ entered_all rules journal (d ∷ done) h =
 
 -- what one lane states of the whole journal
 pub record LaneSays (rules : Rules) (lane from to : ℕ) (journal : List Entry) (mine : List Done) : Type 0 where
-  pub rising : Rises from (moments mine) to
+  pub rising : MomentsRise from (moments mine) to
   pub again : AllByRecursion (IsMadeAgain rules journal) mine
   pub own : accepted rules journal mine ≡ owned lane (from + 1) (between from to journal)
   pub entered : AreEntered journal (accepted rules journal mine)
@@ -229,8 +222,8 @@ lane_says rules lane from to journal mine le within right =
     let parts : take to journal ++ drop to journal ≡ journal = take-append-drop to journal in
     let start : length (take from journal) ≡ from = length-take-le from journal (omega (arith, le, within)) in
     let stop : length (take to journal) ≡ to = length-take-le to journal within in
-    let rising : Rises from (moments mine) to =
-    subst (λ (n : ℕ). Rises n (moments mine) to) start (subst (λ (n : ℕ). Rises (length (take from journal)) (moments mine) n) (ap (λ (j : List Entry). length j) joined ∙ stop) right.positions) in
+    let rising : MomentsRise from (moments mine) to =
+    subst (λ (n : ℕ). MomentsRise n (moments mine) to) start (subst (λ (n : ℕ). MomentsRise (length (take from journal)) (moments mine) n) (ap (λ (j : List Entry). length j) joined ∙ stop) right.positions) in
     let stays : accepted rules (take to journal ++ drop to journal) mine ≡ accepted rules (take to journal) mine = accepted_stay rules (take to journal) (drop to journal) mine from to (omega (arith, stop)) rising in
     let placed : ArePlaced rules journal mine =
     subst (λ (j : List Entry). ArePlaced rules j mine) parts

@@ -12,11 +12,11 @@ use Rattle.script_model.specs.Commands.{Command, Batch}
 use Rattle.record_model.specs.Replies.{Reply, Loaded, Dropped, Replaced, Listed, Found, Past, Merged, Repeated, Unknown, NoColumn, Full, NothingToMerge, Later, Stale, NoMemory}
 use Rattle.record_model.specs.Answered.{adds, change_of, is_accepted, Standing, Nowhere, Saw, Added, PlannedAndSaw, PlannedAndAdded, standing}
 use Rattle.script_model.specs.Options.{Options}
-use Rattle.record_model.specs.Record.{Answered, RunRecord}
+use Rattle.record_model.specs.Record.{Answered, RunRecord, made_of}
 use Rattle.record_model.specs.Play.{Done, who_of, merger_commands}
 use Rattle.script_model.specs.Commands.{updates}
 use Rattle.script_model.specs.Lanes.{IsOfLanes}
-use Rattle.record_model.specs.Right.{Moment, answer_by, at_position, moments, moments_by, Rises, accepted, entries_by, AreBatchesRight}
+use Rattle.record_model.specs.Right.{Moment, answer_by, at_position, moments, moments_by, MomentsRise, accepted, entries_by, AreBatchesRight}
 use Rattle.record_model.specs.Texts.{answer_lines, journal_lines}
 use Rattle.list_laws.proofs.ListLemmas.{all_append}
 use Rattle.record_model.proofs.RightLemmas.{rises_le}
@@ -143,7 +143,7 @@ IsLow n (Added at) = at ≤ n
 IsLow n (PlannedAndSaw pinned at) = (pinned ≤ n) × (at ≤ n)
 IsLow n (PlannedAndAdded pinned at) = (pinned ≤ n) × (at ≤ n)
 
-low_by : (s : Standing) (ms : List Moment) (low high n : ℕ) → high ≤ n → Rises low (moments_by s ++ ms) high → IsLow n s
+low_by : (s : Standing) (ms : List Moment) (low high n : ℕ) → high ≤ n → MomentsRise low (moments_by s ++ ms) high → IsLow n s
 low_by Nowhere ms low high n le h = tt
 low_by (Saw at) ms low high n le h = let k = rises_le at ms high h.1 in omega (arith, le, k)
 low_by (Added at) ms low high n le h = let k = rises_le at ms high h.1 in omega (arith, le, k)
@@ -153,7 +153,7 @@ low_by (PlannedAndAdded pinned at) ms low high n le h = let k = rises_le at ms h
 abbrev pub IsLowReply : ℕ → Reply → Type 0
 IsLowReply n reply = IsLow n (standing reply)
 
-pub all_low : (low high n : ℕ) (done : List Done) → high ≤ n → Rises low (moments done) high → AllByRecursion (λ (d : Done). IsLowReply n d.reply) done
+pub all_low : (low high n : ℕ) (done : List Done) → high ≤ n → MomentsRise low (moments done) high → AllByRecursion (λ (d : Done). IsLowReply n d.reply) done
 all_low low high n [] le h = tt
 all_low low high n (d ∷ done) le h =
     let next = rises_rest (standing d.reply) (moments done) low high h in
@@ -226,9 +226,6 @@ counted_few (c ∷ commands) (h ∷ hints) = omega (arith, counted_few commands 
 
 -- ---- one record
 
-abbrev record_of : Options → List Entry → List Answered → List ℕ → Bool → RunRecord
-record_of options journal answers syncs ended = record { options = options; journal = journal; answers = answers; syncs = syncs; ended = ended }
-
 -- The hints of a trace are those of the answers of any right record that has it as its text.
 pub hints_found : (rules : Rules) (options : Options) (batches : List Batch) (trace : Text) (made : RunRecord) → AllByRecursion (IsOfLanes options.lanes) batches
     → options.trace ≡ true → length (all_commands options.merge 1 batches) < 2 ^ 64 → IsRecordNamed made → IsTraceOf rules options batches trace made
@@ -263,12 +260,12 @@ one_record rules options batches trace made of traced few named is =
     let hints : hints_of batches options.merge trace ≡ map reply_hint made.answers = hints_found rules options batches trace made of traced few named is in
     let journal : made.journal ≡ rebuilt rules hinted (counted hinted) = sym told.0 ∙ ap (rebuilt rules hinted) length_is in
     let answers : made.answers ≡ map (answer_again rules (rebuilt rules hinted (counted hinted))) hinted = sym told.1 ∙ ap (λ (j : List Entry). map (answer_again rules j) hinted) journal in
-    ap (λ (o : Options). record_of o made.journal made.answers made.syncs made.ended) is.options_are
-    ∙ ap (λ (e : Bool). record_of options made.journal made.answers made.syncs e) is.ended
-    ∙ ap (λ (ss : List ℕ). record_of options made.journal made.answers ss true) counts.syncs_are
-    ∙ ap (λ (as_all : List Answered). record_of options made.journal as_all (syncs_from options.merge 1 0 batches (map reply_hint made.answers)) true) answers
-    ∙ ap (λ (j : List Entry). record_of options j (map (answer_again rules (rebuilt rules hinted (counted hinted))) hinted) (syncs_from options.merge 1 0 batches (map reply_hint made.answers)) true) journal
-    ∙ ap (λ (hs : List Hinted). record_of options (rebuilt rules hs (counted hs)) (map (answer_again rules (rebuilt rules hs (counted hs))) hs) (syncs_from options.merge 1 0 batches (map reply_hint made.answers)) true) zipped
+    ap (λ (o : Options). made_of o made.journal made.answers made.syncs made.ended) is.options_are
+    ∙ ap (λ (e : Bool). made_of options made.journal made.answers made.syncs e) is.ended
+    ∙ ap (λ (ss : List ℕ). made_of options made.journal made.answers ss true) counts.syncs_are
+    ∙ ap (λ (as_all : List Answered). made_of options made.journal as_all (syncs_from options.merge 1 0 batches (map reply_hint made.answers)) true) answers
+    ∙ ap (λ (j : List Entry). made_of options j (map (answer_again rules (rebuilt rules hinted (counted hinted))) hinted) (syncs_from options.merge 1 0 batches (map reply_hint made.answers)) true) journal
+    ∙ ap (λ (hs : List Hinted). made_of options (rebuilt rules hs (counted hs)) (map (answer_again rules (rebuilt rules hs (counted hs))) hs) (syncs_from options.merge 1 0 batches (map reply_hint made.answers)) true) zipped
     ∙ ap (remade_of rules options batches) (sym hints)
 
 pub hints_decide : HintsDecide

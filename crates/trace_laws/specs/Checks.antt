@@ -9,7 +9,7 @@ use Rattle.record_model.specs.Record.{Answered, RunRecord}
 use Rattle.record_model.specs.Play.{Done, done_with, who_of, merger_commands}
 use Rattle.script_model.specs.Commands.{updates}
 use Rattle.script_model.specs.Lanes.{IsOfLanes}
-use Rattle.record_model.specs.Right.{Moment, Rises, moments, done_of, accepted, IsRecordRight}
+use Rattle.record_model.specs.Right.{Moment, MomentsRise, moments, done_of, accepted, IsRecordRight}
 use Rattle.trace_laws.specs.Hints.{hint_of, reply_by}
 
 -- ---- positions
@@ -25,7 +25,7 @@ rises low [] high = nat_le low high
 rises low (moment ∷ moments) high = is_behind moment.own low moment.at && rises moment.at moments high
 
 abbrev pub PositionsDecide : Type 0
-PositionsDecide = (low : ℕ) (moments : List Moment) (high : ℕ) → (rises low moments high ≡ true → Rises low moments high) × (Rises low moments high → rises low moments high ≡ true)
+PositionsDecide = (low : ℕ) (moments : List Moment) (high : ℕ) → (rises low moments high ≡ true → MomentsRise low moments high) × (MomentsRise low moments high → rises low moments high ≡ true)
 
 -- ---- a batch
 

@@ -1,5 +1,5 @@
 pub mod ApartLemmas
 mod WithinLemmas
-mod SlotLemmas
+pub mod SlotLemmas
 pub mod PassLemmas
 mod OrderLemmas

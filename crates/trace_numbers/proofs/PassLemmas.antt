@@ -3,7 +3,7 @@ use Rattle.std.proofs.Common.{◌≡◌, refl, ap, sym, ◌∙◌, subst, ℕ, z
 use Rattle.std.specs.Prelude.{◌==◌, ◌&&◌, replicate}
 use Rattle.std.specs.List.{AllByRecursion, list_all, range_with_len}
 use Rattle.std.proofs.lemmas.Bool.{eq-eqb, eqb-true, and_parts}
-use Rattle.std.proofs.lemmas.List.{length-map, length-take-le, map-append, take-append-drop}
+use Rattle.std.proofs.lemmas.List.{length-map, length-take-le, map-append, take-append-drop, get_or_default}
 use Rattle.std.proofs.lemmas.List.FromFn.{length-range_with_len}
 use Rattle.std.proofs.Math.Seq.{drop-cons, take-append_seam}
 use Rattle.list_laws.proofs.ListLemmas.{all_append, drop_seam, all_at}
@@ -21,14 +21,7 @@ use Rattle.trace_hints.specs.Told.{hint_as}
 use Rattle.trace_numbers.specs.Positions.{accepted_of, numbers_pass, rises_whole}
 use Rattle.trace_numbers.proofs.ApartLemmas.{counted_is, told}
 use Rattle.list_laws.proofs.TestLemmas.{same_tests}
-use Rattle.trace_laws.proofs.RecordLemmas.{lanes_in}
-
--- ---- tests and lists
-
-get_or-default : {X : Type 0} (xs : List X) (i : ℕ) (d e : X) → i < length xs → get_or xs i d ≡ get_or xs i e
-get_or-default [] i d e low = absurd (omega (arith, low))
-get_or-default (x ∷ xs) zero d e low = refl
-get_or-default (x ∷ xs) (suc i) d e low = get_or-default xs i d e (omega (arith, low))
+use Rattle.record_model.proofs.LegalLemmas.{within_batch, within_merges}
 
 -- ---- commands with their hints
 
@@ -91,14 +84,14 @@ pub merge_falls : (lows : List ℕ) (merges : List Command) (hints : List Declar
 merge_falls lows merges hints n d lanes size few falls =
     let merge : Command = command_with 0 0 (Merge false) in
     let low : n < length merges = omega (arith, size, few) in
-    pass_falls lows merges hints n merge (get_or hints n d) low few (sym (all_at (λ (c : Command). c.lane ≡ 0) merges n merge lanes low)) (get_or-default hints n d (get_or hints n d) few) falls
+    pass_falls lows merges hints n merge (get_or hints n d) low few (sym (all_at (λ (c : Command). c.lane ≡ 0) merges n merge lanes low)) (get_or_default hints n d (get_or hints n d) few) falls
 
 pub merge_rises : (lows after : List ℕ) (merges : List Command) (hints : List Declared) (n : ℕ) (d : Declared) → AllByRecursion (λ (c : Command). c.lane ≡ 0) merges → length hints ≡ length merges → n < length hints
     → climbs lows 0 (get_or hints n d) ≡ Some after → pass_from after merges hints (n + 1) ≡ pass_from lows merges hints n
 merge_rises lows after merges hints n d lanes size few rises =
     let merge : Command = command_with 0 0 (Merge false) in
     let low : n < length merges = omega (arith, size, few) in
-    pass_rises lows after merges hints n (n + 1) merge (get_or hints n d) refl low few (sym (all_at (λ (c : Command). c.lane ≡ 0) merges n merge lanes low)) (get_or-default hints n d (get_or hints n d) few) rises
+    pass_rises lows after merges hints n (n + 1) merge (get_or hints n d) refl low few (sym (all_at (λ (c : Command). c.lane ≡ 0) merges n merge lanes low)) (get_or_default hints n d (get_or hints n d) few) rises
 
 -- ---- a batch
 
@@ -142,10 +135,6 @@ pub below_lanes : (lanes size : ℕ) (batch : Batch) → size ≡ lanes + 1 → 
 below_lanes lanes size [] e h = tt
 below_lanes lanes size (c ∷ batch) e h = let low : c.lane ≤ lanes = h.0.1 in (omega (arith, low, e), below_lanes lanes size batch e h.1)
 
-pub zero_lanes : (lanes : ℕ) (commands : List Command) → AllByRecursion (λ (c : Command). c.lane ≡ 0) commands → AllByRecursion (λ (c : Command). c.lane ≤ lanes) commands
-zero_lanes lanes [] h = tt
-zero_lanes lanes (c ∷ commands) h = let none : c.lane ≡ 0 = h.0 in (omega (arith, none), zero_lanes lanes commands h.1)
-
 -- the pass from the sync on is the test of the batch
 pass_test : (lanes from to : ℕ) (hinted : List Hinted) → AllByRecursion (λ (h : Hinted). h.command.lane ≤ lanes) hinted
     → all_below to (lows_on (Some (replicate (lanes + 1) from)) hinted) ≡ list_all (lane_rises hinted from to) (range_with_len 0 (lanes + 1))
@@ -183,7 +172,7 @@ batch_more lanes merge next from sync batch batches now behind rise of size sync
     let count : counted (hinted_zip commands hints) ≡ accepted_of hints = counted_is (hinted_zip commands hints) ∙ ap accepted_of (told_zip commands hints sized) in
     let to : from + counted (hinted_zip commands hints) ≡ sync = omega (arith, count, sync_is) in
     let within : AllByRecursion (λ (h : Hinted). h.command.lane ≤ lanes) (hinted_zip commands hints) =
-    zip_lanes lanes commands hints (all_append (λ (c : Command). c.lane ≤ lanes) batch (merger_commands merge next batch) (lanes_in lanes batch of) (zero_lanes lanes (merger_commands merge next batch) (merger_lanes merge next batch))) in
+    zip_lanes lanes commands hints (all_append (λ (c : Command). c.lane ≤ lanes) batch (merger_commands merge next batch) (within_batch lanes batch of) (within_merges lanes (merger_commands merge next batch) (merger_lanes merge next batch))) in
     let test : rise ≡ list_all (lane_rises (hinted_zip commands hints) from sync) (range_with_len 0 (lanes + 1)) = rise_is ∙ pass_test lanes from sync (hinted_zip commands hints) within in
     let many : (length (hints ++ rest) == length (commands ++ later)) ≡ (length rest == length later) =
     ap (λ (n : ℕ). n == length (commands ++ later)) (length-append hints rest) ∙ ap (λ (n : ℕ). length hints + length rest == n) (length-append commands later) ∙ later_sizes (length hints) (length commands) (length rest) (length later) sized in

@@ -138,7 +138,7 @@ low_all (x ∷ owners) n h =
     joined (nat_lt x n) (list_all (λ owner. nat_lt owner n) owners) (grind (arith, nat_tests, first)) (low_all owners n (λ p low. h (suc p) (omega (arith, low))))
 
 -- the index of a hint with a position of its own is below the number of hints
-stands_below : (hints : List Hint) (p i : ℕ) → is_at p (get_or hints i Wanting) ≡ true → i < length hints
+pub stands_below : (hints : List Hint) (p i : ℕ) → is_at p (get_or hints i Wanting) ≡ true → i < length hints
 stands_below [] p i h = cc
 stands_below (x ∷ hints) p zero h = omega arith
 stands_below (x ∷ hints) p (suc i) h = let low = stands_below hints p i h in omega (arith, low)

@@ -1,7 +1,6 @@
 -- If as many positions are filled as answers are accepted, each of these answers is at one of the positions.
 use Rattle.std.proofs.Common.{◌≡◌, refl, ap, ℕ, zero, suc, ◌+◌, ◌<◌, ◌≤◌, List, [], ◌∷◌, get_or, Bool, true, false, Some, arith}
-use Rattle.std.specs.Prelude.{◌==◌, ◌||◌, nat_le}
-use Rattle.std.specs.List.{list_any}
+use Rattle.std.specs.Prelude.{◌==◌, nat_le}
 use Rattle.std.proofs.lemmas.Bool.Decides.{nat_tests}
 use Rattle.record_model.specs.Answered.{Nowhere, Saw, Added, PlannedAndSaw, PlannedAndAdded}
 use Rattle.trace_laws.specs.Hints.{Hint, Wanting, Stands}
@@ -11,7 +10,7 @@ use Rattle.trace_laws.specs.Passing.{is_filled}
 use Rattle.trace_laws.proofs.TotalLemmas.{none_above, once, total, total_both, total_same, total_zero}
 use Rattle.trace_numbers.specs.Positions.{own_of}
 use Rattle.trace_numbers.proofs.ApartLemmas.{own_at, told}
-use Rattle.trace_laws.proofs.DecidingLemmas.{filled_at, one_position, shift}
+use Rattle.trace_laws.proofs.DecidingLemmas.{filled_at, one_position, shift, count_at, some_count}
 
 -- ---- how often a hint is at positions 1 to n + 1
 
@@ -69,29 +68,17 @@ all_within n (h ∷ hinted) (suc i) at many own = all_within n hinted i at (omeg
 
 -- ---- filled positions
 
-abbrev times_at : ℕ → List Hinted → ℕ
-times_at n [] = 0
-times_at n (h ∷ hinted) = once 1 (is_at n h.hint) + times_at n hinted
-
-times_inside : (n : ℕ) (hinted : List Hinted) → total (λ l. times_at (suc l) hinted) n ≡ all_inside n hinted
+times_inside : (n : ℕ) (hinted : List Hinted) → total (λ l. count_at (suc l) hinted) n ≡ all_inside n hinted
 times_inside n [] = total_zero (λ l. 0) n (λ l. refl)
 times_inside n (h ∷ hinted) =
-    let parts = total_both (λ l. times_at (suc l) (h ∷ hinted)) (λ l. once 1 (is_at (suc l) h.hint)) (λ l. times_at (suc l) hinted) n (λ l. refl) in
+    let parts = total_both (λ l. count_at (suc l) (h ∷ hinted)) (λ l. once 1 (is_at (suc l) h.hint)) (λ l. count_at (suc l) hinted) n (λ l. refl) in
     omega (arith, parts, times_inside n hinted)
 
-some_times : (n : ℕ) (hinted : List Hinted) → list_any (λ (h : Hinted). is_at n h.hint) hinted ≡ true → 1 ≤ times_at n hinted
-some_times n [] h = cc
-some_times n (x ∷ hinted) h = by (is_at n x.hint) h (some_times n hinted)
-  where
-    by : (b : Bool) → (b || list_any (λ (h : Hinted). is_at n h.hint) hinted) ≡ true → (list_any (λ (h : Hinted). is_at n h.hint) hinted ≡ true → 1 ≤ times_at n hinted) → 1 ≤ once 1 b + times_at n hinted
-    by true h rest = omega arith
-    by false h rest = let more = rest h in omega (arith, more)
-
-many_times : (hinted : List Hinted) (size n : ℕ) → is_filled hinted size ≡ true → n < size → suc n ≤ total (λ l. times_at (suc l) hinted) n
-many_times hinted size zero filled low = some_times 1 hinted (filled_at hinted size 0 filled low)
+many_times : (hinted : List Hinted) (size n : ℕ) → is_filled hinted size ≡ true → n < size → suc n ≤ total (λ l. count_at (suc l) hinted) n
+many_times hinted size zero filled low = some_count 1 hinted (filled_at hinted size 0 filled low)
 many_times hinted size (suc n) filled low =
     let before = many_times hinted size n filled (omega (arith, low)) in
-    let here = some_times (suc (suc n)) hinted (filled_at hinted size (suc n) filled low) in
+    let here = some_count (suc (suc n)) hinted (filled_at hinted size (suc n) filled low) in
     omega (arith, before, here)
 
 -- an accepted answer counts

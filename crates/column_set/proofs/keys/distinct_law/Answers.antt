@@ -1,4 +1,4 @@
-use Rattle.column_set.proofs.DistinctLemmas.{distinct_differ, distinct_keeps}
+use Rattle.lake_model.proofs.DistinctLemmas.{distinct_differ, distinct_keeps}
 use Rattle.column_set.proofs.keys.distinct_law.Goals as goal
 
 pub returns : goal.returns

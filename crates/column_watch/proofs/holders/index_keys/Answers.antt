@@ -1,6 +1,6 @@
 use Rattle.std.proofs.Common.{sym, subst, rules}
 use Rattle.std.specs.List.Sorted.{IsSorted}
-use Rattle.column_set.proofs.KeyLemmas.{sorted_by_key}
+use Rattle.lake_model.proofs.SortingLemmas.{sorted_by_key}
 use Rattle.column_watch.specs.Index.{AreKeysOf, key_cmp}
 use Rattle.column_watch.specs.declared.holders.KeyAt.{KeyAt}
 use Rattle.column_watch.proofs.HolderLemmas.{keys_of}

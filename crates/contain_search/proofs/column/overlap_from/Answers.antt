@@ -1,7 +1,7 @@
 use Rattle.std.proofs.Common.{◌-◌, ◌≤◌, ◌∙◌, ap, [], length, take, get_or, arith}
 use Rattle.std.proofs.lemmas.List.{length-take}
 use Rattle.contain_search.proofs.EnoughLemmas.{all_counted}
-use Rattle.part_columns.proofs.ProbeLemmas.{hits_few, hits_settled}
+use Rattle.part_columns.proofs.ProbeLemmas.{hits_settled}
 use Rattle.part_columns.proofs.SetLemmas.{query_rises, set_rises}
 use Rattle.part_columns.proofs.TallyLemmas.{tally_count}
 use Rattle.part_columns.specs.declared.tally.Tally.{Tally}
@@ -9,13 +9,14 @@ use Rattle.part_columns.specs.Tallies.{most_of}
 use Rattle.search_model.specs.Looks.{hits}
 use Rattle.segment_core.specs.Versions.{part_at, segment_at, tables_of}
 use Rattle.contain_search.proofs.column.overlap_from.Goals as goal
+use Rattle.search_model.proofs.BoundLemmas.{prefix_filter}
 
 pub most_of-requires : goal.most_of-requires
 most_of-requires c =
     let set = get_or (segment_at c.args.looks.now.version.parts c.args.part).sets c.args.column [] in
     let first = take c.args.read c.args.tokens.now in
     let count = ap (λ (t : Tally). t.count) c.requires.tally ∙ tally_count set (hits set first) in
-    omega (arith, count, hits_few set first, length-take c.args.read c.args.tokens.now, c.requires.read, c.requires.few)
+    omega (arith, count, prefix_filter set first, length-take c.args.read c.args.tokens.now, c.requires.read, c.requires.few)
 
 pub returns-else-tally-most_of-clause-overlap : goal.returns-else-tally-most_of-clause-overlap
 returns-else-tally-most_of-clause-overlap c =

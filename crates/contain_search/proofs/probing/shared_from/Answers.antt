@@ -1,7 +1,5 @@
-use Rattle.std.proofs.Common.{◌≤◌, sym, subst, ℕ}
-use Rattle.std.specs.List.{count_by}
+use Rattle.std.proofs.Common.{◌≤◌, subst, ℕ}
 use Rattle.contain_search.specs.Enough.{IsExactFrom}
-use Rattle.lake_model.specs.Layout.{is_among}
 use Rattle.part_columns.proofs.ProbeLemmas.{shared_either}
 use Rattle.contain_search.proofs.probing.shared_from.Goals as goal
 

@@ -1,6 +1,6 @@
 use Rattle.std.proofs.Common.{rules, arith}
 use Rattle.std.proofs.lemmas.Cmp.{nat_list_cmp_total}
-use Rattle.column_set.proofs.KeyLemmas.{sorted_by_key}
+use Rattle.lake_model.proofs.SortingLemmas.{sorted_by_key}
 use Rattle.search_model.specs.Segment.{segment}
 use Rattle.segment_core.specs.Hashes.{sorted_by}
 use Rattle.segment_core.proofs.HashLemmas.{ordered, ordered_few}

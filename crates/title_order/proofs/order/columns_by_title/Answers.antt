@@ -3,11 +3,12 @@ use Rattle.std.proofs.lemmas.Result.{IfOk-weaker}
 use Rattle.std.specs.List.Sorted.{IsSorted}
 use Rattle.search_model.specs.Ranks.{number_cmp}
 use Rattle.search_model.specs.Segment.{columns_of}
-use Rattle.token_order.proofs.SortLemmas.{sorted_by_key}
-use Rattle.title_order.specs.Titles.{by_title, AreNumbers}
+use Rattle.lake_model.proofs.SortingLemmas.{sorted_by_key}
+use Rattle.title_order.specs.Titles.{by_title}
 use Rattle.title_order.specs.declared.title.Title.{Title}
 use Rattle.title_order.proofs.TitleLemmas.{all_numbers, by_title_total, number_of, numbers_sorted}
 use Rattle.title_order.proofs.order.columns_by_title.Goals as goal
+use Rattle.token_order.specs.Counted.{AreNumbers}
 
 pub returns-clause-sorted : goal.returns-clause-sorted
 returns-clause-sorted c =

@@ -1,7 +1,7 @@
 use Rattle.std.proofs.Common.{subst, List, ℕ}
-use Rattle.title_order.specs.Titles.{ArePlaces}
 use Rattle.title_order.proofs.PlaceLemmas.{places_inverse, segment_ranks}
 use Rattle.title_order.proofs.order.order_columns.Goals as goal
+use Rattle.token_order.specs.Counted.{ArePlaces}
 
 pub returns-clause-ranks : goal.returns-clause-ranks
 returns-clause-ranks c =

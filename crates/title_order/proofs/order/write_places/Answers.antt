@@ -4,8 +4,9 @@ use Rattle.std.proofs.Math.Seq.{take-length}
 use Rattle.std.proofs.lemmas.List.{get_or_default, length-set}
 use Rattle.token_order.proofs.CountLemmas.{slot_written}
 use Rattle.title_order.specs.Titles.{IsPlace}
-use Rattle.title_order.proofs.PlaceLemmas.{numbers_below, places_are}
+use Rattle.title_order.proofs.PlaceLemmas.{places_are}
 use Rattle.title_order.proofs.order.write_places.Goals as goal
+use Rattle.token_order.proofs.OrderLemmas.{numbers_below}
 
 pub bounds-places-numbers : goal.bounds-places-numbers
 bounds-places-numbers c =

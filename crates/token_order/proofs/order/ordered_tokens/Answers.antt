@@ -4,7 +4,7 @@ use Rattle.token_order.specs.Counted.{AreNumbers, ArePlaces}
 use Rattle.token_order.specs.Runs.{run_cmp}
 use Rattle.token_order.specs.declared.runs.Run.{Run}
 use Rattle.token_order.proofs.OrderLemmas.{numbered, rank_of, run_cmp_total, vocabulary}
-use Rattle.token_order.proofs.SortLemmas.{sorted_by_key}
+use Rattle.lake_model.proofs.SortingLemmas.{sorted_by_key}
 use Rattle.token_order.proofs.order.ordered_tokens.Goals as goal
 
 pub numbers_by_rank-requires-clause-ranks : goal.numbers_by_rank-requires-clause-ranks

@@ -9,7 +9,7 @@ use Rattle.token_order.specs.Places.{pointed_by, IsMore}
 use Rattle.token_order.specs.declared.keyed.Keyed.{Keyed}
 use Rattle.token_order.proofs.KeyedLemmas.{by_keys, sorted_members}
 use Rattle.token_order.proofs.PlaceLemmas.{all_are}
-use Rattle.token_order.proofs.SortLemmas.{sorted_by_key}
+use Rattle.lake_model.proofs.SortingLemmas.{sorted_by_key}
 use Rattle.token_order.proofs.places.members_by_key.Goals as goal
 
 pub returns-clause-keyed : goal.returns-clause-keyed

@@ -6,10 +6,10 @@ use Rattle.list_laws.specs.Distinct.{Lacks}
 use Rattle.segment_core.specs.Positions.{StandsAt}
 use Rattle.segment_core.specs.Versions.{VersionOf, part_at}
 use Rattle.catalogue.specs.Swaps.{is_there}
-use Rattle.catalogue.proofs.ListLemmas.{rises_increasing}
 use Rattle.catalogue.proofs.KeptLemmas.{positions_differ}
 use Rattle.catalogue.proofs.ThereLemmas.{is_it, empty_at, lacks_at, only_at}
 use Rattle.catalogue.proofs.catalogue.Catalogue.index_of.Goals as goal
+use Rattle.list_laws.proofs.ListLemmas.{rises_strictly}
 
 pub returns-in_default-clause-there : goal.returns-in_default-clause-there
 returns-in_default-clause-there c =
@@ -18,7 +18,7 @@ returns-in_default-clause-there c =
 
 pub find-requires-clause-rise : goal.find-requires-clause-rise
 find-requires-clause-rise c =
-    subst (λ (v : VersionOf). IsStrictlyIncreasing (positions_of v.parts)) (sym (c.deref-version.ensures ∙ c.self.invariant.current)) (rises_increasing (positions_of (layout c.self.inside.journal.items)) c.self.invariant.rising)
+    subst (λ (v : VersionOf). IsStrictlyIncreasing (positions_of v.parts)) (sym (c.deref-version.ensures ∙ c.self.invariant.current)) (rises_strictly (positions_of (layout c.self.inside.journal.items)) c.self.invariant.rising)
 
 pub returns-in_default-find-clause-there : goal.returns-in_default-find-clause-there
 returns-in_default-find-clause-there c =

@@ -7,10 +7,10 @@ use Rattle.list_laws.specs.Distinct.{Lacks}
 use Rattle.segment_core.specs.Positions.{StandsAt}
 use Rattle.segment_core.specs.Versions.{marked_at, part_at, VersionOf}
 use Rattle.catalogue.specs.Parts.{load_of}
-use Rattle.catalogue.proofs.ListLemmas.{rises_increasing}
 use Rattle.catalogue.proofs.KeptLemmas.{named_kept, names_differ, positions_differ}
 use Rattle.catalogue.proofs.PlaceLemmas.{drop_marks, load_lacks}
 use Rattle.catalogue.proofs.catalogue.Catalogue.place_of.Goals as goal
+use Rattle.list_laws.proofs.ListLemmas.{rises_strictly}
 
 pub unreachable-requires : goal.unreachable-requires
 unreachable-requires c =
@@ -43,4 +43,4 @@ returns-clause-marks c =
 
 pub find-requires-clause-rise : goal.find-requires-clause-rise
 find-requires-clause-rise c =
-    subst (λ (v : VersionOf). IsStrictlyIncreasing (positions_of v.parts)) (sym (c.deref.ensures ∙ c.self.invariant.current)) (rises_increasing (positions_of (layout c.self.inside.journal.items)) c.self.invariant.rising)
+    subst (λ (v : VersionOf). IsStrictlyIncreasing (positions_of v.parts)) (sym (c.deref.ensures ∙ c.self.invariant.current)) (rises_strictly (positions_of (layout c.self.inside.journal.items)) c.self.invariant.rising)

@@ -1,7 +1,7 @@
 use Rattle.std.proofs.Common.{◌∙◌, [], ap, arith, get_or, sym}
 use Rattle.std.proofs.lemmas.List.{take_all}
 use Rattle.lake_model.specs.Tables.{has_key}
-use Rattle.column_set.proofs.DistinctLemmas.{has_at, has_more}
+use Rattle.column_set.proofs.HasLemmas.{has_at, has_more}
 use Rattle.column_set.proofs.lists.KeyLists.has.Goals as goal
 
 pub returns-then-eq : goal.returns-then-eq

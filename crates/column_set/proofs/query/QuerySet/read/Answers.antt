@@ -3,7 +3,7 @@ use Rattle.std.specs.Prelude.{bytes_eq}
 use Rattle.std.specs.List.{IsDistinct, filter_map}
 use Rattle.lake_model.specs.Keys.{key}
 use Rattle.lake_model.specs.Texts.{all_lines}
-use Rattle.column_set.proofs.DistinctLemmas.{distinct_differ}
+use Rattle.lake_model.proofs.DistinctLemmas.{distinct_differ}
 use Rattle.column_set.proofs.query.QuerySet.read.Goals as goal
 
 pub invariant_of-result : goal.invariant_of-result
