@@ -16,10 +16,11 @@ use Rattle.record_model.specs.Record.{RunRecord}
 use Rattle.record_model.specs.Play.{Lane, play_with, play, whole_order, lane_of, lanes_of, merges_of, gathered, answers_of, record_after, batch_after}
 use Rattle.lake_core.specs.Lanes.{LaneOf, played, play_of, AreHeld, AreNew, AreShared, IsHeld, left}
 use Rattle.lake_core.specs.Plays.{state_with, IsReady, Goes}
-use Rattle.lake_core.proofs.GatherLemmas.{with_answers, lists_of}
+use Rattle.lake_core.proofs.GatherLemmas.{lists_of}
 use Rattle.lake_core.proofs.WorkLemmas.{lanes_shared}
 use Rattle.command_replies.specs.declared.answering.Held.{Held}
 use Rattle.lake_core.proofs.TurnLemmas.{goes_on}
+use Rattle.record_model.specs.InTurn.{with_answers, with_sync}
 
 -- ---- orders
 
@@ -88,21 +89,18 @@ ready_shared catalogue past lanes all out before count many works same made lent
 
 -- ---- the end
 
-abbrev pub synced : RunRecord → RunRecord
-synced made = record made { syncs = made.syncs ++ length made.journal ∷ [] }
-
 -- The record of lanes that were played, gathered and synced.
 pub batch_made : (keys : Keys) (count many : ℕ) (commands : List Command) (piece : List ℕ) (made final : RunRecord) (catalogue mid after : CatalogueOf) (past past' past'' : List Entry) (lanes some rest : List LaneOf) (out out' out'' : RecordOf)
     → Goes keys piece (state_with catalogue past lanes out) (state_with mid past' some out')
     → Goes keys (turns_each (2 * many) (range_with_len 1 count ++ 0 ∷ [])) (state_with mid past' some out') (state_with after past'' rest out'')
-    → made ≡ with_answers (answers_of (gathered commands (lists_of rest))) out''.made → final ≡ synced made
+    → made ≡ with_answers (answers_of (gathered commands (lists_of rest))) out''.made → final ≡ with_sync made
     → (denials : List Bool) × (final ≡ record_after out.made commands (play (rules_with keys catalogue.limits) (whole_order piece count (2 * many)) denials (play_of catalogue.journal lanes)))
 batch_made keys count many commands piece made final catalogue mid after past past' past'' lanes some rest out out' out'' first second gathers syncs =
     let goes = goes_on piece (turns_each (2 * many) (range_with_len 1 count ++ 0 ∷ [])) (state_with catalogue past lanes out) (state_with mid past' some out') (state_with after past'' rest out'') first second in
     let lists : map (λ (lane : Lane). lane.done) (map played rest) ≡ lists_of rest = map-map (λ (lane : Lane). lane.done) played rest in (
       goes.leads.0,
       syncs
-          ∙ ap synced (gathers ∙ ap (with_answers (answers_of (gathered commands (lists_of rest)))) goes.made)
+          ∙ ap with_sync (gathers ∙ ap (with_answers (answers_of (gathered commands (lists_of rest)))) goes.made)
           ∙ (λ i. record out.made {
             journal = after.journal;
             answers = out.made.answers ++ answers_of (gathered commands (sym lists i));

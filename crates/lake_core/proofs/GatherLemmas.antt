@@ -1,5 +1,5 @@
 -- The answers of a batch gathered from its lanes.
-use Rattle.std.proofs.Common.{◌≡◌, refl, ap, sym, ◌∙◌, ℕ, ◌+◌, ◌<◌, ◌≤◌, List, [], ◌++◌, append_assoc, append-nil, length, take, drop, map, get_or, Option, arith}
+use Rattle.std.proofs.Common.{◌≡◌, refl, ap, sym, ◌∙◌, ℕ, ◌+◌, ◌<◌, ◌≤◌, List, [], append_assoc, append-nil, length, take, drop, map, get_or, Option, arith}
 use Rattle.std.specs.Prelude.{slice_set, option_to_list}
 use Rattle.std.proofs.lemmas.List.{drop_all}
 use Rattle.run_record.specs.Rooms.{RecordOf}
@@ -10,10 +10,7 @@ use Rattle.batch_work.specs.declared.work.Work.{Work}
 use Rattle.batch_work.specs.Works.{work_of, works_of}
 use Rattle.lake_core.specs.Lanes.{LaneOf, done_in}
 use Rattle.batch_work.proofs.GatherLemmas.{gathered_next}
-
--- a record with these answers after its own
-abbrev pub with_answers : List Answered → RunRecord → RunRecord
-with_answers answers made = record made { answers = made.answers ++ answers }
+use Rattle.record_model.specs.InTurn.{with_answers}
 
 abbrev pub lists_of : List LaneOf → List (List Done)
 lists_of lanes = map done_in lanes

@@ -1,28 +1,16 @@
 -- A step of a lane alone.
-use Rattle.std.proofs.Common.{◌≡◌, refl, ap, sym, ◌∙◌, subst, ℕ, ◌+◌, ◌≤◌, List, [], ◌∷◌, ◌++◌, Bool, true, false, length, take, cond, Option, Some, None, arith, length-append}
-use Rattle.std.proofs.lemmas.List.{take-append-le, take_all}
-use Rattle.segment_core.specs.Versions.{VersionOf}
+use Rattle.std.proofs.Common.{◌≡◌, ap, sym, ◌∙◌, ◌+◌, List, [], ◌∷◌, ◌++◌, Bool, true, false, length, take, Option, Some, None, arith}
 use Rattle.record_model.specs.Rules.{Rules}
-use Rattle.lake_model.specs.declared.Policy.{Policy}
-use Rattle.lake_model.specs.declared.Who.{Who}
-use Rattle.lake_model.specs.Journal.{What, Entry}
-use Rattle.script_model.specs.Commands.{Command, Task, Load, LoadFile, DropTable, Replace, Tables, Search, Like, Contain, AsOf, Merge}
-use Rattle.record_model.specs.Replies.{Reply, NoMemory}
-use Rattle.record_model.specs.Answered.{answer_to, adds, change_of, has_pin, is_accepted, policy_of, standing}
+use Rattle.lake_model.specs.Journal.{Entry}
+use Rattle.script_model.specs.Commands.{Command}
+use Rattle.record_model.specs.Replies.{Reply}
+use Rattle.record_model.specs.Answered.{answer_to, has_pin}
 use Rattle.record_model.specs.Play.{done_with, lane_with, play_with, reply_or_denied, entries_of, lane_step, step_of, step}
 use Rattle.command_replies.specs.declared.answering.Held.{Held}
 use Rattle.command_replies.specs.Held.{position_of}
 use Rattle.command_replies.proofs.HeldLemmas.{held_at_grows}
-use Rattle.command_replies.specs.Searches.{IsPinOf}
-use Rattle.command_replies.proofs.LoadLemmas.{Answers, added_none}
-use Rattle.command_replies.proofs.MergeLemmas.{planned_change, planned_later, planned_reply}
-use Rattle.command_replies.specs.declared.merging.Planned.{Planned}
-use Rattle.command_replies.specs.Loads.{with_added}
-use Rattle.command_replies.specs.Merging.{CanSwap, swap_reply, swapped_by}
 use Rattle.batch_work.specs.Works.{merge_policy}
-use Rattle.record_model.specs.Record.{RunRecord}
 use Rattle.lake_core.specs.Lanes.{LaneOf, lane_from, pin_of, played, alone, IsHeld}
-use Rattle.record_model.proofs.LegalLemmas.{either_none}
 
 -- a lane that has nothing to do
 pub none_left : (rules : Rules) (journal : List Entry) (lane : LaneOf) → lane.todo ≡ [] → alone journal lane ≡ step rules (alone journal lane) (0, false)

@@ -1,11 +1,9 @@
 -- From what was made to what was answered, and from there to a step.
 use Rattle.std.proofs.Common.{◌≡◌, refl, ap, sym, ◌∙◌, subst, ℕ, ◌≤◌, List, [], ◌∷◌, ◌++◌, append-nil, append_assoc, length, length-append, Bool, true, false, cond, map, inl, Option, None, Some, arith, take}
 use Rattle.std.proofs.lemmas.List.{take_all, take-append-le}
-use Rattle.std.specs.Prelude.{IfOk, Ok, Err, option_map, unwrap_or}
+use Rattle.std.specs.Prelude.{unwrap_or}
 use mathlib.Core.List.{IsPrefix}
-use Rattle.std.specs.declared.result.Result.{Result}
 use Rattle.record_model.specs.Rules.{Rules}
-use Rattle.lake_model.specs.declared.Policy.{Policy}
 use Rattle.lake_model.specs.Texts.{Text}
 use Rattle.lake_model.specs.Tables.{Table}
 use Rattle.lake_model.specs.Journal.{Entry, What, entry_with, who_with}
@@ -20,11 +18,8 @@ use Rattle.record_model.specs.Play.{done_with, entries_of, reply_or_denied, who_
 use Rattle.record_model.specs.Right.{IsRight}
 use Rattle.record_model.proofs.RightLemmas.{right_stays}
 use Rattle.record_model.proofs.PlayLemmas.{reply_fits, right_step, Fits}
-use Rattle.lake_model.specs.Layout.{layout, is_legal, shown, shown_with}
 use Rattle.lake_model.specs.Plan.{plan}
 use Rattle.segment_core.specs.Plans.{MergedOf}
-use Rattle.segment_core.specs.Versions.{VersionOf, version_with}
-use Rattle.segment_merge.specs.Planned.{plan_at}
 use Rattle.batch_work.specs.Works.{merge_policy}
 use Rattle.command_replies.specs.Loads.{IsRefusal, loaded_by}
 use Rattle.command_replies.specs.Pasts.{is_past}
@@ -32,13 +27,14 @@ use Rattle.command_replies.specs.Replaces.{replaced_by}
 use Rattle.command_replies.proofs.PastLemmas.{none_taken, prefix_on}
 use Rattle.command_replies.proofs.LoadLemmas.{Answers, refused_answer, refused_nowhere}
 use Rattle.command_replies.proofs.ReplaceLemmas.{refused_replace_answer}
-use Rattle.command_replies.proofs.MergeLemmas.{planned_later, planned_now, planned_reply, planned_change}
-use Rattle.command_replies.specs.Merging.{IsPlanned, merge_of, swap_reply, swapped_by}
+use Rattle.command_replies.proofs.MergeLemmas.{planned_later, planned_reply, planned_change}
+use Rattle.command_replies.specs.Merging.{IsPlanned, swap_reply, swapped_by}
 use Rattle.command_replies.specs.declared.merging.Planned.{Planned}
-use Rattle.lake_desk.proofs.Lanes.{none_right, not_own}
+use Rattle.lake_desk.proofs.Lanes.{not_own}
 use Rattle.lake_desk.specs.Answering.{IsMade, IsAnswered, IsStep}
 use Rattle.lake_desk.specs.Pasts.{Begins}
 use Rattle.record_model.proofs.LegalLemmas.{either_none}
+use Rattle.record_model.proofs.StepLemmas.{none_done}
 
 self_prefix : (now : List Entry) → (length now ≤ length now) × (take (length now) now ≡ now)
 self_prefix now = (omega arith, take_all (length now) now (omega arith))
@@ -58,7 +54,7 @@ answered_right : (rules : Rules) (command : Command) (before : Known Entry) (rep
 answered_right rules command before reply after a mine =
     let found : before.seen ++ a.grows.rest ≡ a.found = a.grows.begins in
     let others = not_own before.caller (callers_of before) a.grows.rest (inl refl) a.grows.others in
-    let none : IsRight rules before.caller before.seen a.grows.rest [] = right_stays rules before.caller before.seen [] a.grows.rest [] others (none_right rules before.caller before.seen) in
+    let none : IsRight rules before.caller before.seen a.grows.rest [] = right_stays rules before.caller before.seen [] a.grows.rest [] others (none_done rules before.caller before.seen) in
     let fits : Fits rules command a.pinned a.found (reply_or_denied a.denied (answer_to rules command.task a.pinned a.found)) = reply_fits rules a.denied command a.pinned a.found a.begins a.same in
     let here : Fits rules command a.pinned (before.seen ++ a.grows.rest) reply =
     subst (λ (j : List Entry). Fits rules command a.pinned j reply) (sym found) (subst (λ (r : Reply). Fits rules command a.pinned a.found r) (sym a.is) fits) in
@@ -222,11 +218,6 @@ nothing_made number before planned none = record {
   is = ap (λ (m : Option MergedOf). swap_reply planned.layout m before.seen) (sym none);
   added = sym (append-nil before.seen);
 }
-
-pub plans_on_ok : {F : Type 0} (policy : Policy) (journal : List Entry) (version : VersionOf) (made : Result Planned F) → is_legal journal ≡ true → version ≡ version_with (length journal) (layout journal)
-    → IfOk made (λ planned. planned.layout ≡ shown_with version.at (shown version.parts)) → IfOk made (λ planned. planned.merged ≡ option_map merge_of (plan_at policy version)) → IfOk made (λ planned. IsPlanned policy journal planned)
-plans_on_ok policy journal version (Ok planned) legal current shows plans = (planned_now policy journal version planned legal current shows plans).0
-plans_on_ok policy journal version (Err e) legal current shows plans = tt
 
 -- a merge that ran out of memory for its pin
 pub merge_denied : (rules : Rules) (number : ℕ) (all : Bool) (before : Known Entry) (after : List Entry) → Grows caller_of (callers_of before) before.seen after

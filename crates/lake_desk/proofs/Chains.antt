@@ -14,7 +14,8 @@ use Rattle.record_model.specs.Right.{IsRight, done_of}
 use Rattle.record_model.proofs.RightLemmas.{right_on, right_stays}
 use Rattle.lane_run.specs.Chains.{Chain}
 use Rattle.lake_desk.specs.Answering.{IsStep}
-use Rattle.lake_desk.proofs.Lanes.{kept_own, none_right, not_own}
+use Rattle.lake_desk.proofs.Lanes.{kept_own, not_own}
+use Rattle.record_model.proofs.StepLemmas.{none_done}
 
 -- what a chain does to a lane
 pub record Comes (rules : Rules) (lane : ℕ) (before : Known Entry) (done : List Done) (after : Known Entry) : Type 0 where
@@ -30,7 +31,7 @@ pub chain_right : (rules : Rules) (lane : ℕ) (before : Known Entry) (done : Li
 chain_right rules lane before [] after own is same = record {
   behind = [];
   sees = sym same ∙ seen_self before;
-  right = none_right rules lane before.seen;
+  right = none_done rules lane before.seen;
 }
 chain_right rules lane before (d ∷ done) after own is (between, here, later) =
     let rest = chain_right rules lane between done after own.1 (is ∙ ap (λ (p : Known Entry). p.caller) (sym here.sees)) later in

@@ -1,14 +1,12 @@
 -- The entries and the answers of one lane.
-use Rattle.std.proofs.Common.{◌≡◌, refl, ap, subst, sym, ℕ, List, [], ◌∷◌, length, append-nil, arith, Bool, true, false, cond}
+use Rattle.std.proofs.Common.{◌≡◌, refl, subst, sym, ℕ, List, [], ◌∷◌, arith, Bool, true, false, cond}
 use Rattle.std.specs.Prelude.{◌==◌, filter}
 use Rattle.std.specs.List.{AllByRecursion}
 use Rattle.std.proofs.lemmas.Bool.Decides.{nat_tests}
-use Rattle.record_model.specs.Rules.{Rules}
 use Rattle.lake_model.specs.Journal.{Entry}
 use Rattle.turn_lock.specs.History.{Has, IsOfOthers}
 use Rattle.lake.specs.Lawful.{caller_of}
 use Rattle.record_model.specs.Play.{Done}
-use Rattle.record_model.specs.Right.{IsRight}
 
 -- entries of callers other than these are not a lane's own, if the lane is one of them
 pub not_own : (lane : ℕ) (callers : List ℕ) (entries : List Entry) → Has callers lane → IsOfOthers caller_of callers entries → AllByRecursion (λ e. (e.who.caller == lane) ≡ false) entries
@@ -27,7 +25,3 @@ kept_own lane (d ∷ done) = by (d.command.lane == lane) refl (kept_own lane don
     by : (b : Bool) → (d.command.lane == lane) ≡ b → AllByRecursion (λ d. d.command.lane ≡ lane) (filter (λ (d : Done). d.command.lane == lane) done) → AllByRecursion (λ d. d.command.lane ≡ lane) (cond b (d ∷ filter (λ (d : Done). d.command.lane == lane) done) (filter (λ (d : Done). d.command.lane == lane) done))
     by true is rest = ((let e : d.command.lane ≡ lane = grind (arith, nat_tests, is) in e), rest)
     by false is rest = rest
-
--- an empty list of answers is right if nothing was added
-pub none_right : (rules : Rules) (lane : ℕ) (before : List Entry) → IsRight rules lane before [] []
-none_right rules lane before = record { entries = refl; placed = tt; positions = omega (arith, ap (λ (j : List Entry). length j) (append-nil before)); unplaced = tt }

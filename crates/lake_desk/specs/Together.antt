@@ -8,7 +8,7 @@ use Rattle.lake_model.specs.Layout.{is_legal}
 use Rattle.turn_lock.specs.Passes.{Known}
 use Rattle.script_model.specs.Commands.{Command}
 use Rattle.record_model.specs.Record.{Answered, RunRecord}
-use Rattle.record_model.specs.InTurn.{with_sync}
+use Rattle.record_model.specs.InTurn.{with_sync, with_answers}
 use Rattle.record_model.specs.Right.{IsBatchRight}
 
 -- The desks have one lock, are numbered from 0, hold no turn, and have each seen the whole journal. The first is that
@@ -33,10 +33,6 @@ pub record IsOneBatchMore (rules : Rules) (lanes : ℕ) (commands : List Command
   pub legal : is_legal now.journal ≡ true
   pub callers : AllByRecursion (λ e. e.who.caller ≤ lanes) now.journal
   pub right : IsBatchRight rules lanes now.journal (length before.journal) (length now.journal) commands answers
-
--- the record with more answers
-abbrev pub with_answers : List Answered → RunRecord → RunRecord
-with_answers answers made = record made { answers = made.answers ++ answers }
 
 -- the record with more entries
 abbrev pub with_entries : List Entry → RunRecord → RunRecord

@@ -8,7 +8,8 @@ ghost use Rattle.record_model.specs.Rules.{rules_with};
 ghost use Rattle.record_model.specs.Play.{merges_of};
 ghost use Rattle.script_model.specs.Commands.{updates};
 ghost use Rattle.lake_desk.specs.Gathered.{AllMeet, AreApart};
-ghost use Rattle.lake_desk.specs.Together.{with_answers, with_batch, with_entries, AreTogether, IsOneBatchMore};
+ghost use Rattle.record_model.specs.InTurn.{with_answers};
+ghost use Rattle.lake_desk.specs.Together.{with_batch, with_entries, AreTogether, IsOneBatchMore};
 
 use crate::desk::LakeDesk;
 use crate::gathering::{gather, hand_out};

@@ -1,14 +1,13 @@
 -- The answers gathered from the seats.
 use Rattle.std.proofs.Common.{◌≡◌, refl, ap, sym, ◌∙◌, subst, ℕ, zero, suc, ◌+◌, ◌<◌, ◌≤◌, List, [], ◌∷◌, ◌++◌, append_assoc, append-nil, length, take, drop, map, get_or, Option, arith}
 use Rattle.std.specs.Prelude.{slice_set, option_to_list}
-use Rattle.std.proofs.lemmas.List.{drop_all, get_or-map, length-map}
+use Rattle.std.proofs.lemmas.List.{drop_all, get_or-map, length-map, get_or_default}
 use Rattle.batch_work.specs.declared.work.Work.{Work}
 use Rattle.script_model.specs.Commands.{Command}
 use Rattle.record_model.specs.Record.{Answered}
 use Rattle.record_model.specs.Play.{Done, answers_of, gathered}
 use Rattle.batch_work.specs.Works.{work_of, works_of}
 use Rattle.batch_work.proofs.GatherLemmas.{gathered_next}
-use Rattle.lane_run.proofs.Serving.{any_default}
 
 -- writing what is already there changes nothing
 pub set_same : {X : Type 0} (xs : List X) (n : ℕ) (x : X) → n < length xs → get_or xs n x ≡ x → slice_set xs n x ≡ xs
@@ -19,7 +18,7 @@ set_same (y ∷ xs) (suc n) x within is = ap (λ zs. y ∷ zs) (set_same xs n x 
 pub set_same_map : {X Y : Type 0} (f : X → Y) (xs : List X) (n : ℕ) (x : X) → n < length xs → slice_set (map f xs) n (f (get_or xs n x)) ≡ map f xs
 set_same_map f xs n x within =
     set_same (map f xs) n (f (get_or xs n x)) (omega (arith, within, length-map xs f))
-    (get_or-map f xs n (get_or xs n x) (f (get_or xs n x)) within ∙ ap f (any_default xs n (get_or xs n x) x within))
+    (get_or-map f xs n (get_or xs n x) (f (get_or xs n x)) within ∙ ap f (get_or_default xs n (get_or xs n x) x within))
 
 -- how far the answers were gathered: those of the first n commands, with room for the rest
 pub record Gathers (commands : List Command) (n : ℕ) (lists now : List (List Done)) (room : ℕ) (answers : List Answered) : Type 0 where

@@ -3,7 +3,7 @@ use Rattle.std.proofs.Common.{◌≡◌, refl, ap, sym, ◌∙◌, subst, ℕ, z
 use Rattle.std.specs.Prelude.{◌==◌, filter, slice_get}
 use Rattle.std.specs.List.{AllByRecursion, zip}
 use Rattle.std.proofs.lemmas.Bool.Decides.{nat_tests}
-use Rattle.std.proofs.lemmas.List.{length-map, get_or-map, map-append}
+use Rattle.std.proofs.lemmas.List.{length-map, get_or-map, map-append, get_or_default}
 use Rattle.std.specs.declared.alloc.Global.{Global}
 use Rattle.std.specs.declared.collections.VecDeque.{VecDeque}
 use Rattle.lane_run.specs.declared.seat.Seat.{Seat}
@@ -14,7 +14,6 @@ use Rattle.record_model.specs.Play.{Done, done_with, answers_of, who_of, gathere
 use Rattle.record_model.specs.Right.{done_of}
 use Rattle.lane_run.specs.Chains.{Chain, AreServed, AreWithin}
 use Rattle.lane_run.specs.Seats.{HaveAnswered, HaveServed, IsFresh, IsRoom, desk_in, done_in}
-use Rattle.lane_run.proofs.Serving.{any_default}
 use Rattle.record_model.proofs.GatherLemmas.{AreLists, gathered_commands, gathered_lane}
 use Rattle.record_model.proofs.ProgressLemmas.{whos}
 use Rattle.record_model.specs.Lanes.{commands_in, lane_commands}
@@ -115,7 +114,7 @@ module _ {D : Type 0} where
               ∙ gathered_lane commands (map done_in after) l lists
               ∙ get_or-map done_in after l new.0 [] new.1
               ∙ ap done_in new.2 in
-              let here : get_or after l old.0 ≡ new.0 = any_default after l old.0 new.0 new.1 ∙ new.2 in
+              let here : get_or after l old.0 ≡ new.0 = get_or_default after l old.0 new.0 new.1 ∙ new.2 in
               subst (λ (ds : List Done). Chain step desk ds final) (sym own)
               (subst (λ (d : D). Chain step desk (done_in new.0) d) new.3
               (subst (λ (d : D). Chain step d (done_in new.0) (desk_in new.0)) (ap desk_in old.2 ∙ old.3)

@@ -15,11 +15,6 @@ use Rattle.batch_work.proofs.WorkLemmas.{work_at, works_long}
 use Rattle.lane_run.specs.Chains.{Chain, Serves}
 use Rattle.record_model.specs.Lanes.{lane_commands}
 
-pub any_default : {X : Type 0} (xs : List X) (n : ℕ) (a b : X) → n < length xs → get_or xs n a ≡ get_or xs n b
-any_default [] n a b within = absurd (omega (arith, within))
-any_default (x ∷ xs) zero a b within = refl
-any_default (x ∷ xs) (suc n) a b within = any_default xs n a b (omega (arith, within))
-
 mine : (commands : List Command) (command : Command) (l : ℕ) (b : Bool) → (command.lane == l) ≡ b → lane_commands l (commands ++ command ∷ []) ≡ lane_commands l commands ++ cond b (command ∷ []) []
 mine commands command l b e = filter-append (λ (c : Command). c.lane == l) commands (command ∷ []) ∙ ap (λ (x : Bool). lane_commands l commands ++ cond x (command ∷ []) []) e
 

@@ -1,9 +1,10 @@
 use Rattle.std.proofs.Common.{ap, sym, ◌∙◌, arith}
 use Rattle.std.specs.Prelude.{option_to_list}
 use Rattle.run_record.specs.Rooms.{RecordOf}
-use Rattle.lake_core.proofs.GatherLemmas.{gathers_work, with_answers, with_none}
+use Rattle.lake_core.proofs.GatherLemmas.{gathers_work, with_none}
 use Rattle.lake_core.proofs.driving.gather.Goals as goal
 use Rattle.lake_core.proofs.driving.gather.Goals.{in-Some, in_default}
+use Rattle.record_model.specs.InTurn.{with_answers}
 
 pub loop-work-preserved : goal.loop-work-preserved
 loop-work-preserved c =

@@ -1,6 +1,6 @@
 use Rattle.std.proofs.Common.{◌≡◌, ◌+◌, length}
-use Rattle.lake_desk.specs.Together.{with_answers}
 use Rattle.lake_desk.proofs.batch.add_answers.Given as goal
+use Rattle.record_model.specs.InTurn.{with_answers}
 
 abbrev pub invariant-loop-answer : goal.invariant-loop-answer
 invariant-loop-answer l =
