@@ -1,6 +1,6 @@
 //! Tests of how much is looked at in the segments of a lake: what the reply to each search states, one column for each
 //! like, and nothing else.
-ghost use Rattle.std.specs.Prelude.{◌≡◌, ◌≤◌, IfOk};
+ghost use Rattle.std.specs.Prelude.{IfOk};
 ghost use Rattle.script_model.specs.Lanes.{IsOfLanes};
 
 use crate::making::{CENSUS, STATIONS, WEATHER, body, command, like, load};

@@ -1,6 +1,6 @@
 //! Tests of how much a desk looks at in the segments of a lake: what the reply to each search states, one column for
 //! each like, and nothing else.
-ghost use Rattle.std.specs.Prelude.{◌≡◌, ◌≤◌, IfOk};
+ghost use Rattle.std.specs.Prelude.{◌≡◌};
 
 use crate::making::{CENSUS, STATIONS, WEATHER, body, command, like, load};
 use catalogue::Limits;

@@ -1,6 +1,6 @@
 //! Tests of batches one after another, with a merger. No clause promises that a thread runs, or that memory is
 //! available.
-ghost use Rattle.std.specs.Prelude.{◌≡◌, ◌≤◌, false, true, IfOk, None};
+ghost use Rattle.std.specs.Prelude.{◌≡◌, false, true, IfOk, None};
 ghost use Rattle.script_model.specs.Lanes.{IsOfLanes};
 ghost use Rattle.record_model.specs.Record.{empty};
 ghost use Rattle.lake_model.specs.declared.Keys.TheVariants.{Canonical};

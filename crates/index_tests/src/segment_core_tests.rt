@@ -1,8 +1,7 @@
 //! The segment of a worked table, from arrays that were made by hand: its look-ups, its looks with their log and its
 //! meter, and its columns' sets. Also marks, with pins that were made before and after them.
-ghost use Rattle.std.specs.Prelude.{◌≡◌, ◌∷◌, [], codes, get_or, length, IfOk, OnOk};
+ghost use Rattle.std.specs.Prelude.{◌≡◌, ◌∷◌, [], codes, length, IfOk, OnOk};
 ghost use Rattle.lake_model.specs.Tables.{column_name, keys_at, titles_of};
-ghost use Rattle.segment_core.specs.Versions.{tables_of};
 ghost use Rattle.index_tests.specs.Worked.{worked_owners, worked_postings, worked_table, worked_tokens, worked_version};
 
 use column_set::{Keys, Name, QuerySet, SharedTable, TableSets};

@@ -1,17 +1,15 @@
 //! Names, tables, queries and rows that were worked out by hand, and keys that were chosen to collide.
-ghost use Rattle.std.specs.Prelude.{◌<◌, ◌≤◌, length};
-ghost use Rattle.std.specs.Bool.{OnTrue};
-
 use column_set::{Keys, Name, QueryRefused, QuerySet, Row, Rows, SharedTable, TableSets};
 use csv_table::read_table;
 use std::alloc::Global;
 use std::hash::{FoldHasher, Hasher};
+use std::process::Abort;
 use std::test::Fail;
 
 // Returns the table with this name and these CSV bytes.
-fn table(alloc: Global, name: &[u8], bytes: &[u8]) -> Result<TableSets, Fail> {
-    let name = Name::read(name).ok_or("no name")?;
-    let Ok(raw) = read_table(alloc, bytes, 1_024) else {
+fn table(alloc: Global, name: &str, text: &str) -> Result<TableSets, Fail> {
+    let name = Name::read(name.as_bytes()).ok_or("no name")?;
+    let Ok(raw) = read_table(alloc, text.as_bytes(), 1_024) else {
         return Err(Fail::from("no table"));
     };
     let Ok(table) = TableSets::build(alloc, Keys::Canonical, name, &raw) else {
@@ -20,36 +18,33 @@ fn table(alloc: Global, name: &[u8], bytes: &[u8]) -> Result<TableSets, Fail> {
     Ok(table)
 }
 
-// Returns whether the table has a column at the place.
-fn has_column(table: &TableSets, place: u32) -> bool
-    ensures low { OnTrue result (0 < place) }
-    ensures high { OnTrue result (place ≤ length table.now.columns) }
-{
-    place > 0 && place <= table.columns()
+// Expects a table of this many columns, with this many keys in all of them.
+fn expect_shape(rt: &impl Abort, table: &TableSets, columns: u32, members: u64) {
+    assert_eq!(rt; table.columns(), columns);
+    assert_eq!(rt; table.members(), members);
 }
 
-// Returns the number of keys of the column at a place.
-fn size(table: &TableSets, place: u32) -> Option<u32> {
-    if !has_column(table, place) {
-        return None;
-    }
-    Some(table.size(place))
+// Expects a column of this many keys at the place.
+fn expect_size(rt: &impl Abort, table: &TableSets, place: u32, want: u32) {
+    assert!(rt; place > 0 && place <= table.columns());
+    assert_eq!(rt; table.size(place), want);
 }
 
-// Returns a key of the column at a place, or the empty text beyond its last key.
-fn key(table: &TableSets, place: u32, i: u32) -> Option<&str> {
-    if !has_column(table, place) {
-        return None;
-    }
-    Some(table.key(place, i))
+// Expects this key of the column at the place. Beyond its last key there is the empty text.
+fn expect_key(rt: &impl Abort, table: &TableSets, place: u32, i: u32, want: &str) {
+    assert!(rt; place > 0 && place <= table.columns());
+    assert_eq!(rt; table.key(place, i), want);
 }
 
-// Returns how many keys of a query are in the column at a place.
-fn overlap(table: &TableSets, place: u32, asked: &QuerySet) -> Option<u32> {
-    if !has_column(table, place) {
-        return None;
-    }
-    Some(table.overlap(place, asked))
+// Expects that this many keys of a query are in the column at the place.
+fn expect_overlap(rt: &impl Abort, table: &TableSets, place: u32, asked: &QuerySet, want: u32) {
+    assert!(rt; place > 0 && place <= table.columns());
+    assert_eq!(rt; table.overlap(place, asked), want);
+}
+
+// Expects whether a query has a key.
+fn expect_has(rt: &impl Abort, asked: &QuerySet, key: &str, want: bool) {
+    assert_eq!(rt; asked.has(key), want, "{key}");
 }
 
 // A name is not empty, and has no space, no control character and no byte beyond ASCII.
@@ -62,8 +57,8 @@ fn names(rt: HostRuntime) {
 }
 
 // Returns the query of a body.
-fn query(alloc: Global, body: &[u8]) -> Result<QuerySet, Fail> {
-    let Ok(query) = QuerySet::read(alloc, Keys::Canonical, body) else {
+fn query(alloc: Global, body: &str) -> Result<QuerySet, Fail> {
+    let Ok(query) = QuerySet::read(alloc, Keys::Canonical, body.as_bytes()) else {
         return Err(Fail::from("no query"));
     };
     Ok(query)
@@ -73,26 +68,36 @@ fn query(alloc: Global, body: &[u8]) -> Result<QuerySet, Fail> {
 #[test]
 fn shared_values(rt: HostRuntime) -> Result<(), Fail> {
     let alloc = rt.alloc();
-    let cities = table(alloc, b"t1", b"id,city\n1,Rome\n2,Oslo\n")?;
-    let asked = query(alloc, b"rome\nOSLO\nParis")?;
-    assert_eq!(rt; (cities.columns(), cities.members()), (2, 4));
-    assert_eq!(rt; (cities.key_bytes(), asked.len()), (10, 3));
-    assert_eq!(rt; overlap(&cities, 1, &asked), Some(0));
-    assert_eq!(rt; overlap(&cities, 2, &asked), Some(2));
-    assert_eq!(rt; key(&cities, 2, 1), Some("oslo"));
-    assert_eq!(rt; key(&cities, 2, 2), Some(""));
+    let cities = table(alloc, "t1", "id,city\n1,Rome\n2,Oslo\n")?;
+    let asked = query(alloc, "rome\nOSLO\nParis")?;
+    expect_shape(&rt, &cities, 2, 4);
+    assert_eq!(rt; cities.key_bytes(), 10);
+    assert_eq!(rt; asked.len(), 3);
+    expect_overlap(&rt, &cities, 1, &asked, 0);
+    expect_overlap(&rt, &cities, 2, &asked, 2);
+    expect_key(&rt, &cities, 2, 1, "oslo");
+    expect_key(&rt, &cities, 2, 2, "");
     Ok(())
+}
+
+// Returns the query of the column at a place.
+fn column_of(alloc: Global, table: &TableSets, place: u32) -> Result<QuerySet, Fail> {
+    if place == 0 || place > table.columns() {
+        return Err(Fail::from("no column"));
+    }
+    Ok(QuerySet::of_column(alloc, table, place)?)
 }
 
 // A column as a query has all of its keys, in order of first occurrence.
 #[test]
 fn column_asked(rt: HostRuntime) -> Result<(), Fail> {
     let alloc = rt.alloc();
-    let cities = table(alloc, b"t1", b"id,city\n1,Rome\n2,Oslo\n3,Bern\n")?;
-    assert_eq!(rt; cities.columns(), 2);
-    let asked = QuerySet::of_column(alloc, &cities, 2)?;
-    assert_eq!(rt; (asked.len(), overlap(&cities, 2, &asked)), (3, Some(3)));
-    assert!(rt; asked.has("bern") && !asked.has("1"));
+    let cities = table(alloc, "t1", "id,city\n1,Rome\n2,Oslo\n3,Bern\n")?;
+    let asked = column_of(alloc, &cities, 2)?;
+    assert_eq!(rt; asked.len(), 3);
+    expect_overlap(&rt, &cities, 2, &asked, 3);
+    expect_has(&rt, &asked, "bern", true);
+    expect_has(&rt, &asked, "1", false);
     Ok(())
 }
 
@@ -100,7 +105,7 @@ fn column_asked(rt: HostRuntime) -> Result<(), Fail> {
 #[test]
 fn shares(rt: HostRuntime) -> Result<(), Fail> {
     let alloc = rt.alloc();
-    let shared = SharedTable::new(alloc, table(alloc, b"t1", b"id\n")?)?;
+    let shared = SharedTable::new(alloc, table(alloc, "t1", "id\n")?)?;
     let other = shared.share()?;
     assert!(rt; other.table().name().text() == "t1");
     Ok(())
@@ -109,8 +114,8 @@ fn shares(rt: HostRuntime) -> Result<(), Fail> {
 // A column of blank values has no key, and columns may have the same name, or an empty one.
 #[test]
 fn odd_columns(rt: HostRuntime) -> Result<(), Fail> {
-    let odd = table(rt.alloc(), b"odd", b"a,a,\n,x,1\n  ,X,\n")?;
-    assert_eq!(rt; (odd.members(), odd.columns()), (2, 3));
+    let odd = table(rt.alloc(), "odd", "a,a,\n,x,1\n  ,X,\n")?;
+    expect_shape(&rt, &odd, 3, 2);
     Ok(())
 }
 
@@ -118,18 +123,15 @@ fn odd_columns(rt: HostRuntime) -> Result<(), Fail> {
 // next key.
 #[test]
 fn keys_in_turn(rt: HostRuntime) -> Result<(), Fail> {
-    let body = "a,b\nA long value,E\u{301}x\nOx,\u{C9}x\n \u{A0},oX\noX,a LONG value\n";
-    let mixed = table(rt.alloc(), b"mixed", body.as_bytes())?;
-    assert_eq!(rt; (size(&mixed, 1), size(&mixed, 2)), (Some(2), Some(3)));
-    for (place, i, want) in [
-        (1, 0, "a long value"),
-        (1, 1, "ox"),
-        (2, 0, "e\u{301}x"),
-        (2, 1, "ox"),
-        (2, 2, "a long value"),
-    ] {
-        assert_eq!(rt; key(&mixed, place, i), Some(want));
-    }
+    let text = "a,b\nA long value,E\u{301}x\nOx,\u{C9}x\n \u{A0},oX\noX,a LONG value\n";
+    let mixed = table(rt.alloc(), "mixed", text)?;
+    expect_size(&rt, &mixed, 1, 2);
+    expect_size(&rt, &mixed, 2, 3);
+    expect_key(&rt, &mixed, 1, 0, "a long value");
+    expect_key(&rt, &mixed, 1, 1, "ox");
+    expect_key(&rt, &mixed, 2, 0, "e\u{301}x");
+    expect_key(&rt, &mixed, 2, 1, "ox");
+    expect_key(&rt, &mixed, 2, 2, "a long value");
     Ok(())
 }
 
@@ -143,12 +145,12 @@ fn read(alloc: Global, body: &[u8]) -> Result<u32, QueryRefused> {
 fn lines(rt: HostRuntime) {
     let alloc = rt.alloc();
     for (body, want) in [
-        (b"".as_slice(), 0),
-        (b"\n \n\t\r\n".as_slice(), 0),
-        (b"rome\r\n\n ROME \noslo".as_slice(), 2),
-        (b"a\nb\n".as_slice(), 2),
+        ("", 0),
+        ("\n \n\t\r\n", 0),
+        ("rome\r\n\n ROME \noslo", 2),
+        ("a\nb\n", 2),
     ] {
-        assert_eq!(rt; read(alloc, body), Ok(want), "{body:?}");
+        assert_eq!(rt; read(alloc, body.as_bytes()), Ok(want), "{body:?}");
     }
     assert_eq!(rt;
         read(alloc, b"a\n\n\xFF\n\xFE"),
@@ -160,7 +162,7 @@ fn lines(rt: HostRuntime) {
 #[test]
 fn rows(rt: HostRuntime) -> Result<(), Fail> {
     let alloc = rt.alloc();
-    let cities = table(alloc, b"t1", b"id,city\n1,Rome\n")?;
+    let cities = table(alloc, "t1", "id,city\n1,Rome\n")?;
     assert_eq!(rt; cities.columns(), 2);
     let row = Row {
         overlap: 1,
@@ -176,27 +178,21 @@ fn rows(rt: HostRuntime) -> Result<(), Fail> {
     Ok(())
 }
 
-// Returns how many keys of a query, `1` and `a`, are in a column of a circled digit and a wide letter.
-fn shared_by(alloc: Global, keys: Keys) -> Result<u32, Fail> {
-    let Ok(raw) = read_table(alloc, "c\n\u{2460}\n\u{FF21}\n".as_bytes(), 1) else {
-        return Err(Fail::from("no table"));
-    };
-    let name = Name::read(b"t").ok_or("no name")?;
-    let Ok(table) = TableSets::build(alloc, keys, name, &raw) else {
-        return Err(Fail::from("no sets"));
-    };
-    let Ok(asked) = QuerySet::read(alloc, keys, b"1\na\n") else {
-        return Err(Fail::from("no query"));
-    };
-    Ok(overlap(&table, 1, &asked).ok_or("no column")?)
+// Expects that this many keys of a query, `1` and `a`, are in a column of a circled digit and a wide letter.
+fn expect_shared(rt: &(impl Abort + AllocGlobal), keys: Keys, want: u32) -> Result<(), Fail> {
+    let raw = read_table(rt.alloc(), "c\n\u{2460}\n\u{FF21}\n".as_bytes(), 1)?;
+    let name = Name::read("t".as_bytes()).ok_or("no name")?;
+    let table = TableSets::build(rt.alloc(), keys, name, &raw)?;
+    let asked = QuerySet::read(rt.alloc(), keys, "1\na\n".as_bytes())?;
+    expect_overlap(rt, &table, 1, &asked, want);
+    Ok(())
 }
 
 // Values that only compatibility matching makes equal share a key only with keys of that kind.
 #[test]
 fn kinds_of_keys(rt: HostRuntime) -> Result<(), Fail> {
-    assert_eq!(rt; shared_by(rt.alloc(), Keys::Canonical)?, 0);
-    assert_eq!(rt; shared_by(rt.alloc(), Keys::Compatibility)?, 2);
-    Ok(())
+    expect_shared(&rt, Keys::Canonical, 0)?;
+    expect_shared(&rt, Keys::Compatibility, 2)
 }
 
 // The first 24 bytes of keys of 32 bytes whose hash is 0. The hasher takes sixteen bytes at a time, and its state after
@@ -225,20 +221,15 @@ fn colliding_lines(alloc: Global, count: u32, end: &str) -> Result<String, Fail>
 // Keys that collide are each in a query once, and are found.
 #[test]
 fn colliding_query(rt: HostRuntime) -> Result<(), Fail> {
-    let alloc = rt.alloc();
     assert_eq!(rt; hash_of("joinablekewcbluzeevfwjbx00000007"), 0);
-    let lines = colliding_lines(alloc, 300, "")?;
-    let asked = query(alloc, lines.as_str().as_bytes())?;
+    let lines = colliding_lines(rt.alloc(), 300, "")?;
+    let asked = query(rt.alloc(), lines.as_str())?;
     assert_eq!(rt; asked.len(), 300);
-    assert!(rt; asked.key(299) == "joinablekewcbluzeevfwjbx00000299");
-    for (key, there) in [
-        ("joinablekewcbluzeevfwjbx00000000", true),
-        ("joinablekewcbluzeevfwjbx00000299", true),
-        ("joinablekewcbluzeevfwjbx00000300", false),
-        ("rome", false),
-    ] {
-        assert_eq!(rt; asked.has(key), there, "{key}");
-    }
+    assert_eq!(rt; asked.key(299), "joinablekewcbluzeevfwjbx00000299");
+    expect_has(&rt, &asked, "joinablekewcbluzeevfwjbx00000000", true);
+    expect_has(&rt, &asked, "joinablekewcbluzeevfwjbx00000299", true);
+    expect_has(&rt, &asked, "joinablekewcbluzeevfwjbx00000300", false);
+    expect_has(&rt, &asked, "rome", false);
     Ok(())
 }
 
@@ -248,19 +239,17 @@ fn colliding_column(rt: HostRuntime) -> Result<(), Fail> {
     let alloc = rt.alloc();
     let mut text = String::from_str(alloc, "key,city\n")?;
     text.push_str(colliding_lines(alloc, 300, ",Rome")?.as_str())?;
-    let flooded = table(alloc, b"flooded", text.as_str().as_bytes())?;
-    assert_eq!(rt; flooded.columns(), 2);
-    assert_eq!(rt;
-        (size(&flooded, 1), size(&flooded, 2)),
-        (Some(300), Some(1))
-    );
-    assert_eq!(rt; (flooded.members(), flooded.key_bytes()), (301, 9_604));
-    assert_eq!(rt; key(&flooded, 2, 0), Some("rome"));
-    let asked = QuerySet::of_column(alloc, &flooded, 1)?;
-    assert_eq!(rt; overlap(&flooded, 1, &asked), Some(300));
-    assert_eq!(rt; overlap(&flooded, 2, &asked), Some(0));
+    let flooded = table(alloc, "flooded", text.as_str())?;
+    expect_shape(&rt, &flooded, 2, 301);
+    assert_eq!(rt; flooded.key_bytes(), 9_604);
+    expect_size(&rt, &flooded, 1, 300);
+    expect_size(&rt, &flooded, 2, 1);
+    expect_key(&rt, &flooded, 2, 0, "rome");
+    let asked = column_of(alloc, &flooded, 1)?;
+    expect_overlap(&rt, &flooded, 1, &asked, 300);
+    expect_overlap(&rt, &flooded, 2, &asked, 0);
     let lines = colliding_lines(alloc, 200, "")?;
-    let fewer = query(alloc, lines.as_str().as_bytes())?;
-    assert_eq!(rt; overlap(&flooded, 1, &fewer), Some(200));
+    let fewer = query(alloc, lines.as_str())?;
+    expect_overlap(&rt, &flooded, 1, &fewer, 200);
     Ok(())
 }

@@ -1,6 +1,7 @@
 //! Keys and matches of values out of the Unicode Standard and its data files, which no clause of this crate repeats.
 use no_memory::NoMemory;
 use std::alloc::Global;
+use std::process::Abort;
 use std::test::Fail;
 use value_key::{Keys, key_into, key_of, same_value};
 
@@ -14,6 +15,17 @@ fn has_key(alloc: Global, keys: Keys, value: &str, want: Option<&str>) -> Result
     }
 }
 
+// Expects that a value has the key.
+fn expect_key(
+    rt: &(impl Abort + AllocGlobal),
+    keys: Keys,
+    value: &str,
+    want: Option<&str>,
+) -> Result<(), NoMemory> {
+    assert!(rt; has_key(rt.alloc(), keys, value, want)?, "{value:?}");
+    Ok(())
+}
+
 // Whether two values have one key, or both none.
 fn same_key(alloc: Global, keys: Keys, a: &str, b: &str) -> Result<bool, NoMemory> {
     let left = key_of(alloc, keys, a)?;
@@ -25,12 +37,23 @@ fn same_key(alloc: Global, keys: Keys, a: &str, b: &str) -> Result<bool, NoMemor
     }
 }
 
-// Whether two values match as `same` says, either way round, and so do their keys.
-fn agree(alloc: Global, keys: Keys, a: &str, b: &str, same: bool) -> Result<bool, NoMemory> {
-    let forth = same_value(alloc, keys, a, b)?;
-    let back = same_value(alloc, keys, b, a)?;
-    let by_keys = same_key(alloc, keys, a, b)?;
-    Ok(forth == same && back == same && by_keys == same)
+// Expects that two values match or do not, either way round, and their keys as well.
+fn expect_same(
+    rt: &(impl Abort + AllocGlobal),
+    keys: Keys,
+    a: &str,
+    b: &str,
+    same: bool,
+) -> Result<(), NoMemory> {
+    let forth = same_value(rt.alloc(), keys, a, b)?;
+    let back = same_value(rt.alloc(), keys, b, a)?;
+    let by_keys = same_key(rt.alloc(), keys, a, b)?;
+    assert_eq!(rt;
+        (forth, back, by_keys),
+        (same, same, same),
+        "{a:?} and {b:?}"
+    );
+    Ok(())
 }
 
 // Each key is the folding that CaseFolding.txt gives (status C and F), decomposed as UnicodeData.txt says.
@@ -58,10 +81,7 @@ const CANONICAL: [(&str, &str); 18] = [
 #[test]
 fn keys_of_values(rt: HostRuntime) -> Result<(), Fail> {
     for (value, key) in CANONICAL {
-        assert!(rt;
-            has_key(rt.alloc(), Keys::Canonical, value, Some(key))?,
-            "{value:?}"
-        );
+        expect_key(&rt, Keys::Canonical, value, Some(key))?;
     }
     Ok(())
 }
@@ -92,31 +112,24 @@ const COMPATIBILITY: [(&str, &str); 19] = [
 #[test]
 fn compatibility_keys(rt: HostRuntime) -> Result<(), Fail> {
     for (value, key) in COMPATIBILITY {
-        assert!(rt;
-            has_key(rt.alloc(), Keys::Compatibility, value, Some(key))?,
-            "{value:?}"
-        );
+        expect_key(&rt, Keys::Compatibility, value, Some(key))?;
     }
     Ok(())
 }
 
+const BLANKS: [&str; 5] = [
+    "",
+    " ",
+    "\t\r\n",
+    "\u{A0}\u{3000}",
+    "\u{85}\u{1680}\u{2028}",
+];
+
 #[test]
 fn blanks_have_no_key(rt: HostRuntime) -> Result<(), Fail> {
-    for value in [
-        "",
-        " ",
-        "\t\r\n",
-        "\u{A0}\u{3000}",
-        "\u{85}\u{1680}\u{2028}",
-    ] {
-        assert!(rt;
-            has_key(rt.alloc(), Keys::Canonical, value, None)?,
-            "{value:?}"
-        );
-        assert!(rt;
-            has_key(rt.alloc(), Keys::Compatibility, value, None)?,
-            "{value:?}"
-        );
+    for value in BLANKS {
+        expect_key(&rt, Keys::Canonical, value, None)?;
+        expect_key(&rt, Keys::Compatibility, value, None)?;
     }
     Ok(())
 }
@@ -135,15 +148,26 @@ const TURNS: [(&str, Option<&str>); 9] = [
     ("ROME-1", Some("rome-1")),
 ];
 
+// Expects that a buffer then holds this key of a value, or is empty if the value has none.
+fn expect_next(
+    rt: &(impl Abort + AllocGlobal),
+    buffer: &mut String,
+    keys: Keys,
+    value: &str,
+    key: Option<&str>,
+) -> Result<(), NoMemory> {
+    let found = key_into(rt.alloc(), keys, value, buffer)?;
+    assert_eq!(rt; found, key.is_some(), "{value:?}");
+    assert_eq!(rt; buffer.as_str(), key.unwrap_or(""), "{value:?}");
+    Ok(())
+}
+
 #[test]
 fn keys_in_turn(rt: HostRuntime) -> Result<(), Fail> {
     let mut buffer = String::new(rt.alloc());
     for (value, key) in TURNS {
-        for keys in [Keys::Canonical, Keys::Compatibility] {
-            let found = key_into(rt.alloc(), keys, value, &mut buffer)?;
-            assert_eq!(rt; found, key.is_some(), "{value:?}");
-            assert!(rt; buffer.as_str() == key.unwrap_or(""), "{value:?}");
-        }
+        expect_next(&rt, &mut buffer, Keys::Canonical, value, key)?;
+        expect_next(&rt, &mut buffer, Keys::Compatibility, value, key)?;
     }
     Ok(())
 }
@@ -181,9 +205,8 @@ const PAIRS: [(&str, &str, bool); 25] = [
 #[test]
 fn same_values(rt: HostRuntime) -> Result<(), Fail> {
     for (a, b, same) in PAIRS {
-        for keys in [Keys::Canonical, Keys::Compatibility] {
-            assert!(rt; agree(rt.alloc(), keys, a, b, same)?, "{a:?} and {b:?}");
-        }
+        expect_same(&rt, Keys::Canonical, a, b, same)?;
+        expect_same(&rt, Keys::Compatibility, a, b, same)?;
     }
     Ok(())
 }
@@ -209,14 +232,8 @@ const COMPATIBLE: [(&str, &str); 14] = [
 #[test]
 fn compatible_values(rt: HostRuntime) -> Result<(), Fail> {
     for (a, b) in COMPATIBLE {
-        assert!(rt;
-            agree(rt.alloc(), Keys::Canonical, a, b, false)?,
-            "{a:?} and {b:?}"
-        );
-        assert!(rt;
-            agree(rt.alloc(), Keys::Compatibility, a, b, true)?,
-            "{a:?} and {b:?}"
-        );
+        expect_same(&rt, Keys::Canonical, a, b, false)?;
+        expect_same(&rt, Keys::Compatibility, a, b, true)?;
     }
     Ok(())
 }

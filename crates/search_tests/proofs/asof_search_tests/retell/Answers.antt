@@ -1,17 +1,10 @@
-use Rattle.std.proofs.Common.{ap, arith}
+use Rattle.std.proofs.Common.{ap, List, arith}
 use Rattle.lake_model.specs.declared.Counts.{Counts}
-use Rattle.search_tests.proofs.JournalLemmas.{few_next, legal_next, light_next}
+use Rattle.lake_model.specs.Journal.{Entry, counts}
+use Rattle.search_tests.proofs.JournalLemmas.{loads_are_updates}
 use Rattle.search_tests.proofs.asof_search_tests.retell.Goals as goal
 
-pub take-requires-clause-legal : goal.take-requires-clause-legal
-take-requires-clause-legal c = legal_next c.args.lake.now.journal c.journal-entry-items.result.now c.loop-entry.timeline c.loop-entry.entry-index c.entry-item.result c.journal-entry-items.ensures.same c.loop-entry-test.true c.entry-item.is c.loop-entry.invariant c.journal-entry-items.ensures.legal
-
-pub take-requires-clause-few : goal.take-requires-clause-few
-take-requires-clause-few c =
-    let few = few_next c.args.lake.now.journal c.journal-entry-items.result.now c.loop-entry.timeline c.loop-entry.entry-index c.entry-item.result c.journal-entry-items.ensures.same c.loop-entry-test.true c.entry-item.is c.loop-entry.invariant in
-    omega (arith, few, ap (λ (n : Counts). n.updates) c.counts-counts.ensures.value, c.if-counts-gt1000.false)
-
-pub take-requires-clause-light : goal.take-requires-clause-light
-take-requires-clause-light c =
-    let light = light_next c.args.lake.now.journal c.journal-entry-items.result.now c.loop-entry.timeline c.loop-entry.entry-index c.entry-item.result c.journal-entry-items.ensures.same c.loop-entry-test.true c.entry-item.is c.loop-entry.invariant in
-    omega (arith, light, ap (λ (n : Counts). n.members) c.counts-counts.ensures.value, c.if-counts-gt1000-2.false)
+pub take_all-requires-clause-few : goal.take_all-requires-clause-few
+take_all-requires-clause-few c =
+    let same = ap (λ (journal : List Entry). (counts journal).updates) c.journal.ensures.same in
+    rw c.new-timeline.ensures (omega (arith, loads_are_updates c.journal.result.now, same, ap (λ (n : Counts). n.updates) c.counts-counts.ensures.value, c.if-counts-gt1000.false))
