@@ -7,7 +7,7 @@ use Rattle.std.proofs.lemmas.List.{map-append, get_or-append-add, get_or_append_
 use Rattle.std.proofs.lemmas.List.Kept.{AllPairs-from_increasing}
 use Rattle.lake_model.specs.Layout.{Part, Place, positions_of}
 use Rattle.list_laws.specs.Distinct.{Lacks}
-use Rattle.segment_core.specs.Positions.{AreFull, Rises, first_load, loads_of}
+use Rattle.segment_core.specs.Positions.{AreFull, PositionsRise, first_load, loads_of}
 use Rattle.segment_core.specs.Versions.{part_at, part_with}
 use Rattle.list_laws.proofs.ListLemmas.{all_append}
 
@@ -45,16 +45,16 @@ positions-cons part parts = map-append (λ (place : Place). place.position) part
 length-positions : (part : Part) (parts : List Part) → length (positions_of (part ∷ parts)) ≡ length (loads_of part) + length (positions_of parts)
 length-positions part parts = ap length (positions-cons part parts) ∙ length-append (loads_of part) (positions_of parts)
 
-rises_cons : (part : Part) (parts : List Part) → Rises (part ∷ parts) → IsStrictlyIncreasing (loads_of part ++ positions_of parts)
+rises_cons : (part : Part) (parts : List Part) → PositionsRise (part ∷ parts) → IsStrictlyIncreasing (loads_of part ++ positions_of parts)
 rises_cons part parts h = subst IsStrictlyIncreasing (positions-cons part parts) h
 
-rises_rest : (part : Part) (parts : List Part) → Rises (part ∷ parts) → Rises parts
+rises_rest : (part : Part) (parts : List Part) → PositionsRise (part ∷ parts) → PositionsRise parts
 rises_rest part parts h = rise_rest (loads_of part) (positions_of parts) (rises_cons part parts h)
 
 has_first : (part : Part) → 0 < length part.places → 0 < length (loads_of part)
 has_first part h = omega (arith, length-map part.places (λ (place : Place). place.position))
 
-pub part_rises : (parts : List Part) (k : ℕ) → Rises parts → k < length parts → IsStrictlyIncreasing (loads_of (part_at parts k))
+pub part_rises : (parts : List Part) (k : ℕ) → PositionsRise parts → k < length parts → IsStrictlyIncreasing (loads_of (part_at parts k))
 part_rises [] k h l = absurd (omega arith)
 part_rises (part ∷ parts) zero h l = rise_first (loads_of part) (positions_of parts) (rises_cons part parts h)
 part_rises (part ∷ parts) (suc k) h l = part_rises parts k (rises_rest part parts h) (omega arith)
@@ -77,11 +77,11 @@ below_firsts m (part ∷ parts) (suc k) d h full l = below_firsts m parts k d (�
     omega (arith, is, h at (omega (arith, length-positions part parts)))) full.1 (omega arith)
 
 -- the loads of a part are below the first of each later one
-later_first : (part : Part) (parts : List Part) (i k : ℕ) (d : Part) → Rises (part ∷ parts) → AreFull parts → i < length (loads_of part) → k < length parts → slice_index (loads_of part) i < first_load (get_or parts k d)
+later_first : (part : Part) (parts : List Part) (i k : ℕ) (d : Part) → PositionsRise (part ∷ parts) → AreFull parts → i < length (loads_of part) → k < length parts → slice_index (loads_of part) i < first_load (get_or parts k d)
 later_first part parts i k d h full l w =
     below_firsts (slice_index (loads_of part) i) parts k d (λ j m. rise_apart (loads_of part) (positions_of parts) i j (rises_cons part parts h) l m) full w
 
-pub firsts_rise : (parts : List Part) → Rises parts → AreFull parts → IsNonDecreasingBy first_load parts
+pub firsts_rise : (parts : List Part) → PositionsRise parts → AreFull parts → IsNonDecreasingBy first_load parts
 firsts_rise [] h full i j d l m = absurd (omega arith)
 firsts_rise (part ∷ parts) h full zero zero d l m = omega arith
 firsts_rise (part ∷ parts) h full zero (suc j) d l m = omega (arith, later_first part parts 0 j d h full.1 (has_first part full.0) (omega arith))
@@ -91,16 +91,16 @@ firsts_rise (part ∷ parts) h full (suc i) (suc j) d l m = firsts_rise parts (r
 lacks_both : (part : Part) (parts : List Part) (n : ℕ) → Lacks (loads_of part) n → Lacks (positions_of parts) n → Lacks (positions_of (part ∷ parts)) n
 lacks_both part parts n h k = subst (λ (ns : List ℕ). Lacks ns n) (sym (positions-cons part parts)) (all_append (λ (m : ℕ). m ≡ n → ⊥) (loads_of part) (positions_of parts) h k)
 
-lacks_behind : (part : Part) (parts : List Part) (n : ℕ) → Rises (part ∷ parts) → n < first_load part → Lacks (loads_of part) n
+lacks_behind : (part : Part) (parts : List Part) (n : ℕ) → PositionsRise (part ∷ parts) → n < first_load part → Lacks (loads_of part) n
 lacks_behind part parts n h l = lacks_by (loads_of part) n (λ i m e. omega (arith, e, l, rise_far (loads_of part) 0 i (part_rises (part ∷ parts) 0 h (omega arith)) (omega arith) m))
 
-none_behind : (parts : List Part) (n : ℕ) → Rises parts → ((k : ℕ) → k < length parts → n < first_load (part_at parts k)) → Lacks (positions_of parts) n
+none_behind : (parts : List Part) (n : ℕ) → PositionsRise parts → ((k : ℕ) → k < length parts → n < first_load (part_at parts k)) → Lacks (positions_of parts) n
 none_behind [] n h behind = tt
 none_behind (part ∷ parts) n h behind =
     lacks_both part parts n (lacks_behind part parts n h (behind 0 (omega arith))) (none_behind parts n (rises_rest part parts h) (λ k l. behind (suc k) (omega arith)))
 
 -- a position that is missing from the last part that begins at or before it
-pub none_else : (parts : List Part) (last n : ℕ) → Rises parts → AreFull parts → last < length parts → first_load (part_at parts last) ≤ n → ((k : ℕ) → last < k → k < length parts → n < first_load (part_at parts k)) → Lacks (loads_of (part_at parts last)) n → Lacks (positions_of parts) n
+pub none_else : (parts : List Part) (last n : ℕ) → PositionsRise parts → AreFull parts → last < length parts → first_load (part_at parts last) ≤ n → ((k : ℕ) → last < k → k < length parts → n < first_load (part_at parts k)) → Lacks (loads_of (part_at parts last)) n → Lacks (positions_of parts) n
 none_else [] last n h full l begun behind lacks = absurd (omega arith)
 none_else (part ∷ parts) zero n h full l begun behind lacks =
     lacks_both part parts n lacks (none_behind parts n (rises_rest part parts h) (λ k m. behind (suc k) (omega arith) (omega arith)))
@@ -125,10 +125,10 @@ begun parts n count within point = record {
 pub lacks_found : (xs : List ℕ) (n i : ℕ) → ((k : ℕ) → k < i → slice_index xs k < n) → ((k : ℕ) → i ≤ k → k < length xs → n < slice_index xs k) → Lacks xs n
 lacks_found xs n i below above = lacks_by xs n (λ k l e. ⊎_elim (λ m. omega (arith, e, below k m)) (λ m. omega (arith, e, above k m l)) (cases_lt k i))
 
-pub none_begun : (parts : List Part) (n count : ℕ) → Rises parts → Begun parts n count → count ≡ 0 → Lacks (positions_of parts) n
+pub none_begun : (parts : List Part) (n count : ℕ) → PositionsRise parts → Begun parts n count → count ≡ 0 → Lacks (positions_of parts) n
 none_begun parts n count h b e = none_behind parts n h (λ k l. b.behind k (omega arith) l)
 
-pub last_lacks : (parts : List Part) (n count last : ℕ) → Rises parts → AreFull parts → Begun parts n count → count ≡ last + 1 → Lacks (loads_of (part_at parts last)) n → Lacks (positions_of parts) n
+pub last_lacks : (parts : List Part) (n count last : ℕ) → PositionsRise parts → AreFull parts → Begun parts n count → count ≡ last + 1 → Lacks (loads_of (part_at parts last)) n → Lacks (positions_of parts) n
 last_lacks parts n count last h full b e lacks = none_else parts last n h full (omega (arith, b.within)) (b.before last (omega arith)) (λ k m w. b.behind k (omega arith) w) lacks
 
 -- what holds in any case holds if there is no value

@@ -13,8 +13,8 @@ abbrev pub first_load : Part → ℕ
 first_load part = slice_index (loads_of part) 0
 
 -- the positions strictly increase over all parts, one part after another
-abbrev pub Rises : List Part → Type 0
-Rises parts = IsStrictlyIncreasing (positions_of parts)
+abbrev pub PositionsRise : List Part → Type 0
+PositionsRise parts = IsStrictlyIncreasing (positions_of parts)
 
 -- each part has a place
 abbrev pub AreFull : List Part → Type 0

@@ -3,7 +3,7 @@ ghost use Rattle.std.specs.Prelude.{◌≡◌, ◌<◌, ◌≤◌, ◌^◌, ℕ,
 ghost use Rattle.std.specs.List.Sorted.{IsStrictlyIncreasing};
 ghost use Rattle.lake_model.specs.Layout.{positions_of};
 ghost use Rattle.list_laws.specs.Distinct.{Lacks};
-ghost use Rattle.segment_core.specs.Positions.{first_load, loads_of, AreFull, Rises, StandsAt};
+ghost use Rattle.segment_core.specs.Positions.{first_load, loads_of, AreFull, PositionsRise, StandsAt};
 ghost use Rattle.segment_core.specs.Versions.{part_at};
 
 use crate::version::{Part, Version};
@@ -13,7 +13,7 @@ impl Version {
     /// position, or `None` if no part has it. It takes two binary searches: one over the parts, and one over the loads
     /// of a part.
     pub fn find(&self, position: u64) -> Option<(u32, u32)>
-        requires rise { Rises self.now.parts }
+        requires rise { PositionsRise self.now.parts }
         requires full { AreFull self.now.parts }
         requires few { length (positions_of self.now.parts) < 2 ^ 32 }
         ensures found { IfSome result (λ at. StandsAt self.now.parts position at.0 at.1) }
@@ -26,7 +26,7 @@ impl Version {
 
     // Returns the number of parts whose first load is at the position or before it.
     fn begun(&self, position: u64) -> u32
-        requires rise { Rises self.now.parts }
+        requires rise { PositionsRise self.now.parts }
         requires full { AreFull self.now.parts }
         ensures within { result ≤ length self.now.parts }
         ensures before { (k : ℕ) → k < result → first_load (part_at self.now.parts k) ≤ position }
