@@ -3,10 +3,10 @@
 
     checks/wide_input.py [JOSIE]
 
-Each block has 67,108,864 bytes or a little less: one record, one field, 16,777,216 fields of white space and four times as many empty ones, one value in each
-of 1,024 columns, 22 million lines, and values that grow threefold when they are folded. The replies follow from `docs/FORMATS.md`. A run may take eight times
-the size of its block in memory. Two runs at a time need a minute or two and 1.3 gigabytes, so `.ci/run` does not run it. It prints a line for each case with
-its time and its peak memory, and a line for all of them, and exits with 0 if everything is as stated, and otherwise with 1.
+Each block has 67,108,864 bytes or a little less: one record, one field, 16,777,216 fields of white space and four times as many empty ones, as many in a
+header, one value in each of 1,024 columns, 22 million lines, and values that grow threefold when they are folded. The replies follow from `docs/FORMATS.md`. A
+run may take eight times the size of its block in memory. Two runs at a time need a minute or two and two gigabytes, so `.ci/run` does not run it. It prints a
+line for each case with its time and its peak memory, and a line for all of them, and exits with 0 if everything is as stated, and otherwise with 1.
 """
 import os
 import subprocess
@@ -54,6 +54,7 @@ def cases():
     yield Case("one value to search for", b"search 1", [(b"x", BLOCK - 1), (b"\n", 1)], b"answer 0 of 1 at 0")
     yield Case("fields of white space", b"load t", [(HEADER, 1), (SPACES, 16_384)], b"loaded t columns 1024 members 0 at 1")
     yield Case("empty fields", b"load t", rows(b"," * (COLUMNS - 1) + b"\n", HEADER), b"loaded t columns 1024 members 0 at 1")
+    yield Case("empty fields of a header", b"load t", [(b",", BLOCK - 1), (b"\n", 1)], b"refused csv columns %d" % BLOCK)
     yield Case("one value a column", b"load t", rows(b",".join([b"v"] * COLUMNS) + b"\n", HEADER), b"loaded t columns 1024 members 1024 at 1")
     yield Case("lines of a table", b"load t", rows(b"ab\n", b"c\n"), b"loaded t columns 1 members 1 at 1")
     yield Case("lines of a query", b"search 1", rows(b"ab\n"), b"answer 0 of 1 at 0")
