@@ -123,11 +123,12 @@ fn gather_lines(alloc: Global, keys: Keys, body: &[u8]) -> Result<KeyGatherer, Q
     Err(QueryRefused::NoMemory)
 }
 
-// Returns an empty gatherer with room for the keys of a body whose lines have about sixteen bytes.
+// Returns an empty gatherer with room for the keys of a body whose lines have at least eight bytes. A body of shorter
+// lines makes it grow.
 fn no_keys(alloc: Global, body: &[u8]) -> Result<KeyGatherer, NoMemory>
     ensures none { IfOk result (λ lists. (lists.finished ≡ []) × (lists.current ≡ [])) }
 {
-    let lines = (body.len() / 16).min(MOST_KEYS) as u32;
+    let lines = (body.len() / 8).min(MOST_KEYS) as u32;
     KeyGatherer::with_room(alloc, lines, lines)
 }
 

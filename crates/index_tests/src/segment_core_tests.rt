@@ -295,6 +295,7 @@ fn logged(rt: HostRuntime) -> Result<(), Fail> {
         (looks.reads(), looks.probes(), looks.log_spare()),
         (1, 1, 0)
     );
+    drop(looks);
     assert_eq!(rt; pin.meter(0), 2);
     Ok(())
 }

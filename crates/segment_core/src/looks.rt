@@ -17,13 +17,31 @@ use std::sync::Arc;
 /// borrow. Each posting list and each set that is read is logged. Its model is the version, the log, and the number of
 /// looks for which the log still has room.
 ///
+/// It also counts the looks for the meters of the segments that they read. A meter is raised once for all looks at its
+/// part, when the search goes on to another part or ends, because the lanes of a run share it.
+///
 /// Parts are found by their index in the order of the layout, tokens and columns by their numbers in the part's
 /// segment, all from 0. It lends no keys.
-#[derive(Drop)]
 pub struct Looks<'a> {
     version: &'a Version,
     log: Vec<Look>,
     spare: usize,
+    /// The part that was looked at last, and how many looks at it are not in its meter yet.
+    last: u32,
+    unmetered: u64,
+}
+
+impl<'a> Drop for Looks<'a> {
+    fn drop(self) {
+        raise_meter(self.version, self.last, self.unmetered);
+        let Looks {
+            version: _,
+            log: _,
+            spare: _,
+            last: _,
+            unmetered: _,
+        } = self;
+    }
 }
 
 impl<'a> Model for Looks<'a> {
@@ -52,6 +70,8 @@ impl<'a> Looks<'a> {
             version,
             log: Vec::new(alloc),
             spare: 0,
+            last: 0,
+            unmetered: 0,
         }
     }
 
@@ -194,6 +214,7 @@ impl<'a> Looks<'a> {
         let version: &'a Version = self.version;
         let read: &'a Part = version.part(part);
         let list = read.segment().list(token);
+        self.meter(part);
         self.note(Look::Read {
             part: read.number,
             token,
@@ -216,12 +237,25 @@ impl<'a> Looks<'a> {
         let version: &'a Version = self.version;
         let probed: &'a Part = version.part(part);
         let tail = probed.segment().tail(set, after);
+        self.meter(part);
         self.note(Look::Probe {
             part: probed.number,
             set,
             after,
         });
         tail
+    }
+
+    // Counts one look at a part.
+    fn meter(&mut self, part: u32)
+        ensures { self.new ≡ self.old }
+    {
+        if part != self.last {
+            raise_meter(self.version, self.last, self.unmetered);
+            self.last = part;
+            self.unmetered = 0;
+        }
+        self.unmetered = self.unmetered.wrapping_add(1);
     }
 
     // Adds one look to the log.
@@ -256,6 +290,13 @@ impl<'a> Looks<'a> {
         ensures { result ≡ count_by (λ look. not (is_read look)) self.now.log }
     {
         self.log.iter().filter(|look| !is_read_look(**look)).count() as u64
+    }
+}
+
+// Raises the meter of a part's segment by a number of looks.
+fn raise_meter(version: &Version, part: u32, looks: u64) {
+    if let Some(part) = version.parts().get(part as usize) {
+        part.segment().raise_meter(looks);
     }
 }
 

@@ -214,22 +214,20 @@ impl Segment {
     }
 
     /// Returns the posting list of the token: the columns that hold it, by increasing number, each with the token's
-    /// position among the column's tokens and the number of these. It raises the meter.
+    /// position among the column's tokens and the number of these. The meter does not count it.
     pub(crate) fn list(&self, token: u32) -> &[Posting]
         requires { token < length (segment self.now).tokens }
         ensures { result.now ≡ get_or (segment self.now).lists token [] }
     {
-        self.meter.fetch_add(1, Ordering::SeqCst);
         list_at(&self.list_starts, &self.postings, token, 0)
     }
 
-    /// Returns the column's tokens after the position, counted from 0, in increasing order. It raises the meter.
+    /// Returns the column's tokens after the position, counted from 0, in increasing order. The meter does not count it.
     pub(crate) fn tail(&self, set: u32, after: u32) -> &[u32]
         requires set { set < length (segment self.now).sets }
         requires after { after < length (get_or (segment self.now).sets set []) }
         ensures { result.now ≡ drop (after + 1) (get_or (segment self.now).sets set []) }
     {
-        self.meter.fetch_add(1, Ordering::SeqCst);
         list_at(&self.set_starts, &self.set_tokens, set, after as usize + 1)
     }
 
@@ -253,6 +251,11 @@ impl Segment {
         let query = QuerySet::of_column(alloc, table, place)?;
         self.meter.fetch_add(1, Ordering::SeqCst);
         Ok(query)
+    }
+
+    /// Raises the meter by a number of reads.
+    pub(crate) fn raise_meter(&self, reads: u64) {
+        self.meter.fetch_add(reads, Ordering::SeqCst);
     }
 
     /// Returns how often a list or a set of the segment has been read. No contract mentions it.
