@@ -1,3 +1,4 @@
 pub mod Cuts
 pub mod SplitRecords
 pub mod RecordsLeft
+pub mod HeaderLine

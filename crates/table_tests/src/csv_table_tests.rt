@@ -130,3 +130,32 @@ fn width(rt: HostRuntime) -> Result<(), Fail> {
     expect_widest(&rt, 1_024)?;
     expect_widest(&rt, 4_096)
 }
+
+// Headers of more than two fields, and how many they have. The commas of a first line without quotes are counted before it is
+// read, also after byte order marks; the crate `csv` reads the others.
+const TOO_WIDE: [(&[u8], u64); 8] = [
+    (b"a,b,c\n1,2\n", 3),
+    (b",,,", 4),
+    (b"a,b,c,d\r1,2,\"3\"\r", 4),
+    (b"\xEF\xBB\xBFa,b,c\r\n1,2\n", 3),
+    (b"\xEF\xBB\xBF\xEF\xBB\xBFa,b,c\n1,2\n", 3),
+    (b"\na,b,c\n1,2\n", 3),
+    (b"\"a,b\",c,d\n1,2\n", 3),
+    (b"a,\"b\nb\",c,d,e\n1,2\n", 5),
+];
+
+#[test]
+fn too_wide(rt: HostRuntime) {
+    for (bytes, got) in TOO_WIDE {
+        expect_refused(&rt, bytes, 2, CsvRefused::TooManyColumns { got });
+    }
+}
+
+// Commas in quotes separate no fields.
+#[test]
+fn commas_in_quotes(rt: HostRuntime) -> Result<(), Fail> {
+    let table = read_table(rt.alloc(), "\"a,b,c\",d\n1,2\n".as_bytes(), 2)?;
+    expect_shape(&rt, &table, 2, 1);
+    expect_field(&rt, &table, 0, 1, "a,b,c");
+    Ok(())
+}
