@@ -23,9 +23,8 @@ use Rattle.std.proofs.Math.Bool.{and-false, or-false}
 use Rattle.list_laws.proofs.ListLemmas.{all_append, all_both, all_left, all_right, any_none}
 use Rattle.lake_model.specs.Texts.{Text}
 use Rattle.lake_model.specs.Tables.{has_key}
-use Rattle.segment_core.specs.Hashes.{hash_of}
 use Rattle.column_watch.specs.Held.{StateOf}
-use Rattle.column_watch.specs.Index.{AreKeysOf, IsHashed, IsIndexOf, IsStretch, all_from, has_query, key_cmp, key_with, keys_from, says, sorted_by, text_of}
+use Rattle.column_watch.specs.Index.{AreKeysOf, IsHashed, IsIndexOf, IsStretch, all_from, has_query, hash_of, key_cmp, key_with, keys_from, says, sorted_by, text_of}
 use Rattle.column_watch.specs.declared.holders.KeyAt.{KeyAt}
 use Rattle.column_watch.proofs.HolderLemmas.{keys_of, query_itself, query_of_both, query_other}
 

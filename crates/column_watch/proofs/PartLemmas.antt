@@ -1,18 +1,25 @@
 -- The parts of the range of hashes, and the keys of one of them.
-use Rattle.std.proofs.Common.{◌≡◌, ap, sym, subst, inl, inr, ℕ, zero, suc, ◌+◌, ◌/◌, ◌*◌, ◌^◌, ◌<◌, ◌≤◌, List, [], ◌∷◌, ◌++◌, true, false, length, get_or, arith, ltb, take, drop}
+use Rattle.std.proofs.Common.{◌≡◌, ap, sym, subst, inl, inr, ℕ, zero, suc, ◌+◌, ◌-◌, ◌/◌, ◌*◌, ◌^◌, ◌<◌, ◌≤◌, List, [], ◌∷◌, ◌++◌, true, false, length, get_or, arith, ltb, take, drop}
 use Rattle.std.specs.List.{AllByRecursion, AllWithin, slice_range}
 use Rattle.std.specs.List.Sorted.{IsNonDecreasingBy, IsPartitionPoint, IsPartitionedBy}
 use Rattle.std.proofs.Math.Nat.{div-mul-le_self}
 use Rattle.std.proofs.lemmas.Bool.{cases_lt, lt-ltb, ltb-true, ltb-false}
 use Rattle.std.proofs.lemmas.List.{get_or_append_left, get_or_default, get_or_past, get_or_push, length-append}
 use Rattle.std.proofs.lemmas.List.Edits.{split_between}
-use Rattle.std.proofs.lemmas.Nat.{le-div, pow_pos}
+use Rattle.std.proofs.lemmas.Nat.{le-div, pow_below, pow_pos, shr_below}
 use Rattle.column_watch.specs.Index.{AreStarts, IsStretch, part_of}
 use Rattle.column_watch.specs.declared.holders.KeyAt.{KeyAt}
 
 -- the part of a hash is not before that of a lower hash
 parts_rise : (shift a b : ℕ) → a ≤ b → part_of shift a ≤ part_of shift b
 parts_rise shift a b h = let low : a / 2 ^ shift * 2 ^ shift ≤ a = div-mul-le_self a (2 ^ shift) in le-div (a / 2 ^ shift) b (2 ^ shift) (pow_pos shift) (omega (arith, low, h))
+
+-- the number of the part after that of a hash fits 64 bits
+pub part_fits : (shift hash : ℕ) → 32 ≤ shift → shift < 64 → hash < 2 ^ 64 → part_of shift hash + 1 < 2 ^ 64
+part_fits shift hash wide narrow h =
+    let whole : 64 ≡ 64 - shift + shift = omega (arith, narrow) in
+    let low = shr_below hash (64 - shift) shift (subst (λ (n : ℕ). hash < 2 ^ n) whole h) in
+    omega (arith, low, pow_below (64 - shift) 64 (omega (arith, wide, narrow)))
 
 pub parted : (shift part : ℕ) (keys : List KeyAt) → IsNonDecreasingBy (λ at. at.hash) keys → IsPartitionedBy (λ at. ltb (part_of shift at.hash) part) keys
 parted shift part keys up i j d l h e =

@@ -1,7 +1,7 @@
 -- The keys of a column that may be keys of watched queries.
 use Rattle.std.specs.Prelude.{◌≡◌, ◌<◌, List, [], get_or, length, map}
 use Rattle.lake_model.specs.Texts.{Text}
-use Rattle.segment_core.specs.Hashes.{hash_of}
+use Rattle.column_watch.specs.Index.{hash_of}
 use Rattle.column_watch.specs.declared.overlaps.Hit.{Hit}
 
 -- the index is that of one of the keys, and the hash is that key's hash

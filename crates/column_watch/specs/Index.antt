@@ -1,6 +1,7 @@
 -- The keys of all watched queries, each once, in the order of their hashes, and the queries that hold them.
 use Rattle.std.specs.Prelude.{◌≡◌, ◌+◌, ◌/◌, ◌^◌, ◌<◌, ◌≤◌, ◌&&◌, ℕ, Bool, List, [], ◌∷◌, ◌++◌, bytes_eq, get_or, length, nat_eq}
 use Rattle.std.specs.Cmp.Lexicographic.{slice_cmp}
+use Rattle.std.specs.Hash.DefaultHasher as sip
 use Rattle.std.specs.Int.{bit_at}
 use Rattle.std.specs.List.{AllByRecursion, list_any}
 use Rattle.std.specs.List.Sorted.{IsPartitionPoint, IsStrictlySortedBy}
@@ -8,8 +9,11 @@ use Rattle.std.specs.Ordering.{nat_cmp}
 use Rattle.std.specs.declared.cmp.Ordering.{Ordering}
 use Rattle.lake_model.specs.Texts.{Text}
 use Rattle.lake_model.specs.Tables.{has_key}
-use Rattle.segment_core.specs.Hashes.{hash_of}
 use Rattle.column_watch.specs.declared.holders.KeyAt.{KeyAt}
+
+-- the hash of a key: SipHash-1-3, both keys of which are 0
+unfoldable pub hash_of : Text → ℕ
+hash_of key = sip.finish (sip.write sip.initial key)
 
 abbrev pub key_with : ℕ → ℕ → ℕ → ℕ → KeyAt
 key_with hash query index holders = record { hash = hash; query = query; index = index; holders = holders }

@@ -5,38 +5,38 @@ ghost use Rattle.std.specs.List.{AllByRecursion, list_any};
 ghost use Rattle.std.specs.List.Sorted.{IsNonDecreasingBy, IsSorted, IsStrictlySortedBy};
 ghost use Rattle.std.specs.Ordering.{nat_cmp};
 ghost use Rattle.lake_model.specs.Tables.{has_key};
-ghost use Rattle.segment_core.specs.Hashes.{hash_of};
-ghost use Rattle.column_watch.specs.Index.{has_query, key_cmp, keys_from, says, sorted_by, text_of, AreKeysOf, AreStarts, IsHashed, IsIndexOf, IsStretch};
+ghost use Rattle.column_watch.specs.Index.{has_query, hash_of, key_cmp, keys_from, says, sorted_by, text_of, AreKeysOf, AreStarts, IsHashed, IsIndexOf, IsStretch};
 
 use crate::watched::Watched;
 use column_set::QuerySet;
 use no_memory::NoMemory;
-use segment_core::hash_key;
 use std::alloc::Global;
 use std::cmp::Ordering;
+use std::hash::{DefaultHasher, Hasher};
 use std::marker::Model;
 
 /// The most keys of a part that are compared with a hash one by one. A part has more only if keys were chosen to cause
-/// it; then a binary search decides.
+/// it, so that their hashes share the upper bits; then a binary search decides.
 const FEW_KEYS: usize = 64;
 
 /// A key that queries hold: its hash, the index of one of these queries, the index of the key in that query, and a mask
 /// whose bit w says whether the query of index w holds it.
 #[derive(Clone, Copy)]
 pub(crate) struct KeyAt {
-    hash: u32,
-    query: u32,
+    hash: u64,
     index: u32,
-    holders: u32,
+    holders: u16,
+    query: u8,
 }
 
 /// Each key that a query holds, once, ordered by the hashes of the keys and then by their bytes. The range of all
-/// hashes is cut into equal parts, more than there are keys and at most twice as many. `starts` says where the keys of
-/// each part begin, so that a search for a key that no query holds mostly ends there, at a part without keys, and
-/// otherwise mostly at a hash. Its model is the list of its keys.
+/// hashes is cut into equal parts by their upper bits, more parts than there are keys and at most twice as many.
+/// `starts` says where the keys of each part begin, so that a search for a key that no query holds mostly ends there,
+/// at a part without keys, and otherwise mostly at a hash. Its model is the list of its keys.
 ///
 /// It takes 16 bytes for each distinct key, and 4 to 8 for the parts. A search is a binary search among the keys of one
-/// part, which are usually few; so no choice of keys makes it worse than logarithmic.
+/// part, which are usually few; so no choice of keys makes it worse than logarithmic. It compares numbers, and texts
+/// only where hashes are equal; [`hash_key`] says why different keys rarely have equal hashes.
 #[derive(Drop)]
 pub(crate) struct Holders {
     keys: Vec<KeyAt>,
@@ -45,7 +45,7 @@ pub(crate) struct Holders {
 }
 
 impl Model for Holders {
-    ghost use Rattle.std.specs.Prelude.{◌<◌, List};
+    ghost use Rattle.std.specs.Prelude.{◌<◌, ◌≤◌, List};
     ghost use Rattle.column_watch.specs.Index.{AreStarts};
     ghost use Rattle.column_watch.specs.declared.holders.KeyAt.{KeyAt as KeyOf};
 
@@ -53,7 +53,7 @@ impl Model for Holders {
 
     ghost view = { λ h. h.keys.items };
 
-    ghost invariant = { λ h. (h.shift < 32) × AreStarts h.shift h.keys.items h.starts.items };
+    ghost invariant = { λ h. (32 ≤ h.shift) × (h.shift < 64) × AreStarts h.shift h.keys.items h.starts.items };
 }
 
 impl Holders {
@@ -64,12 +64,12 @@ impl Holders {
         Holders {
             keys: Vec::new(alloc),
             starts: Vec::new(alloc),
-            shift: 0,
+            shift: 63,
         }
     }
 
     /// Returns whether one of the keys may have the hash. It reads no text.
-    pub(crate) fn has_hash(&self, hash: u32) -> bool
+    pub(crate) fn has_hash(&self, hash: u64) -> bool
         ensures { result ≡ false → AllByRecursion (λ at. at.hash ≡ hash → ⊥) self.now }
     {
         let near = self.near(hash);
@@ -77,11 +77,28 @@ impl Holders {
     }
 
     // Returns a stretch of the keys outside which no key has the hash.
-    fn near(&self, hash: u32) -> &[KeyAt]
+    fn near(&self, hash: u64) -> &[KeyAt]
         ensures { IsStretch hash self.now result.now }
     {
         stretch_of(&self.keys, &self.starts, self.shift, hash)
     }
+}
+
+/// Returns the hash of a key: SipHash-1-3, all 64 bits. Keys of equal hashes are compared by their texts, so the choice
+/// of the hash matters only for speed.
+///
+/// An adversary can choose a million keys that share a 32-bit FNV-1a hash, and then the sort and each look-up compare
+/// texts. No way is known to choose many keys that share all 64 bits of this hash, so texts are rarely compared unless
+/// they are equal. It has no secret: the keys of SipHash are fixed, so an adversary can compute it, and choose keys
+/// that share some of its bits. If many keys share all bits nevertheless, a look-up compares a logarithmic number of
+/// texts.
+#[tactic(auto, unfolding(crate::specs::Index::hash_of))]
+pub(crate) fn hash_key(key: &str) -> u64
+    ensures { result ≡ hash_of key.now }
+{
+    let mut hasher = DefaultHasher::default();
+    hasher.write(key.as_bytes());
+    hasher.finish()
 }
 
 /// Returns each key of the queries, once, in order. It reads each key of each query once and sorts them; the texts of
@@ -92,7 +109,7 @@ pub(crate) fn index_queries(alloc: Global, queries: &[Watched]) -> Result<Holder
     ensures { IfOk result (λ holders. IsIndexOf (map (λ state. state.keys) queries.now) holders) }
 {
     let keys = index_keys(alloc, queries)?;
-    let shift = (keys.len() as u32).leading_zeros().min(31);
+    let shift = (keys.len() as u32).leading_zeros().min(31) + 32;
     let starts = starts_of(alloc, &keys, shift)?;
     Ok(Holders {
         keys,
@@ -102,7 +119,7 @@ pub(crate) fn index_queries(alloc: Global, queries: &[Watched]) -> Result<Holder
 }
 
 /// Returns the queries that hold a key of this hash: bit w says whether the query of index w does.
-pub(crate) fn holders_of(holders: &Holders, queries: &[Watched], hash: u32, key: &str) -> u32
+pub(crate) fn holders_of(holders: &Holders, queries: &[Watched], hash: u64, key: &str) -> u16
     requires own { hash ≡ hash_of key.now }
     requires indexed { IsIndexOf (map (λ state. state.keys) queries.now) holders.now }
     ensures { (w : ℕ) → has_query result w ≡ has_key (get_or (map (λ state. state.keys) queries.now) w []) key.now }
@@ -133,13 +150,13 @@ fn all_keys(alloc: Global, queries: &[Watched]) -> Result<Vec<KeyAt>, NoMemory>
 {
     let mut keys = Vec::new(alloc);
     for (w, query) in queries.iter().enumerate() {
-        add_keys(&mut keys, query.keys(), w as u32)?;
+        add_keys(&mut keys, query.keys(), w as u8)?;
     }
     Ok(keys)
 }
 
 // Appends the keys of a query.
-fn add_keys(keys: &mut Vec<KeyAt>, query: &QuerySet, w: u32) -> Result<(), NoMemory>
+fn add_keys(keys: &mut Vec<KeyAt>, query: &QuerySet, w: u8) -> Result<(), NoMemory>
     requires { w < 16 }
     ensures keys { OnOk result (keys.new.items ≡ keys.old.items ++ keys_from w 0 query.now) }
     ensures few { OnOk result (length query.now ≤ 4194304) }
@@ -149,9 +166,9 @@ fn add_keys(keys: &mut Vec<KeyAt>, query: &QuerySet, w: u32) -> Result<(), NoMem
         let hash = hash_key(query.key(index));
         keys.push(KeyAt {
             hash,
-            query: w,
             index,
             holders: 1 << w,
+            query: w,
         })?;
     }
     Ok(())
@@ -209,22 +226,24 @@ fn merge_rest(
 // Returns where the keys of each part of the range of hashes begin. The hashes of a part differ only in their last
 // `shift` bits. It costs a binary search for each part.
 fn starts_of(alloc: Global, keys: &[KeyAt], shift: u32) -> Result<Vec<u32>, NoMemory>
-    requires narrow { shift < 32 }
+    requires wide { 32 ≤ shift }
+    requires narrow { shift < 64 }
     requires few { length keys.now < 2 ^ 32 }
     requires rising { IsNonDecreasingBy (λ at. at.hash) keys.now }
     ensures { IfOk result (λ starts. AreStarts shift keys.now starts.items) }
 {
-    let parts = 1u64 << (32 - shift);
+    let parts = 1u64 << (64 - shift);
     let mut starts = Vec::with_capacity(alloc, parts as usize)?;
     for part in 0..parts {
-        starts.push(keys.partition_point(|at| u64::from(at.hash >> shift) < part) as u32)?;
+        starts.push(keys.partition_point(|at| at.hash >> shift < part) as u32)?;
     }
     Ok(starts)
 }
 
 // Returns the keys of the part of the range to which the hash belongs.
-fn stretch_of<'a>(keys: &'a [KeyAt], starts: &[u32], shift: u32, hash: u32) -> &'a [KeyAt]
-    requires narrow { shift < 32 }
+fn stretch_of<'a>(keys: &'a [KeyAt], starts: &[u32], shift: u32, hash: u64) -> &'a [KeyAt]
+    requires wide { 32 ≤ shift }
+    requires narrow { shift < 64 }
     requires starts { AreStarts shift keys.now starts.now }
     ensures { IsStretch hash keys.now result.now }
 {
@@ -246,7 +265,7 @@ fn start_at(starts: &[u32], part: usize, other: usize) -> usize
 
 // Returns the queries that hold a key. The keys are in order, and the key is among them if any query holds it; it is
 // mostly the first of them. A text is read only if its hash equals that of the key.
-fn holders_among(queries: &[Watched], keys: &[KeyAt], hash: u32, key: &str) -> u32
+fn holders_among(queries: &[Watched], keys: &[KeyAt], hash: u64, key: &str) -> u16
     requires own { hash ≡ hash_of key.now }
     requires rising { IsStrictlySortedBy (key_cmp (map (λ state. state.keys) queries.now)) keys.now }
     requires hashed { AllByRecursion (IsHashed (map (λ state. state.keys) queries.now)) keys.now }
@@ -262,14 +281,14 @@ fn holders_among(queries: &[Watched], keys: &[KeyAt], hash: u32, key: &str) -> u
 }
 
 // Returns whether one of the keys equals a key of this hash.
-fn is_key(queries: &[Watched], at: KeyAt, hash: u32, key: &str) -> bool
+fn is_key(queries: &[Watched], at: KeyAt, hash: u64, key: &str) -> bool
     ensures { result ≡ bytes_eq (sorted_by (map (λ state. state.keys) queries.now) at) (hash ∷ key.now) }
 {
     at.hash == hash && text_at(queries, at) == key
 }
 
 // Does the same by a binary search.
-fn search_holders(queries: &[Watched], keys: &[KeyAt], hash: u32, key: &str) -> u32
+fn search_holders(queries: &[Watched], keys: &[KeyAt], hash: u64, key: &str) -> u16
     requires own { hash ≡ hash_of key.now }
     requires rising { IsStrictlySortedBy (key_cmp (map (λ state. state.keys) queries.now)) keys.now }
     requires hashed { AllByRecursion (IsHashed (map (λ state. state.keys) queries.now)) keys.now }
@@ -282,7 +301,7 @@ fn search_holders(queries: &[Watched], keys: &[KeyAt], hash: u32, key: &str) -> 
 }
 
 // Compares one of the keys with a key of this hash.
-fn order_to(queries: &[Watched], at: KeyAt, hash: u32, key: &str) -> Ordering
+fn order_to(queries: &[Watched], at: KeyAt, hash: u64, key: &str) -> Ordering
     ensures { result ≡ slice_cmp nat_cmp (sorted_by (map (λ state. state.keys) queries.now) at) (hash ∷ key.now) }
 {
     match at.hash.cmp(&hash) {

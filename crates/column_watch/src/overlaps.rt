@@ -11,17 +11,16 @@ ghost use Rattle.column_watch.specs.Hits.{hit_keys, IsHit};
 ghost use Rattle.column_watch.specs.Index.{IsIndexOf};
 
 use crate::held::Held;
-use crate::holders::{Holders, holders_of};
+use crate::holders::{Holders, hash_key, holders_of};
 use crate::watched::Watched;
 use column_set::{Row, TableSets};
 use no_memory::NoMemory;
-use segment_core::hash_key;
 use std::alloc::Global;
 
 // A key of a column: its index, from 0, and its hash.
 #[derive(Clone, Copy)]
 struct Hit {
-    hash: u32,
+    hash: u64,
     index: u32,
 }
 
@@ -115,14 +114,14 @@ fn count_hits(
 }
 
 // Adds one to the counts of the queries of a mask.
-fn raise(counts: &mut [u32], holders: u32)
+fn raise(counts: &mut [u32], holders: u16)
     requires few { length counts.old ≤ 16 }
     requires small { (w : ℕ) → w < length counts.old → get_or counts.old w 0 + 1 < 2 ^ 32 }
     ensures len { length counts.new ≡ length counts.old }
     ensures raised { (w : ℕ) → w < length counts.old → get_or counts.new w 0 ≡ get_or counts.old w 0 + bit_at holders w }
 {
     for w in 0..counts.len() {
-        counts[w] += holders >> w & 1;
+        counts[w] += u32::from(holders >> w & 1);
     }
 }
 

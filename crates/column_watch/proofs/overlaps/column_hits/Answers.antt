@@ -4,7 +4,7 @@ use Rattle.std.proofs.Math.Seq.{take-length}
 use Rattle.std.proofs.lemmas.List.Elements.{All-append, All-from_recursion}
 use Rattle.column_set.proofs.OverlapLemmas.{overlap_both_ways}
 use Rattle.lake_model.specs.Tables.{has_key, keys_at}
-use Rattle.segment_core.specs.Hashes.{hash_of}
+use Rattle.column_watch.specs.Index.{hash_of}
 use Rattle.column_watch.specs.Hits.{hit_keys, IsHit}
 use Rattle.column_watch.specs.declared.overlaps.Hit.{Hit}
 use Rattle.column_watch.proofs.CountLemmas.{hits_more, hits_same}
