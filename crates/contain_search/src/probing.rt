@@ -10,7 +10,7 @@ ghost use Rattle.search_model.specs.declared.Look.TheVariants.{Probe};
 ghost use Rattle.segment_core.specs.Versions.{part_at, segment_at};
 ghost use Rattle.contain_search.specs.Enough.{IsExactFrom};
 
-use part_columns::Tally;
+use part_columns::{Sought, Tally, seek};
 use segment_core::Looks;
 
 /// Returns how many of the query's tokens a column has whose tally after the first `read` lists is `tally`, if these
@@ -58,29 +58,25 @@ fn shared_from(others: &[u32], tokens: &[u32], least: usize) -> usize
     }
 }
 
-// Returns how many of these tokens are among the others, which rise, if these are at least `least`, and otherwise some
-// number below `least`. It stops once too few tokens are left.
+// Returns how many of these tokens are among the others, if these are at least `least`, and otherwise some number below
+// `least`. Both rise. It stops once too few tokens are left.
 fn among_from(others: &[u32], tokens: &[u32], least: usize) -> usize
-    requires { IsStrictlyIncreasing others.now }
+    requires others { IsStrictlyIncreasing others.now }
+    requires tokens { IsStrictlyIncreasing tokens.now }
     ensures count { IsExactFrom least (count_by (is_among others.now) tokens.now) result }
     ensures most { result ≤ count_by (is_among others.now) tokens.now }
 {
     let mut shared = 0;
+    let mut left = others;
     for (i, token) in tokens.iter().enumerate() {
         if shared + (tokens.len() - i) < least {
             return shared;
         }
-        if has(others, *token) {
+        let Sought { found, rest } = seek(left, *token);
+        if found {
             shared += 1;
         }
+        left = rest;
     }
     shared
-}
-
-// Returns whether the token is among these, which rise.
-fn has(tokens: &[u32], token: u32) -> bool
-    requires { IsStrictlyIncreasing tokens.now }
-    ensures { result ≡ is_among tokens.now token }
-{
-    tokens.binary_search(&token).is_ok()
 }

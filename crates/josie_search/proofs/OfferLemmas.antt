@@ -1,5 +1,5 @@
 -- The rows of the columns that lead, offered in turn, and the same with the first of them offered before the others.
-use Rattle.std.proofs.Common.{◌≡◌, refl, ap, sym, ◌∙◌, subst, ℕ, zero, suc, ◌+◌, ◌-◌, ◌<◌, ◌≤◌, ◌≢◌, List, [], ◌∷◌, ◌++◌, Bool, true, false, not, ◌&&◌, cond, length, set, take, get_or, append_assoc, arith, Option, Some, None, eqb as nat_eq, ltb as nat_lt}
+use Rattle.std.proofs.Common.{◌≡◌, refl, ap, sym, ◌∙◌, subst, ℕ, zero, suc, ◌+◌, ◌<◌, ◌≢◌, List, [], ◌∷◌, ◌++◌, Bool, true, false, not, ◌&&◌, cond, length, set, take, get_or, append_assoc, arith, Option, Some, None, eqb as nat_eq, ltb as nat_lt}
 use Rattle.std.specs.Prelude.{flat_map}
 use Rattle.std.specs.List.{count_by}
 use Rattle.std.specs.List.Sorted.{IsPermutation}
@@ -22,7 +22,7 @@ use Rattle.part_columns.specs.Tallies.{most_of, tally_at}
 use Rattle.josie_search.specs.Costs.{threshold_of}
 use Rattle.josie_search.specs.Offers.{offered, offers}
 use Rattle.josie_search.specs.Open.{overlap_of}
-use Rattle.josie_search.specs.Rows.{bound_row, is_before, IsFirst, lead_row, leads, NoneFrom}
+use Rattle.josie_search.specs.Rows.{bound_row, IsFirst, lead_row, leads, NoneFrom}
 use Rattle.josie_search.proofs.FirstLemmas.{later, no_sooner_there}
 use Rattle.josie_search.proofs.LoopLemmas.{lead_parts}
 

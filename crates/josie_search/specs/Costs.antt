@@ -1,5 +1,5 @@
 -- What a chooser sees, computed from what the code keeps.
-use Rattle.std.specs.Prelude.{ℕ, ◌-◌, ◌&&◌, List, get_or, length, map, nat_le, nat_lt, if◌then◌else◌, Option, None, Some, slice_index}
+use Rattle.std.specs.Prelude.{ℕ, ◌≡◌, ◌≤◌, ◌+◌, ◌-◌, List, get_or, length, map, nat_le, if◌then◌else◌, Option, None, Some, slice_index, sum_by, take}
 use Rattle.search_model.specs.declared.Summary.{Summary}
 use Rattle.search_model.specs.Choosers.{read_cost}
 use Rattle.search_model.specs.Looks.{estimate, spared}
@@ -11,9 +11,10 @@ use Rattle.part_columns.specs.Tallies.{most_of, rest_of}
 abbrev pub lengths_of : Segment → List ℕ → List ℕ
 lengths_of segment tokens = map (λ token. get_or (map (λ t. t.frequency) segment.tokens) token 0) tokens
 
--- what a list costs if it would be spared, and else 0
-abbrev pub spared_cost : ℕ → ℕ → ℕ → ℕ → ℕ
-spared_cost length left threshold est = if nat_le threshold left && nat_lt left est then read_cost length else 0
+-- for each number of lists from 0 on, what it costs to read so many of the first
+pub record AreSums (lengths sums : List ℕ) : Type 0 where
+  pub long : length sums ≡ length lengths + 1
+  pub sum : (n : ℕ) → n ≤ length lengths → get_or sums n 0 ≡ sum_by read_cost (take n lengths)
 
 abbrev pub threshold_of : Option ℕ → ℕ
 threshold_of None = 1

@@ -1,9 +1,10 @@
 //! What a chooser sees.
-ghost use Rattle.std.specs.Prelude.{◌≡◌, ◌<◌, ◌≤◌, ◌+◌, ◌^◌, get_or, length, map};
+ghost use Rattle.std.specs.Prelude.{◌≡◌, ◌<◌, ◌≤◌, ◌+◌, ◌^◌, List, ℕ, get_or, length, map, vec_capacity};
 ghost use Rattle.std.specs.List.{All};
+ghost use Rattle.search_model.specs.Choosers.{read_cost};
 ghost use Rattle.search_model.specs.Looks.{estimate, spared};
 ghost use Rattle.segment_core.specs.Versions.{segment_at};
-ghost use Rattle.josie_search.specs.Costs.{gain_of, lengths_of, spared_cost, summary_of};
+ghost use Rattle.josie_search.specs.Costs.{gain_of, lengths_of, summary_of, AreSums};
 
 use cost_model::Summary;
 use part_columns::Tally;
@@ -19,43 +20,49 @@ pub(crate) fn length_of(looks: &Looks<'_>, part: u32, token: u32) -> u32
     looks.list_len(part, token)
 }
 
-// Returns what a list of this length costs if it would be spared, and else 0.
-fn spared_cost(length: u32, left: u32, threshold: u32, estimate: u32) -> u64
-    ensures value { result ≡ spared_cost length left threshold estimate }
+// Returns what it costs to read a list of this length.
+fn read_cost(length: u32) -> u64
+    ensures value { result ≡ read_cost length }
     ensures small { result ≤ 2 ^ 35 }
 {
-    if threshold <= left && left < estimate {
-        64 + 4 * u64::from(length)
-    } else {
-        0
-    }
+    64 + 4 * u64::from(length)
 }
 
-// Returns what the unread lists cost that an overlap of `estimate` would spare.
-fn spared(
-    looks: &Looks<'_>,
-    part: u32,
-    tokens: &[u32],
-    read: u32,
-    threshold: u32,
-    estimate: u32,
-) -> u64
+/// Puts what it costs to read the first lists of these tokens into `sums`, for each number of lists from 0 on.
+pub(crate) fn sum_costs(looks: &Looks<'_>, part: u32, tokens: &[u32], sums: &mut Vec<u64>)
     requires part { part < length looks.now.version.parts }
     requires few { length tokens.now ≤ 4194304 }
     requires tokens { All (λ token. token < length (segment_at looks.now.version.parts part).tokens) tokens.now }
-    requires read { read ≤ length tokens.now }
-    ensures { result ≡ spared (lengths_of (segment_at looks.now.version.parts part) tokens.now) read threshold estimate }
+    requires room { length tokens.now < vec_capacity sums.old }
+    ensures sums { AreSums (lengths_of (segment_at looks.now.version.parts part) tokens.now) sums.new.items }
+    ensures room { vec_capacity sums.old ≤ vec_capacity sums.new }
 {
-    let lists = tokens.len() as u32;
-    // No other list is spared: more lists are left before these than the estimate, and fewer behind them than the threshold.
-    let first = read.max(lists.saturating_sub(estimate));
-    let end = lists.saturating_sub(threshold.saturating_sub(1));
     let mut sum = 0;
-    for place in first..end {
-        let length = length_of(looks, part, tokens[place as usize]);
-        sum += spared_cost(length, lists - place, threshold, estimate);
+    sums.clear();
+    sums.push_reserved(sum);
+    for token in tokens {
+        sum += read_cost(length_of(looks, part, *token));
+        sums.push_reserved(sum);
     }
-    sum
+}
+
+// Returns what the unread lists cost that an overlap of `estimate` would spare, given the sums of the costs.
+fn spared(sums: &[u64], read: u32, threshold: u32, estimate: u32) -> u64
+    requires few { length sums.now ≤ 4194305 }
+    requires sums { (lengths : List ℕ) × AreSums lengths sums.now }
+    requires read { read < length sums.now }
+    ensures { (lengths : List ℕ) → AreSums lengths sums.now → result ≡ spared lengths read threshold estimate }
+{
+    // Where n lists were read, so many are left: sums.len() - 1 - n. A list is spared if at least the threshold and
+    // fewer than the estimate are left before it.
+    let places = sums.len() as u32;
+    let first = read.max(places.saturating_sub(estimate));
+    let end = places.saturating_sub(threshold.max(1));
+    if first < end {
+        sums[end as usize] - sums[first as usize]
+    } else {
+        0
+    }
 }
 
 // Returns the overlap that a column is assumed to have, given how many of the lists read so far hold it.
@@ -69,32 +76,25 @@ fn estimate(count: u32, most: u32, lists: u32, read: u32) -> u32
 
 // Returns the cost of the lists that the estimate would spare, if k rows are known and the last of them has overlap
 // `worst`; else 0.
-fn gain(
-    looks: &Looks<'_>,
-    part: u32,
-    tokens: &[u32],
-    read: u32,
-    worst: Option<u32>,
-    estimate: u32,
-) -> u64
-    requires part { part < length looks.now.version.parts }
-    requires few { length tokens.now ≤ 4194304 }
-    requires tokens { All (λ token. token < length (segment_at looks.now.version.parts part).tokens) tokens.now }
-    requires read { read ≤ length tokens.now }
-    ensures { result ≡ gain_of worst (lengths_of (segment_at looks.now.version.parts part) tokens.now) read estimate }
+fn gain(sums: &[u64], read: u32, worst: Option<u32>, estimate: u32) -> u64
+    requires few { length sums.now ≤ 4194305 }
+    requires sums { (lengths : List ℕ) × AreSums lengths sums.now }
+    requires read { read < length sums.now }
+    ensures { (lengths : List ℕ) → AreSums lengths sums.now → result ≡ gain_of worst lengths read estimate }
 {
     match worst {
-        Some(worst) if estimate > worst => spared(looks, part, tokens, read, worst, estimate),
+        Some(worst) if estimate > worst => spared(sums, read, worst, estimate),
         _ => 0,
     }
 }
 
-/// Returns what a chooser sees of the best open column, whose tally after the lists read so far is `tally`; `worst` is
-/// the overlap of the k-th known row.
+/// Returns what a chooser sees of the best open column, whose tally after the lists read so far is `tally`; `sums` has
+/// what the first lists cost, and `worst` is the overlap of the k-th known row.
 pub(crate) fn summarize(
     looks: &Looks<'_>,
     part: u32,
     tokens: &[u32],
+    sums: &[u64],
     read: u32,
     tally: Tally,
     worst: Option<u32>,
@@ -102,6 +102,7 @@ pub(crate) fn summarize(
     requires part { part < length looks.now.version.parts }
     requires few { length tokens.now ≤ 4194304 }
     requires tokens { All (λ token. token < length (segment_at looks.now.version.parts part).tokens) tokens.now }
+    requires sums { AreSums (lengths_of (segment_at looks.now.version.parts part) tokens.now) sums.now }
     requires some { 0 < read }
     requires read { read < length tokens.now }
     requires small { tally.count ≤ read }
@@ -119,6 +120,6 @@ pub(crate) fn summarize(
         u: most,
         rest,
         t: worst.unwrap_or(1),
-        gain: gain(looks, part, tokens, read, worst, estimate),
+        gain: gain(sums, read, worst, estimate),
     }
 }

@@ -8,7 +8,7 @@ ghost use Rattle.search_model.specs.Looks.{beats, known_rows, next_look, Progres
 ghost use Rattle.search_model.specs.Ranks.{AreInverse, AreRanks};
 ghost use Rattle.segment_core.specs.Versions.{part_at, segment_at};
 ghost use Rattle.josie_search.specs.Candidates.{all_of, AreHeld};
-ghost use Rattle.josie_search.specs.Costs.{lengths_of, threshold_of};
+ghost use Rattle.josie_search.specs.Costs.{lengths_of, threshold_of, AreSums};
 ghost use Rattle.josie_search.specs.Open.{chosen, overlap_of, taken};
 ghost use Rattle.josie_search.specs.Rows.{leads};
 ghost use Rattle.josie_search.specs.State.{IsAt};
@@ -27,13 +27,14 @@ use search_bounds::unseen_open;
 use segment_core::{ColumnOrder, Look, Looks};
 use topk_heap::TopK;
 
-/// Returns the next look of a search in a part whose first `read` lists were read; `None` if the part is done. No
-/// column has a count above `most`. The best column that it found is left in `witness` for later reads.
+/// Returns the next look of a search in a part whose first `read` lists were read; `None` if the part is done. `sums` has
+/// what the first lists cost. No column has a count above `most`. The best column that it found is left in `witness` for later reads.
 pub(crate) fn next_look<C: Chooser>(
     looks: &Looks<'_>,
     part: u32,
     query: &Asked<'_>,
     tokens: &[u32],
+    sums: &[u64],
     read: u32,
     columns: &Columns,
     candidates: &mut Candidates,
@@ -47,6 +48,7 @@ pub(crate) fn next_look<C: Chooser>(
     requires part { part < length looks.now.version.parts }
     requires few { length tokens.now ≤ 4194304 }
     requires tokens { tokens.now ≡ (searched query.now (part_at looks.now.version.parts part)).query }
+    requires sums { AreSums (lengths_of (segment_at looks.now.version.parts part) tokens.now) sums.now }
     requires some { 0 < query.now.k }
     requires read { read < length tokens.now }
     requires ranks { AreRanks (segment_at looks.now.version.parts part).columns order.ranks.now }
@@ -78,7 +80,9 @@ pub(crate) fn next_look<C: Chooser>(
     let found = first_lead(looks, part, query, columns, candidates, order, left, low);
     *witness = column_of(&found);
     let column = take_better(top.worst(), found);
-    choose(looks, part, tokens, read, columns, chooser, worst, column)
+    choose(
+        looks, part, tokens, sums, read, columns, chooser, worst, column,
+    )
 }
 
 // Returns the look that follows from the best open column, if there is one, and from what the chooser says of it;
@@ -87,6 +91,7 @@ fn choose<C: Chooser>(
     looks: &Looks<'_>,
     part: u32,
     tokens: &[u32],
+    sums: &[u64],
     read: u32,
     columns: &Columns,
     chooser: &C,
@@ -96,6 +101,7 @@ fn choose<C: Chooser>(
     requires part { part < length looks.now.version.parts }
     requires few { length tokens.now ≤ 4194304 }
     requires tokens { All (λ token. token < length (segment_at looks.now.version.parts part).tokens) tokens.now }
+    requires sums { AreSums (lengths_of (segment_at looks.now.version.parts part) tokens.now) sums.now }
     requires read { read < length tokens.now }
     requires small { (column : ℕ) → (tally_at columns.now.tallies column).count ≤ read }
     requires seen { (x : ℕ) → column ≡ Some x → (x < length columns.now.tallies) × (0 < (tally_at columns.now.tallies x).count) }
@@ -115,7 +121,7 @@ fn choose<C: Chooser>(
         };
     };
     let tally = columns.tally(column);
-    let summary = summarize(looks, part, tokens, read, tally, worst);
+    let summary = summarize(looks, part, tokens, sums, read, tally, worst);
     if chooser.probe(&summary) {
         Some(Look::Probe {
             part: number,

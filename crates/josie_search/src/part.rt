@@ -10,6 +10,7 @@ ghost use Rattle.search_model.specs.Ranks.{AreInverse, AreRanks};
 ghost use Rattle.search_state.specs.State.{column_at};
 ghost use Rattle.segment_core.specs.Versions.{part_at, segment_at};
 ghost use Rattle.part_columns.specs.Columns.{IsClean};
+ghost use Rattle.josie_search.specs.Costs.{lengths_of, AreSums};
 ghost use Rattle.josie_search.specs.Offers.{shared_row};
 ghost use Rattle.part_columns.specs.Room.{looks_bound};
 ghost use Rattle.part_columns.specs.Tallies.{no_tally, tally_at, tally_of};
@@ -63,12 +64,14 @@ pub(crate) fn probe_column<'a>(
 }
 
 /// Searches a part: reads lists and probes columns as the chooser says, until no column of the part can come before the
-/// k-th row. No column may have been seen before the call. It takes no memory.
+/// k-th row. `sums` has what it costs to read the first lists. No column may have been seen before the call. It takes no
+/// memory.
 pub(crate) fn search_part<'a, C: Chooser>(
     looks: &mut Looks<'a>,
     part: u32,
     query: &Asked<'_>,
     tokens: &[u32],
+    sums: &[u64],
     columns: &mut Columns,
     candidates: &mut Candidates,
     order: ColumnOrder<'_>,
@@ -78,6 +81,7 @@ pub(crate) fn search_part<'a, C: Chooser>(
     requires part { part < length looks.old.version.parts }
     requires few { length tokens.now ≤ 4194304 }
     requires tokens { tokens.now ≡ (searched query.now (part_at looks.old.version.parts part)).query }
+    requires sums { AreSums (lengths_of (segment_at looks.old.version.parts part) tokens.now) sums.now }
     requires distinct { IsDistinct bytes_eq query.now.keys }
     requires some { 0 < query.now.k }
     requires k { top.old.k ≡ query.now.k }
@@ -107,6 +111,7 @@ pub(crate) fn search_part<'a, C: Chooser>(
             part,
             query,
             tokens,
+            sums,
             read,
             columns,
             candidates,

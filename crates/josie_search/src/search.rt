@@ -6,6 +6,7 @@ ghost use Rattle.search_model.specs.Looks.{log};
 ghost use Rattle.segment_core.specs.Versions.{live_of};
 
 use crate::candidates::Candidates;
+use crate::cost::sum_costs;
 use crate::part::search_part;
 use crate::query::Asked;
 use column_set::{Name, QuerySet};
@@ -23,13 +24,15 @@ pub struct Prepared<'a, 'q> {
     looks: Looks<'a>,
     query: Asked<'q>,
     tokens: Vec<Vec<u32>>,
+    /// Room for what it costs to read the first lists of a part.
+    sums: Vec<u64>,
     columns: Columns,
     candidates: Candidates,
     top: TopK<'a>,
 }
 
 impl<'a, 'q> Model for Prepared<'a, 'q> {
-    ghost use Rattle.std.specs.Prelude.{◌≡◌, [], map};
+    ghost use Rattle.std.specs.Prelude.{◌≡◌, ◌<◌, [], length, map, vec_capacity};
     ghost use Rattle.josie_search.specs.Ready.{IsReady};
     ghost use Rattle.josie_search.specs.Search.{search_with, SearchOf};
 
@@ -37,14 +40,14 @@ impl<'a, 'q> Model for Prepared<'a, 'q> {
 
     ghost view = { λ p. search_with p.looks.version p.query };
 
-    ghost invariant = { λ p. (p.looks.log ≡ []) × IsReady p.looks.version.parts p.query p.looks.spare (map (λ tokens. tokens.items) p.tokens.items) p.columns p.candidates p.top };
+    ghost invariant = { λ p. (p.looks.log ≡ []) × IsReady p.looks.version.parts p.query p.looks.spare (map (λ tokens. tokens.items) p.tokens.items) p.columns p.candidates p.top × (length p.query.keys < vec_capacity p.sums) };
 }
 
-/// Prepares a search, and takes all that it needs: the query's tokens of each part; a tally, a mark and room for four
-/// candidates for each column of the part with the most columns; the first k rows; and room in the log for as many
-/// looks as the search can take. In each part these are one for each list of the query's tokens, plus one for each of
-/// their postings or one for each column of the part, whichever are fewer. The search leaves out the columns of the
-/// table named `except`, if any.
+/// Prepares a search, and takes all that it needs: the query's tokens of each part; room for a sum for each key of the
+/// query; a tally, a mark and room for four candidates for each column of the part with the most columns; the first k
+/// rows; and room in the log for as many looks as the search can take. In each part these are one for each list of the
+/// query's tokens, plus one for each of their postings or one for each column of the part, whichever are fewer. The
+/// search leaves out the columns of the table named `except`, if any.
 ///
 /// Returns `Err(NoMemory)` only if memory runs out; running the search takes no memory.
 pub fn prepare<'a, 'q>(
@@ -64,6 +67,8 @@ pub fn prepare<'a, 'q>(
     let columns = Columns::new(alloc, most)?;
     let candidates = Candidates::new(alloc, most)?;
     let top = TopK::new(alloc, k)?;
+    // A part has at most as many tokens of the query as the query has keys.
+    let sums = Vec::with_capacity(alloc, query.len() as usize + 1)?;
     // A search reads at most as many lists as the query has keys.
     prove!(query.len() <= 4_194_304);
     Ok(Prepared {
@@ -74,6 +79,7 @@ pub fn prepare<'a, 'q>(
             except,
         },
         tokens,
+        sums,
         columns,
         candidates,
         top,
@@ -122,6 +128,7 @@ impl<'a, 'q> Prepared<'a, 'q> {
             mut looks,
             query,
             tokens,
+            mut sums,
             mut columns,
             mut candidates,
             mut top,
@@ -130,11 +137,13 @@ impl<'a, 'q> Prepared<'a, 'q> {
             columns.clear();
             let asked = &tokens[part as usize];
             let order = looks.order(part);
+            sum_costs(&looks, part, asked, &mut sums);
             search_part(
                 &mut looks,
                 part,
                 &query,
                 asked,
+                &sums,
                 &mut columns,
                 &mut candidates,
                 order,

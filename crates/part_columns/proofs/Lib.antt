@@ -5,3 +5,4 @@ pub mod ProbeLemmas
 pub mod SegmentLists
 pub mod RoomLemmas
 pub mod AskedLemmas
+pub mod SeekLemmas

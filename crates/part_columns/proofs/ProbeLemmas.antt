@@ -92,7 +92,7 @@ stands (y ∷ ys) x (suc i) h e = ap (λ b. nat_eq x y || b) (stands ys x i (ome
     or_true true = refl
     or_true false = refl
 
-lacks : (xs : List ℕ) (x : ℕ) → ((k : ℕ) → k < length xs → get_or xs k 0 ≡ x → ⊥) → is_among xs x ≡ false
+pub lacks : (xs : List ℕ) (x : ℕ) → ((k : ℕ) → k < length xs → get_or xs k 0 ≡ x → ⊥) → is_among xs x ≡ false
 lacks [] x h = refl
 lacks (y ∷ ys) x h = let apart : nat_eq x y ≡ false = differ (λ e. h 0 (omega arith) (sym e)) in ap (λ b. b || is_among ys x) apart ∙ lacks ys x (λ k l e. h (suc k) (omega arith) e)
   where
@@ -161,7 +161,7 @@ above x y (z ∷ zs) l h = (omega (arith, l, h.0), above x y zs l h.1)
 strict_behind : (x : ℕ) (xs : List ℕ) → IsStrictlyIncreasing (x ∷ xs) → IsStrictlyIncreasing xs
 strict_behind x xs up k h = let e : suc k + 1 ≡ suc (k + 1) = omega arith in subst (λ (n : ℕ). get_or xs k 0 < get_or (x ∷ xs) n 0) e (up (suc k) (omega arith))
 
-rises : (xs : List ℕ) → IsStrictlyIncreasing xs → Rises xs
+pub rises : (xs : List ℕ) → IsStrictlyIncreasing xs → Rises xs
 rises [] up = tt
 rises (x ∷ []) up = (tt, tt)
 rises (x ∷ y ∷ ys) up =

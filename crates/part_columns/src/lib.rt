@@ -8,6 +8,7 @@ mod columns;
 mod probing;
 mod room;
 mod row;
+mod seeking;
 mod tally;
 
 pub use answer::Answer;
@@ -16,4 +17,5 @@ pub use columns::Columns;
 pub use probing::probe;
 pub use room::{most_columns, most_probes};
 pub use row::row_of_column;
+pub use seeking::{Sought, seek};
 pub use tally::Tally;

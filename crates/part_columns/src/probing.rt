@@ -10,6 +10,7 @@ ghost use Rattle.search_model.specs.declared.Look.TheVariants.{Probe};
 ghost use Rattle.segment_core.specs.Versions.{part_at, segment_at};
 ghost use Rattle.part_columns.specs.Tallies.{tally_of};
 
+use crate::seeking::{Sought, seek};
 use crate::tally::Tally;
 use segment_core::Looks;
 
@@ -53,18 +54,20 @@ fn count_shared(others: &[u32], tokens: &[u32]) -> usize
     }
 }
 
-// Returns how many of these tokens are among the others, which rise.
+// Returns how many of these tokens are among the others. Both rise.
 fn count_among(others: &[u32], tokens: &[u32]) -> usize
-    requires { IsStrictlyIncreasing others.now }
+    requires others { IsStrictlyIncreasing others.now }
+    requires tokens { IsStrictlyIncreasing tokens.now }
     ensures { result ≡ count_by (is_among others.now) tokens.now }
 {
-    tokens.iter().filter(|token| has(others, **token)).count()
-}
-
-// Returns whether the token is among these, which rise.
-fn has(tokens: &[u32], token: u32) -> bool
-    requires { IsStrictlyIncreasing tokens.now }
-    ensures { result ≡ is_among tokens.now token }
-{
-    tokens.binary_search(&token).is_ok()
+    let mut shared = 0;
+    let mut left = others;
+    for token in tokens {
+        let Sought { found, rest } = seek(left, *token);
+        if found {
+            shared += 1;
+        }
+        left = rest;
+    }
+    shared
 }

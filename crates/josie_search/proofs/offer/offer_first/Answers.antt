@@ -1,4 +1,4 @@
-use Rattle.std.proofs.Common.{◌≡◌, ◌∙◌, ap, sym, ◌-◌, length, arith, slice_set}
+use Rattle.std.proofs.Common.{◌∙◌, ap, sym, ◌-◌, length, arith}
 use Rattle.std.specs.Prelude.{slice_get}
 use Rattle.search_model.specs.Looks.{beats, searched}
 use Rattle.segment_core.specs.Versions.{part_at, segment_at}

@@ -1,4 +1,4 @@
-use Rattle.std.proofs.Common.{◌≡◌, ◌∙◌, sym, ap, subst, ◌<◌, ◌≤◌, ◌++◌, [], length, map, get_or, arith}
+use Rattle.std.proofs.Common.{◌≡◌, ◌∙◌, sym, ap, subst, ◌<◌, ◌≤◌, ◌++◌, [], length, map, get_or, vec_capacity, arith}
 use Rattle.std.specs.Prelude.{bytes_eq}
 use Rattle.std.specs.List.{IsDistinct}
 use Rattle.lake_model.specs.Answer.{row_cmp}
@@ -11,7 +11,7 @@ use Rattle.josie_search.specs.Ready.{IsReady}
 use Rattle.part_columns.specs.Room.{asked_in, looks_bound}
 use Rattle.josie_search.specs.Search.{SearchOf}
 use Rattle.josie_search.proofs.PartsLemmas.{rows_kept, through_log, through_more, through_none, through_rows, length-searched, searched_at}
-use Rattle.part_columns.proofs.AskedLemmas.{asked_there, few_tokens, room_here}
+use Rattle.part_columns.proofs.AskedLemmas.{asked_there, few_tokens, room_here, tokens_within}
 use Rattle.josie_search.proofs.search.Prepared.run.Goals as goal
 
 pub loop-part-init : goal.loop-part-init
@@ -27,8 +27,38 @@ loop-part-init g c =
       k = ap (λ (t : FirstRows). t.k) ready.first;
       wide = ready.wide;
       kept = ready.kept;
+      sums = subst (λ (s : SearchOf). length s.query.keys < vec_capacity c.self.inside.sums) c.self.view_is c.self.invariant.2;
       room = ready.room;
     }
+
+pub sum_costs-requires-clause-few : goal.sum_costs-requires-clause-few
+sum_costs-requires-clause-few g c =
+    let kept = c.loop-part.invariant in
+    let ready = c.self.invariant.1 in
+    let query = c.self.inside.query in
+    let parts = c.self.inside.looks.version.parts in
+    let same = ap (λ (s : SearchOf). length s.version.parts) c.self.view_is in
+    let asked = asked_there query.keys parts c.self.inside.tokens.items c.loop-part.part _ _ ready.asked (omega (arith, c.loop-part-test.true, kept.end, same)) c.index-asked.ensures c.deref.ensures.value in
+    omega (arith, few_tokens query (part_at parts c.loop-part.part) _ ready.different asked, ready.few)
+
+pub sum_costs-requires-clause-tokens : goal.sum_costs-requires-clause-tokens
+sum_costs-requires-clause-tokens g c =
+    let kept = c.loop-part.invariant in
+    let query = c.args.self.query in
+    let version = c.args.self.version in
+    let lists = subst (λ (s : SearchOf). map (λ v. v.items) c.self.inside.tokens.items ≡ map (asked_in s.query.keys) s.version.parts) c.self.view_is c.self.invariant.1.asked in
+    let asked = asked_there query.keys version.parts c.self.inside.tokens.items c.loop-part.part _ _ lists (omega (arith, c.loop-part-test.true, kept.end)) c.index-asked.ensures c.deref.ensures.value in
+    tokens_within c.loop-part.looks.version version query.keys c.loop-part.part _ kept.version asked
+
+pub sum_costs-requires-clause-room : goal.sum_costs-requires-clause-room
+sum_costs-requires-clause-room g c =
+    let kept = c.loop-part.invariant in
+    let query = c.args.self.query in
+    let parts = c.args.self.version.parts in
+    let lists = subst (λ (s : SearchOf). map (λ v. v.items) c.self.inside.tokens.items ≡ map (asked_in s.query.keys) s.version.parts) c.self.view_is c.self.invariant.1.asked in
+    let different = subst (λ (s : SearchOf). IsDistinct bytes_eq s.query.keys) c.self.view_is c.self.invariant.1.different in
+    let asked = asked_there query.keys parts c.self.inside.tokens.items c.loop-part.part _ _ lists (omega (arith, c.loop-part-test.true, kept.end)) c.index-asked.ensures c.deref.ensures.value in
+    omega (arith, few_tokens query (part_at parts c.loop-part.part) _ different asked, kept.sums)
 
 pub search_part-requires-clause-few : goal.search_part-requires-clause-few
 search_part-requires-clause-few g c =
@@ -47,7 +77,7 @@ search_part-requires-clause-tokens g c =
     let query = c.self.inside.query in
     let parts = c.self.inside.looks.version.parts in
     let same = ap (λ (s : SearchOf). length s.version.parts) c.self.view_is in
-    let asked = asked_there query.keys parts c.self.inside.tokens.items c.loop-part.part _ _ ready.asked (omega (arith, c.loop-part-test.true, kept.end, same)) c.index-asked.ensures c.deref.ensures.value in
+    let asked = asked_there query.keys parts c.self.inside.tokens.items c.loop-part.part _ _ ready.asked (omega (arith, c.loop-part-test.true, kept.end, same)) c.index-asked.ensures c.deref-in-loop-part.ensures.value in
     let back : c.self.inside.looks.version ≡ c.loop-part.looks.version = ap (λ (s : SearchOf). s.version) c.self.view_is ∙ sym kept.version in
     asked ∙ ap (λ (v : VersionOf). asked_in query.keys (part_at v.parts c.loop-part.part)) back
 
@@ -58,11 +88,11 @@ search_part-requires-clause-room g c =
     let query = c.args.self.query in
     let parts = c.args.self.version.parts in
     let lists = subst (λ (s : SearchOf). map (λ v. v.items) c.self.inside.tokens.items ≡ map (asked_in s.query.keys) s.version.parts) c.self.view_is ready.asked in
-    let asked = asked_there query.keys parts c.self.inside.tokens.items c.loop-part.part _ _ lists (omega (arith, c.loop-part-test.true, kept.end)) c.index-asked.ensures c.deref.ensures.value in
+    let asked = asked_there query.keys parts c.self.inside.tokens.items c.loop-part.part _ _ lists (omega (arith, c.loop-part-test.true, kept.end)) c.index-asked.ensures c.deref-in-loop-part.ensures.value in
     omega (
       arith,
       room_here query.keys parts c.loop-part.part _ c.loop-part.looks.spare (omega (arith, c.loop-part-test.true, kept.end)) asked kept.room,
-      ap (λ (v : VersionOf). looks_bound (part_at v.parts c.loop-part.part) c.deref.result.now) kept.version,
+      ap (λ (v : VersionOf). looks_bound (part_at v.parts c.loop-part.part) c.deref-in-loop-part.result.now) kept.version,
     )
 
 pub search_part-requires-clause-rows : goal.search_part-requires-clause-rows
@@ -84,7 +114,7 @@ loop-part-preserved g c =
     let within : part < length parts = omega (arith, c.loop-part-test.true, kept.end) in
     let some = subst (λ (s : SearchOf). 0 < s.query.k) c.self.view_is c.self.invariant.1.some in
     let lists = subst (λ (s : SearchOf). map (λ v. v.items) c.self.inside.tokens.items ≡ map (asked_in s.query.keys) s.version.parts) c.self.view_is c.self.invariant.1.asked in
-    let asked = asked_there query.keys parts c.self.inside.tokens.items part _ _ lists within c.index-asked.ensures c.deref.ensures.value in
+    let asked = asked_there query.keys parts c.self.inside.tokens.items part _ _ lists within c.index-asked.ensures c.deref-in-loop-part.ensures.value in
     let same : c.self.inside.query ≡ query = ap (λ (s : SearchOf). s.query) c.self.view_is in
     let here : searched c.self.inside.query (part_at c.loop-part.looks.version.parts part) ≡ get_or (map (searched query) parts) part (searched query (part_with 0 [])) =
     (λ i. searched (same i) (part_at (kept.version i).parts part)) ∙ sym (searched_at query parts part within) in
@@ -97,11 +127,12 @@ loop-part-preserved g c =
       k = done.k ∙ kept.k;
       wide = λ i h. (let w = kept.wide i h in omega (arith, w, done.wide, c.clear.ensures.wide));
       kept = omega (arith, kept.kept, done.wide, done.kept, c.clear.ensures.wide);
+      sums = omega (arith, kept.sums, c.sum_costs.ensures.room);
       room = omega (
         arith,
         done.spare,
         room_here query.keys parts part _ c.loop-part.looks.spare within asked kept.room,
-        ap (λ (v : VersionOf). looks_bound (part_at v.parts part) c.deref.result.now) kept.version,
+        ap (λ (v : VersionOf). looks_bound (part_at v.parts part) c.deref-in-loop-part.result.now) kept.version,
       );
     }
 

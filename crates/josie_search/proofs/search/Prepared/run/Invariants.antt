@@ -1,4 +1,4 @@
-use Rattle.std.proofs.Common.{◌≡◌, ◌≤◌, length, map, drop, sum_by}
+use Rattle.std.proofs.Common.{◌≡◌, ◌<◌, ◌≤◌, length, map, drop, sum_by, vec_capacity}
 use Rattle.search_model.specs.Looks.{searched}
 use Rattle.part_columns.specs.Room.{IsMost, looks_in}
 use Rattle.josie_search.proofs.PartsLemmas.{Through}
@@ -12,5 +12,6 @@ invariant-loop-part g l = record {
   k : l.top.k ≡ l.fn.self.query.k;
   wide : IsMost l.fn.self.version.parts (length l.columns.tallies);
   kept : length l.columns.tallies ≤ l.candidates.room;
+  sums : length l.fn.self.query.keys < vec_capacity l.sums;
   room : sum_by (looks_in l.fn.self.query.keys) (drop l.part l.fn.self.version.parts) ≤ l.looks.spare;
 }
