@@ -6,9 +6,10 @@
 A table of one column of 1,000,000 keys of 32 letters is loaded; then a query of the same keys is asked; and the table is loaded while four queries are watched
 that have a quarter of the keys each. In the slots by which a column or a query finds its keys while it is read, all keys of the first flood have the same hash
 (`FoldHasher`: after a front that makes its state equal to the eight bytes that follow, the last eight bytes have no effect). In a segment, which finds its
-tokens by a 32-bit hash (FNV-1a), and in the index of the watched queries, which finds their keys by the same hash, all keys of the second flood have the same
-hash: each key is four blocks of eight letters, and each block is one of those that lead from one state of the hash to another. The keys of the third flood have
-the same hash in both: they are 400,000 keys of 128 bytes, with four such blocks each, and a front before each block that keeps it without effect in the slots.
+tokens by a 32-bit hash (FNV-1a), all keys of the second flood have the same hash: each key is four blocks of eight letters, and each block is one of those that
+lead from one state of the hash to another. The keys of the third flood have the same hash in both: they are 400,000 keys of 128 bytes, with four such blocks
+each, and a front before each block that keeps it without effect in the slots. The index of the watched queries finds their keys by 64 bits of SipHash-1-3, for
+which no way is known to choose many keys of one hash, so it is measured with these floods only.
 
 The random keys are of the same length as those of the flood, and have the same fronts but for one letter. Keys come in random order. A time is the least CPU
 time of N whole runs; that of a search, and of the watched queries (to read them, to index them and to find their rows), is what the run takes beyond the load.
@@ -134,8 +135,8 @@ def main():
     slots, segment, both = [(FRONT, FREE)], [("", 2 * HALF)] * (SIZE // (2 * HALF)), silent_fronts(chance)
     floods = (
         ("one hash in the slots", KEYS, slots, random_keys),
-        ("one hash in the segment and in the watched queries", KEYS, segment, fnv_keys),
-        ("one hash in all of them", LONG_KEYS, both, fnv_keys),
+        ("one hash in the segment", KEYS, segment, fnv_keys),
+        ("one hash in both", LONG_KEYS, both, fnv_keys),
     )
     is_slow = False
     print("seconds of CPU, and beside random keys:")
