@@ -1,5 +1,3 @@
-//! Tests the rows of watched queries, and whether an entry changed them: worked runs, and random entries compared with
-//! a plain model.
+//! Tests the rows of watched queries, and whether an entry changed them: runs whose rows were worked out by hand.
 mod entries;
-mod random;
 mod worked;

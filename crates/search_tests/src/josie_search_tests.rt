@@ -1,6 +1,6 @@
-//! Tests what a search answers, reads and probes: worked runs of small lakes, and random lakes compared with a plain
+//! Tests what a search answers, reads and probes: worked runs of small lakes, and made lakes compared with a plain
 //! model.
 mod lakes;
+mod made;
 mod model;
-mod random;
 mod worked;

@@ -5,6 +5,8 @@
 #![tactic(auto)]
 
 #[cfg(test)]
+mod answers;
+#[cfg(test)]
 mod asof_search_tests;
 #[cfg(test)]
 mod column_watch_tests;

@@ -16,6 +16,15 @@ pub(crate) const WHO: Who = Who {
     command: 1,
 };
 
+/// An entry of a journal: the name of its table, and the table's CSV bytes; or the merge of the first two parts.
+#[derive(Clone, Copy)]
+pub(crate) enum Change<'c> {
+    Load(&'c str, &'c str),
+    Replace(&'c str, &'c str),
+    Drop(&'c str),
+    Merge,
+}
+
 /// Reads a text as a name.
 pub(crate) fn name(text: &str) -> Result<Name, Fail> {
     Ok(Name::read(text.as_bytes()).ok_or("no name")?)

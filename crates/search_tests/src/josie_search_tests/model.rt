@@ -1,33 +1,38 @@
 //! The looks and the rows of a search, computed from whole sets: what is known, what is open, and its bounds, step by
 //! step.
+//!
+//! The keys are the letters from a to l, and the names of tables and columns are letters, too. A table has two columns,
+//! and each line of its CSV bytes has four: the letter of the first column or a space, a comma, that of the second, and
+//! the end of the line. The first line has the names of the columns, which are capitals.
 
+use column_set::Row;
 use cost_model::{Chooser, Summary};
 use segment_core::Look;
 use std::alloc::Global;
 use std::test::Fail;
 
-/// A column: the places of its table's name and of its own name in the order of names, its place in the table, whether
-/// its table is neither marked nor excepted, and which values it has, by their places in the order of the keys.
-#[derive(Drop)]
+/// A column: the name of its table, its own name, its place in the table, whether its table is neither marked nor
+/// excepted, and the table's CSV bytes.
+#[derive(Clone, Copy)]
 pub(crate) struct Column {
-    pub table: usize,
-    pub title: usize,
-    pub place: u32,
-    pub eligible: bool,
-    pub values: Vec<usize>,
+    table: u8,
+    title: u8,
+    place: u32,
+    eligible: bool,
+    text: &'static str,
 }
 
 /// A row: 100 minus the overlap, so that the greater overlap comes first, the table's name, the column's name, and the
 /// place.
-pub(crate) type Counted = (u32, usize, usize, u32);
+pub(crate) type Counted = (u32, u8, u8, u32);
 
-// A value that some column has: how many columns have it, and which value it is. Tokens compare in this order.
-type Token = (u32, usize);
+// A letter that some column has: how many columns have it, and which it is. Tokens compare in this order.
+type Token = (u32, u8);
 
-/// A part of a lake: its number, its columns, and its values in the order of tokens.
+/// A part of a lake: its number, its columns, and its letters in the order of tokens.
 #[derive(Drop)]
 pub(crate) struct Part {
-    pub number: u64,
+    number: u64,
     columns: Vec<Column>,
     tokens: Vec<Token>,
 }
@@ -41,28 +46,89 @@ struct Seen {
     bound: u32,
 }
 
-// How far a search has come in a part.
+// How far a search has come in a part: how many lists it has read, and which columns it has probed.
 #[derive(Drop)]
 struct Progress {
     read: usize,
     probed: Vec<usize>,
 }
 
-// Returns how far an overlap is below 100, so that the greater one comes first.
+// What a search does next in a part: it ends, knows all columns, reads the list of a token, or probes a column.
+#[derive(Clone, Copy)]
+enum Next {
+    End,
+    KnowAll,
+    Read(Token),
+    Probe(usize, u32),
+}
+
+// Returns how far an overlap is below 100, so that the greater one comes first; or the overlap, given that.
 fn inverse(overlap: u32) -> u32 {
     100u32.saturating_sub(overlap)
 }
 
+// Returns whether a row comes before the worst one.
+fn is_better(row: Counted, worst: Option<Counted>) -> bool {
+    match worst {
+        None => true,
+        Some(worst) => row < worst,
+    }
+}
+
+// Returns the overlap that a row needs: that of the worst one, or 1.
+fn threshold(worst: Option<Counted>) -> u32 {
+    match worst {
+        None => 1,
+        Some(worst) => inverse(worst.0),
+    }
+}
+
+// Returns a small number.
+fn small(number: usize) -> u32 {
+    (number % 1000) as u32
+}
+
+// Returns the letter at a place of a text, counted from 0.
+fn letter(text: &str, at: usize) -> u8 {
+    match text.as_bytes().get(at) {
+        None => 0,
+        Some(letter) => *letter,
+    }
+}
+
 impl Column {
+    /// Returns the column of a table with these CSV bytes at a place, 1 or 2.
+    pub(crate) fn new(table: &str, text: &'static str, place: u32, eligible: bool) -> Column {
+        let at = if place == 1 { 0 } else { 2 };
+        Column {
+            table: letter(table, 0),
+            title: letter(text, at),
+            place,
+            eligible,
+            text,
+        }
+    }
+
     fn row(&self, overlap: u32) -> Counted {
         (inverse(overlap), self.table, self.title, self.place)
+    }
+
+    // Returns whether the column has a letter.
+    fn has(&self, letter: u8) -> bool {
+        let at = if self.place == 1 { 0 } else { 2 };
+        for line in self.text.as_bytes().chunks(4) {
+            if line.get(at) == Some(&letter) {
+                return true;
+            }
+        }
+        false
     }
 
     // Returns how many of these tokens the column has.
     fn count(&self, tokens: &[Token]) -> u32 {
         let mut count = 0u32;
         for token in tokens {
-            if self.values.contains(&token.1) {
+            if self.has(token.1) {
                 count = count.saturating_add(1);
             }
         }
@@ -73,36 +139,50 @@ impl Column {
     fn last(&self, tokens: &[Token]) -> Option<Token> {
         let mut last = None;
         for token in tokens {
-            if self.values.contains(&token.1) {
+            if self.has(token.1) {
                 last = Some(*token);
             }
         }
         last
     }
+
+    // Returns how many of these tokens before `last` the column has.
+    fn position(&self, tokens: &[Token], last: Token) -> u32 {
+        let mut position = 0u32;
+        for token in tokens {
+            if *token < last && self.has(token.1) {
+                position = position.saturating_add(1);
+            }
+        }
+        position
+    }
+}
+
+// Returns how many of the columns have a letter.
+fn frequency(columns: &[Column], letter: u8) -> u32 {
+    let mut count = 0u32;
+    for column in columns {
+        if column.has(letter) {
+            count = count.saturating_add(1);
+        }
+    }
+    count
 }
 
 impl Part {
-    /// Returns the part of these columns, whose values are all below `values`.
-    pub(crate) fn new(
-        alloc: Global,
-        number: u64,
-        columns: Vec<Column>,
-        values: usize,
-    ) -> Result<Part, Fail> {
+    /// Returns the part of these columns.
+    pub(crate) fn new(alloc: Global, number: u64, columns: &[Column]) -> Result<Part, Fail> {
         let mut tokens = Vec::new(alloc);
-        for value in 0..values {
-            let count = columns
-                .iter()
-                .filter(|column| column.values.contains(&value))
-                .count();
+        for letter in b'a'..b'm' {
+            let count = frequency(columns, letter);
             if count > 0 {
-                tokens.push(((count % 1000) as u32, value))?;
+                tokens.push((count, letter))?;
             }
         }
         tokens.sort()?;
         Ok(Part {
             number,
-            columns,
+            columns: Vec::from_slice(alloc, columns)?,
             tokens,
         })
     }
@@ -118,11 +198,11 @@ impl Part {
         number
     }
 
-    // Returns the tokens of these values, in order.
-    fn asked(&self, alloc: Global, values: &[usize]) -> Result<Vec<Token>, Fail> {
+    // Returns the tokens of these letters, in order.
+    fn asked(&self, alloc: Global, letters: &str) -> Result<Vec<Token>, Fail> {
         let mut asked = Vec::new(alloc);
         for token in &self.tokens {
-            if values.contains(&token.1) {
+            if letters.as_bytes().contains(&token.1) {
                 asked.push(*token)?;
             }
         }
@@ -132,13 +212,9 @@ impl Part {
     // Returns what is known of a column that is in one of the lists read, with `left` lists left.
     fn seen(&self, column: &Column, read: &[Token], left: u32) -> Option<Seen> {
         let last = column.last(read)?;
-        let mut position = 0u32;
-        for token in &self.tokens {
-            if *token < last && column.values.contains(&token.1) {
-                position = position.saturating_add(1);
-            }
-        }
-        let rest = ((column.values.len() % 1000) as u32)
+        let position = column.position(&self.tokens, last);
+        let rest = column
+            .count(&self.tokens)
             .saturating_sub(1)
             .saturating_sub(position);
         let count = column.count(read);
@@ -157,22 +233,49 @@ impl Part {
         read: &[Token],
         left: u32,
         worst: Option<Counted>,
-    ) -> Option<(Counted, usize, Seen)> {
-        let mut best: Option<(Counted, usize, Seen)> = None;
+    ) -> Option<(usize, Seen)> {
+        let mut first = worst;
+        let mut best = None;
         for (number, column) in self.columns.iter().enumerate() {
-            if !column.eligible || progress.probed.contains(&number) {
-                continue;
-            }
-            if let Some(seen) = self.seen(column, read, left) {
-                let row = column.row(seen.bound);
-                if worst.map_or(true, |worst| row < worst)
-                    && best.map_or(true, |best| row < best.0)
-                {
-                    best = Some((row, number, seen));
+            if column.eligible && !progress.probed.contains(&number) {
+                if let Some(seen) = self.seen(column, read, left) {
+                    let row = column.row(seen.bound);
+                    if is_better(row, first) {
+                        first = Some(row);
+                        best = Some((number, seen));
+                    }
                 }
             }
         }
         best
+    }
+
+    // Returns what a search does next.
+    fn next<C: Chooser>(
+        &self,
+        asked: &[Token],
+        progress: &Progress,
+        worst: Option<Counted>,
+        chooser: &C,
+    ) -> Next {
+        let Some((read, rest)) = asked.split_at_checked(progress.read) else {
+            return Next::End;
+        };
+        let Some(next) = rest.first() else {
+            return Next::KnowAll;
+        };
+        let left = small(rest.len());
+        match self.best(progress, read, left, worst) {
+            None if left < threshold(worst) => Next::End,
+            None => Next::Read(*next),
+            Some((number, seen)) => {
+                if chooser.probe(&summary(asked, progress.read, seen, worst)) {
+                    Next::Probe(number, seen.position)
+                } else {
+                    Next::Read(*next)
+                }
+            }
+        }
     }
 
     // Adds the looks of the part to `log`, and the rows that are known after them to `known`.
@@ -192,46 +295,36 @@ impl Part {
         for _ in 0..1000u32 {
             known.sort()?;
             let worst = known.get(k.saturating_sub(1)).copied();
-            let Some((read, rest)) = asked.split_at_checked(progress.read) else {
-                return Err(Fail::from("more lists than tokens"));
-            };
-            let Some(next) = rest.first() else {
-                self.know_all(asked, &progress, known)?;
-                return Ok(());
-            };
-            let left = (rest.len() % 1000) as u32;
-            let best = self.best(&progress, read, left, worst);
-            let threshold = worst.map_or(1, |worst| 100u32.saturating_sub(worst.0));
-            match best {
-                None if left < threshold => return Ok(()),
-                None => {
-                    log.push(Look::Read {
-                        part: self.number,
-                        token: self.token(*next),
-                    })?;
+            match self.next(asked, &progress, worst, chooser) {
+                Next::End => return Ok(()),
+                Next::KnowAll => return self.know_all(asked, &progress, known),
+                Next::Read(token) => {
+                    log.push(self.read(token))?;
                     progress.read = progress.read.saturating_add(1);
                 }
-                Some((_, number, seen)) => {
-                    let summary = summary(asked, progress.read, seen, worst);
-                    if chooser.probe(&summary) {
-                        log.push(Look::Probe {
-                            part: self.number,
-                            set: (number % 1000) as u32,
-                            after: seen.position,
-                        })?;
-                        progress.probed.push(number)?;
-                        self.know(number, asked, known)?;
-                    } else {
-                        log.push(Look::Read {
-                            part: self.number,
-                            token: self.token(*next),
-                        })?;
-                        progress.read = progress.read.saturating_add(1);
-                    }
+                Next::Probe(number, after) => {
+                    log.push(self.probe(number, after))?;
+                    progress.probed.push(number)?;
+                    self.know(number, asked, known)?;
                 }
             }
         }
         Err(Fail::from("no end"))
+    }
+
+    fn read(&self, token: Token) -> Look {
+        Look::Read {
+            part: self.number,
+            token: self.token(token),
+        }
+    }
+
+    fn probe(&self, number: usize, after: u32) -> Look {
+        Look::Probe {
+            part: self.number,
+            set: small(number),
+            after,
+        }
     }
 
     // Adds the row of a column that was probed.
@@ -260,14 +353,13 @@ impl Part {
 
 // Returns the cost of the lists that an overlap of `estimate` would spare.
 fn gain(asked: &[Token], read: usize, worst: Option<Counted>, estimate: u32) -> u64 {
-    let Some(worst) = worst else {
+    if worst.is_none() {
         return 0;
-    };
-    let overlap = 100u32.saturating_sub(worst.0);
+    }
     let mut gain = 0u64;
     for (place, token) in asked.iter().enumerate() {
-        let left = (asked.len().saturating_sub(place) % 1000) as u32;
-        if place >= read && left >= overlap && left < estimate {
+        let left = small(asked.len().saturating_sub(place));
+        if place >= read && left >= threshold(worst) && left < estimate {
             gain = gain
                 .saturating_add(64)
                 .saturating_add(4u64.saturating_mul(u64::from(token.0)));
@@ -276,42 +368,55 @@ fn gain(asked: &[Token], read: usize, worst: Option<Counted>, estimate: u32) -> 
     gain
 }
 
+// Returns the overlap that a column would have if the lists that are left gave as many as those read.
+fn guess(lists: u32, done: u32, seen: Seen) -> u32 {
+    let guess = seen.count.saturating_mul(lists).checked_div(done);
+    seen.count.max(seen.bound.min(guess.unwrap_or(0)))
+}
+
 // Returns what a chooser sees.
 fn summary(asked: &[Token], read: usize, seen: Seen, worst: Option<Counted>) -> Summary {
-    let lists = (asked.len() % 1000) as u32;
-    let done = (read % 1000) as u32;
-    let guess = seen
-        .count
-        .saturating_mul(lists)
-        .checked_div(done)
-        .unwrap_or(0);
-    let estimate = seen.count.max(seen.bound.min(guess));
+    let lists = small(asked.len());
+    let done = small(read);
+    let next_len = match asked.get(read) {
+        None => 0,
+        Some(token) => token.0,
+    };
     Summary {
-        next_len: asked.get(read).map_or(0, |token| token.0),
+        next_len,
         left: lists.saturating_sub(done),
         c: seen.count,
         u: seen.bound,
         rest: seen.rest,
-        t: worst.map_or(1, |worst| 100u32.saturating_sub(worst.0)),
-        gain: gain(asked, read, worst, estimate),
+        t: threshold(worst),
+        gain: gain(asked, read, worst, guess(lists, done, seen)),
     }
 }
 
-/// Returns the rows of a search for these values, and its log.
+/// Returns the rows of a search for these letters, and its log.
 pub(crate) fn search<C: Chooser>(
     alloc: Global,
     parts: &[Part],
-    values: &[usize],
+    letters: &str,
     k: usize,
     chooser: &C,
 ) -> Result<(Vec<Counted>, Vec<Look>), Fail> {
     let mut known = Vec::new(alloc);
     let mut log = Vec::new(alloc);
     for part in parts {
-        let asked = part.asked(alloc, values)?;
+        let asked = part.asked(alloc, letters)?;
         part.play(alloc, &asked, k, chooser, &mut known, &mut log)?;
     }
     known.sort()?;
     known.truncate(k);
     Ok((known, log))
+}
+
+/// Returns whether a row is this one.
+pub(crate) fn is_counted(row: &Row<'_>, counted: Counted) -> bool {
+    let (left, table, title, place) = counted;
+    inverse(row.overlap) == left
+        && letter(row.table().text(), 0) == table
+        && letter(row.column(), 0) == title
+        && row.place == place
 }

@@ -1,14 +1,11 @@
 use Rattle.std.proofs.Common.{◌∙◌, [], ◌∷◌, ap, List, map}
 use Rattle.std.specs.List.{flat_map}
 use Rattle.lake_model.specs.Layout.{Part}
-use Rattle.segment_core.specs.Versions.{part_with, places_with}
 use Rattle.search_tests.proofs.LakeLemmas.{lake_apart}
 use Rattle.search_tests.proofs.josie_search_tests.lakes.Tables.two_parts.Goals as goal
 
 pub new-requires-clause-names : goal.new-requires-clause-names
 new-requires-clause-names c =
     let apart = c.if-not-differ.ensures in
-    let front = c.in_ok-front.ensures ∙ (λ i. part_with 5 (places_with (c.in_ok-vec-2.ensures.items i) (c.in_ok-vec.ensures.items i) (c.in_ok-vec-3.ensures.items i))) in
-    let back = c.in_ok-back.ensures ∙ (λ i. part_with 6 (places_with (c.in_ok-vec-5.ensures.items i) (c.in_ok-vec-4.ensures.items i) (c.in_ok-vec-6.ensures.items i))) in
-    let all = c.in_ok-vec-7.ensures.items ∙ (λ i. front i ∷ back i ∷ []) in
-    lake_apart _ _ _ _ c.in_ok-vec-7.field-0.items (ap (λ (parts : List Part). map (λ place. place.table.name) (flat_map (λ part. part.places) parts)) all) apart.first_second apart.first_third apart.first_fourth apart.second_third apart.second_fourth apart.third_fourth
+    let all = c.in_ok-vec.ensures.items ∙ (λ i. c.in_ok-front.ensures i ∷ c.in_ok-back.ensures i ∷ []) in
+    lake_apart _ _ _ _ c.in_ok-vec.field-0.items (ap (λ (parts : List Part). map (λ place. place.table.name) (flat_map (λ part. part.places) parts)) all) apart.first_second apart.first_third apart.first_fourth apart.second_third apart.second_fourth apart.third_fourth

@@ -1,0 +1,239 @@
+//! Made lakes in each layout: for each chooser the log of a search equals that of the plain model, and the rows equal
+//! those of a search that only reads, over the lake in one part.
+ghost use Rattle.std.specs.Prelude.{◌<◌};
+
+use super::lakes::version;
+use super::model::{Column, Counted, Part, is_counted, search};
+use column_set::{Keys, Name, QuerySet, Row};
+use cost_model::{AlwaysProbe, AlwaysRead, Chooser, Listed, Profile};
+use josie_search::prepare;
+use segment_core::Pin;
+use std::alloc::Global;
+use std::test::Fail;
+
+// The tables of a lake: names, in another order than theirs, and CSV bytes as the plain model reads them.
+type Tables = [(&'static str, &'static str); 4];
+
+// Each letter is in two to five of the columns, and each column has three or four letters.
+const TIES: Tables = [
+    ("w", "Q,P\na,a\nb,c\nd,e\n ,g\n"),
+    ("t", "P,P\na,b\nc,d\ne,f\ng,h\n"),
+    ("v", "P,Q\nb,a\nd,c\ng,d\n"),
+    ("u", "Q,Q\na,e\nc,f\nf,b\n ,h\n"),
+];
+
+// The columns have none to eight letters, and a probe of the largest costs more than some lists.
+const SIZES: Tables = [
+    ("w", "Q,P\nf,b\nj,c\n"),
+    ("t", "Q,Q\nb, \nd, \ne, \ng, \nj, \nk, \n"),
+    ("v", "Q,P\na, \n"),
+    ("u", "Q,Q\nb,g\nd,k\ne, \nh, \ni, \nj, \nk, \nl, \n"),
+];
+
+// The layouts: the number of each part, and its first column and the one behind its last, counted from 0.
+const LAYOUTS: [&[(u64, usize, usize)]; 3] = [
+    &[(5, 0, 8)],
+    &[(5, 0, 4), (6, 4, 8)],
+    &[(5, 0, 2), (6, 2, 6), (7, 6, 8)],
+];
+
+// The answers of eight choosers.
+const LISTS: [&[bool]; 8] = [
+    &[false],
+    &[true, false],
+    &[false, true],
+    &[true, false, false],
+    &[true, false, false, true, true],
+    &[false, true, false, false, true],
+    &[true, true, true, false, false],
+    &[false, false, false, false, true],
+];
+
+// A search: the tables of the lake, which of them are marked, the name of the excepted table or of none, the lines of
+// the query, and how many rows.
+#[derive(Clone, Copy)]
+struct Asked {
+    tables: Tables,
+    marked: [bool; 4],
+    except: &'static str,
+    body: &'static str,
+    k: u32,
+}
+
+// Returns the columns of the lake.
+fn columns(alloc: Global, asked: &Asked) -> Result<Vec<Column>, Fail> {
+    let mut columns = Vec::new(alloc);
+    for i in 0..4usize {
+        let (name, text) = asked.tables[i];
+        let eligible = !asked.marked[i] && asked.except != name;
+        columns.push(Column::new(name, text, 1, eligible))?;
+        columns.push(Column::new(name, text, 2, eligible))?;
+    }
+    Ok(columns)
+}
+
+// Returns the parts of the plain model in a layout.
+fn parts(
+    alloc: Global,
+    columns: &[Column],
+    layout: &[(u64, usize, usize)],
+) -> Result<Vec<Part>, Fail> {
+    let mut parts = Vec::new(alloc);
+    for (number, from, to) in layout {
+        let own = columns.get(*from..*to).ok_or("no such columns")?;
+        parts.push(Part::new(alloc, *number, own)?)?;
+    }
+    Ok(parts)
+}
+
+fn are_counted(rows: &[Row<'_>], counted: &[Counted]) -> bool {
+    for (row, counted) in rows.iter().zip(counted) {
+        if !is_counted(row, *counted) {
+            return false;
+        }
+    }
+    rows.len() == counted.len()
+}
+
+// A search in one layout: the pin and the plain parts, the query, the excepted name, and the rows that every chooser
+// gives.
+#[derive(Clone, Copy)]
+struct Laid<'l> {
+    pin: &'l Pin,
+    parts: &'l [Part],
+    asked: Asked,
+    query: &'l QuerySet,
+    except: Option<&'l Name>,
+    rows: &'l [Counted],
+}
+
+impl Laid<'_> {
+    // Compares the log with that of the plain model for this chooser, and the rows with `rows`.
+    fn compare<C: Chooser>(&self, alloc: Global, chooser: &C) -> Result<(), Fail> {
+        let k = self.asked.k;
+        if k == 0 || k > 10_000 {
+            return Err(Fail::from("no such number of rows"));
+        }
+        let looks = self.pin.looks(alloc);
+        let answer = prepare(alloc, looks, self.query, k, self.except)?.run(chooser);
+        let (_known, log) = search(alloc, self.parts, self.asked.body, k as usize, chooser)?;
+        if answer.looks.log() != log.as_slice() {
+            return Err(Fail::from("other looks"));
+        }
+        if !are_counted(answer.rows.list(), self.rows) {
+            return Err(Fail::from("other rows"));
+        }
+        Ok(())
+    }
+
+    // Does the same with the choosers that follow a list of answers.
+    fn compare_listed(&self, alloc: Global) -> Result<(), Fail> {
+        for answers in LISTS {
+            if answers.is_empty() {
+                return Err(Fail::from("no answers"));
+            }
+            self.compare(alloc, &Listed::new(alloc, answers)?)?;
+        }
+        Ok(())
+    }
+
+    // Does the same with all choosers.
+    fn compare_all(&self, alloc: Global) -> Result<(), Fail> {
+        self.compare(alloc, &Profile)?;
+        self.compare(alloc, &AlwaysRead)?;
+        self.compare(alloc, &AlwaysProbe)?;
+        self.compare_listed(alloc)
+    }
+}
+
+// Returns what a search that only reads finds, over the lake in one part.
+fn rows_read(alloc: Global, asked: &Asked, columns: &[Column]) -> Result<Vec<Counted>, Fail> {
+    let parts = parts(alloc, columns, LAYOUTS[0])?;
+    let (rows, _log) = search(alloc, &parts, asked.body, asked.k as usize, &AlwaysRead)?;
+    Ok(rows)
+}
+
+// Searches the lake in the layout of this number.
+fn one_layout(
+    alloc: Global,
+    asked: Asked,
+    columns: &[Column],
+    rows: &[Counted],
+    layout: usize,
+) -> Result<(), Fail>
+    requires { layout < 3 }
+{
+    let pin = Pin::new(version(alloc, &asked.tables, asked.marked, layout + 1)?);
+    let parts = parts(alloc, columns, LAYOUTS[layout])?;
+    let query = QuerySet::read(alloc, Keys::Canonical, asked.body.as_bytes())?;
+    let name = Name::read(asked.except.as_bytes());
+    let except = name.as_ref();
+    let laid = Laid {
+        pin: &pin,
+        parts: &parts,
+        asked,
+        query: &query,
+        except,
+        rows,
+    };
+    laid.compare_all(alloc)
+}
+
+// Searches the lake in one part, in two and in three.
+fn all_layouts(alloc: Global, asked: Asked) -> Result<(), Fail> {
+    let columns = columns(alloc, &asked)?;
+    let rows = rows_read(alloc, &asked, &columns)?;
+    for layout in 0..3usize {
+        one_layout(alloc, asked, &columns, &rows, layout)?;
+    }
+    Ok(())
+}
+
+// The queries, and how many rows are asked for. No table has the key z.
+const QUERIES: [(&str, u32); 5] = [
+    ("a\nb\nc\nd\ne\nf\ng\nh\ni\nj\nk\nl\n", 3),
+    ("a\nb\nc\nd\ne\nf\ng\nh\ni\nj\nk\nl\n", 1),
+    ("b\nd\nf\ng\nh\nj\nk\nl\n", 2),
+    ("a\nc\ne\ng\nz\n", 4),
+    ("h\n", 8),
+];
+
+// Searches a lake for each query, with these marked tables and this excepted one.
+fn all_queries(
+    alloc: Global,
+    tables: Tables,
+    marked: [bool; 4],
+    except: &'static str,
+) -> Result<(), Fail> {
+    for (body, k) in QUERIES {
+        let asked = Asked {
+            tables,
+            marked,
+            except,
+            body,
+            k,
+        };
+        all_layouts(alloc, asked)?;
+    }
+    Ok(())
+}
+
+#[test]
+fn ties(rt: HostRuntime) -> Result<(), Fail> {
+    all_queries(rt.alloc(), TIES, [false; 4], "")
+}
+
+#[test]
+fn ties_with_a_mark_and_an_exception(rt: HostRuntime) -> Result<(), Fail> {
+    all_queries(rt.alloc(), TIES, [false, false, true, false], "w")
+}
+
+#[test]
+fn sizes(rt: HostRuntime) -> Result<(), Fail> {
+    all_queries(rt.alloc(), SIZES, [false; 4], "")
+}
+
+#[test]
+fn sizes_with_a_mark_and_an_exception(rt: HostRuntime) -> Result<(), Fail> {
+    all_queries(rt.alloc(), SIZES, [true, false, false, false], "t")
+}
