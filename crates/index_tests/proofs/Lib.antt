@@ -1,2 +1,1 @@
 pub mod WorkedSegment
-pub mod KeySegment

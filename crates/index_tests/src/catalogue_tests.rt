@@ -1,20 +1,19 @@
 //! Tests what the clauses mean on small lakes whose answers were worked out by hand, and that the calls succeed.
-ghost use Rattle.std.specs.Prelude.{◌≡◌, ◌<◌, ◌∷◌, [], ℕ, codes, length, map, option_map, unwrap_or, IfOk, IfSome, OnOk};
+ghost use Rattle.std.specs.Prelude.{◌≡◌, ◌<◌, ◌∷◌, [], ℕ, length, map, option_map, unwrap_or, IfOk, IfSome};
 ghost use Rattle.lake_model.specs.Layout.{layout};
-ghost use Rattle.lake_model.specs.Tables.{keys_at, Table};
+ghost use Rattle.lake_model.specs.Tables.{Table};
 ghost use Rattle.catalogue.specs.Swaps.{IsMergeOf};
 
+use crate::making::{holds, name, segment, shows, table};
 use catalogue::{
     Catalogue, Counts, DropRefused, Entry, Limits, LoadRefused, ReplaceRefused, SwapRefused, What,
     Which, Who,
 };
-use column_set::{Keys, Name, SharedTable, TableSets};
-use csv_table::read_table;
+use column_set::SharedTable;
 use no_memory::NoMemory;
-use segment_core::{
-    Layout, Merged, Numbers, Owner, Pin, Plan, Posting, Segment, TokenAt, order_by_hash,
-};
+use segment_core::{Merged, Numbers, Plan, Segment};
 use std::alloc::Global;
+use std::process::Abort;
 use std::sync::Arc;
 use std::test::Fail;
 
@@ -28,114 +27,83 @@ const SECOND: Who = Who {
     command: 8,
 };
 
-fn name(text: &str) -> Result<Name, Fail> {
-    let Some(name) = Name::read(text.as_bytes()) else {
-        return Err(Fail::from("no name"));
-    };
-    Ok(name)
+// The CSV text of every table: one column of one value. So each load and each replace adds one member of three bytes.
+const KEY: &str = "x\nkey\n";
+
+// What is asked of a lake, and the answer that is expected.
+enum Step {
+    Load(&'static str, Result<u64, LoadRefused>),
+    Replace(&'static str, Result<u64, ReplaceRefused>),
+    Drop(&'static str, Result<u64, DropRefused>),
+    // Whether a table of the name is live.
+    Live(&'static str, bool),
+    // The number of entries of the journal.
+    Entries(u64),
+    Counts(Counts),
 }
 
-// Checks that the first column has the one key `key`.
-fn expect_key(table: &TableSets) -> Result<(), Fail>
-    requires { length table.now.columns ≡ 1 }
-    ensures { OnOk result (keys_at table.now 1 ≡ codes "key" ∷ []) }
-{
-    if table.size(1) != 1 || table.key(1, 0) != "key" {
-        return Err(Fail::from("other keys"));
-    }
-    Ok(())
-}
-
-// Returns the table of a name with one column of one value, `key`.
-fn table(alloc: Global, text: &str) -> Result<SharedTable, Fail>
-    ensures columns { IfOk result (λ table. length table.columns ≡ 1) }
-    ensures keys { IfOk result (λ table. keys_at table 1 ≡ codes "key" ∷ []) }
-{
-    let raw = read_table(alloc, b"x\nkey\n", 1_024)?;
-    let sets = TableSets::build(alloc, Keys::Canonical, name(text)?, &raw)?;
-    if sets.columns() != 1 {
-        return Err(Fail::from("another table"));
-    }
-    expect_key(&sets)?;
-    Ok(SharedTable::new(alloc, sets)?)
-}
-
-// Returns the segment of such a table.
-fn segment(alloc: Global, table: SharedTable) -> Result<Arc<Segment>, Fail>
-    requires columns { length table.columns ≡ 1 }
-    requires keys { keys_at table 1 ≡ codes "key" ∷ [] }
-    ensures { IfOk result (λ segment. segment.value ≡ table ∷ []) }
-{
-    let token = TokenAt {
-        column: 0,
-        index: 0,
-    };
-    let posting = Posting {
-        column: 0,
-        position: 0,
-        size: 1,
-    };
-    let tables = vec![in alloc; table]?;
-    let owners = vec![in alloc; Owner { table: 0, place: 1 }]?;
-    let tokens = vec![in alloc; token]?;
-    let by_hash = order_by_hash(alloc, &tables, &owners, &tokens)?;
-    let list_starts = vec![in alloc; 0, 1]?;
-    let postings = vec![in alloc; posting]?;
-    let set_starts = vec![in alloc; 0, 1]?;
-    let set_tokens = vec![in alloc; 0]?;
-    let ranks = vec![in alloc; 0]?;
-    let by_rank = vec![in alloc; 0]?;
-    let segment = Segment::new(
-        tables,
-        owners,
-        tokens,
-        by_hash,
-        list_starts,
-        postings,
-        set_starts,
-        set_tokens,
-        ranks,
-        by_rank,
-    );
-    Ok(Arc::new(alloc, segment)?)
-}
-
-// Loads such a table, and expects this answer.
+// Loads a table, and returns whether this is the answer.
 fn loads(
     lake: &mut Catalogue,
     alloc: Global,
-    text: &str,
-    answer: Result<u64, LoadRefused>,
-) -> Result<(), Fail> {
-    let table = table(alloc, text)?;
-    let segment = segment(alloc, table.share()?)?;
-    if lake.load(FIRST, table, segment) != answer {
-        return Err(Fail::from("another answer to a load"));
-    }
-    Ok(())
+    title: &str,
+    answer: &Result<u64, LoadRefused>,
+) -> Result<bool, Fail> {
+    let table = table(alloc, title, KEY)?;
+    let segment = segment(alloc, &table)?;
+    Ok(lake.load(FIRST, table, segment) == *answer)
 }
 
-// Replaces a table by such a table, and expects this answer.
+// Replaces a table, and returns whether this is the answer.
 fn replaces(
     lake: &mut Catalogue,
     alloc: Global,
-    text: &str,
-    answer: Result<u64, ReplaceRefused>,
-) -> Result<(), Fail> {
-    let table = table(alloc, text)?;
-    let segment = segment(alloc, table.share()?)?;
-    if lake.replace(SECOND, table, segment) != answer {
-        return Err(Fail::from("another answer to a replace"));
+    title: &str,
+    answer: &Result<u64, ReplaceRefused>,
+) -> Result<bool, Fail> {
+    let table = table(alloc, title, KEY)?;
+    let segment = segment(alloc, &table)?;
+    Ok(lake.replace(SECOND, table, segment) == *answer)
+}
+
+// Takes a step, and returns whether its answer is the expected one.
+fn takes(lake: &mut Catalogue, alloc: Global, step: &Step) -> Result<bool, Fail> {
+    match step {
+        Step::Load(title, answer) => loads(lake, alloc, title, answer),
+        Step::Replace(title, answer) => replaces(lake, alloc, title, answer),
+        Step::Drop(title, answer) => Ok(lake.drop_table(SECOND, &name(title)?) == *answer),
+        Step::Live(title, live) => Ok(lake.live(&name(title)?) == *live),
+        Step::Entries(at) => Ok(lake.at() == *at && lake.journal().len() as u64 == *at),
+        Step::Counts(counts) => Ok(lake.counts() == *counts),
+    }
+}
+
+// Takes steps, and expects the answer of each.
+fn plays(rt: &impl Abort, lake: &mut Catalogue, alloc: Global, steps: &[Step]) -> Result<(), Fail> {
+    for (number, step) in steps.iter().enumerate() {
+        assert!(rt; takes(lake, alloc, step)?, "step {number}");
     }
     Ok(())
 }
 
-// Drops a table, and expects this answer.
-fn drops(lake: &mut Catalogue, text: &str, answer: Result<u64, DropRefused>) -> Result<(), Fail> {
-    if lake.drop_table(SECOND, &name(text)?) != answer {
-        return Err(Fail::from("another answer to a drop"));
-    }
-    Ok(())
+// Returns a lake of the standard limits after these steps.
+fn played(rt: &impl Abort, alloc: Global, steps: &[Step]) -> Result<Catalogue, Fail> {
+    let mut lake = Catalogue::new(alloc, Limits::standard())?;
+    plays(rt, &mut lake, alloc, steps)?;
+    Ok(lake)
+}
+
+// Returns whether the newest pin shows these parts, each with its number and its one load or replace, marked or not, and
+// so many live tables.
+fn shows_now(
+    lake: &Catalogue,
+    alloc: Global,
+    tables: usize,
+    parts: &[(u64, u64, bool)],
+) -> Result<bool, NoMemory> {
+    let pin = lake.pin()?;
+    let layout = pin.layout(alloc)?;
+    Ok(holds(alloc, &pin, lake.at(), tables)? && shows(&layout, lake.at(), parts))
 }
 
 // Returns the positions of kept loads.
@@ -156,21 +124,9 @@ fn kept_segment(alloc: Global, kept: &[(u64, SharedTable)]) -> Result<Option<Arc
 {
     match kept {
         [] => Ok(None),
-        [(_, table)] => Ok(Some(same_segment(alloc, table)?)),
+        [(_, table)] => Ok(Some(segment(alloc, table)?)),
         _ => Err(Fail::from("more than one table is kept")),
     }
-}
-
-// Returns the segment of a table that was made by `table`.
-fn same_segment(alloc: Global, table: &SharedTable) -> Result<Arc<Segment>, Fail>
-    ensures { IfOk result (λ segment. segment.value ≡ table.now ∷ []) }
-{
-    let table = table.share()?;
-    if table.table().columns() != 1 {
-        return Err(Fail::from("another table"));
-    }
-    expect_key(table.table())?;
-    segment(alloc, table)
 }
 
 // Merges two adjacent parts, from an index on, of which at most one table is kept.
@@ -194,316 +150,259 @@ fn merged(lake: &Catalogue, alloc: Global, first: u32) -> Result<Merged, Fail>
     })
 }
 
-// Swaps in what was merged from the newest version, and expects this position.
-fn swaps(lake: &mut Catalogue, merged: Merged, at: u64) -> Result<(), Fail>
-    requires at { merged.at ≡ length lake.old.journal }
-    requires merges { IsMergeOf (layout lake.old.journal) merged }
-{
-    if lake.swap(FIRST, merged) != Ok(at) {
-        return Err(Fail::from("another answer to a swap"));
-    }
-    Ok(())
+// Plans a merge of the first two parts and swaps it in, and returns whether it is at this position.
+fn swaps(lake: &mut Catalogue, alloc: Global, at: u64) -> Result<bool, Fail> {
+    let merged = merged(lake, alloc, 0)?;
+    Ok(lake.swap(FIRST, merged) == Ok(at))
 }
 
-// Drops a table, then swaps in what was merged before that, and expects this position.
-fn drops_then_swaps(lake: &mut Catalogue, text: &str, merged: Merged, at: u64) -> Result<(), Fail>
-    requires at { merged.at ≡ length lake.old.journal }
-    requires merges { IsMergeOf (layout lake.old.journal) merged }
-{
-    let name = name(text)?;
+// Does the same where a table is dropped between the plan and the swap.
+fn drops_then_swaps(
+    lake: &mut Catalogue,
+    alloc: Global,
+    title: &str,
+    at: u64,
+) -> Result<bool, Fail> {
+    let name = name(title)?;
+    let merged = merged(lake, alloc, 0)?;
     let Ok(_) = lake.drop_table(SECOND, &name) else {
         return Err(Fail::from("a refused drop"));
     };
-    if lake.swap(FIRST, merged) != Ok(at) {
-        return Err(Fail::from("another answer to a swap"));
-    }
-    Ok(())
+    Ok(lake.swap(FIRST, merged) == Ok(at))
 }
 
-// Replaces a table, then swaps in what was merged before that, and expects this position.
+// Does the same where a table is replaced between the plan and the swap.
 fn replaces_then_swaps(
     lake: &mut Catalogue,
     alloc: Global,
-    text: &str,
-    merged: Merged,
+    title: &str,
     at: u64,
-) -> Result<(), Fail>
-    requires at { merged.at ≡ length lake.old.journal }
-    requires merges { IsMergeOf (layout lake.old.journal) merged }
-{
-    let table = table(alloc, text)?;
-    let segment = segment(alloc, table.share()?)?;
+) -> Result<bool, Fail> {
+    let table = table(alloc, title, KEY)?;
+    let segment = segment(alloc, &table)?;
+    let merged = merged(lake, alloc, 0)?;
     let Ok(_) = lake.replace(SECOND, table, segment) else {
         return Err(Fail::from("a refused replace"));
     };
-    if lake.swap(FIRST, merged) != Ok(at) {
-        return Err(Fail::from("another answer to a swap"));
-    }
-    Ok(())
+    Ok(lake.swap(FIRST, merged) == Ok(at))
 }
 
-// Swaps in the first of two merges of the newest version, and expects this refusal of the second.
+// Swaps in the first of two merges of the newest version, and returns whether the second is refused as this.
 fn second_is_refused(
     lake: &mut Catalogue,
-    first: Merged,
-    second: Merged,
+    alloc: Global,
     refused: SwapRefused,
-) -> Result<(), Fail>
-    requires at { first.at ≡ length lake.old.journal }
-    requires at_too { second.at ≡ length lake.old.journal }
-    requires merges { IsMergeOf (layout lake.old.journal) first }
-    requires merges_too { IsMergeOf (layout lake.old.journal) second }
-{
+) -> Result<bool, Fail> {
+    let first = merged(lake, alloc, 0)?;
+    let second = merged(lake, alloc, 0)?;
     let Ok(_) = lake.swap(FIRST, first) else {
         return Err(Fail::from("a refused swap"));
     };
-    if lake.swap(SECOND, second) != Err(refused) {
-        return Err(Fail::from("another refusal"));
-    }
-    Ok(())
+    Ok(lake.swap(SECOND, second) == Err(refused))
 }
 
-// Expects a pin to be at this position, with `tables` live tables.
-fn holds(alloc: Global, pin: &Pin, at: u64, tables: usize) -> Result<(), Fail> {
-    if pin.at() != at || pin.tables(alloc)?.list().len() != tables {
-        return Err(Fail::from("another version"));
-    }
-    Ok(())
-}
+// One live table, after four loads, drops and replaces of which three brought a table.
+const FULL_COUNTS: Counts = Counts {
+    live: 1,
+    updates: 4,
+    members: 3,
+    key_bytes: 9,
+};
 
-// Expects a layout at this position and, of each part, its number and its one load or replace, marked or not.
-fn shows(layout: &Layout, at: u64, parts: &[(u64, u64, bool)]) -> Result<(), Fail> {
-    if layout.at() != at || layout.parts().len() != parts.len() {
-        return Err(Fail::from("another layout"));
-    }
-    for ((number, places), (part, load, marked)) in layout.parts().iter().zip(parts.iter()) {
-        if number != part || places.list() != [(*load, *marked)].as_slice() {
-            return Err(Fail::from("another part"));
-        }
-    }
-    Ok(())
-}
+// At least one step of each kind: then `a` is live, and `b` is not.
+const FILL: [Step; 5] = [
+    Step::Load("a", Ok(1)),
+    Step::Load("b", Ok(2)),
+    Step::Replace("a", Ok(3)),
+    Step::Drop("b", Ok(4)),
+    Step::Counts(FULL_COUNTS),
+];
 
-// Expects the same of the newest layout, and `tables` live tables.
-fn shows_now(
-    lake: &Catalogue,
-    alloc: Global,
-    tables: usize,
-    parts: &[(u64, u64, bool)],
-) -> Result<(), Fail> {
-    let pin = lake.pin()?;
-    holds(alloc, &pin, lake.at(), tables)?;
-    shows(&pin.layout(alloc)?, lake.at(), parts)
-}
-
-// Expects `live` live tables, `updates` loads, drops and replaces, and `loads` loads and replaces by a table of one
-// key.
-fn counts(lake: &Catalogue, live: usize, updates: usize, loads: u64) -> Result<(), Fail> {
-    let counts = lake.counts();
-    if counts.live as usize != live || counts.updates as usize != updates {
-        return Err(Fail::from("other counts"));
-    }
-    if counts.members != loads || counts.key_bytes / 3 != loads || counts.key_bytes % 3 != 0 {
-        return Err(Fail::from("other members"));
-    }
-    Ok(())
-}
-
-// Expects whether a table of the name is live.
-fn is_live(lake: &Catalogue, text: &str, live: bool) -> Result<(), Fail> {
-    if lake.live(&name(text)?) != live {
-        return Err(Fail::from("other live tables"));
-    }
-    Ok(())
-}
-
-// Expects the journal to have `at` entries.
-fn entries(lake: &Catalogue, at: u64) -> Result<(), Fail> {
-    if lake.at() != at || lake.journal().len() as u64 != at {
-        return Err(Fail::from("another journal"));
-    }
-    Ok(())
-}
-
-// Returns a lake that allows four updates and had them, at least one of each kind: `a` is live, and `b` is not.
-fn full_lake(alloc: Global) -> Result<Catalogue, Fail> {
+// Returns a lake that allows four updates and had them.
+fn full_lake(rt: &impl Abort, alloc: Global) -> Result<Catalogue, Fail> {
     let limits = Counts {
         updates: 4,
         ..Limits::standard()
     };
     let mut lake = Catalogue::new(alloc, limits)?;
-    loads(&mut lake, alloc, "a", Ok(1))?;
-    loads(&mut lake, alloc, "b", Ok(2))?;
-    replaces(&mut lake, alloc, "a", Ok(3))?;
-    drops(&mut lake, "b", Ok(4))?;
-    counts(&lake, 1, 4, 3)?;
+    plays(rt, &mut lake, alloc, &FILL)?;
     Ok(lake)
 }
 
+const PAST_THE_LIMIT: [Step; 5] = [
+    Step::Load(
+        "b",
+        Err(LoadRefused::Full {
+            which: Which::Updates,
+            count: 4,
+            more: 1,
+            at: 4,
+        }),
+    ),
+    Step::Drop(
+        "a",
+        Err(DropRefused::Full {
+            which: Which::Updates,
+            count: 4,
+            more: 1,
+            at: 4,
+        }),
+    ),
+    Step::Replace(
+        "a",
+        Err(ReplaceRefused::Full {
+            which: Which::Updates,
+            count: 4,
+            more: 1,
+            at: 4,
+        }),
+    ),
+    Step::Entries(4),
+    Step::Counts(FULL_COUNTS),
+];
+
 #[test]
 fn loads_drops_and_replaces_up_to_their_limit(rt: HostRuntime) -> Result<(), Fail> {
-    let alloc = rt.alloc();
-    let mut lake = full_lake(alloc)?;
-    let (which, count, more, at) = (Which::Updates, 4, 1, 4);
-    let no_load = LoadRefused::Full {
-        which,
-        count,
-        more,
-        at,
-    };
-    loads(&mut lake, alloc, "b", Err(no_load))?;
-    let no_drop = DropRefused::Full {
-        which,
-        count,
-        more,
-        at,
-    };
-    drops(&mut lake, "a", Err(no_drop))?;
-    let no_replace = ReplaceRefused::Full {
-        which,
-        count,
-        more,
-        at,
-    };
-    replaces(&mut lake, alloc, "a", Err(no_replace))?;
-    entries(&lake, 4)?;
-    counts(&lake, 1, 4, 3)
+    let mut lake = full_lake(&rt, rt.alloc())?;
+    plays(&rt, &mut lake, rt.alloc(), &PAST_THE_LIMIT)
 }
+
+const REPEATED_OR_UNKNOWN: [Step; 4] = [
+    Step::Load("a", Err(LoadRefused::Repeated { at: 4 })),
+    Step::Drop("b", Err(DropRefused::Unknown { at: 4 })),
+    Step::Replace("b", Err(ReplaceRefused::Unknown { at: 4 })),
+    Step::Counts(FULL_COUNTS),
+];
 
 #[test]
 fn a_full_lake_says_first_what_is_repeated_or_unknown(rt: HostRuntime) -> Result<(), Fail> {
-    let alloc = rt.alloc();
-    let mut lake = full_lake(alloc)?;
-    loads(&mut lake, alloc, "a", Err(LoadRefused::Repeated { at: 4 }))?;
-    drops(&mut lake, "b", Err(DropRefused::Unknown { at: 4 }))?;
-    replaces(
-        &mut lake,
-        alloc,
-        "b",
-        Err(ReplaceRefused::Unknown { at: 4 }),
-    )?;
-    counts(&lake, 1, 4, 3)
+    let mut lake = full_lake(&rt, rt.alloc())?;
+    plays(&rt, &mut lake, rt.alloc(), &REPEATED_OR_UNKNOWN)
 }
+
+// One live table, which was loaded and replaced.
+const REPLACED_COUNTS: Counts = Counts {
+    live: 1,
+    updates: 2,
+    members: 2,
+    key_bytes: 6,
+};
+
+const TWO_MEMBERS: [Step; 4] = [
+    Step::Load("a", Ok(1)),
+    Step::Replace("a", Ok(2)),
+    Step::Replace(
+        "a",
+        Err(ReplaceRefused::Full {
+            which: Which::Members,
+            count: 2,
+            more: 1,
+            at: 2,
+        }),
+    ),
+    Step::Counts(REPLACED_COUNTS),
+];
 
 #[test]
 fn a_replace_counts_its_members_and_no_live_table(rt: HostRuntime) -> Result<(), Fail> {
-    let alloc = rt.alloc();
     let limits = Counts {
         live: 1,
         members: 2,
         ..Limits::standard()
     };
-    let mut lake = Catalogue::new(alloc, limits)?;
-    loads(&mut lake, alloc, "a", Ok(1))?;
-    replaces(&mut lake, alloc, "a", Ok(2))?;
-    let full = ReplaceRefused::Full {
-        which: Which::Members,
-        count: 2,
-        more: 1,
-        at: 2,
-    };
-    replaces(&mut lake, alloc, "a", Err(full))?;
-    counts(&lake, 1, 2, 2)
+    let mut lake = Catalogue::new(rt.alloc(), limits)?;
+    plays(&rt, &mut lake, rt.alloc(), &TWO_MEMBERS)
 }
+
+const REPLACED: [Step; 7] = [
+    Step::Load("t", Ok(1)),
+    Step::Replace("t", Ok(2)),
+    Step::Live("t", true),
+    Step::Live("z", false),
+    Step::Replace("z", Err(ReplaceRefused::Unknown { at: 2 })),
+    Step::Entries(2),
+    Step::Counts(REPLACED_COUNTS),
+];
 
 #[test]
 fn a_replace_leaves_the_new_table_alone(rt: HostRuntime) -> Result<(), Fail> {
-    let alloc = rt.alloc();
-    let mut lake = Catalogue::new(alloc, Limits::standard())?;
-    loads(&mut lake, alloc, "t", Ok(1))?;
-    replaces(&mut lake, alloc, "t", Ok(2))?;
-    shows_now(&lake, alloc, 1, &[(1, 1, true), (2, 2, false)])?;
-    is_live(&lake, "t", true)?;
-    is_live(&lake, "z", false)?;
-    replaces(
-        &mut lake,
-        alloc,
-        "z",
-        Err(ReplaceRefused::Unknown { at: 2 }),
-    )?;
-    entries(&lake, 2)?;
-    counts(&lake, 1, 2, 2)
+    let lake = played(&rt, rt.alloc(), &REPLACED)?;
+    assert!(rt; shows_now(&lake, rt.alloc(), 1, &[(1, 1, true), (2, 2, false)])?);
+    Ok(())
 }
+
+const LOAD: [Step; 1] = [Step::Load("a", Ok(1))];
+
+const REPLACE_DROP: [Step; 2] = [Step::Replace("a", Ok(2)), Step::Drop("a", Ok(3))];
+
+const LOAD_AGAIN: [Step; 2] = [Step::Load("a", Ok(4)), Step::Counts(FULL_COUNTS)];
 
 #[test]
 fn a_pin_keeps_what_comes_later(rt: HostRuntime) -> Result<(), Fail> {
-    let alloc = rt.alloc();
-    let mut lake = Catalogue::new(alloc, Limits::standard())?;
-    loads(&mut lake, alloc, "a", Ok(1))?;
+    let mut lake = played(&rt, rt.alloc(), &LOAD)?;
     let pin = lake.pin()?;
-    replaces(&mut lake, alloc, "a", Ok(2))?;
-    drops(&mut lake, "a", Ok(3))?;
-    loads(&mut lake, alloc, "a", Ok(4))?;
-    holds(alloc, &pin, 1, 1)?;
-    counts(&lake, 1, 4, 3)
+    plays(&rt, &mut lake, rt.alloc(), &REPLACE_DROP)?;
+    plays(&rt, &mut lake, rt.alloc(), &LOAD_AGAIN)?;
+    assert!(rt; holds(rt.alloc(), &pin, 1, 1)?);
+    Ok(())
 }
 
 #[test]
 fn a_layout_keeps_what_comes_later(rt: HostRuntime) -> Result<(), Fail> {
-    let alloc = rt.alloc();
-    let mut lake = Catalogue::new(alloc, Limits::standard())?;
-    loads(&mut lake, alloc, "a", Ok(1))?;
-    let layout = lake.pin()?.layout(alloc)?;
-    replaces(&mut lake, alloc, "a", Ok(2))?;
-    drops(&mut lake, "a", Ok(3))?;
-    shows(&layout, 1, &[(1, 1, false)])?;
-    shows_now(&lake, alloc, 0, &[(1, 1, true), (2, 2, true)])
+    let mut lake = played(&rt, rt.alloc(), &LOAD)?;
+    let layout = lake.pin()?.layout(rt.alloc())?;
+    plays(&rt, &mut lake, rt.alloc(), &REPLACE_DROP)?;
+    assert!(rt; shows(&layout, 1, &[(1, 1, false)]));
+    assert!(rt; shows_now(&lake, rt.alloc(), 0, &[(1, 1, true), (2, 2, true)])?);
+    Ok(())
 }
+
+const TWO_LOADS_AND_A_DROP: [Step; 3] = [
+    Step::Load("a", Ok(1)),
+    Step::Load("b", Ok(2)),
+    Step::Drop("a", Ok(3)),
+];
+
+const SWAPPED: [Step; 2] = [
+    Step::Entries(4),
+    Step::Counts(Counts {
+        live: 1,
+        updates: 3,
+        members: 2,
+        key_bytes: 6,
+    }),
+];
 
 #[test]
 fn the_second_of_two_swaps_is_stale(rt: HostRuntime) -> Result<(), Fail> {
-    let alloc = rt.alloc();
-    let mut lake = Catalogue::new(alloc, Limits::standard())?;
-    loads(&mut lake, alloc, "a", Ok(1))?;
-    loads(&mut lake, alloc, "b", Ok(2))?;
-    drops(&mut lake, "a", Ok(3))?;
-    let first = merged(&lake, alloc, 0)?;
-    let second = merged(&lake, alloc, 0)?;
-    second_is_refused(
-        &mut lake,
-        first,
-        second,
-        SwapRefused::Stale { gone: 1, at: 4 },
-    )?;
-    entries(&lake, 4)?;
-    counts(&lake, 1, 3, 2)
+    let mut lake = played(&rt, rt.alloc(), &TWO_LOADS_AND_A_DROP)?;
+    let stale = SwapRefused::Stale { gone: 1, at: 4 };
+    assert!(rt; second_is_refused(&mut lake, rt.alloc(), stale)?);
+    plays(&rt, &mut lake, rt.alloc(), &SWAPPED)
 }
 
 #[test]
 fn a_swap_leaves_out_what_was_dropped_before_its_plan(rt: HostRuntime) -> Result<(), Fail> {
-    let alloc = rt.alloc();
-    let mut lake = Catalogue::new(alloc, Limits::standard())?;
-    loads(&mut lake, alloc, "a", Ok(1))?;
-    loads(&mut lake, alloc, "b", Ok(2))?;
-    drops(&mut lake, "a", Ok(3))?;
-    let planned = merged(&lake, alloc, 0)?;
-    swaps(&mut lake, planned, 4)?;
-    shows_now(&lake, alloc, 1, &[(4, 2, false)])?;
-    counts(&lake, 1, 3, 2)
+    let mut lake = played(&rt, rt.alloc(), &TWO_LOADS_AND_A_DROP)?;
+    assert!(rt; swaps(&mut lake, rt.alloc(), 4)?);
+    assert!(rt; shows_now(&lake, rt.alloc(), 1, &[(4, 2, false)])?);
+    plays(&rt, &mut lake, rt.alloc(), &SWAPPED)
 }
 
 #[test]
 fn a_swap_keeps_the_mark_of_a_drop_since_its_plan(rt: HostRuntime) -> Result<(), Fail> {
-    let alloc = rt.alloc();
-    let mut lake = Catalogue::new(alloc, Limits::standard())?;
-    loads(&mut lake, alloc, "a", Ok(1))?;
-    loads(&mut lake, alloc, "b", Ok(2))?;
-    drops(&mut lake, "a", Ok(3))?;
-    let planned = merged(&lake, alloc, 0)?;
-    drops_then_swaps(&mut lake, "b", planned, 5)?;
-    shows_now(&lake, alloc, 0, &[(5, 2, true)])
+    let mut lake = played(&rt, rt.alloc(), &TWO_LOADS_AND_A_DROP)?;
+    assert!(rt; drops_then_swaps(&mut lake, rt.alloc(), "b", 5)?);
+    assert!(rt; shows_now(&lake, rt.alloc(), 0, &[(5, 2, true)])?);
+    Ok(())
 }
 
 #[test]
 fn a_swap_keeps_the_mark_of_a_replace_since_its_plan(rt: HostRuntime) -> Result<(), Fail> {
-    let alloc = rt.alloc();
-    let mut lake = Catalogue::new(alloc, Limits::standard())?;
-    loads(&mut lake, alloc, "a", Ok(1))?;
-    loads(&mut lake, alloc, "b", Ok(2))?;
-    drops(&mut lake, "a", Ok(3))?;
-    let planned = merged(&lake, alloc, 0)?;
-    replaces_then_swaps(&mut lake, alloc, "b", planned, 5)?;
-    shows_now(&lake, alloc, 1, &[(5, 2, true), (4, 4, false)])
+    let mut lake = played(&rt, rt.alloc(), &TWO_LOADS_AND_A_DROP)?;
+    assert!(rt; replaces_then_swaps(&mut lake, rt.alloc(), "b", 5)?);
+    assert!(rt; shows_now(&lake, rt.alloc(), 1, &[(5, 2, true), (4, 4, false)])?);
+    Ok(())
 }
 
 #[test]

@@ -7,6 +7,8 @@
 #[cfg(test)]
 mod catalogue_tests;
 #[cfg(test)]
+mod making;
+#[cfg(test)]
 mod segment_build_tests;
 #[cfg(test)]
 mod segment_core_tests;

@@ -4,30 +4,55 @@ ghost use Rattle.std.specs.Prelude.{◌≡◌, ◌∷◌, [], codes, length, IfO
 ghost use Rattle.lake_model.specs.Tables.{column_name, keys_at, titles_of};
 ghost use Rattle.index_tests.specs.Worked.{worked_owners, worked_postings, worked_table, worked_tokens, worked_version};
 
-use column_set::{Keys, Name, QuerySet, SharedTable, TableSets};
-use csv_table::read_table;
+use crate::making::{holds, name, sets, shows};
+use column_set::{Keys, QuerySet, SharedTable, TableSets};
 use no_memory::NoMemory;
 use segment_core::{
     ColumnRefused, HashedQuery, Look, Looks, Marks, Numbers, Owner, Part, Pin, Posting, Segment,
     TokenAt, Version, order_by_hash,
 };
 use std::alloc::Global;
-use std::process::Abort;
 use std::sync::Arc;
 use std::test::Fail;
 
-// Expects that the table is named t, and its two columns p and q.
-fn expect_names(table: &TableSets) -> Result<(), Fail>
-    ensures table { OnOk result (table.now.name ≡ codes "t") }
-    ensures columns { OnOk result (length table.now.columns ≡ 2) }
-    ensures first { OnOk result (column_name (titles_of table.now) 1 ≡ codes "p") }
-    ensures second { OnOk result (column_name (titles_of table.now) 2 ≡ codes "q") }
+// Expects that the table is named t.
+fn expect_name(table: &TableSets) -> Result<(), Fail>
+    ensures { OnOk result (table.now.name ≡ codes "t") }
 {
-    if table.name().text() != "t" || table.columns() != 2 {
+    if table.name().text() != "t" {
         return Err(Fail::from("another table"));
     }
-    if table.column_name(1) != "p" || table.column_name(2) != "q" {
+    Ok(())
+}
+
+// Expects that the table has two columns.
+fn expect_two(table: &TableSets) -> Result<(), Fail>
+    ensures { OnOk result (length table.now.columns ≡ 2) }
+{
+    if table.columns() != 2 {
         return Err(Fail::from("other columns"));
+    }
+    Ok(())
+}
+
+// Expects that the first column is named p.
+fn expect_p(table: &TableSets) -> Result<(), Fail>
+    requires { length table.now.columns ≡ 2 }
+    ensures { OnOk result (column_name (titles_of table.now) 1 ≡ codes "p") }
+{
+    if table.column_name(1) != "p" {
+        return Err(Fail::from("another column"));
+    }
+    Ok(())
+}
+
+// Expects that the second column is named q.
+fn expect_q(table: &TableSets) -> Result<(), Fail>
+    requires { length table.now.columns ≡ 2 }
+    ensures { OnOk result (column_name (titles_of table.now) 2 ≡ codes "q") }
+{
+    if table.column_name(2) != "q" {
+        return Err(Fail::from("another column"));
     }
     Ok(())
 }
@@ -54,14 +79,15 @@ fn expect_second(table: &TableSets) -> Result<(), Fail>
     Ok(())
 }
 
-// Returns the worked table, read from CSV bytes.
+// Returns the worked table, read from CSV text.
 fn table(alloc: Global) -> Result<SharedTable, Fail>
     ensures { IfOk result (λ table. table ≡ worked_table) }
 {
-    let name = Name::read(b"t").ok_or("no name")?;
-    let raw = read_table(alloc, b"p,q\nz,a\na,\n", 1_024)?;
-    let sets = TableSets::build(alloc, Keys::Canonical, name, &raw)?;
-    expect_names(&sets)?;
+    let sets = sets(alloc, "t", "p,q\nz,a\na,\n")?;
+    expect_name(&sets)?;
+    expect_two(&sets)?;
+    expect_p(&sets)?;
+    expect_q(&sets)?;
     expect_first(&sets)?;
     expect_second(&sets)?;
     Ok(SharedTable::new(alloc, sets)?)
@@ -158,86 +184,79 @@ fn pin(alloc: Global) -> Result<Pin, Fail>
     Ok(Pin::new(version(alloc)?))
 }
 
-// Returns the size of a column of the first part, whether its table is live, whether that is named t, and the column's
-// place there.
-fn column(looks: &Looks<'_>, set: u32) -> Option<(u32, bool, bool, u32)> {
+// Returns whether a column of the first part has this size and this place in a live table that is named t.
+fn has_column(looks: &Looks<'_>, set: u32, size: u32, place: u32) -> bool {
     if looks.parts() == 0 || set >= looks.sets(0) {
-        return None;
+        return false;
     }
-    let (titles, place) = looks.table_of(0, set);
-    let named = titles.table().text() == "t";
-    Some((looks.size(0, set), looks.live(0, set), named, place))
+    if looks.size(0, set) != size || !looks.live(0, set) {
+        return false;
+    }
+    let (titles, at) = looks.table_of(0, set);
+    at == place && titles.table().text() == "t"
 }
 
-// Returns how many columns of the first part hold a key.
-fn held_by(looks: &Looks<'_>, key: &str) -> Option<u32> {
+// Returns whether a key of the first part has this token, and so many columns hold it.
+fn holds_key(looks: &Looks<'_>, key: &str, token: u32, many: u32) -> bool {
     if looks.parts() == 0 {
-        return None;
+        return false;
     }
-    let token = looks.lookup(0, key)?;
-    Some(looks.list_len(0, token))
+    match looks.lookup(0, key) {
+        Some(found) => found == token && looks.list_len(0, found) == many,
+        None => false,
+    }
 }
 
-// Returns the tokens of the first part that a query has.
-fn asked(alloc: Global, looks: &Looks<'_>, body: &[u8]) -> Result<Vec<u32>, Fail> {
+// Returns whether a query has these tokens of the first part.
+fn asks(alloc: Global, looks: &Looks<'_>, body: &str, wanted: &[u32]) -> Result<bool, Fail> {
     if looks.parts() == 0 {
-        return Err(Fail::from("no part"));
+        return Ok(false);
     }
-    let query = QuerySet::read(alloc, Keys::Canonical, body)?;
+    let query = QuerySet::read(alloc, Keys::Canonical, body.as_bytes())?;
     let hashed = HashedQuery::new(alloc, &query)?;
-    Ok(looks.query_tokens(alloc, 0, &hashed)?)
+    Ok(looks.query_tokens(alloc, 0, &hashed)?.as_slice() == wanted)
 }
 
-// Returns the posting list of a key in the first part.
-fn list<'a>(looks: &mut Looks<'a>, key: &str) -> Option<&'a [Posting]> {
+// Returns whether this is the posting list of a key in the first part.
+fn has_list(looks: &mut Looks<'_>, key: &str, wanted: &[Posting]) -> bool {
     if looks.parts() == 0 || looks.log_spare() == 0 {
-        return None;
+        return false;
     }
-    let token = looks.lookup(0, key)?;
-    Some(looks.list(0, token))
+    match looks.lookup(0, key) {
+        Some(token) => looks.list(0, token) == wanted,
+        None => false,
+    }
 }
 
-// Returns the tokens of a column of the first part after a position.
-fn tail<'a>(looks: &mut Looks<'a>, set: u32, after: u32) -> Option<&'a [u32]> {
+// Returns whether these are the tokens of a column of the first part after a position.
+fn has_tail(looks: &mut Looks<'_>, set: u32, after: u32, wanted: &[u32]) -> bool {
     if looks.parts() == 0 || looks.log_spare() == 0 || set >= looks.sets(0) {
-        return None;
+        return false;
     }
-    if after >= looks.size(0, set) {
-        return None;
-    }
-    Some(looks.tail(0, set, after))
+    after < looks.size(0, set) && looks.tail(0, set, after) == wanted
 }
 
 // The number of the part, and its columns: their sizes, their table and their places.
 #[test]
 fn columns(rt: HostRuntime) -> Result<(), Fail> {
-    let alloc = rt.alloc();
-    let pin = pin(alloc)?;
-    let looks = pin.looks(alloc);
-    assert_eq!(rt; (looks.parts(), looks.number(0)), (1, 7));
-    assert_eq!(rt; column(&looks, 0), Some((2, true, true, 1)));
-    assert_eq!(rt; column(&looks, 1), Some((1, true, true, 2)));
-    assert_eq!(rt; column(&looks, 2), None);
+    let pin = pin(rt.alloc())?;
+    let looks = pin.looks(rt.alloc());
+    assert!(rt; looks.parts() == 1 && looks.number(0) == 7 && looks.sets(0) == 2);
+    assert!(rt; has_column(&looks, 0, 2, 1));
+    assert!(rt; has_column(&looks, 1, 1, 2));
     let order = looks.order(0);
-    assert_eq!(rt; order.ranks, [0, 1].as_slice());
-    assert_eq!(rt; order.by_rank, [0, 1].as_slice());
+    assert!(rt; order.ranks == [0, 1].as_slice() && order.by_rank == [0, 1].as_slice());
     Ok(())
 }
 
 // The tokens of keys, and how many columns hold each.
 #[test]
 fn keys(rt: HostRuntime) -> Result<(), Fail> {
-    let alloc = rt.alloc();
-    let pin = pin(alloc)?;
-    let looks = pin.looks(alloc);
-    for (key, token, many) in [
-        ("z", Some(0), Some(1)),
-        ("a", Some(1), Some(2)),
-        ("b", None, None),
-    ] {
-        assert_eq!(rt; looks.lookup(0, key), token, "{key}");
-        assert_eq!(rt; held_by(&looks, key), many, "{key}");
-    }
+    let pin = pin(rt.alloc())?;
+    let looks = pin.looks(rt.alloc());
+    assert!(rt; holds_key(&looks, "z", 0, 1));
+    assert!(rt; holds_key(&looks, "a", 1, 2));
+    assert!(rt; looks.lookup(0, "b").is_none());
     Ok(())
 }
 
@@ -245,56 +264,62 @@ fn keys(rt: HostRuntime) -> Result<(), Fail> {
 // part; with a query of three keys, the part's two tokens are looked up in the query.
 #[test]
 fn queries(rt: HostRuntime) -> Result<(), Fail> {
-    let alloc = rt.alloc();
-    let pin = pin(alloc)?;
-    let looks = pin.looks(alloc);
-    assert_eq!(rt; asked(alloc, &looks, b"a\n")?.as_slice(), [1].as_slice());
-    assert_eq!(rt;
-        asked(alloc, &looks, b"a\nz\n")?.as_slice(),
-        [0, 1].as_slice()
-    );
-    assert_eq!(rt;
-        asked(alloc, &looks, b"b\na\nz\n")?.as_slice(),
-        [0, 1].as_slice()
-    );
+    let pin = pin(rt.alloc())?;
+    let looks = pin.looks(rt.alloc());
+    assert!(rt; asks(rt.alloc(), &looks, "a\n", &[1])?);
+    assert!(rt; asks(rt.alloc(), &looks, "a\nz\n", &[0, 1])?);
+    assert!(rt; asks(rt.alloc(), &looks, "b\na\nz\n", &[0, 1])?);
     Ok(())
 }
 
-// A read and a probe: what they return, what they log, and what they count. The log's room falls by one for each look.
+// The postings of a.
+const HELD: [Posting; 2] = [
+    Posting {
+        column: 0,
+        position: 1,
+        size: 2,
+    },
+    Posting {
+        column: 1,
+        position: 0,
+        size: 1,
+    },
+];
+
+// A read of that list, and a probe of the first column after its first token.
+const LOOKS: [Look; 2] = [
+    Look::Read { part: 7, token: 1 },
+    Look::Probe {
+        part: 7,
+        set: 0,
+        after: 0,
+    },
+];
+
+// Returns whether a read and a probe return what they should, are logged, and are counted. The log's room falls by one
+// for each look.
+fn reads_and_probes(looks: &mut Looks<'_>) -> Result<bool, NoMemory> {
+    if looks.log_spare() != 0 {
+        return Ok(false);
+    }
+    looks.reserve_log(2)?;
+    if !has_list(looks, "a", &HELD) || !has_tail(looks, 0, 0, &[1]) {
+        return Ok(false);
+    }
+    Ok(
+        looks.log() == LOOKS.as_slice()
+            && looks.reads() == 1
+            && looks.probes() == 1
+            && looks.log_spare() == 0,
+    )
+}
+
+// A read and a probe, and the meter that they raise.
 #[test]
 fn logged(rt: HostRuntime) -> Result<(), Fail> {
-    let alloc = rt.alloc();
-    let pin = pin(alloc)?;
-    let mut looks = pin.looks(alloc);
-    assert_eq!(rt; looks.log_spare(), 0);
-    looks.reserve_log(2)?;
-    let held = [
-        Posting {
-            column: 0,
-            position: 1,
-            size: 2,
-        },
-        Posting {
-            column: 1,
-            position: 0,
-            size: 1,
-        },
-    ];
-    assert_eq!(rt; list(&mut looks, "a"), Some(held.as_slice()));
-    assert_eq!(rt; tail(&mut looks, 0, 0), Some([1].as_slice()));
-    let log = [
-        Look::Read { part: 7, token: 1 },
-        Look::Probe {
-            part: 7,
-            set: 0,
-            after: 0,
-        },
-    ];
-    assert_eq!(rt; looks.log(), log.as_slice());
-    assert_eq!(rt;
-        (looks.reads(), looks.probes(), looks.log_spare()),
-        (1, 1, 0)
-    );
+    let pin = pin(rt.alloc())?;
+    let mut looks = pin.looks(rt.alloc());
+    assert!(rt; reads_and_probes(&mut looks)?);
     drop(looks);
     assert_eq!(rt; pin.meter(0), 2);
     Ok(())
@@ -311,50 +336,38 @@ fn found(version: &Version, position: u64) -> Option<(u32, u32)>
 #[test]
 fn positions(rt: HostRuntime) -> Result<(), Fail> {
     let version = version(rt.alloc())?;
-    assert_eq!(rt; found(&version, 7), Some((0, 0)));
-    assert_eq!(rt; found(&version, 6), None);
-    assert_eq!(rt; found(&version, 8), None);
+    assert!(rt; matches!(found(&version, 7), Some((0, 0))));
+    assert!(rt; found(&version, 6).is_none());
+    assert!(rt; found(&version, 8).is_none());
     Ok(())
 }
 
-// Expects that a pin shows this position, and a layout of one part, in which the table is marked or not.
-fn expect_layout(
-    rt: &impl Abort,
-    alloc: Global,
-    pin: &Pin,
-    at: u64,
-    marked: bool,
-) -> Result<(), NoMemory> {
-    let layout = pin.layout(alloc)?;
-    assert_eq!(rt; (pin.at(), layout.at(), layout.parts().len()), (at, at, 1));
-    for (number, places) in layout.parts() {
-        assert_eq!(rt; (*number, places.list()), (7, [(7, marked)].as_slice()));
-    }
-    Ok(())
-}
-
-// Expects that a pin shows this many tables, each of them the worked one.
-fn expect_tables(rt: &impl Abort, alloc: Global, pin: &Pin, many: usize) -> Result<(), NoMemory> {
+// Returns whether a pin is at this position, and shows so many tables, each of them the worked one, and a layout of one
+// part, in which the table is marked or not.
+fn pins(alloc: Global, pin: &Pin, at: u64, tables: usize, marked: bool) -> Result<bool, NoMemory> {
     let lines = pin.tables(alloc)?;
-    assert_eq!(rt; lines.list().len(), many);
     for (name, columns, members) in lines.list() {
-        assert!(rt; name.text() == "t" && *columns == 2 && *members == 3);
+        if name.text() != "t" || *columns != 2 || *members != 3 {
+            return Ok(false);
+        }
     }
-    Ok(())
+    Ok(holds(alloc, pin, at, tables)? && shows(&pin.layout(alloc)?, at, &[(7, 7, marked)]))
+}
+
+// Returns a pin of the worked version, and one after the mark of its table.
+fn pinned_twice(alloc: Global) -> Result<(Pin, Pin), Fail> {
+    let mut version = version(alloc)?;
+    let before = Pin::new(Arc::try_clone(&version)?);
+    Version::mark(&mut version, 8, 0, 0)?;
+    Ok((before, Pin::new(version)))
 }
 
 // The layout and the lines of live tables that pins show. A later mark does not affect a pin.
 #[test]
 fn pinned(rt: HostRuntime) -> Result<(), Fail> {
-    let alloc = rt.alloc();
-    let mut version = version(alloc)?;
-    let before = Pin::new(Arc::try_clone(&version)?);
-    Version::mark(&mut version, 8, 0, 0)?;
-    let after = Pin::new(version);
-    expect_layout(&rt, alloc, &before, 7, false)?;
-    expect_tables(&rt, alloc, &before, 1)?;
-    expect_layout(&rt, alloc, &after, 8, true)?;
-    expect_tables(&rt, alloc, &after, 0)?;
+    let (before, after) = pinned_twice(rt.alloc())?;
+    assert!(rt; pins(rt.alloc(), &before, 7, 1, false)?);
+    assert!(rt; pins(rt.alloc(), &after, 8, 0, true)?);
     Ok(())
 }
 
@@ -366,8 +379,7 @@ fn has_keys(
     place: u32,
     keys: &[&str],
 ) -> Result<bool, Fail> {
-    let name = Name::read(table.as_bytes()).ok_or("no name")?;
-    let Ok(query) = pin.column(alloc, &name, place) else {
+    let Ok(query) = pin.column(alloc, &name(table)?, place) else {
         return Ok(false);
     };
     for key in keys {
@@ -378,33 +390,30 @@ fn has_keys(
     Ok(query.len() as usize == keys.len())
 }
 
-// Returns why a pin gives no set of a column, or `None` if it gives one.
-fn refused(
+// Returns whether a pin gives no set of a column, for this reason.
+fn refuses(
     alloc: Global,
     pin: &Pin,
     table: &str,
     place: u32,
-) -> Result<Option<ColumnRefused>, Fail> {
-    let name = Name::read(table.as_bytes()).ok_or("no name")?;
-    match pin.column(alloc, &name, place) {
-        Ok(_) => Ok(None),
-        Err(refused) => Ok(Some(refused)),
+    why: ColumnRefused,
+) -> Result<bool, Fail> {
+    match pin.column(alloc, &name(table)?, place) {
+        Ok(_) => Ok(false),
+        Err(refused) => Ok(refused == why),
     }
 }
 
 // The sets of columns, by their place from 1. The meter counts each set that is given, and none that is refused.
 #[test]
 fn column_sets(rt: HostRuntime) -> Result<(), Fail> {
-    let alloc = rt.alloc();
-    let pin = pin(alloc)?;
-    assert!(rt; has_keys(alloc, &pin, "t", 1, &["z", "a"])?);
-    assert!(rt; has_keys(alloc, &pin, "t", 2, &["a"])?);
+    let pin = pin(rt.alloc())?;
+    assert!(rt; has_keys(rt.alloc(), &pin, "t", 1, &["z", "a"])?);
+    assert!(rt; has_keys(rt.alloc(), &pin, "t", 2, &["a"])?);
     assert_eq!(rt; pin.meter(0), 2);
-    let column = Some(ColumnRefused::UnknownColumn);
-    assert_eq!(rt; refused(alloc, &pin, "t", 0)?, column);
-    assert_eq!(rt; refused(alloc, &pin, "t", 3)?, column);
-    let table = Some(ColumnRefused::UnknownTable);
-    assert_eq!(rt; refused(alloc, &pin, "T", 1)?, table);
+    assert!(rt; refuses(rt.alloc(), &pin, "t", 0, ColumnRefused::UnknownColumn)?);
+    assert!(rt; refuses(rt.alloc(), &pin, "t", 3, ColumnRefused::UnknownColumn)?);
+    assert!(rt; refuses(rt.alloc(), &pin, "T", 1, ColumnRefused::UnknownTable)?);
     assert_eq!(rt; pin.meter(0), 2);
     Ok(())
 }
@@ -412,13 +421,8 @@ fn column_sets(rt: HostRuntime) -> Result<(), Fail> {
 // A marked table has no column, except in a pin that was made before.
 #[test]
 fn marked_column(rt: HostRuntime) -> Result<(), Fail> {
-    let alloc = rt.alloc();
-    let mut version = version(alloc)?;
-    let before = Pin::new(Arc::try_clone(&version)?);
-    Version::mark(&mut version, 8, 0, 0)?;
-    let after = Pin::new(version);
-    assert!(rt; has_keys(alloc, &before, "t", 2, &["a"])?);
-    let table = Some(ColumnRefused::UnknownTable);
-    assert_eq!(rt; refused(alloc, &after, "t", 2)?, table);
+    let (before, after) = pinned_twice(rt.alloc())?;
+    assert!(rt; has_keys(rt.alloc(), &before, "t", 2, &["a"])?);
+    assert!(rt; refuses(rt.alloc(), &after, "t", 2, ColumnRefused::UnknownTable)?);
     Ok(())
 }

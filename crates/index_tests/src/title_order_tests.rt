@@ -1,16 +1,22 @@
 //! The order of the columns of three tables: two with the same name, and one between them in the list, which comes
 //! last.
-use column_set::{Keys, Name, SharedTable, TableSets};
-use csv_table::read_table;
-use std::alloc::Global;
+use crate::making::table;
+use column_set::SharedTable;
+use std::process::Abort;
 use std::test::Fail;
 use title_order::{TitleOrder, order_columns};
 
-// Returns the table with this name and these CSV bytes.
-fn table(alloc: Global, name: &[u8], bytes: &[u8]) -> Result<SharedTable, Fail> {
-    let name = Name::read(name).ok_or("no name")?;
-    let raw = read_table(alloc, bytes, 1_024)?;
-    Ok(SharedTable::new(alloc, TableSets::build(alloc, Keys::Canonical, name, &raw)?)?)
+// Expects this order of the columns of the tables.
+fn expect_order(
+    rt: &(impl Abort + AllocGlobal),
+    tables: &[SharedTable],
+    by_rank: &[u32],
+    ranks: &[u32],
+) -> Result<(), Fail> {
+    let order = order_columns(rt.alloc(), tables)?;
+    assert_eq!(rt; order.by_rank.as_slice(), by_rank);
+    assert_eq!(rt; order.ranks.as_slice(), ranks);
+    Ok(())
 }
 
 // The table `a` has the columns q, p and q, the table `b` a column p, and another table `a` the columns q and b. Tables
@@ -18,15 +24,11 @@ fn table(alloc: Global, name: &[u8], bytes: &[u8]) -> Result<SharedTable, Fail> 
 // table that is first in the list comes first.
 #[test]
 fn names_places_numbers(rt: HostRuntime) -> Result<(), Fail> {
-    let alloc = rt.alloc();
-    let first = table(alloc, b"a", b"q,p,q\n1,2,3\n")?;
-    let second = table(alloc, b"b", b"p\n1\n")?;
-    let third = table(alloc, b"a", b"q,b\n1,2\n")?;
-    let tables = vec![in alloc; first, second, third]?;
-    let TitleOrder { ranks, by_rank } = order_columns(alloc, &tables)?;
-    assert_eq!(rt; by_rank.as_slice(), [5, 1, 0, 4, 2, 3].as_slice());
-    assert_eq!(rt; ranks.as_slice(), [2, 1, 4, 5, 3, 0].as_slice());
-    Ok(())
+    let first = table(rt.alloc(), "a", "q,p,q\n1,2,3\n")?;
+    let second = table(rt.alloc(), "b", "p\n1\n")?;
+    let third = table(rt.alloc(), "a", "q,b\n1,2\n")?;
+    let tables = vec![in rt.alloc(); first, second, third]?;
+    expect_order(&rt, &tables, &[5, 1, 0, 4, 2, 3], &[2, 1, 4, 5, 3, 0])
 }
 
 // A list of no tables has no columns.

@@ -1,46 +1,51 @@
 //! The vocabulary of a table of two columns: x and z are in one column each, and a is in both.
-ghost use Rattle.std.specs.Prelude.{◌<◌, ◌^◌, length, sum_by, IfOk};
-ghost use Rattle.lake_model.specs.Tables.{members};
-
-use column_set::{Keys, Name, SharedTable, TableSets};
-use csv_table::read_table;
-use std::alloc::Global;
+use crate::making::{only, table};
 use std::test::Fail;
 use token_order::Vocab;
 
-// Returns a list that holds only the table of these CSV bytes.
-fn one_table(alloc: Global, bytes: &[u8]) -> Result<Vec<SharedTable>, Fail>
-    ensures columns { IfOk result (λ tables. sum_by (λ t. length t.columns) tables.items < 2 ^ 32) }
-    ensures members { IfOk result (λ tables. sum_by members tables.items < 2 ^ 32) }
-{
-    let name = Name::read(b"t").ok_or("no name")?;
-    let raw = read_table(alloc, bytes, 1_024)?;
-    let table = TableSets::build(alloc, Keys::Canonical, name, &raw)?;
-    if table.members() > 1000 || table.columns() > 1000 {
-        return Err(Fail::from("a large table"));
-    }
-    let shared = SharedTable::new(alloc, table)?;
-    Ok(vec![in alloc; shared]?)
+// A key with its token, and how many columns hold it.
+struct Known {
+    key: &'static str,
+    token: u32,
+    frequency: u32,
 }
 
 // The lower frequency comes first, and then the lower key: x, z, and then a.
+const KNOWN: [Known; 3] = [
+    Known {
+        key: "x",
+        token: 0,
+        frequency: 1,
+    },
+    Known {
+        key: "z",
+        token: 1,
+        frequency: 1,
+    },
+    Known {
+        key: "a",
+        token: 2,
+        frequency: 2,
+    },
+];
+
+// Returns whether a vocabulary gives the token for the key, and the key and the frequency for the token.
+fn knows(vocab: &Vocab<'_>, known: &Known) -> bool {
+    let Some(found) = vocab.find(known.key) else {
+        return false;
+    };
+    found == known.token
+        && vocab.frequency(found) == known.frequency
+        && vocab.key(found) == known.key
+}
+
 #[test]
 fn tokens(rt: HostRuntime) -> Result<(), Fail> {
-    let alloc = rt.alloc();
-    let tables = one_table(alloc, b"p,q\nz,a\na,x\n")?;
-    let vocab = Vocab::build(alloc, &tables)?;
-    assert_eq!(rt; vocab.len(), 3);
-    for (key, token, frequency) in [("x", 0, 1), ("z", 1, 1), ("a", 2, 2)] {
-        let Some(found) = vocab.find(key) else {
-            return Err(Fail::from("no token"));
-        };
-        assert_eq!(rt;
-            (found, vocab.frequency(found)),
-            (token, frequency),
-            "{key}"
-        );
-        assert!(rt; vocab.key(found) == key);
+    let tables = only(rt.alloc(), table(rt.alloc(), "t", "p,q\nz,a\na,x\n")?)?;
+    let vocab = Vocab::build(rt.alloc(), &tables)?;
+    for known in &KNOWN {
+        assert!(rt; knows(&vocab, known), "{}", known.key);
     }
-    assert_eq!(rt; vocab.find("b"), None);
+    assert!(rt; vocab.len() == 3 && vocab.find("b").is_none());
     Ok(())
 }
