@@ -21,15 +21,19 @@ fn writes(
 ) -> Result<(), NoMemory> {
     let mut text = Vec::new(rt.alloc());
     write_replies(record, 0, trace, &mut text)?;
-    assert_eq!(rt; text.as_slice(), wanted.as_bytes());
+    assert!(rt; text.as_slice() == wanted.as_bytes(), "not {wanted:?}");
     Ok(())
+}
+
+// Reads a text as a name.
+fn name(text: &str) -> Result<Name, Fail> {
+    Ok(Name::read(text.as_bytes()).ok_or("no name")?)
 }
 
 // Returns the record of this one reply.
 fn answered(alloc: Global, by: By, reply: Reply) -> Result<RunRecord, NoMemory> {
     let mut record = RunRecord::new(alloc);
-    record.room(1, 0)?;
-    record.add_answer(Answered { by, reply });
+    adds(&mut record, by, reply)?;
     Ok(record)
 }
 
@@ -80,35 +84,59 @@ fn nothing_found(alloc: Global, layout: Layout) -> Reply {
 }
 
 // Returns the table of this name with the column `c`, which has the value `x`.
-fn table(alloc: Global, name: &[u8]) -> Result<SharedTable, Fail> {
-    let name = Name::read(name).ok_or("no name")?;
-    let Ok(raw) = read_table(alloc, b"c\nx\n", 1_024) else {
-        return Err(Fail::from("no table"));
-    };
-    let Ok(sets) = TableSets::build(alloc, Keys::Canonical, name, &raw) else {
-        return Err(Fail::from("no sets"));
-    };
+fn table(alloc: Global, title: &str) -> Result<SharedTable, Fail> {
+    let raw = read_table(alloc, "c\nx\n".as_bytes(), 1_024)?;
+    let sets = TableSets::build(alloc, Keys::Canonical, name(title)?, &raw)?;
     Ok(SharedTable::new(alloc, sets)?)
 }
 
-// Returns the row of a table's column, which is at place 2.
-fn row(alloc: Global, overlap: u32, table: Name, column: &str) -> Result<KeptRow, NoMemory> {
+// Adds an answer to a record.
+fn adds(record: &mut RunRecord, by: By, reply: Reply) -> Result<(), NoMemory> {
+    record.room(1, 0)?;
+    record.add_answer(Answered { by, reply });
+    Ok(())
+}
+
+// Adds an entry to the journal of a record.
+fn enters(record: &mut RunRecord, entry: Entry) -> Result<(), NoMemory> {
+    record.room(0, 1)?;
+    record.add_entry(entry);
+    Ok(())
+}
+
+// Returns the titles of a table whose second column has this name.
+fn titles(alloc: Global, table: &str, column: &str) -> Result<Arc<Titles>, Fail> {
     let mut columns = Vec::new(alloc);
     columns.push(String::from_str(alloc, "id")?)?;
     columns.push(String::from_str(alloc, column)?)?;
-    let titles = Arc::new(alloc, Titles::new(alloc, table, &columns)?)?;
+    let titles = Titles::new(alloc, name(table)?, &columns)?;
+    Ok(Arc::new(alloc, titles)?)
+}
+
+// Returns the row of a table's column, which is at place 2.
+fn row(alloc: Global, overlap: u32, table: &str, column: &str) -> Result<KeptRow, Fail> {
+    let titles = titles(alloc, table, column)?;
+    if titles.columns() != 2 {
+        return Err(Fail::from("other columns"));
+    }
     let row = Row {
         overlap,
         titles: &titles,
         place: 2,
     };
-    row.keep()
+    Ok(row.keep()?)
+}
+
+// Returns the row `2 t1 2 "city"` as the only one.
+fn city(alloc: Global) -> Result<KeptRows, Fail> {
+    let row = row(alloc, 2, "t1", "city")?;
+    Ok(KeptRows::new(vec![in alloc; row]?))
 }
 
 #[test]
 fn a_replace_shows_the_new_table(rt: HostRuntime) -> Result<(), Fail> {
     let replaced = Reply::Replaced {
-        name: Name::read(b"t1").ok_or("no name")?,
+        name: name("t1")?,
         columns: 3,
         members: 0,
         at: 2,
@@ -120,7 +148,7 @@ fn a_replace_shows_the_new_table(rt: HostRuntime) -> Result<(), Fail> {
 #[test]
 fn a_load_shows_what_was_loaded(rt: HostRuntime) -> Result<(), Fail> {
     let loaded = Reply::Loaded {
-        name: Name::read(b"t1").ok_or("no name")?,
+        name: name("t1")?,
         columns: 2,
         members: 4,
         at: 1,
@@ -132,16 +160,9 @@ fn a_load_shows_what_was_loaded(rt: HostRuntime) -> Result<(), Fail> {
 #[test]
 fn rows_are_lines_and_column_names_are_quoted(rt: HostRuntime) -> Result<(), Fail> {
     let alloc = rt.alloc();
-    let city = row(alloc, 2, Name::read(b"t1").ok_or("no name")?, "city")?;
-    let odd = row(
-        alloc,
-        1,
-        Name::read(b"zz").ok_or("no name")?,
-        "\"\\\n\r\t\u{1}\u{7f}é",
-    )?;
-    let mut rows = Vec::new(alloc);
-    rows.push(city)?;
-    rows.push(odd)?;
+    let city = row(alloc, 2, "t1", "city")?;
+    let odd = row(alloc, 1, "zz", "\"\\\n\r\t\u{1}\u{7f}é")?;
+    let rows = vec![in alloc; city, odd]?;
     let found = Reply::Found {
         query: 3,
         rows: KeptRows::new(rows),
@@ -157,12 +178,9 @@ fn rows_are_lines_and_column_names_are_quoted(rt: HostRuntime) -> Result<(), Fai
 
 #[test]
 fn a_search_of_the_past_shows_the_position_that_it_asked_for(rt: HostRuntime) -> Result<(), Fail> {
-    let alloc = rt.alloc();
-    let mut rows = Vec::new(alloc);
-    rows.push(row(alloc, 2, Name::read(b"t1").ok_or("no name")?, "city")?)?;
     let past = Reply::Past {
         query: 3,
-        rows: KeptRows::new(rows),
+        rows: city(rt.alloc())?,
         asked: 4,
         at: 18446744073709551615,
     };
@@ -175,12 +193,12 @@ fn a_search_of_the_past_shows_the_position_that_it_asked_for(rt: HostRuntime) ->
 
 #[test]
 fn a_drop_shows_its_name_and_a_list_its_tables(rt: HostRuntime) -> Result<(), Fail> {
-    let name = Name::read(b"t1").ok_or("no name")?;
-    let dropped = Reply::Dropped { name, at: 3 };
+    let dropped = Reply::Dropped {
+        name: name("t1")?,
+        at: 3,
+    };
     shows(&rt, dropped, "7 dropped t1 at 3\n")?;
-    let mut lines = Vec::new(rt.alloc());
-    lines.push((Name::read(b"t2").ok_or("no name")?, 2, 5))?;
-    lines.push((Name::read(b"t0").ok_or("no name")?, 1, 0))?;
+    let lines = vec![in rt.alloc(); (name("t2")?, 2, 5), (name("t0")?, 1, 0)]?;
     let tables = TableLines::new(lines);
     shows(
         &rt,
@@ -214,7 +232,7 @@ fn refused_files_and_columns(rt: HostRuntime) -> Result<(), Fail> {
     shows(&rt, Reply::FileMissing, "7 refused file missing\n")?;
     shows(&rt, Reply::FileTooLong, "7 refused file longer\n")?;
     let column = Reply::NoColumn {
-        name: Name::read(b"t").ok_or("no name")?,
+        name: name("t")?,
         place: 3,
         at: 1,
     };
@@ -225,12 +243,12 @@ fn refused_files_and_columns(rt: HostRuntime) -> Result<(), Fail> {
 #[test]
 fn refused_loads_and_queries(rt: HostRuntime) -> Result<(), Fail> {
     let repeated = Reply::Repeated {
-        name: Name::read(b"t1").ok_or("no name")?,
+        name: name("t1")?,
         at: 4,
     };
     shows(&rt, repeated, "7 refused repeated t1 at 4\n")?;
     let unknown = Reply::Unknown {
-        name: Name::read(b"t9").ok_or("no name")?,
+        name: name("t9")?,
         at: 0,
     };
     shows(&rt, unknown, "7 refused unknown t9 at 0\n")?;
@@ -252,32 +270,33 @@ fn refused_loads_and_queries(rt: HostRuntime) -> Result<(), Fail> {
     Ok(())
 }
 
-#[test]
-fn text_begins_at_an_answer_and_leaves_out_the_merger(rt: HostRuntime) -> Result<(), Fail> {
-    let alloc = rt.alloc();
+// Returns a record of two answers to commands, with one to the merger between them, and a sync, that has ended.
+fn ended(alloc: Global) -> Result<RunRecord, NoMemory> {
     let mut record = RunRecord::new(alloc);
-    record.room(3, 0)?;
-    record.add_answer(Answered {
-        by: By::Command { number: 1, lane: 1 },
-        reply: Reply::NoHeader,
-    });
-    record.add_answer(Answered {
-        by: By::Merger { number: 1 },
-        reply: Reply::NoMemory,
-    });
-    record.add_answer(Answered {
-        by: By::Command { number: 2, lane: 1 },
-        reply: Reply::QueryTooLarge,
-    });
+    adds(
+        &mut record,
+        By::Command { number: 1, lane: 1 },
+        Reply::NoHeader,
+    )?;
+    adds(&mut record, By::Merger { number: 1 }, Reply::NoMemory)?;
+    adds(
+        &mut record,
+        By::Command { number: 2, lane: 1 },
+        Reply::QueryTooLarge,
+    )?;
+    record.room(0, 0)?;
     record.add_sync();
     record.close();
-    let mut text = Vec::from_slice(alloc, b"before\n")?;
+    Ok(record)
+}
+
+#[test]
+fn text_begins_at_an_answer_and_leaves_out_the_merger(rt: HostRuntime) -> Result<(), Fail> {
+    let record = ended(rt.alloc())?;
+    let mut text = Vec::from_slice(rt.alloc(), "before\n".as_bytes())?;
     write_replies(&record, 1, false, &mut text)?;
-    assert_eq!(rt;
-        text.as_slice(),
-        b"before\n2 refused query values\n".as_slice()
-    );
-    assert_eq!(rt; record.syncs(), [0].as_slice());
+    assert!(rt; text.as_slice() == "before\n2 refused query values\n".as_bytes());
+    assert!(rt; record.syncs() == [0].as_slice());
     assert!(rt; record.ended() && record.answers().len() == 3 && record.journal().is_empty());
     Ok(())
 }
@@ -285,12 +304,9 @@ fn text_begins_at_an_answer_and_leaves_out_the_merger(rt: HostRuntime) -> Result
 #[test]
 fn work_and_layout_stand_behind_the_rows_of_a_traced_answer(rt: HostRuntime) -> Result<(), Fail> {
     let alloc = rt.alloc();
-    let city = row(alloc, 2, Name::read(b"t1").ok_or("no name")?, "city")?;
-    let mut rows = Vec::new(alloc);
-    rows.push(city)?;
     let found = Reply::Found {
         query: 3,
-        rows: KeptRows::new(rows),
+        rows: city(alloc)?,
         reads: 12,
         probes: 3,
         layout: layout(alloc, 1, &[(1, &[(1, false)])])?,
@@ -377,31 +393,49 @@ fn the_merger_answers_with_a_trace_alone(rt: HostRuntime) -> Result<(), Fail> {
     Ok(())
 }
 
+// Returns who gave a command.
+fn who(caller: u32, command: u64) -> Who {
+    Who { caller, command }
+}
+
+enum Update {
+    Load,
+    Drop,
+    Replace,
+}
+
+// Returns the entry of an update.
+fn entry(alloc: Global, who: Who, update: &Update, title: &str) -> Result<Entry, Fail> {
+    match update {
+        Update::Load => Ok(Entry::loaded(who, table(alloc, title)?)),
+        Update::Drop => Ok(Entry::dropped(who, name(title)?)),
+        Update::Replace => Ok(Entry::replaced(who, table(alloc, title)?)),
+    }
+}
+
+// The lane and the number of each command, what it does, and the name of its table.
+const UPDATES: [(u32, u64, Update, &str); 4] = [
+    (1, 1, Update::Load, "a"),
+    (1, 2, Update::Drop, "a"),
+    (2, 3, Update::Load, "b"),
+    (1, 4, Update::Replace, "b"),
+];
+
+// Returns a record of these updates, that has not ended.
+fn updated(alloc: Global) -> Result<RunRecord, Fail> {
+    let mut record = RunRecord::new(alloc);
+    for (lane, number, update, title) in &UPDATES {
+        enters(
+            &mut record,
+            entry(alloc, who(*lane, *number), update, title)?,
+        )?;
+    }
+    Ok(record)
+}
+
 #[test]
 fn the_journal_stands_behind_a_traced_record_that_ended(rt: HostRuntime) -> Result<(), Fail> {
-    let alloc = rt.alloc();
-    let mut record = RunRecord::new(alloc);
-    record.room(0, 4)?;
-    let first = Who {
-        caller: 1,
-        command: 1,
-    };
-    record.add_entry(Entry::loaded(first, table(alloc, b"a")?));
-    let second = Who {
-        caller: 1,
-        command: 2,
-    };
-    record.add_entry(Entry::dropped(second, Name::read(b"a").ok_or("no name")?));
-    let third = Who {
-        caller: 2,
-        command: 3,
-    };
-    record.add_entry(Entry::loaded(third, table(alloc, b"b")?));
-    let fourth = Who {
-        caller: 1,
-        command: 4,
-    };
-    record.add_entry(Entry::replaced(fourth, table(alloc, b"b")?));
+    let mut record = updated(rt.alloc())?;
     writes(&rt, &record, true, "")?;
     record.close();
     writes(&rt, &record, false, "")?;
@@ -411,23 +445,24 @@ fn the_journal_stands_behind_a_traced_record_that_ended(rt: HostRuntime) -> Resu
     Ok(())
 }
 
+// Adds a swap to the journal of a record.
+fn swaps(
+    record: &mut RunRecord,
+    alloc: Global,
+    who: Who,
+    from: &[u64],
+    kept: &[u64],
+) -> Result<(), NoMemory> {
+    let from = Numbers::new(Vec::from_slice(alloc, from)?);
+    let kept = Numbers::new(Vec::from_slice(alloc, kept)?);
+    enters(record, Entry::swapped(who, from, kept))
+}
+
 #[test]
 fn a_swap_shows_its_parts_and_the_positions_that_it_kept(rt: HostRuntime) -> Result<(), Fail> {
-    let alloc = rt.alloc();
-    let mut record = RunRecord::new(alloc);
-    record.room(0, 2)?;
-    let merger = Who {
-        caller: 0,
-        command: 2,
-    };
-    let from = Numbers::new(vec![in alloc; 1, 12]?);
-    record.add_entry(Entry::swapped(merger, from, Numbers::new(Vec::new(alloc))));
-    let lane = Who {
-        caller: 3,
-        command: 9,
-    };
-    let from = Numbers::new(vec![in alloc; 4]?);
-    record.add_entry(Entry::swapped(lane, from, Numbers::new(vec![in alloc; 7, 8]?)));
+    let mut record = RunRecord::new(rt.alloc());
+    swaps(&mut record, rt.alloc(), who(0, 2), &[1, 12], &[])?;
+    swaps(&mut record, rt.alloc(), who(3, 9), &[4], &[7, 8])?;
     record.close();
     let wanted =
         "journal 2\n  1 swap lane 0 command m2 from 1,12 kept none\n  2 swap lane 3 command 9 from 4 kept 7,8\n";

@@ -1,77 +1,95 @@
 //! Worked scripts, with what the rules give for each by hand.
 
+use column_set::Name;
 use lake_io::{MemoryShelf, MemorySource};
-use script_text::{Batch, FileBody, Gather, ScriptEnd, ScriptLimits, Task};
+use script_text::{Batch, Body, FileBody, Gather, ScriptEnd, ScriptLimits, Task};
 use std::alloc::{AllocError, Global};
 use std::str;
 use std::test::Fail;
 
-// Adds a batch to a text: each command with its number and its lane.
+// Adds a batch to a text, in brackets: each command with its number and its lane.
 fn push_batch(text: &mut String, batch: &Batch) -> Result<(), AllocError> {
+    text.push_str("[")?;
     for command in batch.commands() {
         let number = command.number();
         let lane = command.lane();
         write!(text, "{number}@{lane} ")?;
         push_task(text, command.task())?;
     }
-    Ok(())
+    text.push_str("]")
 }
 
 // Adds a command's task.
 fn push_task(text: &mut String, task: &Task) -> Result<(), AllocError> {
     match task {
-        Task::Load { name, body } => {
-            let name = name.text();
-            let body = str::from_utf8(body.bytes()).unwrap_or("?");
-            write!(text, "load {name} {body:?};")
-        }
-        Task::LoadFile { name, file } => {
-            let name = name.text();
-            let file = shown_file(file);
-            write!(text, "loadfile {name} {file:?};")
-        }
-        Task::Drop { name } => {
-            let name = name.text();
-            write!(text, "drop {name};")
-        }
-        Task::Replace { name, body } => {
-            let name = name.text();
-            let body = str::from_utf8(body.bytes()).unwrap_or("?");
-            write!(text, "replace {name} {body:?};")
-        }
+        Task::Load { name, body } => push_table(text, "load", name, shown(body)),
+        Task::LoadFile { name, file } => push_table(text, "loadfile", name, shown_file(file)),
+        Task::Replace { name, body } => push_table(text, "replace", name, shown(body)),
+        Task::Drop { name } => push_drop(text, name),
         Task::Tables => text.push_str("tables;"),
-        Task::Search { k, body } => {
-            let body = str::from_utf8(body.bytes()).unwrap_or("?");
-            write!(text, "search {k} {body:?};")
-        }
-        Task::Like { k, name, place } => {
-            let name = name.text();
-            write!(text, "like {k} {name} {place};")
-        }
-        Task::Contain { a, b, body } => {
-            let body = str::from_utf8(body.bytes()).unwrap_or("?");
-            write!(text, "contain {a} {b} {body:?};")
-        }
-        Task::AsOf { asked, k, body } => {
-            let body = str::from_utf8(body.bytes()).unwrap_or("?");
-            write!(text, "asof {asked} {k} {body:?};")
-        }
+        Task::Search { k, body } => push_search(text, *k, shown(body)),
+        Task::Like { k, name, place } => push_like(text, *k, name, *place),
+        Task::Contain { a, b, body } => push_pair(text, "contain", u64::from(*a), *b, shown(body)),
+        Task::AsOf { asked, k, body } => push_pair(text, "asof", *asked, *k, shown(body)),
         Task::Merge { all: false } => text.push_str("merge;"),
         Task::Merge { all: true } => text.push_str("merge all;"),
     }
 }
 
+fn push_table(text: &mut String, word: &str, name: &Name, body: &str) -> Result<(), AllocError> {
+    let name = name.text();
+    write!(text, "{word} {name} {body:?};")
+}
+
+fn push_drop(text: &mut String, name: &Name) -> Result<(), AllocError> {
+    let name = name.text();
+    write!(text, "drop {name};")
+}
+
+fn push_search(text: &mut String, k: u32, body: &str) -> Result<(), AllocError> {
+    write!(text, "search {k} {body:?};")
+}
+
+fn push_like(text: &mut String, k: u32, name: &Name, place: u32) -> Result<(), AllocError> {
+    let name = name.text();
+    write!(text, "like {k} {name} {place};")
+}
+
+fn push_pair(
+    text: &mut String,
+    word: &str,
+    first: u64,
+    second: u32,
+    body: &str,
+) -> Result<(), AllocError> {
+    write!(text, "{word} {first} {second} {body:?};")
+}
+
+// Returns the bytes of a body.
+fn shown(body: &Body) -> &str {
+    str::from_utf8(body.bytes()).unwrap_or("?")
+}
+
 // Returns the bytes of a file, or why there are none.
 fn shown_file(file: &FileBody) -> &str {
     match file {
-        FileBody::Bytes(body) => str::from_utf8(body.bytes()).unwrap_or("?"),
+        FileBody::Bytes(body) => shown(body),
         FileBody::Failed => "failed",
         FileBody::Missing => "missing",
         FileBody::TooLong => "too long",
     }
 }
 
-// Adds what a gatherer gives: each batch in brackets, and then how the script ends.
+// Adds how a script ends.
+fn push_end(text: &mut String, end: &ScriptEnd) -> Result<(), AllocError> {
+    match end {
+        ScriptEnd::Script { line, reason } => write!(text, "line {line} {reason:?}"),
+        ScriptEnd::ReadFault => text.push_str("read fault"),
+        ScriptEnd::NoMemory => text.push_str("no memory"),
+    }
+}
+
+// Adds what a gatherer gives: each batch, and then how the script ends.
 fn push_batches(
     text: &mut String,
     gather: &mut Gather,
@@ -83,15 +101,9 @@ fn push_batches(
             return Ok(());
         }
         match gather.batch(source, shelf) {
-            Ok(Some(batch)) => {
-                text.push_str("[")?;
-                push_batch(text, &batch)?;
-                text.push_str("]")?;
-            }
+            Ok(Some(batch)) => push_batch(text, &batch)?,
             Ok(None) => text.push_str("end")?,
-            Err(ScriptEnd::Script { line, reason }) => write!(text, "line {line} {reason:?}")?,
-            Err(ScriptEnd::ReadFault) => text.push_str("read fault")?,
-            Err(ScriptEnd::NoMemory) => text.push_str("no memory")?,
+            Err(end) => push_end(text, &end)?,
         }
     }
     Ok(())
@@ -100,8 +112,8 @@ fn push_batches(
 // A shelf of the files `a.csv` and `b c.csv`, whose third fetch fails.
 fn two_files(alloc: Global) -> Result<MemoryShelf, Fail> {
     let mut shelf = MemoryShelf::new(alloc);
-    shelf.add("a.csv", b"c\nx\n")?;
-    shelf.add("b c.csv", b"d\n")?;
+    shelf.add("a.csv", "c\nx\n".as_bytes())?;
+    shelf.add("b c.csv", "d\n".as_bytes())?;
     shelf.fail_at(3)?;
     Ok(shelf)
 }
@@ -280,7 +292,7 @@ const WORKED: [(&str, &str); 75] = [
 
 #[test]
 fn gives_what_the_rules_say(rt: HostRuntime) -> Result<(), Fail> {
-    for (script, want) in WORKED {
+    for (script, want) in &WORKED {
         assert!(rt;
             gives(rt.alloc(), script, want)?,
             "{script:?} gives not {want:?}"
@@ -330,7 +342,7 @@ const LIMITED: [(&str, &str); 18] = [
 
 #[test]
 fn keeps_the_limits(rt: HostRuntime) -> Result<(), Fail> {
-    for (script, want) in LIMITED {
+    for (script, want) in &LIMITED {
         assert!(rt;
             gives_small(rt.alloc(), script, want)?,
             "{script:?} gives not {want:?}"
@@ -351,8 +363,8 @@ const LONG: [(&str, usize, &str, &str); 6] = [
 
 #[test]
 fn keeps_the_limit_of_an_input(rt: HostRuntime) -> Result<(), Fail> {
-    for (line, count, last, want) in LONG {
-        let script = repeated(rt.alloc(), line, count, last)?;
+    for (line, count, last, want) in &LONG {
+        let script = repeated(rt.alloc(), line, *count, last)?;
         assert!(rt;
             gives_small(rt.alloc(), script.as_str(), want)?,
             "{count} lines and {last:?} give not {want:?}"
@@ -383,12 +395,11 @@ const FAILING: [(&str, usize, u64, &str); 6] = [
 
 #[test]
 fn tells_failing_reads(rt: HostRuntime) -> Result<(), Fail> {
-    for (script, piece, failing, want) in FAILING {
-        let got = given_standard(rt.alloc(), script, piece, failing)?;
-        assert_eq!(rt;
-            got.as_str(),
-            want,
-            "at {script:?}, where call {failing} fails"
+    for (script, piece, failing, want) in &FAILING {
+        let got = given_standard(rt.alloc(), script, *piece, *failing)?;
+        assert!(rt;
+            got.as_str() == *want,
+            "{script:?}, where call {failing} fails, gives not {want:?}"
         );
     }
     Ok(())
