@@ -1,156 +1,58 @@
 //! Tests of lanes whose steps are taken in several orders, with merges among them.
-ghost use Rattle.std.specs.Prelude.{◌≡◌, ◌≤◌, ◌<◌, ◌^◌, IfOk};
 ghost use Rattle.script_model.specs.Lanes.{IsOfLanes};
 
-use crate::making::{body, command, load, name};
+use crate::making::{Asked, batch};
 use asof_search::Timeline;
 use catalogue::{Catalogue, Limits};
 use column_set::Keys;
-use commands::{Batch, Command, Task};
+use commands::Batch;
 use lake_core::drive;
-use run_record::{Reply, RunRecord};
+use run_record::{Answered, Reply, RunRecord};
 use std::alloc::Global;
+use std::process::Abort;
 use std::test::Fail;
 
-// The kind of an answer, with its position. A search has the number of its rows first, a swap and a stale merge the
-// position of their plan.
-#[derive(Clone, Copy, Debug, PartialEq, Eq)]
-enum Kind {
-    Loaded(u64),
-    Dropped(u64),
-    Found(usize, u64),
-    Past(usize, u64),
-    Later(u64),
-    Merged(u64, u64),
-    Nothing(u64),
-    Stale(u64, u64),
-    Other,
-}
+// The kind of an answer, with two numbers, of which the second is its position. A search has the number of its rows
+// first, a swap and a stale merge the position of their plan, and every other answer 0.
+type Said = (&'static str, u64, u64);
 
-use Kind::{Dropped, Found, Later, Loaded, Merged, Nothing, Past, Stale};
-
-// Returns the kind of a reply.
-fn kind_of(reply: &Reply) -> Kind {
+// Returns what a reply says.
+fn said(reply: &Reply) -> Said {
     match reply {
-        Reply::Loaded { at, .. } => Loaded(*at),
-        Reply::Dropped { at, .. } => Dropped(*at),
-        Reply::Found { rows, layout, .. } => Found(rows.list().len(), layout.at()),
-        Reply::Past { rows, at, .. } => Past(rows.list().len(), *at),
-        Reply::Later { at, .. } => Later(*at),
-        Reply::Merged { layout, at, .. } => Merged(layout.at(), *at),
-        Reply::NothingToMerge { layout } => Nothing(layout.at()),
-        Reply::Stale { layout, at, .. } => Stale(layout.at(), *at),
-        _ => Kind::Other,
+        Reply::Loaded { at, .. } => ("loaded", 0, *at),
+        Reply::Dropped { at, .. } => ("dropped", 0, *at),
+        Reply::Found { rows, layout, .. } => ("found", rows.list().len() as u64, layout.at()),
+        Reply::Past { rows, at, .. } => ("past", rows.list().len() as u64, *at),
+        Reply::Later { at, .. } => ("later", 0, *at),
+        Reply::Merged { layout, at, .. } => ("merged", layout.at(), *at),
+        Reply::NothingToMerge { layout } => ("nothing", 0, layout.at()),
+        Reply::Stale { layout, at, .. } => ("stale", layout.at(), *at),
+        _ => ("other", 0, 0),
     }
 }
 
-// Makes the load of a table of one column with one key, on lane 1.
-fn load_x(alloc: Global, number: u64, table: &str) -> Result<Command, Fail>
-    ensures { IfOk result (λ command. command.lane ≡ 1) }
-{
-    load(alloc, number, table, "c\nx\n")
+// Returns whether answers say this.
+fn are(answers: &[Answered], wanted: &[Said]) -> bool {
+    if answers.len() != wanted.len() {
+        return false;
+    }
+    for (answered, (word, first, at)) in answers.iter().zip(wanted.iter()) {
+        let (said, number, position) = said(&answered.reply);
+        if said != *word || number != *first || position != *at {
+            return false;
+        }
+    }
+    true
 }
 
-// Makes a search for that key.
-fn search(alloc: Global, number: u64, lane: u32) -> Result<Command, Fail>
-    requires { 1 ≤ lane }
-    ensures { IfOk result (λ command. command.lane ≡ lane) }
-{
-    let task = Task::Search {
-        k: 9,
-        body: body(alloc, "x\n")?,
-    };
-    Ok(command(number, lane, task))
+// An order of the lanes, and what the last answers say.
+struct Case {
+    piece: &'static [u32],
+    wanted: &'static [Said],
 }
 
-// Makes the drop of a table.
-fn drop_table(number: u64, lane: u32, table: &str) -> Result<Command, Fail>
-    requires { 1 ≤ lane }
-    ensures { IfOk result (λ command. command.lane ≡ lane) }
-{
-    let task = Task::Drop { name: name(table)? };
-    Ok(command(number, lane, task))
-}
-
-// Makes a search for that key among the tables that were live after the first `asked` entries, on lane 2.
-fn search_past(alloc: Global, number: u64, asked: u64) -> Result<Command, Fail>
-    requires { asked < 2 ^ 32 }
-    ensures { IfOk result (λ command. command.lane ≡ 2) }
-{
-    let task = Task::AsOf {
-        asked,
-        k: 9,
-        body: body(alloc, "x\n")?,
-    };
-    Ok(command(number, 2, task))
-}
-
-// Makes a batch in which lane 1 loads a table and drops it, and lane 2 searches what was live after the load, and after
-// the drop.
-fn searches_of_the_past(alloc: Global) -> Result<Batch, Fail>
-    ensures { IfOk result (λ batch. IsOfLanes 2 batch) }
-{
-    let commands = [
-        load_x(alloc, 1, "a1")?,
-        drop_table(2, 1, "a1")?,
-        search_past(alloc, 3, 1)?,
-        search_past(alloc, 4, 2)?,
-    ];
-    Ok(Batch::new(Vec::from_array(alloc, commands)?))
-}
-
-// Makes a batch in which lane 1 loads two tables and searches them, and lane 2 drops the second and searches as well.
-fn searches(alloc: Global) -> Result<Batch, Fail>
-    ensures { IfOk result (λ batch. IsOfLanes 2 batch) }
-{
-    let commands = [
-        load_x(alloc, 1, "a1")?,
-        load_x(alloc, 2, "a2")?,
-        drop_table(3, 2, "a2")?,
-        search(alloc, 4, 2)?,
-        search(alloc, 5, 1)?,
-    ];
-    Ok(Batch::new(Vec::from_array(alloc, commands)?))
-}
-
-// Makes a batch in which lane 1 loads four tables and merges, and lane 2 merges as well.
-fn merges(alloc: Global) -> Result<Batch, Fail>
-    ensures { IfOk result (λ batch. IsOfLanes 2 batch) }
-{
-    let commands = [
-        load_x(alloc, 1, "a1")?,
-        load_x(alloc, 2, "a2")?,
-        load_x(alloc, 3, "a3")?,
-        load_x(alloc, 4, "a4")?,
-        command(5, 1, Task::Merge { all: false }),
-        command(6, 2, Task::Merge { all: false }),
-    ];
-    Ok(Batch::new(Vec::from_array(alloc, commands)?))
-}
-
-// Makes a batch in which lane 1 loads four tables and drops one.
-fn updates(alloc: Global) -> Result<Batch, Fail>
-    ensures { IfOk result (λ batch. IsOfLanes 2 batch) }
-{
-    let commands = [
-        load_x(alloc, 1, "a1")?,
-        load_x(alloc, 2, "a2")?,
-        load_x(alloc, 3, "a3")?,
-        load_x(alloc, 4, "a4")?,
-        drop_table(5, 1, "a1")?,
-    ];
-    Ok(Batch::new(Vec::from_array(alloc, commands)?))
-}
-
-// Returns the kinds of the answers of a batch of two lanes, from an index on, in a new lake, with a merger if `merge`
-// is set.
-fn answers(
-    alloc: Global,
-    batch: &Batch,
-    piece: &[u32],
-    merge: bool,
-    from: usize,
-) -> Result<Vec<Kind>, Fail>
+// Returns the record of a batch of two lanes in a new lake, with a merger if `merge` is set.
+fn driven(alloc: Global, batch: &Batch, piece: &[u32], merge: bool) -> Result<RunRecord, Fail>
     requires { IsOfLanes 2 batch.now }
 {
     if batch.updates() > 100 {
@@ -170,82 +72,144 @@ fn answers(
         merger,
         &mut record,
     )?;
-    let mut kinds = Vec::new(alloc);
-    for answered in record.answers().iter().skip(from) {
-        kinds.push(kind_of(&answered.reply))?;
-    }
-    Ok(kinds)
+    Ok(record)
 }
 
-#[test]
-fn orders(rt: HostRuntime) -> Result<(), Fail> {
-    let alloc = rt.alloc();
-    let batch = searches(alloc)?;
-    for (piece, want) in [
-        ([].as_slice(), [Found(1, 3), Found(2, 2)]),
-        ([1, 1, 2, 1].as_slice(), [Found(1, 3), Found(1, 3)]),
-        ([2, 2, 1, 1, 2].as_slice(), [Found(0, 0), Found(2, 2)]),
-    ] {
-        assert_eq!(rt;
-            answers(alloc, &batch, piece, false, 3)?.as_slice(),
-            want.as_slice()
-        );
+// Expects of each case that the answers from an index on say what it wants.
+fn expect(
+    rt: &impl Abort,
+    alloc: Global,
+    asked: &[(u32, Asked)],
+    merge: bool,
+    from: usize,
+    cases: &[Case],
+) -> Result<(), Fail> {
+    let batch = batch(alloc, 2, asked)?;
+    for Case { piece, wanted } in cases {
+        let record = driven(alloc, &batch, piece, merge)?;
+        let Some(answers) = record.answers().get(from..) else {
+            return Err("too few answers".into());
+        };
+        assert!(rt; are(answers, wanted), "{piece:?}");
     }
     Ok(())
 }
+
+// The text of every table, and the body of every search.
+const TABLE: &str = "c\nx\n";
+
+const X: &str = "x\n";
+
+// Lane 1 loads two tables and searches them, and lane 2 drops the second and searches as well.
+const SEARCHES: [(u32, Asked); 5] = [
+    (1, Asked::Load("a1", TABLE)),
+    (1, Asked::Load("a2", TABLE)),
+    (2, Asked::Drop("a2")),
+    (2, Asked::Search(9, X)),
+    (1, Asked::Search(9, X)),
+];
+
+const ORDERS: [Case; 3] = [
+    Case {
+        piece: &[],
+        wanted: &[("found", 1, 3), ("found", 2, 2)],
+    },
+    Case {
+        piece: &[1, 1, 2, 1],
+        wanted: &[("found", 1, 3), ("found", 1, 3)],
+    },
+    Case {
+        piece: &[2, 2, 1, 1, 2],
+        wanted: &[("found", 0, 0), ("found", 2, 2)],
+    },
+];
+
+#[test]
+fn orders(rt: HostRuntime) -> Result<(), Fail> {
+    expect(&rt, rt.alloc(), &SEARCHES, false, 3, &ORDERS)
+}
+
+// Lane 1 loads a table and drops it, and lane 2 searches what was live after the load, and after the drop.
+const SEARCHES_OF_THE_PAST: [(u32, Asked); 4] = [
+    (1, Asked::Load("a1", TABLE)),
+    (1, Asked::Drop("a1")),
+    (2, Asked::AsOf(1, 9, X)),
+    (2, Asked::AsOf(2, 9, X)),
+];
+
+const PAST: [Case; 3] = [
+    Case {
+        piece: &[],
+        wanted: &[("past", 1, 2), ("past", 0, 2)],
+    },
+    Case {
+        piece: &[1, 2, 2, 1],
+        wanted: &[("past", 1, 1), ("later", 0, 1)],
+    },
+    Case {
+        piece: &[2, 1, 1, 2],
+        wanted: &[("later", 0, 0), ("past", 0, 2)],
+    },
+];
 
 // A search of an earlier position has one step. Its reply has the position of that step, and finds what was live at the
 // position asked for.
 #[test]
 fn past(rt: HostRuntime) -> Result<(), Fail> {
-    let alloc = rt.alloc();
-    let batch = searches_of_the_past(alloc)?;
-    for (piece, want) in [
-        ([].as_slice(), [Past(1, 2), Past(0, 2)]),
-        ([1, 2, 2, 1].as_slice(), [Past(1, 1), Later(1)]),
-        ([2, 1, 1, 2].as_slice(), [Later(0), Past(0, 2)]),
-    ] {
-        assert_eq!(rt;
-            answers(alloc, &batch, piece, false, 2)?.as_slice(),
-            want.as_slice()
-        );
-    }
-    Ok(())
+    expect(&rt, rt.alloc(), &SEARCHES_OF_THE_PAST, false, 2, &PAST)
 }
+
+// Lane 1 loads four tables and merges, and lane 2 merges as well.
+const MERGES: [(u32, Asked); 6] = [
+    (1, Asked::Load("a1", TABLE)),
+    (1, Asked::Load("a2", TABLE)),
+    (1, Asked::Load("a3", TABLE)),
+    (1, Asked::Load("a4", TABLE)),
+    (1, Asked::Merge(false)),
+    (2, Asked::Merge(false)),
+];
+
+const TWO_MERGES: [Case; 2] = [
+    Case {
+        piece: &[],
+        wanted: &[("merged", 4, 5), ("nothing", 0, 5)],
+    },
+    Case {
+        piece: &[1, 1, 1, 1, 1, 2, 1, 2],
+        wanted: &[("merged", 4, 5), ("stale", 4, 5)],
+    },
+];
 
 // If lane 1 swaps before lane 2 plans, nothing is left to merge; if it swaps after that, the plan of lane 2 is stale.
 #[test]
 fn two_merges(rt: HostRuntime) -> Result<(), Fail> {
-    let alloc = rt.alloc();
-    let batch = merges(alloc)?;
-    assert_eq!(rt;
-        answers(alloc, &batch, &[], false, 4)?.as_slice(),
-        [Merged(4, 5), Nothing(5)].as_slice()
-    );
-    assert_eq!(rt;
-        answers(alloc, &batch, &[1, 1, 1, 1, 1, 2, 1, 2], false, 4)?.as_slice(),
-        [Merged(4, 5), Stale(4, 5)].as_slice()
-    );
-    Ok(())
+    expect(&rt, rt.alloc(), &MERGES, false, 4, &TWO_MERGES)
 }
+
+// Lane 1 loads four tables and drops one.
+const UPDATES: [(u32, Asked); 5] = [
+    (1, Asked::Load("a1", TABLE)),
+    (1, Asked::Load("a2", TABLE)),
+    (1, Asked::Load("a3", TABLE)),
+    (1, Asked::Load("a4", TABLE)),
+    (1, Asked::Drop("a1")),
+];
+
+const MERGER: [Case; 1] = [Case {
+    piece: &[1, 1, 1, 1, 0, 1, 0],
+    wanted: &[
+        ("loaded", 0, 4),
+        ("dropped", 0, 5),
+        ("merged", 4, 6),
+        ("nothing", 0, 6),
+        ("nothing", 0, 6),
+        ("nothing", 0, 6),
+        ("nothing", 0, 6),
+    ],
+}];
 
 // The merger plans before the drop, and swaps after it. The other four of its five commands find nothing to merge.
 #[test]
 fn merger(rt: HostRuntime) -> Result<(), Fail> {
-    let alloc = rt.alloc();
-    let batch = updates(alloc)?;
-    assert_eq!(rt;
-        answers(alloc, &batch, &[1, 1, 1, 1, 0, 1, 0], true, 3)?.as_slice(),
-        [
-            Loaded(4),
-            Dropped(5),
-            Merged(4, 6),
-            Nothing(6),
-            Nothing(6),
-            Nothing(6),
-            Nothing(6)
-        ]
-        .as_slice()
-    );
-    Ok(())
+    expect(&rt, rt.alloc(), &UPDATES, true, 3, &MERGER)
 }

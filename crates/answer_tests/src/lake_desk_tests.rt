@@ -1,15 +1,15 @@
 //! Tests of batches one after another, with a merger. No clause promises that a thread runs, or that memory is
 //! available.
-ghost use Rattle.std.specs.Prelude.{◌≡◌, false, true, IfOk, None};
+ghost use Rattle.std.specs.Prelude.{◌≡◌, false, true, None};
 ghost use Rattle.script_model.specs.Lanes.{IsOfLanes};
 ghost use Rattle.record_model.specs.Record.{empty};
 ghost use Rattle.lake_model.specs.declared.Keys.TheVariants.{Canonical};
 ghost use Rattle.script_model.specs.Options.{options_with};
 
-use crate::making::{body, command, load, name};
+use crate::making::{Asked, batch};
 use catalogue::Limits;
 use column_set::Keys;
-use commands::{Batch, FileBody, Options, Task};
+use commands::{Batch, Options};
 use lake::Lake;
 use lake_desk::{Standard, answer_batch, open_desks};
 use lake_io::NoGate;
@@ -19,37 +19,18 @@ use std::sync::Wait;
 use std::test::Fail;
 use std::thread::Threads;
 
-// Makes a batch in which lane 1 loads two tables, asks for the live ones, for columns like one of them and for what was
-// live after the first load, drops a table that does not exist, loads a file that does not exist, and merges.
-fn one_of_each(alloc: Global) -> Result<Batch, Fail>
-    ensures { IfOk result (λ batch. IsOfLanes 2 batch) }
-{
-    let like = Task::Like {
-        k: 1,
-        name: name("a")?,
-        place: 1,
-    };
-    let past = Task::AsOf {
-        asked: 1,
-        k: 2,
-        body: body(alloc, "x\n")?,
-    };
-    let missing = Task::LoadFile {
-        name: name("d")?,
-        file: FileBody::Missing,
-    };
-    let commands = [
-        load(alloc, 1, "a", "c\nx\n")?,
-        load(alloc, 2, "b", "c\nx\n")?,
-        command(3, 1, Task::Tables),
-        command(4, 1, like),
-        command(5, 1, past),
-        command(6, 1, Task::Drop { name: name("c")? }),
-        command(7, 1, missing),
-        command(8, 1, Task::Merge { all: true }),
-    ];
-    Ok(Batch::new(Vec::from_array(alloc, commands)?))
-}
+// Lane 1 loads two tables, asks for the live ones, for columns like one of them and for what was live after the first
+// load, drops a table that does not exist, loads a file that does not exist, and merges.
+const ONE_OF_EACH: [(u32, Asked); 8] = [
+    (1, Asked::Load("a", "c\nx\n")),
+    (1, Asked::Load("b", "c\nx\n")),
+    (1, Asked::Tables),
+    (1, Asked::Like(1, "a", 1)),
+    (1, Asked::AsOf(1, 2, "x\n")),
+    (1, Asked::Drop("c")),
+    (1, Asked::Missing("d")),
+    (1, Asked::Merge(true)),
+];
 
 // Makes the record of a run with two lanes and a merger in which nothing was done yet.
 fn record_of_two_lanes(alloc: Global) -> RunRecord
@@ -98,13 +79,14 @@ fn answered_twice<R: Threads + Wait + Sync>(
 // Returns the position at which a reply was made, for the kinds of reply that occur in these tests.
 fn position(reply: &Reply) -> Option<u64> {
     match reply {
-        Reply::Found { layout, .. } | Reply::NothingToMerge { layout } => Some(layout.at()),
-        Reply::Loaded { at, .. }
-        | Reply::Repeated { at, .. }
-        | Reply::Unknown { at, .. }
-        | Reply::Listed { at, .. }
-        | Reply::Past { at, .. }
-        | Reply::Merged { at, .. } => Some(*at),
+        Reply::Found { layout, .. } => Some(layout.at()),
+        Reply::NothingToMerge { layout } => Some(layout.at()),
+        Reply::Loaded { at, .. } => Some(*at),
+        Reply::Repeated { at, .. } => Some(*at),
+        Reply::Unknown { at, .. } => Some(*at),
+        Reply::Listed { at, .. } => Some(*at),
+        Reply::Past { at, .. } => Some(*at),
+        Reply::Merged { at, .. } => Some(*at),
         _ => None,
     }
 }
@@ -118,28 +100,45 @@ fn positions(alloc: Global, record: &RunRecord) -> Result<Vec<Option<u64>>, Fail
     Ok(positions)
 }
 
+// The positions of the commands' replies in the first batch, and in the second.
+const FIRST: [Option<u64>; 8] = [
+    Some(1),
+    Some(2),
+    Some(2),
+    Some(2),
+    Some(2),
+    Some(2),
+    None,
+    Some(3),
+];
+
+const SECOND: [Option<u64>; 8] = [
+    Some(3),
+    Some(3),
+    Some(3),
+    Some(3),
+    Some(3),
+    Some(3),
+    None,
+    Some(3),
+];
+
+// The positions of the merger's replies in the second batch.
+const LAST: [Option<u64>; 4] = [Some(3), Some(3), Some(3), Some(3)];
+
 // The merger has a merge for each load and drop, and finds nothing to merge. In the second batch the names exist
 // already.
 #[test]
 fn one_lane_answers_in_its_order(rt: HostRuntime) -> Result<(), Fail> {
-    let batch = one_of_each(rt.alloc())?;
+    let batch = batch(rt.alloc(), 2, &ONE_OF_EACH)?;
     let record = answered_twice(&rt, rt.alloc(), &batch)?;
-    assert_eq!(rt; record.syncs(), [3, 3].as_slice());
-    assert_eq!(rt; record.journal().len(), 3);
+    assert!(rt; record.syncs() == [3, 3].as_slice() && record.journal().len() == 3);
     let positions = positions(rt.alloc(), &record)?;
     if positions.len() != 24 {
         return Err("not so many answers".into());
     }
-    let two = Some(2);
-    let three = Some(3);
-    assert_eq!(rt;
-        &positions[..8],
-        [Some(1), two, two, two, two, two, None, three].as_slice()
-    );
-    assert_eq!(rt;
-        &positions[12..20],
-        [three, three, three, three, three, three, None, three].as_slice()
-    );
-    assert_eq!(rt; &positions[20..], [three, three, three, three].as_slice());
+    assert!(rt; &positions[..8] == FIRST.as_slice());
+    assert!(rt; &positions[12..20] == SECOND.as_slice());
+    assert!(rt; &positions[20..] == LAST.as_slice());
     Ok(())
 }

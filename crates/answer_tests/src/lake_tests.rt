@@ -1,10 +1,11 @@
 //! Tests the journal after the calls of one caller. No clause says that there is enough memory, nor that a caller ever
 //! gets its turn.
-ghost use Rattle.std.specs.Prelude.{◌≡◌, ◌∷◌, [], IfOk};
+ghost use Rattle.std.specs.Prelude.{◌≡◌, ◌<◌, ◌^◌, ◌∷◌, [], length, sum_by, IfOk};
+ghost use Rattle.lake_model.specs.Tables.{members};
 
-use catalogue::{Limits, ReplaceRefused, What};
-use column_set::{Keys, Name, SharedTable, TableSets};
-use csv_table::read_table;
+use crate::making::table;
+use catalogue::{Entry, Limits, ReplaceRefused, What};
+use column_set::{SharedTable, TableSets};
 use lake::{Bounds, Lake};
 use segment_build::build;
 use segment_core::Segment;
@@ -23,40 +24,46 @@ impl Bounds for Standard {
     ghost keys = { Canonical };
 }
 
-// Returns the table of this name and these CSV bytes, and its segment.
-fn made(alloc: Global, title: &str, text: &str) -> Result<(SharedTable, Arc<Segment>), Fail>
-    ensures { IfOk result (λ made. made.1.value ≡ made.0 ∷ []) }
+// Returns the table, which has few columns and members, as the only one of a list.
+fn only(alloc: Global, table: SharedTable) -> Result<Vec<SharedTable>, Fail>
+    ensures items { IfOk result (λ tables. tables.items ≡ table ∷ []) }
+    ensures columns { IfOk result (λ tables. sum_by (λ t. length t.columns) tables.items < 2 ^ 32) }
+    ensures members { IfOk result (λ tables. sum_by members tables.items < 2 ^ 32) }
 {
-    let Some(name) = Name::read(title.as_bytes()) else {
-        return Err(Fail::from("no name"));
-    };
-    let raw = read_table(alloc, text.as_bytes(), 1_024)?;
-    let table = TableSets::build(alloc, Keys::Canonical, name, &raw)?;
-    if table.columns() > 1000 || table.members() > 1000 {
+    if table.table().members() > 9 || table.table().columns() > 9 {
         return Err(Fail::from("a large table"));
     }
-    let table = SharedTable::new(alloc, table)?;
-    let segment = build(alloc, vec![in alloc; table.share()?]?)?;
-    Ok((table, Arc::new(alloc, segment)?))
+    Ok(vec![in alloc; table]?)
 }
 
-// Returns what an entry says: its word, the name of its table, and the first key of that table.
-fn told(what: &What) -> (&str, &str, &str) {
-    match what {
-        What::Loaded(table) => ("load", table.table().name().text(), first_key(table)),
-        What::Replaced(table) => ("replace", table.table().name().text(), first_key(table)),
-        What::Dropped(name) => ("drop", name.text(), ""),
-        What::Swapped { .. } => ("swap", "", ""),
-    }
+// Returns the segment of a table.
+fn segment(alloc: Global, table: &SharedTable) -> Result<Arc<Segment>, Fail>
+    ensures { IfOk result (λ segment. segment.value ≡ table.now ∷ []) }
+{
+    let segment = build(alloc, only(alloc, table.share()?)?)?;
+    Ok(Arc::new(alloc, segment)?)
 }
 
-fn first_key(table: &SharedTable) -> &str {
-    let sets = table.table();
-    if sets.columns() == 0 || sets.size(1) == 0 {
-        ""
-    } else {
-        sets.key(1, 0)
+// Returns whether an entry that the one caller made at this command loads or replaces a table of this name, whose first
+// key is this one.
+fn brings(entry: &Entry, command: u64, word: &str, title: &str, key: &str) -> bool {
+    let (said, table) = match &entry.what {
+        What::Loaded(table) => ("load", table),
+        What::Replaced(table) => ("replace", table),
+        _ => return false,
+    };
+    said == word
+        && entry.who.caller == 0
+        && entry.who.command == command
+        && has_key(table.table(), title, key)
+}
+
+// Returns whether a table has this name and this first key.
+fn has_key(table: &TableSets, title: &str, key: &str) -> bool {
+    if table.columns() == 0 || table.size(1) == 0 {
+        return false;
     }
+    table.name().text() == title && table.key(1, 0) == key
 }
 
 // A load and a replace add their entries, in order, with who made each; a replace that is refused adds none.
@@ -64,21 +71,21 @@ fn first_key(table: &SharedTable) -> &str {
 fn a_replace_is_in_the_journal(rt: HostRuntime) -> Result<(), Fail> {
     let alloc = rt.alloc();
     let (lake, mut pass) = Lake::<Standard>::new(alloc, Limits::standard(), 1)?;
-    let (table, segment) = made(alloc, "t", "c\na\n")?;
-    assert_eq!(rt; lake.load(&rt, &mut pass, 7, table, segment), Ok(1));
-    let (table, segment) = made(alloc, "t", "c\nb\n")?;
-    assert_eq!(rt; lake.replace(&rt, &mut pass, 8, table, segment), Ok(2));
-    let (table, segment) = made(alloc, "z", "c\nb\n")?;
+    let a = table(alloc, "t", "c\na\n")?;
+    let of_a = segment(alloc, &a)?;
+    assert!(rt; lake.load(&rt, &mut pass, 7, a, of_a) == Ok(1));
+    let b = table(alloc, "t", "c\nb\n")?;
+    let of_b = segment(alloc, &b)?;
+    assert!(rt; lake.replace(&rt, &mut pass, 8, b, of_b) == Ok(2));
+    let z = table(alloc, "z", "c\nb\n")?;
+    let of_z = segment(alloc, &z)?;
     let unknown = Err(ReplaceRefused::Unknown { at: 2 });
-    assert_eq!(rt; lake.replace(&rt, &mut pass, 9, table, segment), unknown);
+    assert!(rt; lake.replace(&rt, &mut pass, 9, z, of_z) == unknown);
     let entries = lake.journal(&rt, alloc, &mut pass, 0)?;
-    assert_eq!(rt; entries.len(), 2);
     let [loaded, replaced] = entries.as_slice() else {
         return Err(Fail::from("another journal"));
     };
-    assert_eq!(rt; told(&loaded.what), ("load", "t", "a"));
-    assert_eq!(rt; (loaded.who.caller, loaded.who.command), (0, 7));
-    assert_eq!(rt; told(&replaced.what), ("replace", "t", "b"));
-    assert_eq!(rt; (replaced.who.caller, replaced.who.command), (0, 8));
+    assert!(rt; brings(loaded, 7, "load", "t", "a"));
+    assert!(rt; brings(replaced, 8, "replace", "t", "b"));
     Ok(())
 }
