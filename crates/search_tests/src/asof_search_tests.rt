@@ -1,17 +1,10 @@
 //! Tests timelines of small lakes, whose live tables at each position were worked out by hand.
-ghost use Rattle.std.specs.Prelude.{◌≡◌, ◌<◌, [], ℕ, length, map, option_map, unwrap_or, IfOk, IfSome};
-ghost use Rattle.lake_model.specs.Layout.{layout};
-ghost use Rattle.lake_model.specs.Tables.{Table};
-ghost use Rattle.catalogue.specs.Swaps.{IsMergeOf};
 
-use crate::making::{Change, WHO, drop_table, empty, load, segment, table};
+use crate::making::{Change, WHO, drop_table, empty, load, merge, segment, table};
 use asof_search::{PastRefused, Timeline};
 use catalogue::Catalogue;
-use column_set::SharedTable;
-use segment_core::{Merged, Numbers, Plan, Segment};
 use std::alloc::Global;
 use std::process::Abort;
-use std::sync::Arc;
 use std::test::Fail;
 
 fn replace(lake: &mut Catalogue, alloc: Global, title: &str, text: &str) -> Result<(), Fail> {
@@ -23,65 +16,12 @@ fn replace(lake: &mut Catalogue, alloc: Global, title: &str, text: &str) -> Resu
     Ok(())
 }
 
-// Returns the positions of the loads that a plan keeps.
-fn kept_positions(alloc: Global, kept: &[(u64, SharedTable)]) -> Result<Vec<u64>, Fail>
-    ensures { IfOk result (λ all. all.items ≡ map (λ (load : ℕ × Table). load.0) kept.now) }
-{
-    let mut all = Vec::new(alloc);
-    for (position, _) in kept {
-        all.push(*position)?;
-    }
-    Ok(all)
-}
-
-// Returns the segment of the one table that is kept, or none if none is kept.
-fn kept_segment(alloc: Global, kept: &[(u64, SharedTable)]) -> Result<Option<Arc<Segment>>, Fail>
-    ensures tables { IfOk result (λ segment. unwrap_or (option_map (λ s. s.value) segment) [] ≡ map (λ (load : ℕ × Table). load.1) kept.now) }
-    ensures some { IfOk result (λ segment. IfSome segment (λ s. 0 < length s.value)) }
-{
-    match kept {
-        [] => Ok(None),
-        [(_, table)] => Ok(Some(segment(alloc, table)?)),
-        _ => Err(Fail::from("more than one table is kept")),
-    }
-}
-
-// Returns what the first two parts are merged into.
-fn merged(lake: &Catalogue, alloc: Global) -> Result<Merged, Fail>
-    ensures at { IfOk result (λ merged. merged.at ≡ length lake.now.journal) }
-    ensures merges { IfOk result (λ merged. IsMergeOf (layout lake.now.journal) merged) }
-{
-    let _journal = lake.journal();
-    let pin = lake.pin()?;
-    if pin.parts() < 2 {
-        return Err(Fail::from("no two parts"));
-    }
-    let Plan { from, kept, at } = pin.plan_run(alloc, 0, 2)?;
-    let segment = kept_segment(alloc, &kept)?;
-    let kept = Numbers::new(kept_positions(alloc, &kept)?);
-    Ok(Merged {
-        from,
-        kept,
-        segment,
-        at,
-    })
-}
-
-// Merges the first two parts, of which at most one table is live.
-fn merge(lake: &mut Catalogue, alloc: Global) -> Result<(), Fail> {
-    let merged = merged(lake, alloc)?;
-    if lake.swap(WHO, merged).is_err() {
-        return Err(Fail::from("a swap was refused"));
-    }
-    Ok(())
-}
-
 fn change(lake: &mut Catalogue, alloc: Global, change: Change<'_>) -> Result<(), Fail> {
     match change {
         Change::Load(title, text) => load(lake, alloc, title, text),
         Change::Replace(title, text) => replace(lake, alloc, title, text),
         Change::Drop(title) => drop_table(lake, title),
-        Change::Merge => merge(lake, alloc),
+        Change::Merge => merge(lake, alloc, 2),
     }
 }
 

@@ -1,11 +1,15 @@
 //! Small tables, and lakes in which each table is a part of its own, numbered by the position of its load.
-ghost use Rattle.std.specs.Prelude.{◌≡◌, ◌∷◌, [], IfOk};
+ghost use Rattle.std.specs.Prelude.{◌≡◌, ◌<◌, ◌^◌, ◌∷◌, [], ℕ, length, map, option_map, sum_by, unwrap_or, IfOk, IfSome};
+ghost use Rattle.std.specs.Bool.{OnTrue};
+ghost use Rattle.lake_model.specs.Layout.{layout};
+ghost use Rattle.lake_model.specs.Tables.{members, Table};
+ghost use Rattle.catalogue.specs.Swaps.{IsMergeOf};
 
 use catalogue::{Catalogue, Limits, Who};
 use column_set::{Keys, Name, SharedTable, TableSets};
 use csv_table::read_table;
 use segment_build::build;
-use segment_core::Segment;
+use segment_core::{Merged, Numbers, Plan, Segment};
 use std::alloc::Global;
 use std::sync::Arc;
 use std::test::Fail;
@@ -41,12 +45,33 @@ pub(crate) fn table(alloc: Global, title: &str, text: &str) -> Result<SharedTabl
 pub(crate) fn segment(alloc: Global, table: &SharedTable) -> Result<Arc<Segment>, Fail>
     ensures { IfOk result (λ segment. segment.value ≡ table.now ∷ []) }
 {
-    let sets = table.table();
-    if sets.columns() > 1000 || sets.members() > 1000 {
-        return Err(Fail::from("a large table"));
+    segment_of(alloc, vec![in alloc; table.share()?]?)
+}
+
+/// Returns the segment of at most four small tables.
+pub(crate) fn segment_of(alloc: Global, tables: Vec<SharedTable>) -> Result<Arc<Segment>, Fail>
+    ensures { IfOk result (λ segment. segment.value ≡ tables.items) }
+{
+    if !are_few(&tables) {
+        return Err(Fail::from("large tables"));
     }
-    let segment = build(alloc, vec![in alloc; table.share()?]?)?;
-    Ok(Arc::new(alloc, segment)?)
+    Ok(Arc::new(alloc, build(alloc, tables)?)?)
+}
+
+// Returns whether the tables are few and small enough to make a segment of them.
+fn are_few(tables: &[SharedTable]) -> bool
+    ensures columns { OnTrue result (sum_by (λ t. length t.columns) tables.now < 2 ^ 32) }
+    ensures members { OnTrue result (sum_by members tables.now < 2 ^ 32) }
+{
+    if tables.len() > 4 {
+        return false;
+    }
+    for table in tables {
+        if table.table().columns() > 1000 || table.table().members() > 1000 {
+            return false;
+        }
+    }
+    true
 }
 
 /// Returns a lake without tables.
@@ -73,6 +98,73 @@ pub(crate) fn load(
 pub(crate) fn drop_table(lake: &mut Catalogue, title: &str) -> Result<(), Fail> {
     if lake.drop_table(WHO, &name(title)?).is_err() {
         return Err(Fail::from("a drop was refused"));
+    }
+    Ok(())
+}
+
+// Returns the positions of the loads that a plan keeps.
+fn kept_positions(alloc: Global, kept: &[(u64, SharedTable)]) -> Result<Vec<u64>, Fail>
+    ensures { IfOk result (λ all. all.items ≡ map (λ (load : ℕ × Table). load.0) kept.now) }
+{
+    let mut all = Vec::new(alloc);
+    for (position, _) in kept {
+        all.push(*position)?;
+    }
+    Ok(all)
+}
+
+// Returns the tables that a plan keeps.
+fn kept_tables(alloc: Global, kept: &[(u64, SharedTable)]) -> Result<Vec<SharedTable>, Fail>
+    ensures { IfOk result (λ all. all.items ≡ map (λ (load : ℕ × Table). load.1) kept.now) }
+{
+    let mut all = Vec::new(alloc);
+    for load in kept {
+        all.push(load.1.share()?)?;
+    }
+    Ok(all)
+}
+
+// Returns the segment of the tables that are kept, or none if none is kept.
+fn kept_segment(alloc: Global, kept: &[(u64, SharedTable)]) -> Result<Option<Arc<Segment>>, Fail>
+    ensures tables { IfOk result (λ segment. unwrap_or (option_map (λ s. s.value) segment) [] ≡ map (λ (load : ℕ × Table). load.1) kept.now) }
+    ensures some { IfOk result (λ segment. IfSome segment (λ s. 0 < length s.value)) }
+{
+    let tables = kept_tables(alloc, kept)?;
+    if tables.is_empty() {
+        return Ok(None);
+    }
+    Ok(Some(segment_of(alloc, tables)?))
+}
+
+// Returns what the first `count` parts, two or more, are merged into.
+fn merged(lake: &Catalogue, alloc: Global, count: u32) -> Result<Merged, Fail>
+    requires { 1 < count }
+    ensures at { IfOk result (λ merged. merged.at ≡ length lake.now.journal) }
+    ensures merges { IfOk result (λ merged. IsMergeOf (layout lake.now.journal) merged) }
+{
+    let _journal = lake.journal();
+    let pin = lake.pin()?;
+    if pin.parts() < count {
+        return Err(Fail::from("fewer parts"));
+    }
+    let Plan { from, kept, at } = pin.plan_run(alloc, 0, count)?;
+    let segment = kept_segment(alloc, &kept)?;
+    let kept = Numbers::new(kept_positions(alloc, &kept)?);
+    Ok(Merged {
+        from,
+        kept,
+        segment,
+        at,
+    })
+}
+
+/// Merges the first `count` parts, two or more, which have at most four live tables.
+pub(crate) fn merge(lake: &mut Catalogue, alloc: Global, count: u32) -> Result<(), Fail>
+    requires { 1 < count }
+{
+    let merged = merged(lake, alloc, count)?;
+    if lake.swap(WHO, merged).is_err() {
+        return Err(Fail::from("a swap was refused"));
     }
     Ok(())
 }

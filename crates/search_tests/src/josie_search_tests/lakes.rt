@@ -1,12 +1,10 @@
 //! Lakes of four tables in one, two or three parts.
-ghost use Rattle.std.specs.Prelude.{◌≡◌, ◌≢◌, ◌<◌, ◌^◌, ◌∷◌, [], length, sum_by, IfOk};
+ghost use Rattle.std.specs.Prelude.{◌≡◌, ◌≢◌, ◌∷◌, [], length, IfOk};
 ghost use Rattle.std.specs.Bool.{OnTrue};
-ghost use Rattle.lake_model.specs.Tables.{members};
 ghost use Rattle.segment_core.specs.Versions.{part_with, places_with};
 
-use crate::making::table;
+use crate::making::{segment_of, table};
 use column_set::SharedTable;
-use segment_build::build;
 use segment_core::{Marks, Numbers, Part, Version};
 use std::alloc::Global;
 use std::sync::Arc;
@@ -38,22 +36,6 @@ pub(crate) fn version(
     }
 }
 
-// Returns whether the tables are few and small enough to make a segment of them.
-fn are_few(tables: &[SharedTable]) -> bool
-    ensures columns { OnTrue result (sum_by (λ t. length t.columns) tables.now < 2 ^ 32) }
-    ensures members { OnTrue result (sum_by members tables.now < 2 ^ 32) }
-{
-    if tables.len() > 4 {
-        return false;
-    }
-    for table in tables {
-        if table.table().columns() > 1000 || table.table().members() > 1000 {
-            return false;
-        }
-    }
-    true
-}
-
 // Returns whether the names of two tables differ.
 fn differ(first: &SharedTable, second: &SharedTable) -> bool
     ensures { OnTrue result (first.now.name ≢ second.now.name) }
@@ -73,10 +55,7 @@ fn part(
     requires marks { length marked.items ≡ length tables.items }
     ensures { IfOk result (λ part. part ≡ part_with number (places_with positions.items tables.items marked.items)) }
 {
-    if !are_few(&tables) {
-        return Err(Fail::from("large tables"));
-    }
-    let segment = Arc::new(alloc, build(alloc, tables)?)?;
+    let segment = segment_of(alloc, tables)?;
     let part = Part::new(
         alloc,
         number,

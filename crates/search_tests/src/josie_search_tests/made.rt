@@ -1,12 +1,11 @@
-//! Made lakes in each layout: for each chooser the log of a search equals that of the plain model, and the rows equal
-//! those of a search that only reads, over the lake in one part.
+//! Made lakes in each layout, compared with the plain model.
 ghost use Rattle.std.specs.Prelude.{◌<◌};
 
+use super::comparing::Laid;
 use super::lakes::version;
-use super::model::{Column, Counted, Part, is_counted, search};
-use column_set::{Keys, Name, QuerySet, Row};
-use cost_model::{AlwaysProbe, AlwaysRead, Chooser, Listed, Profile};
-use josie_search::prepare;
+use super::model::{Column, Counted, Part, search};
+use column_set::{Keys, Name, QuerySet};
+use cost_model::AlwaysRead;
 use segment_core::Pin;
 use std::alloc::Global;
 use std::test::Fail;
@@ -35,18 +34,6 @@ const LAYOUTS: [&[(u64, usize, usize)]; 3] = [
     &[(5, 0, 8)],
     &[(5, 0, 4), (6, 4, 8)],
     &[(5, 0, 2), (6, 2, 6), (7, 6, 8)],
-];
-
-// The answers of eight choosers.
-const LISTS: [&[bool]; 8] = [
-    &[false],
-    &[true, false],
-    &[false, true],
-    &[true, false, false],
-    &[true, false, false, true, true],
-    &[false, true, false, false, true],
-    &[true, true, true, false, false],
-    &[false, false, false, false, true],
 ];
 
 // A search: the tables of the lake, which of them are marked, the name of the excepted table or of none, the lines of
@@ -86,66 +73,6 @@ fn parts(
     Ok(parts)
 }
 
-fn are_counted(rows: &[Row<'_>], counted: &[Counted]) -> bool {
-    for (row, counted) in rows.iter().zip(counted) {
-        if !is_counted(row, *counted) {
-            return false;
-        }
-    }
-    rows.len() == counted.len()
-}
-
-// A search in one layout: the pin and the plain parts, the query, the excepted name, and the rows that every chooser
-// gives.
-#[derive(Clone, Copy)]
-struct Laid<'l> {
-    pin: &'l Pin,
-    parts: &'l [Part],
-    asked: Asked,
-    query: &'l QuerySet,
-    except: Option<&'l Name>,
-    rows: &'l [Counted],
-}
-
-impl Laid<'_> {
-    // Compares the log with that of the plain model for this chooser, and the rows with `rows`.
-    fn compare<C: Chooser>(&self, alloc: Global, chooser: &C) -> Result<(), Fail> {
-        let k = self.asked.k;
-        if k == 0 || k > 10_000 {
-            return Err(Fail::from("no such number of rows"));
-        }
-        let looks = self.pin.looks(alloc);
-        let answer = prepare(alloc, looks, self.query, k, self.except)?.run(chooser);
-        let (_known, log) = search(alloc, self.parts, self.asked.body, k as usize, chooser)?;
-        if answer.looks.log() != log.as_slice() {
-            return Err(Fail::from("other looks"));
-        }
-        if !are_counted(answer.rows.list(), self.rows) {
-            return Err(Fail::from("other rows"));
-        }
-        Ok(())
-    }
-
-    // Does the same with the choosers that follow a list of answers.
-    fn compare_listed(&self, alloc: Global) -> Result<(), Fail> {
-        for answers in LISTS {
-            if answers.is_empty() {
-                return Err(Fail::from("no answers"));
-            }
-            self.compare(alloc, &Listed::new(alloc, answers)?)?;
-        }
-        Ok(())
-    }
-
-    // Does the same with all choosers.
-    fn compare_all(&self, alloc: Global) -> Result<(), Fail> {
-        self.compare(alloc, &Profile)?;
-        self.compare(alloc, &AlwaysRead)?;
-        self.compare(alloc, &AlwaysProbe)?;
-        self.compare_listed(alloc)
-    }
-}
-
 // Returns what a search that only reads finds, over the lake in one part.
 fn rows_read(alloc: Global, asked: &Asked, columns: &[Column]) -> Result<Vec<Counted>, Fail> {
     let parts = parts(alloc, columns, LAYOUTS[0])?;
@@ -171,7 +98,8 @@ fn one_layout(
     let laid = Laid {
         pin: &pin,
         parts: &parts,
-        asked,
+        letters: asked.body,
+        k: asked.k,
         query: &query,
         except,
         rows,

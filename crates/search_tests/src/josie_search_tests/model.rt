@@ -1,9 +1,9 @@
 //! The looks and the rows of a search, computed from whole sets: what is known, what is open, and its bounds, step by
 //! step.
 //!
-//! The keys are the letters from a to l, and the names of tables and columns are letters, too. A table has two columns,
-//! and each line of its CSV bytes has four: the letter of the first column or a space, a comma, that of the second, and
-//! the end of the line. The first line has the names of the columns, which are capitals.
+//! The keys are the letters from a to r, and the names of tables and columns are letters, too. Each line of a table's CSV
+//! bytes has two bytes for each column: a letter, or a space if there is no value, and the comma or the line feed after
+//! it. The first line has the names of the columns.
 
 use column_set::Row;
 use cost_model::{Chooser, Summary};
@@ -96,13 +96,17 @@ fn letter(text: &str, at: usize) -> u8 {
     }
 }
 
+// Returns where the letter of the column at a place begins in a line.
+fn start(place: u32) -> usize {
+    2 * place.saturating_sub(1) as usize
+}
+
 impl Column {
-    /// Returns the column of a table with these CSV bytes at a place, 1 or 2.
+    /// Returns the column of a table with these CSV bytes at a place, from 1.
     pub(crate) fn new(table: &str, text: &'static str, place: u32, eligible: bool) -> Column {
-        let at = if place == 1 { 0 } else { 2 };
         Column {
             table: letter(table, 0),
-            title: letter(text, at),
+            title: letter(text, start(place)),
             place,
             eligible,
             text,
@@ -115,9 +119,9 @@ impl Column {
 
     // Returns whether the column has a letter.
     fn has(&self, letter: u8) -> bool {
-        let at = if self.place == 1 { 0 } else { 2 };
-        for line in self.text.as_bytes().chunks(4) {
-            if line.get(at) == Some(&letter) {
+        let at = start(self.place);
+        for line in self.text.lines().skip(1) {
+            if line.as_bytes().get(at) == Some(&letter) {
                 return true;
             }
         }
@@ -173,7 +177,7 @@ impl Part {
     /// Returns the part of these columns.
     pub(crate) fn new(alloc: Global, number: u64, columns: &[Column]) -> Result<Part, Fail> {
         let mut tokens = Vec::new(alloc);
-        for letter in b'a'..b'm' {
+        for letter in b'a'..=b'r' {
             let count = frequency(columns, letter);
             if count > 0 {
                 tokens.push((count, letter))?;

@@ -1,6 +1,6 @@
 use Rattle.std.proofs.Common.{◌*◌, ◌≤◌, length, sum_by, take}
 use Rattle.lake_model.specs.Tables.{members}
-use Rattle.search_tests.proofs.josie_search_tests.lakes.are_few.Given as goal
+use Rattle.search_tests.proofs.making.are_few.Given as goal
 
 abbrev pub invariant-loop-table : goal.invariant-loop-table
 invariant-loop-table l = record {
