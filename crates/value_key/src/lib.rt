@@ -190,6 +190,11 @@ fn fold_char(c: char, into: &mut String) -> Result<(), NoMemory>
     ensures folded { OnOk result (string_bytes into.new ≡ string_bytes into.old ++ encode_utf8_all (full_fold c)) }
     ensures capacity { string_capacity into.old ≤ string_capacity into.new }
 {
+    // Most characters of most texts are ASCII, and folding only makes their letters lower case.
+    if c.is_ascii() {
+        into.push(c.to_ascii_lowercase())?;
+        return Ok(());
+    }
     let folded = full_folding(c);
     if folded.is_empty() {
         into.push(c)?;
