@@ -12,7 +12,8 @@ each, and a front before each block that keeps it without effect in the slots. T
 which no way is known to choose many keys of one hash, so it is measured with these floods only.
 
 The random keys are of the same length as those of the flood, and have the same fronts but for one letter. Keys come in random order. A time is the least CPU
-time of N whole runs; that of a search, and of the watched queries (to read them, to index them and to find their rows), is what the run takes beyond the load.
+time of N whole runs, in which the flood and the random keys take turns; that of a search, and of the watched queries (to read them, to index them and to find
+their rows), is what the run takes beyond the load.
 It exits with 1 if a flood takes more than twice the time of the random keys that it is compared with.
 """
 import itertools
@@ -115,18 +116,29 @@ def written(folder, name, text):
     return path
 
 
-def times(given, folder, keys):
-    """The times of the load, of the search, and of the watched queries."""
+def runs_of(josie, folder, name, keys):
+    """The words and the script of each run with these keys: the load, the load and a search, and the load with watched queries."""
     lines = [key + "\n" for key in keys]
     load = f"load t\nc\n{''.join(lines)}.\n"
-    alone = written(folder, "load", load)
-    both = written(folder, "search", f"{load}sync\nsearch {MOST}\n{''.join(lines)}.\n")
-    queries = [written(folder, f"q{number}", "".join(lines[number::QUERIES])) for number in range(QUERIES)]
-    loaded, searched, watched = [
-        measured(given.times, [given.josie, *words], path)[0]
-        for words, path in ((["run"], alone), (["run"], both), (["watch", str(MOST), *queries], alone))
-    ]
-    return loaded, searched - loaded, watched - loaded
+    alone = written(folder, f"{name}-load", load)
+    both = written(folder, f"{name}-search", f"{load}sync\nsearch {MOST}\n{''.join(lines)}.\n")
+    queries = [written(folder, f"{name}-q{number}", "".join(lines[number::QUERIES])) for number in range(QUERIES)]
+    return (([josie, "run"], alone), ([josie, "run"], both), ([josie, "watch", str(MOST), *queries], alone))
+
+
+def times(given, folder, flood, usual):
+    """For the keys of a flood and for the usual ones: the times of the load, of the search, and of the watched queries.
+
+    The runs with the two lists of keys alternate, so that a machine which changes its speed slows down both.
+    """
+    runs = [runs_of(given.josie, folder, name, keys) for name, keys in (("flood", flood), ("usual", usual))]
+    least = [[float("inf")] * len(own) for own in runs]
+    for _ in range(given.times):
+        for what in range(len(runs[0])):
+            for own, best in zip(runs, least):
+                words, path = own[what]
+                best[what] = min(best[what], measured(1, words, path)[0])
+    return [(loaded, searched - loaded, watched - loaded) for loaded, searched, watched in least]
 
 
 def main():
@@ -142,8 +154,8 @@ def main():
     print("seconds of CPU, and beside random keys:")
     with tempfile.TemporaryDirectory() as folder:
         for name, count, fronts, flood in floods:
-            wild = times(given, folder, flood(chance, count, fronts))
-            plain = times(given, folder, random_keys(chance, count, changed(fronts) if fronts[0][0] else fronts))
+            chosen = flood(chance, count, fronts)
+            wild, plain = times(given, folder, chosen, random_keys(chance, count, changed(fronts) if fronts[0][0] else fronts))
             print(f"  {count:,} keys of {sum(len(front) + free for front, free in fronts)} bytes, {name}:")
             for what, slow, usual in zip(("a load", "a search", "watched queries"), wild, plain):
                 print(f"    {what} {slow:.2f}, {slow / usual:.2f} times {usual:.2f}")
