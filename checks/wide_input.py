@@ -4,9 +4,10 @@
     checks/wide_input.py [JOSIE]
 
 Each block has 67,108,864 bytes or a little less: one record, one field, 16,777,216 fields of white space and four times as many empty ones, as many in a
-header, one value in each of 1,024 columns, 22 million lines, and values that grow threefold when they are folded. The replies follow from `docs/FORMATS.md`. A
-run may take eight times the size of its block in memory. Two runs at a time need a minute or two and two gigabytes, so `.ci/run` does not run it. It prints a
-line for each case with its time and its peak memory, and a line for all of them, and exits with 0 if everything is as stated, and otherwise with 1.
+header, in a header with a quote and in one record behind a header, one value in each of 1,024 columns, 22 million lines, and values that grow threefold when
+they are folded. The replies follow from `docs/FORMATS.md`. A run may take eight times the size of its block in memory. Two runs at a time need a minute or two
+and two gigabytes, so `.ci/run` does not run it. It prints a line for each case with its time and its peak memory, and a line for all of them, and exits with 0
+if everything is as stated, and otherwise with 1.
 """
 import os
 import subprocess
@@ -55,6 +56,8 @@ def cases():
     yield Case("fields of white space", b"load t", [(HEADER, 1), (SPACES, 16_384)], b"loaded t columns 1024 members 0 at 1")
     yield Case("empty fields", b"load t", rows(b"," * (COLUMNS - 1) + b"\n", HEADER), b"loaded t columns 1024 members 0 at 1")
     yield Case("empty fields of a header", b"load t", [(b",", BLOCK - 1), (b"\n", 1)], b"refused csv columns %d" % BLOCK)
+    yield Case("empty fields of a header with a quote", b"load t", [(b'""', 1), (b",", BLOCK - 3), (b"\n", 1)], b"refused csv columns %d" % (BLOCK - 2))
+    yield Case("empty fields of one record", b"load t", [(b"c\n", 1), (b",", BLOCK - 3), (b"\n", 1)], b"refused csv record 2 want 1 got %d" % (BLOCK - 2))
     yield Case("one value a column", b"load t", rows(b",".join([b"v"] * COLUMNS) + b"\n", HEADER), b"loaded t columns 1024 members 1024 at 1")
     yield Case("lines of a table", b"load t", rows(b"ab\n", b"c\n"), b"loaded t columns 1 members 1 at 1")
     yield Case("lines of a query", b"search 1", rows(b"ab\n"), b"answer 0 of 1 at 0")

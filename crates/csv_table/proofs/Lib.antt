@@ -4,4 +4,4 @@ pub mod SplitLemmas
 pub mod FaultLemmas
 pub mod TableLemmas
 pub mod TableLawLemmas
-pub mod PlainLemmas
+pub mod WideLemmas

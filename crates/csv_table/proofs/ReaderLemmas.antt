@@ -47,7 +47,7 @@ quiet_record cfg c =
     quiet_if (ends_with cfg.terminator c) _ _ (λ e. absurd (false≢true e)) (
     quiet_if (is_byte cfg.comment c) _ _ (λ e. absurd (false≢true e)) (quiet_start cfg c))
 
-quiet_step : (cfg : Config) (s : State) (c : ℕ) → IsQuiet (step cfg s c)
+pub quiet_step : (cfg : Config) (s : State) (c : ℕ) → IsQuiet (step cfg s c)
 quiet_step cfg st.StartRecord c = quiet_record cfg c
 quiet_step cfg st.StartField c = quiet_start cfg c
 quiet_step cfg st.InField c = quiet_field cfg c

@@ -1,4 +1,5 @@
 pub mod Cuts
 pub mod SplitRecords
 pub mod RecordsLeft
-pub mod HeaderLine
+pub mod Places
+pub mod WideRecords

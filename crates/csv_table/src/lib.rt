@@ -2,16 +2,17 @@
 //! the first fault.
 #![tactic(auto)]
 
-ghost use Rattle.std.specs.Prelude.{◌≡◌, ◌⊎◌, ◌↔◌, ℕ, List, ◌+◌, ◌<◌, ◌≤◌, ◌++◌, ◌∷◌, [], true, false, length, position, Some, None, Ok, Err, IfOk, IfErr, IfSome, OnOk, OnErr};
+ghost use Rattle.std.specs.Prelude.{◌≡◌, ◌⊎◌, ◌↔◌, ℕ, List, ◌+◌, ◌<◌, ◌≤◌, ◌++◌, ◌∷◌, [], true, false, length, Some, None, Ok, Err, IfOk, IfErr, OnOk, OnErr};
 ghost use Rattle.csv.specs.Reading.{has_failed, strip_bom};
 ghost use Rattle.csv.specs.Records.{fields_of};
 ghost use Rattle.lake_model.specs.Records.{column_count, csv_fault, field_at, header_fault, record_fault, records_of, table_fault, IsTable, Record, text_fault, text_size};
-ghost use Rattle.csv_table.specs.HeaderLine.{ends_line, first_line};
 ghost use Rattle.csv_table.specs.RecordsLeft.{IsReading, records_left};
 
 mod fields;
+mod widths;
 
 use crate::fields::Fields;
+use crate::widths::{fields_if_wide, wide_record};
 use csv::{ByteRecord, Reader, ReaderBuilder};
 pub use lake_model::CsvRefused;
 use std::alloc::Global;
@@ -96,9 +97,8 @@ pub fn read_table(alloc: Global, bytes: &[u8], most: u32) -> Result<RawTable, Cs
     ensures size { IfOk result (λ t. text_size t ≤ length bytes.now) }
     ensures refused { IfErr result (λ e. (e ≡ CsvRefused.NoMemory) ⊎ (csv_fault most bytes.now ≡ Some e)) }
 {
-    if let Some(got) = plain_width(bytes)
-        && got > most as u64
-    {
+    let wide = wide_record(bytes, most);
+    if let Some(got) = fields_if_wide(wide, 1) {
         return Err(CsvRefused::TooManyColumns { got });
     }
     let mut reader = open_reader(alloc, bytes);
@@ -110,6 +110,13 @@ pub fn read_table(alloc: Global, bytes: &[u8], most: u32) -> Result<RawTable, Cs
     }
     let columns = add_header(&mut store, &row, most)?;
     for records in 1..u64::MAX {
+        if let Some(got) = fields_if_wide(wide, records + 1) {
+            return Err(CsvRefused::Unequal {
+                row: records + 1,
+                want: columns as u64,
+                got,
+            });
+        }
         if !read_next(&mut reader, &mut row)? {
             return Ok(RawTable {
                 store,
@@ -121,40 +128,6 @@ pub fn read_table(alloc: Global, bytes: &[u8], most: u32) -> Result<RawTable, Cs
     }
     // That many records do not fit into an address space.
     Err(CsvRefused::NoMemory)
-}
-
-// Returns the number of fields of the header: one more than the commas of the first line. Returns `None` if that line is empty
-// or has a double quote.
-//
-// This takes no memory. The crate `csv` keeps 8 bytes for each field of a record, in a list that doubles as it grows, and tells
-// their number only after the whole record is read. A header of nothing but commas would take 25 times its size.
-fn plain_width(bytes: &[u8]) -> Option<u64>
-    ensures { IfSome result (λ width. width ≡ column_count (records_of bytes.now)) }
-{
-    // The crate drops a second byte order mark.
-    let line = first_line(behind_mark(behind_mark(bytes)));
-    if line.is_empty() || line.contains(&b'"') {
-        return None;
-    }
-    let commas = line.iter().filter(|byte| **byte == b',').count();
-    Some(commas as u64 + 1)
-}
-
-// Returns the bytes before the first CR or LF, or all of them if there is none.
-fn first_line(bytes: &[u8]) -> &[u8]
-    ensures { result.now ≡ first_line bytes.now }
-{
-    match line_end(bytes) {
-        Some(end) => &bytes[..end],
-        None => bytes,
-    }
-}
-
-// Returns the index of the first CR or LF.
-fn line_end(bytes: &[u8]) -> Option<usize>
-    ensures { result ≡ position ends_line bytes.now }
-{
-    bytes.iter().position(|byte| matches!(*byte, b'\r' | b'\n'))
 }
 
 // Returns a reader of the records of the bytes.

@@ -6,8 +6,17 @@ use Rattle.csv_table.specs.RecordsLeft.{records_left}
 use Rattle.lake_model.specs.Records.{records_of}
 use Rattle.csv_table.proofs.TableLawLemmas.{table_of}
 use Rattle.csv_table.proofs.ReaderLemmas.{size_records}
-use Rattle.csv_table.proofs.TableLemmas.{all_read, header_good, record_bad, record_good}
+use Rattle.csv_table.proofs.TableLemmas.{all_read, header_good, record_bad, record_good, wide_header, wide_record_bad}
 use Rattle.csv_table.proofs.read_table.Goals as goal
+
+pub returns-in-Some-clause-refused : goal.returns-in-Some-clause-refused
+returns-in-Some-clause-refused c =
+    inr (wide_header c.args.most c.in-Some.got c.args.bytes.now c.wide_record-wide.result c.wide_record-wide.ensures c.in-Some.ensures)
+
+pub returns-in-Some-fields_if_wide-clause-refused : goal.returns-in-Some-fields_if_wide-clause-refused
+returns-in-Some-fields_if_wide-clause-refused c =
+    inr (wide_record_bad c.args.most c.loop-records.records c.in_ok-columns.columns c.in-Some-fields_if_wide.got c.args.bytes.now c.loop-records.store (records_left c.loop-records.reader)
+    c.wide_record-wide.result c.wide_record-wide.ensures c.in-Some-fields_if_wide.ensures c.in_ok-columns.ensures.ok.1 c.loop-records.invariant.left)
 
 pub loop-records-init : goal.loop-records-init
 loop-records-init c =
