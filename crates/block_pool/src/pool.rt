@@ -111,7 +111,7 @@ impl Pool {
         ensures spare { spare_of self.new ≡ spare_of self.old + blocks_for what.length }
         ensures others { (other : Links) → IsOf self.old other → IsApart what other → IsKept self.old self.new other }
     {
-        let _blocks = &self.blocks;
+        prove!(self.blocks.len() <= u32::MAX as usize);
         let mut number = what.first;
         let count = (what.length + (BLOCK - 1)) / BLOCK;
         for _ in 0..count {

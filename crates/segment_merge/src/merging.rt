@@ -30,8 +30,7 @@ pub fn merge(alloc: Global, plan: Plan) -> Result<Merged, NoMemory>
     })
 }
 
-// Returns the positions of loads, and their tables. A table has at most 4,096 columns, which is known of it once it is
-// looked at.
+// Returns the positions of loads, and their tables. A table has at most 4,096 columns.
 fn split_loads(
     alloc: Global,
     loads: &[(u64, SharedTable)],
@@ -44,7 +43,7 @@ fn split_loads(
     let mut tables = Vec::with_capacity(alloc, loads.len())?;
     for load in loads {
         positions.push(load.0)?;
-        let _columns = load.1.table().columns();
+        prove!(load.1.table().columns() <= 4_096);
         tables.push(load.1.share()?)?;
     }
     Ok((positions, tables))
