@@ -1,11 +1,11 @@
 -- The indices of texts in sorted order, and the texts that repeat an earlier one.
-use Rattle.std.proofs.Common.{◌≡◌, refl, ap, sym, ◌∙◌, subst, ℕ, suc, ◌+◌, ◌-◌, ◌<◌, ◌≤◌, inl, inr, List, [], ◌∷◌, ◌++◌, map, take, drop, get_or, length, Bool, true, false, ◌||◌, ◌&&◌, arith, append_assoc, append-nil, length-append, length-drop, length-set, get_or-set_same, get_or-set_other, replicate, set}
-use Rattle.std.specs.Prelude.{bytes_eq, fold, not, slice_range}
+use Rattle.std.proofs.Common.{true≢false, ◌≡◌, refl, ap, sym, ◌∙◌, subst, ℕ, suc, ◌+◌, ◌-◌, ◌<◌, ◌≤◌, inl, inr, List, [], ◌∷◌, ◌++◌, map, take, drop, get_or, length, Bool, true, false, ◌||◌, ◌&&◌, arith, append_assoc, append-nil, length-append, length-drop, length-set, get_or-set_same, get_or-set_other, replicate, set}
+use Rattle.std.specs.Prelude.{bytes_eq, fold, not, slice_range, OnOk}
 use Rattle.std.proofs.Math.Dec.{eqb}
 use Rattle.std.specs.Cmp.{IsStrictWeakOrder, IsTotalOrder, nat_cmp_is}
 use Rattle.std.specs.Cmp.Lexicographic.{slice_cmp}
 use Rattle.std.specs.Fn.{Called, ComparesAs}
-use Rattle.std.specs.List.{All, AllByRecursion, Contains, IsDistinct, range_with_len}
+use Rattle.std.specs.List.{All, AllByRecursion, Contains, IsDistinct, list_any, range_with_len}
 use Rattle.std.specs.List.Sorted.{IsBinarySearchResult, IsPartitionPoint, IsPermutation, IsSearchInRange, IsSorted, IsSortedByKey, IsStableByKey, ties}
 use Rattle.std.specs.Ordering.{is_eq, is_lt, nat_cmp, ordering_reverse, ordering_then}
 use Rattle.std.specs.Result.{is_ok}
@@ -31,6 +31,10 @@ use Rattle.column_set.specs.Sorted.{place_cmp, repeats_behind, repeats_of, unmar
 use Rattle.column_set.proofs.ListsLemmas.{in_part, length-part}
 use denote.Ref.{Bor}
 use denote.Param.Members.{Mut}
+
+pub on_ok : {P : Type 0} {T E : Type 0} (r : Result T E) → P → OnOk r P
+on_ok (Ok x) p = p
+on_ok (Err x) p = tt
 
 -- ---- marks
 
@@ -168,6 +172,19 @@ each_marked texts from marks is within = omega (arith, ap length is, length-repe
 -- and what is not marked is distinct
 pub left_distinct : (texts left : List Text) (from : ℕ) (marks : List Bool) → marks ≡ repeats_of (drop from texts) → left ≡ take from texts ++ unmarked marks (drop from texts) → left ≡ take from texts ++ distinct (drop from texts)
 left_distinct texts left from marks is same = same ∙ ap (λ (ts : List Text). take from texts ++ ts) (ap (λ (ms : List Bool). unmarked ms (drop from texts)) is ∙ distinct_is (drop from texts))
+
+-- where nothing is marked, all elements are left
+none_marked : {X : Type 0} (marks : List Bool) (xs : List X) → list_any (λ mark. mark) marks ≡ false → length marks ≡ length xs → unmarked marks xs ≡ xs
+none_marked [] [] none same = refl
+none_marked [] (x ∷ xs) none same = absurd (omega (arith, same))
+none_marked (mark ∷ marks) [] none same = refl
+none_marked (true ∷ marks) (x ∷ xs) none same = absurd (true≢false none)
+none_marked (false ∷ marks) (x ∷ xs) none same = ap (λ ys. x ∷ ys) (none_marked marks xs none (omega (arith, same)))
+
+-- so texts of which none is marked are distinct
+pub all_distinct : (texts : List Text) (marks : List Bool) → marks ≡ repeats_of texts → list_any (λ mark. mark) marks ≡ false → texts ≡ distinct texts
+all_distinct texts marks is none =
+    sym (none_marked marks texts none (ap length is ∙ length-repeats [] texts)) ∙ ap (λ (ms : List Bool). unmarked ms texts) is ∙ distinct_is texts
 
 -- marks that are right one by one
 repeats_are : (seen texts : List Text) (marks : List Bool) → length marks ≡ length texts → ((k : ℕ) → k < length texts → get_or marks k false ≡ has_key (seen ++ take k texts) (get_or texts k [])) → marks ≡ repeats_behind seen texts

@@ -10,7 +10,7 @@ ghost use Rattle.column_set.specs.Slots.{IsSlottedSet};
 
 use crate::index::KeyIndex;
 use crate::slots::{Seat, free_slots, hash_key, seat_of, widened};
-use crate::sorted::{leave_out_repeats, sorted_places};
+use crate::sorted::{leave_out_repeats, sorted_distinct};
 use crate::texts::Texts;
 use no_memory::NoMemory;
 use std::alloc::Global;
@@ -142,9 +142,8 @@ impl KeyGatherer {
             keys.shrink_to_fit();
             return Ok((keys, KeyIndex::Slots(slots)));
         }
-        leave_out_repeats(alloc, &mut keys, 0)?;
+        let places = sorted_distinct(alloc, &mut keys)?;
         keys.shrink_to_fit();
-        let places = sorted_places(alloc, &keys, 0)?;
         Ok((keys, KeyIndex::Places(places)))
     }
 }

@@ -1,6 +1,7 @@
 //! Sorted texts, for sets whose keys were chosen to collide in the hasher: repeats are found by a sort, and a key by a
 //! binary search. The bound on their comparisons depends on the number of texts alone, not on the choice of texts.
 ghost use Rattle.std.specs.Prelude.{◌≡◌, ◌≤◌, ◌++◌, drop, length, take, IfOk, OnErr, OnOk};
+ghost use Rattle.std.specs.List.{list_any};
 ghost use Rattle.lake_model.specs.Tables.{distinct, has_key};
 ghost use Rattle.column_set.specs.Sorted.{repeats_of, AreSortedPlaces};
 
@@ -30,6 +31,28 @@ pub fn leave_out_repeats(alloc: Global, texts: &mut Texts, from: u32) -> Result<
     let repeats = repeats_at(alloc, texts, from, &places)?;
     texts.leave_out(from, &repeats);
     Ok(())
+}
+
+/// Removes each text that equals an earlier one, and returns the indices of those that are left, sorted by the bytes of
+/// the texts. If all texts differ, as texts usually do whose hashes were chosen to collide, they are sorted only once.
+pub fn sorted_distinct(alloc: Global, texts: &mut Texts) -> Result<Vec<u32>, NoMemory>
+    ensures left { OnOk result (texts.new ≡ distinct texts.old) }
+    ensures sorted { IfOk result (λ places. AreSortedPlaces texts.new 0 places.items) }
+{
+    let places = sorted_places(alloc, texts, 0)?;
+    let repeats = repeats_at(alloc, texts, 0, &places)?;
+    if !has_mark(&repeats) {
+        return Ok(places);
+    }
+    texts.leave_out(0, &repeats);
+    sorted_places(alloc, texts, 0)
+}
+
+// Returns whether one of the marks is set.
+fn has_mark(marks: &[bool]) -> bool
+    ensures { result ≡ list_any (λ mark. mark) marks.now }
+{
+    marks.iter().any(|mark| *mark)
 }
 
 /// Returns whether the key is among the texts, by a binary search in their sorted order.

@@ -1,14 +1,10 @@
 use Rattle.std.proofs.Common.{◌≡◌, ◌∙◌, ◌∷◌, ◌++◌, [], ap, drop, false, string_bytes, subst, sym}
-use Rattle.std.specs.Prelude.{Err, Ok, OnOk, Result}
 use Rattle.lake_model.specs.Tables.{has_key}
 use Rattle.lake_model.specs.Texts.{Text}
 use Rattle.column_set.proofs.GatherLemmas.{entered_new, entered_set}
 use Rattle.column_set.proofs.SlotLemmas.{if_slotted}
+use Rattle.column_set.proofs.SortedLemmas.{on_ok}
 use Rattle.column_set.proofs.keys.entered.Goals as goal
-
-on_ok : {P : Type 0} {T E : Type 0} (r : Result T E) → P → OnOk r P
-on_ok (Ok x) p = p
-on_ok (Err x) p = tt
 
 pub widened-requires-clause-slotted : goal.widened-requires-clause-slotted
 widened-requires-clause-slotted c =
