@@ -11,8 +11,12 @@ with 1,000 values. josie reads a file and writes one, so that no harness is meas
 time of the searches is what a run with them takes longer than one without, each the least of N runs. `--beside` names another program that reads the same
 scripts on one lane, as a baseline.
 
+Below each table stands what the machine allows: how many times as much as one program as many programs as there are processors get through, each with one lane
+and a lake of its own. They share nothing but the machine, so lanes cannot be expected to get through much more.
+
 Last, the cost of a batch of one command is measured, with one lane and with sixteen lanes of which one has the command.
 """
+import os
 import random
 import subprocess
 import tempfile
@@ -100,28 +104,32 @@ class Open:
         self.process.wait()
 
 
-def run_time(words, script):
-    """The seconds of a run of the program over a script, from its start to its end."""
-    with tempfile.TemporaryFile() as given, tempfile.TemporaryFile() as taken:
+def run_time(words, script, programs=1):
+    """The seconds of some runs of the program at the same time, all over one script, from their start to the end of the last."""
+    with tempfile.NamedTemporaryFile() as given, tempfile.TemporaryFile() as taken:
         given.write(script.encode())
-        given.seek(0)
+        given.flush()
+        streams = [open(given.name, "rb") for _ in range(programs)]
         start = time.perf_counter()
-        subprocess.run(words, stdin=given, stdout=taken, check=True)
+        runs = [subprocess.Popen(words, stdin=stream, stdout=taken if stream is streams[0] else subprocess.DEVNULL) for stream in streams]
+        ends = [run.wait() for run in runs]
         seconds = time.perf_counter() - start
+        for stream in streams:
+            stream.close()
         taken.seek(0)
         replies = taken.read()
-    if b" refused " in replies or b" no memory" in replies:
+    if any(ends) or b" refused " in replies or b" no memory" in replies:
         raise SystemExit("lane_speed: a command was refused")
     return seconds
 
 
-def least(times, words, lanes, loads, asked):
-    """The least seconds of the loads, and of the searches after them and after a merge of the whole lake."""
+def least(times, words, lanes, loads, asked, programs=1):
+    """The least seconds of the loads, and of the searches after them and after a merge of the whole lake, in some programs at the same time."""
     words = words + (["--lanes", str(lanes)] if lanes > 1 else [])
     loading = dealt(loads, lanes)
     merging = loading + "merge all\nsync\n"
     scripts = (loading, merging, merging + dealt(asked, lanes))
-    loaded, merged, searched = (min(run_time(words, script) for _ in range(times)) for script in scripts)
+    loaded, merged, searched = (min(run_time(words, script, programs) for _ in range(times)) for script in scripts)
     return loaded, searched - merged
 
 
@@ -156,6 +164,9 @@ def main():
             one = one or ((loading, searching) if name == "1" else None)
             base = one or (loading, searching)
             print(f"{name:>8} {len(loads) / loading:10.0f} {size / loading:8.1f} {base[0] / loading:10.2f} {len(asked) / searching:11.0f} {base[1] / searching:10.2f}", flush=True)
+        count = os.cpu_count() or 1
+        loading, searching = least(given.times, [given.josie, "run"], 1, loads, asked, count)
+        print(f"{count} programs at the same time: {count * one[0] / loading:.2f} times the loads of one, {count * one[1] / searching:.2f} times its searches", flush=True)
     print(f"a batch of one command: {one_command(given.josie, 1) * 1e6:.0f} microseconds with one lane, {one_command(given.josie, 16) * 1e6:.0f} with sixteen")
 
 
