@@ -105,7 +105,7 @@ fn built(alloc: Global, puts: &[Put]) -> Result<Segment, NoMemory>
     build(alloc, tables_of(alloc, puts)?)
 }
 
-// Returns a share of each table. A table has at most 4,096 columns, which is known of it once it is looked at.
+// Returns a share of each table. A table has at most 4,096 columns.
 fn tables_of(alloc: Global, puts: &[Put]) -> Result<Vec<SharedTable>, NoMemory>
     ensures same { IfOk result (λ tables. tables.items ≡ tables_put puts.now) }
     ensures narrow { IfOk result (λ tables. sum_by (λ t. length t.columns) (tables_put puts.now) ≤ 4096 * length puts.now) }
@@ -113,7 +113,7 @@ fn tables_of(alloc: Global, puts: &[Put]) -> Result<Vec<SharedTable>, NoMemory>
     let mut tables = Vec::with_capacity(alloc, puts.len())?;
     for put in puts {
         let table = put.table();
-        let _columns = table.table().columns();
+        prove!(table.table().columns() <= 4_096);
         tables.push(table.share()?)?;
     }
     Ok(tables)

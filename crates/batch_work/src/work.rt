@@ -146,14 +146,14 @@ fn given(alloc: Global, commands: &[Command]) -> Result<Vec<Work<'_>>, NoMemory>
 {
     let mut works = Vec::with_capacity(alloc, commands.len())?;
     for command in commands {
-        let _name = name_of(command.task());
+        is_named(command.task());
         works.push(Work::Given(command))?;
     }
     Ok(works)
 }
 
-// Returns the name in a task, if there is one. That it is the name of a table is known once it is looked at.
-fn name_of(task: &Task) -> Option<&[u8]>
+// States that the name in a task, if there is one, is the name of a table.
+fn is_named(task: &Task)
     ensures { HasName (task_of task.now) }
 {
     match task {
@@ -161,12 +161,14 @@ fn name_of(task: &Task) -> Option<&[u8]>
         | Task::LoadFile { name, .. }
         | Task::Drop { name }
         | Task::Replace { name, .. }
-        | Task::Like { name, .. } => Some(name.bytes()),
+        | Task::Like { name, .. } => {
+            name.bytes();
+        }
         Task::Tables
         | Task::Search { .. }
         | Task::Contain { .. }
         | Task::AsOf { .. }
-        | Task::Merge { .. } => None,
+        | Task::Merge { .. } => {}
     }
 }
 

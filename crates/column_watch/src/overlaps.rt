@@ -136,7 +136,7 @@ pub(crate) fn table_rows(
     requires within { All (λ numbers. w < length numbers) (map (λ counts. counts.items) overlaps.now) }
     ensures { IfOk result (λ rows. (query : List Text) → map (λ numbers. get_or numbers w 0) (map (λ counts. counts.items) overlaps.now) ≡ map (λ column. overlap_of query column.keys) table.now.columns → rows.items ≡ rows_of_table query table.now) }
 {
-    let _narrow = table.columns();
+    prove!(table.columns() <= 4_096);
     let mut rows = Vec::new(alloc);
     for (i, counts) in overlaps.iter().enumerate() {
         let overlap = counts[w];

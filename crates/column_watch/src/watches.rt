@@ -66,7 +66,7 @@ impl Watches {
         ensures ok { OnOk result (self.new ≡ watches_with [] (self.old.queries ++ watch_with query k ∷ [])) }
         ensures err { OnErr result (self.new ≡ self.old) }
     {
-        let _different = query.len();
+        keys_differ(&query);
         self.queries.push(Watched::new(self.alloc, query, k))?;
         Ok(self.queries.len() as u32)
     }
@@ -141,6 +141,13 @@ impl Watches {
         let first = self.queries[w as usize - 1].first();
         Ok(Rows::new(lend_all(self.alloc, first)?))
     }
+}
+
+// States that the keys of a query differ.
+fn keys_differ(query: &QuerySet)
+    ensures { IsDistinct bytes_eq query.now }
+{
+    query.len();
 }
 
 // Indexes the keys of the queries before the first entry.

@@ -149,7 +149,9 @@ pub fn reply_now(
         Task::Drop { name } => drop_table(catalogue, who, name, out),
         Task::Replace { name, body } => replace(alloc, catalogue, keys, who, name, body, out),
         Task::Tables => list_now(alloc, catalogue, keys),
-        Task::AsOf { .. } => search_past_now(alloc, catalogue, keys, past, command.task()),
+        Task::AsOf { asked, k, body } => search_past_now(
+            alloc, catalogue, keys, past, *asked, *k, body,
+        ),
         Task::Search { .. } | Task::Like { .. } | Task::Contain { .. } | Task::Merge { .. } =>
             unreachable!(),
     }

@@ -13,6 +13,6 @@ pub use answering::{Held, begin, reply_now, reply_when_held};
 pub use dropping::reply_to_drop;
 pub use loading::{Loadable, make_table, make_table_of_file, reply_to_load};
 pub use merging::{Planned, plan_pinned};
-pub use past::finish_past;
+pub use past::search_past;
 pub use replacing::reply_to_replace;
 pub use searching::finish;

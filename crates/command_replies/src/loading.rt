@@ -105,7 +105,7 @@ fn index_table(alloc: Global, table: &SharedTable) -> Result<Arc<Segment>, NoMem
 {
     let mut tables = Vec::new(alloc);
     tables.push(table.share()?)?;
-    let _columns = table.table().columns();
+    prove!(table.table().columns() <= 4_096);
     let segment = build(alloc, tables)?;
     Ok(Arc::new(alloc, segment)?)
 }

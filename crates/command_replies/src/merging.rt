@@ -1,8 +1,8 @@
 //! Merges: the plan at a pin with its result, and the swap, which may come later.
-ghost use Rattle.std.specs.Prelude.{◌≡◌, ◌≤◌, ◌<◌, ◌+◌, Bool, length, sum_by, option_map, IfOk, Some};
-ghost use Rattle.lake_model.specs.Journal.{entry_with, Swapped};
+ghost use Rattle.std.specs.Prelude.{◌≡◌, ◌≤◌, ◌<◌, ◌+◌, Bool, length, sum_by, true, option_map, IfOk, Some};
+ghost use Rattle.lake_model.specs.Journal.{counts, entry_with, Swapped};
 ghost use Rattle.lake_model.specs.Tables.{members};
-ghost use Rattle.lake_model.specs.Layout.{shown, shown_with};
+ghost use Rattle.lake_model.specs.Layout.{is_legal, shown, shown_with};
 ghost use Rattle.segment_core.specs.Plans.{PlanOf};
 ghost use Rattle.segment_merge.specs.Planned.{load_tables, plan_at};
 ghost use Rattle.catalogue.specs.Kept.{IsWithin};
@@ -28,6 +28,20 @@ pub struct Planned {
     pub merged: Option<Merged>,
 }
 
+// States that the journal of a catalogue is legal.
+fn is_legal(catalogue: &Catalogue)
+    ensures { is_legal catalogue.now.journal ≡ true }
+{
+    catalogue.journal();
+}
+
+/// States that what the journal of a catalogue counts is within the catalogue's limits.
+pub(crate) fn is_within_limits(catalogue: &Catalogue)
+    ensures { IsWithin catalogue.now.limits (counts catalogue.now.journal) }
+{
+    catalogue.counts();
+}
+
 /// Plans a merge of the newest version, and builds the segment of the tables that it keeps.
 pub(crate) fn plan_now(
     alloc: Global,
@@ -38,9 +52,9 @@ pub(crate) fn plan_now(
     ensures { IfOk result (λ planned. IsPlanned policy catalogue.now.journal planned × (planned.layout.at ≡ length catalogue.now.journal)) }
 {
     let pin = catalogue.pin()?;
-    // From what is known of the journal and of its counts it follows that the plan is small enough.
-    let _legal = catalogue.journal();
-    let _within = catalogue.counts();
+    // The tables of a legal journal within the limits are few enough for any plan.
+    is_legal(catalogue);
+    is_within_limits(catalogue);
     plan_pinned(alloc, &pin, policy)
 }
 

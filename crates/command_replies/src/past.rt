@@ -1,23 +1,22 @@
 //! Searches of the tables that were live at an earlier position of the journal.
-ghost use Rattle.std.specs.Prelude.{◌≡◌, ◌≤◌, Bool, IfOk, None, OnOk, true};
+ghost use Rattle.std.specs.Prelude.{◌≡◌, ◌≤◌, Bool, IfOk, None, OnOk};
 ghost use mathlib.Core.List.{IsPrefix};
 ghost use Rattle.asof_search.specs.declared.refusal.PastRefused.{PastRefused};
 ghost use Rattle.catalogue.specs.Kept.{IsWithin};
-ghost use Rattle.commands.specs.Tasks.{IsTaskInRange, task_of};
-ghost use Rattle.command_replies.specs.Pasts.{is_past, past_refusal_reply};
-ghost use Rattle.lake_model.specs.declared.Counts.{Counts};
+ghost use Rattle.command_replies.specs.Pasts.{past_refusal_reply};
 ghost use Rattle.lake_model.specs.Answer.{answer};
-ghost use Rattle.record_model.specs.Answered.{answer_to, past_answer, query_read};
+ghost use Rattle.record_model.specs.Answered.{past_answer, query_read};
 ghost use Rattle.record_model.specs.Play.{reply_or_denied};
-ghost use Rattle.record_model.specs.Rules.{rules_with, wide_limits};
+ghost use Rattle.record_model.specs.Rules.{wide_limits};
 ghost use Rattle.run_record.specs.Replies.{reply_of};
 ghost use Rattle.segment_core.specs.Versions.{live_of};
 
+use crate::merging::is_within_limits;
 use crate::searching::reply_to_query;
 use asof_search::{PastRefused, Timeline};
 use catalogue::Catalogue;
 use column_set::{KeptRows, Keys, QuerySet};
-use commands::{Body, Task};
+use commands::Body;
 use cost_model::Profile;
 use josie_search::prepare;
 use no_memory::NoMemory;
@@ -46,8 +45,9 @@ fn rows_at(alloc: Global, pin: &Pin, query: &QuerySet, k: u32) -> Result<KeptRow
     prepared.run(&Profile).rows.keep_all(alloc)
 }
 
-// Makes the reply to a search of the tables that were live after the first `asked` of the entries taken.
-fn search_past(
+/// Answers a search of an earlier position, the one after the first `asked` entries, from a timeline that has taken the
+/// journal at which it is answered. The reply is the one at this journal, or that memory ran out.
+pub fn search_past(
     alloc: Global,
     keys: Keys,
     past: &mut Timeline,
@@ -79,28 +79,6 @@ fn search_past(
     }
 }
 
-/// Answers a search of an earlier position, from a timeline that has taken the journal at which it is answered. The
-/// reply is the one at this journal, or that memory ran out.
-pub fn finish_past(alloc: Global, keys: Keys, past: &mut Timeline, task: &Task) -> Reply
-    requires past { is_past (task_of task.now) ≡ true }
-    requires in_range { IsTaskInRange task.now }
-    ensures same { past.new ≡ past.old }
-    ensures answered { (limits : Counts) → (denied : Bool) × (reply_of result ≡ reply_or_denied denied (answer_to (rules_with keys limits) (task_of task.now) past.old past.old)) }
-{
-    match task {
-        Task::AsOf { asked, k, body } => search_past(alloc, keys, past, *asked, *k, body),
-        Task::Load { .. }
-        | Task::LoadFile { .. }
-        | Task::Drop { .. }
-        | Task::Replace { .. }
-        | Task::Tables
-        | Task::Search { .. }
-        | Task::Like { .. }
-        | Task::Contain { .. }
-        | Task::Merge { .. } => unreachable!(),
-    }
-}
-
 // Takes the entries of the catalogue's journal that follow those which the timeline has taken. If memory runs out, it
 // has taken only the first of them.
 fn catch_up(catalogue: &Catalogue, past: &mut Timeline) -> Result<(), NoMemory>
@@ -109,7 +87,7 @@ fn catch_up(catalogue: &Catalogue, past: &mut Timeline) -> Result<(), NoMemory>
     ensures ok { OnOk result (past.new ≡ catalogue.now.journal) }
     ensures begins { IsPrefix past.new catalogue.now.journal }
 {
-    let _counted = catalogue.counts();
+    is_within_limits(catalogue);
     let journal = catalogue.journal();
     past.take_all(&journal[past.taken() as usize..])
 }
@@ -121,17 +99,19 @@ pub(crate) fn search_past_now(
     catalogue: &Catalogue,
     keys: Keys,
     past: &mut Timeline,
-    task: &Task,
+    asked: u64,
+    k: u32,
+    body: &Body,
 ) -> Reply
-    requires past { is_past (task_of task.now) ≡ true }
-    requires in_range { IsTaskInRange task.now }
+    requires low { 1 ≤ k }
+    requires high { k ≤ 10000 }
     requires begins { IsPrefix past.old catalogue.now.journal }
     requires limits { IsWithin wide_limits catalogue.now.limits }
     ensures begins { IsPrefix past.new catalogue.now.journal }
-    ensures answered { (limits : Counts) → (denied : Bool) × (reply_of result ≡ reply_or_denied denied (answer_to (rules_with keys limits) (task_of task.now) catalogue.now.journal catalogue.now.journal)) }
+    ensures answered { (denied : Bool) × (reply_of result ≡ reply_or_denied denied (past_answer asked k (query_read keys body.now) catalogue.now.journal)) }
 {
     match catch_up(catalogue, past) {
-        Ok(()) => finish_past(alloc, keys, past, task),
+        Ok(()) => search_past(alloc, keys, past, asked, k, body),
         Err(NoMemory) => Reply::NoMemory,
     }
 }

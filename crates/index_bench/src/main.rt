@@ -49,7 +49,7 @@ fn table_of_size(alloc: Global, size: Size) -> Result<SharedTable> {
 
 /// Builds the segment of the table alone, and returns how many nanoseconds that took.
 fn build_nanoseconds(rt: &impl Clock, alloc: Global, table: &SharedTable) -> Result<u128> {
-    let _columns = table.table().columns();
+    prove!(table.table().columns() <= 4_096);
     if table.table().members() > MOST_MEMBERS {
         bail!("the table has more members than a segment may have");
     }

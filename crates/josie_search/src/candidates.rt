@@ -214,7 +214,7 @@ fn take(heap: &mut BinaryHeap<(u32, Reverse<u32>)>, top: Candidate)
     ensures capacity { heap_capacity heap.new ≡ heap_capacity heap.old }
     ensures len { heap_len heap.new + 1 ≡ heap_len heap.old }
 {
-    let _all = heap.as_slice();
+    prove!(heap.as_slice().len() == heap.len());
     match heap.pop() {
         Some(_first) => {}
         None => unreachable!(),
@@ -226,7 +226,7 @@ fn first(heap: &BinaryHeap<(u32, Reverse<u32>)>, by_count: bool) -> Option<Candi
     requires order { IsHeap entry_cmp (heap_items heap.now) }
     ensures { MatchOption result (heap_items heap.now ≡ []) (IsFirstIn by_count (heap_items heap.now)) }
 {
-    let _all = heap.as_slice();
+    prove!(heap.as_slice().len() == heap.len());
     match heap.peek() {
         None => None,
         Some(first) => Some(Candidate {

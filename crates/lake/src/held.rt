@@ -79,8 +79,8 @@ impl<B: Bounds> Held<B> {
         ensures lawful { IsLawful B.limits self.now }
         ensures room { length self.now < 2 ^ 62 }
     {
-        let _journal = self.catalogue.journal();
-        let _counts = self.catalogue.counts();
+        self.catalogue.journal();
+        self.catalogue.counts();
     }
 
     /// Loads a table, as the catalogue does.

@@ -1,8 +1,8 @@
 //! Loads and replaces by bytes that were read, and questions that are answered at a pin of the lake.
-ghost use Rattle.std.specs.Prelude.{◌≡◌, false, true, None};
+ghost use Rattle.std.specs.Prelude.{◌≡◌, ◌≤◌, false, None};
 ghost use mathlib.Core.List.{IsPrefix};
 ghost use Rattle.turn_lock.specs.Passes.{after_seeing};
-ghost use Rattle.script_model.specs.Commands.{is_update_task, command_with, Load, LoadFile, DropTable, Replace};
+ghost use Rattle.script_model.specs.Commands.{is_update_task, command_with, Load, LoadFile, DropTable, Replace, AsOf};
 ghost use Rattle.lake_model.specs.declared.Keys.{Keys};
 ghost use Rattle.record_model.specs.Rules.{rules_with, wide_limits};
 ghost use Rattle.catalogue.specs.Kept.{IsWithin};
@@ -15,7 +15,7 @@ ghost use Rattle.lake_desk.specs.Answering.{IsAnswered};
 use crate::changing::{drop_table, load, replace};
 use asof_search::Timeline;
 use column_set::{Keys, Name};
-use command_replies::{Loadable, finish, finish_past, make_table, make_table_of_file};
+use command_replies::{Loadable, finish, make_table, make_table_of_file, search_past};
 use commands::{Body, FileBody, Task};
 use lake::{Bounds, Lake, Pass};
 use lake_io::{Gate, Point};
@@ -145,18 +145,20 @@ pub(crate) fn ask_past<B: Bounds, R: Wait, G: Gate>(
     pass: &mut Pass<B>,
     past: &mut Timeline,
     number: u64,
-    task: &Task,
+    asked: u64,
+    k: u32,
+    body: &Body,
     gate: &G,
 ) -> Reply
     requires lock { pass.old.lock ≡ lake.now }
     requires free { pass.old.holds ≡ false }
     requires wide { IsWithin wide_limits B.limits }
     requires begins { IsPrefix past.old pass.old.seen }
-    requires past { is_past (task_of task.now) ≡ true }
-    requires in_range { IsTaskInRange task.now }
+    requires low { 1 ≤ k }
+    requires high { k ≤ 10000 }
     ensures pass { pass.new ≡ after_seeing pass.old pass.new.seen false }
     ensures begins { IsPrefix past.new pass.new.seen }
-    ensures answered { IsAnswered (rules_with keys B.limits) (command_with number pass.old.caller (task_of task.now)) pass.old (reply_of result) pass.new.seen }
+    ensures answered { IsAnswered (rules_with keys B.limits) (command_with number pass.old.caller (AsOf asked k body.now)) pass.old (reply_of result) pass.new.seen }
 {
     let read = lake.journal(rt, alloc, pass, past.taken());
     let Ok(entries) = read else {
@@ -164,7 +166,7 @@ pub(crate) fn ask_past<B: Bounds, R: Wait, G: Gate>(
     };
     gate.at(pass.caller(), number, Point::Pinned);
     match past.take_all(&entries) {
-        Ok(()) => finish_past(alloc, keys, past, task),
+        Ok(()) => search_past(alloc, keys, past, asked, k, body),
         Err(NoMemory) => Reply::NoMemory,
     }
 }

@@ -79,7 +79,7 @@ fn settle<'a, B: Bounds, R: Wait>(
 {
     gather(desks);
     let entries = desks[0].journal(rt, out.journal().len() as u64)?;
-    let _left = desks[0].numbers();
+    desks[0].seen_are_of_given();
     if out.room(answers.len(), entries.len()).is_err() {
         return Err(NoMemory);
     }

@@ -134,6 +134,13 @@ impl<'a, B: Bounds> LakeDesk<'a, B> {
         self.lake.left(&self.pass)
     }
 
+    /// States that, if the desk's pass gives numbers, all entries that it has seen are of callers whose numbers it gave.
+    pub(crate) fn seen_are_of_given(&self)
+        ensures { (count : ℕ) → self.now.given ≡ Some count → IsOfGiven caller_of count self.now.seen }
+    {
+        self.numbers();
+    }
+
     // Makes the reply to the command with this number.
     fn reply<R: Wait, G: Gate>(&mut self, rt: &R, number: u64, task: &Task, gate: &G) -> Reply
         requires { IsTaskInRange task.now }
@@ -184,7 +191,7 @@ impl<'a, B: Bounds> LakeDesk<'a, B> {
                 task,
                 gate,
             ),
-            Task::AsOf { .. } => ask_past(
+            Task::AsOf { asked, k, body } => ask_past(
                 rt,
                 alloc,
                 keys,
@@ -192,7 +199,9 @@ impl<'a, B: Bounds> LakeDesk<'a, B> {
                 &mut self.pass,
                 &mut self.past,
                 number,
-                task,
+                *asked,
+                *k,
+                body,
                 gate,
             ),
             Task::Merge { all } => merge_parts(rt, alloc, lake, &mut self.pass, number, *all, gate),

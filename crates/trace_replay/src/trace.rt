@@ -67,7 +67,8 @@ impl<'a> Trace<'a> {
     pub(crate) fn positions(&self)
         ensures { ArePositions self.now.commands self.now.hints }
     {
-        let _works = self.works;
+        // There is a group for each answer, and one for the journal.
+        prove!(self.works.len() < self.groups.len());
     }
 
     /// Returns the kind of keys by which values are compared.

@@ -8,6 +8,6 @@ returns-in-Some c =
     let items = heap_items c.args.heap.now in
     record {
       kind = refl;
-      at = head_is items c.in-Some.first.now (let some = c.in-Some.ensures.variant.0 refl in omega (arith, some, c.as_slice-all.ensures.len, ap length c.as_slice-all.ensures.value)) ∙ ap Some (sym c.in-Some.ensures.lookup);
+      at = head_is items c.in-Some.first.now (let some = c.in-Some.ensures.variant.0 refl in omega (arith, some, c.as_slice.ensures.len, ap length c.as_slice.ensures.value)) ∙ ap Some (sym c.in-Some.ensures.lookup);
       ahead = upper c.in-Some.first.now items (c.in-Some.ensures.greatest c.requires.order);
     }

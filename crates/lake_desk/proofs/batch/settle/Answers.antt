@@ -35,7 +35,7 @@ pub returns-clause-callers : goal.returns-clause-callers
 returns-clause-callers g c =
     let has = reads c.args.out.now.made.options.lanes c.args.out.now.made.journal c.args.desks.now c.gather.new.desks c.index-desks-0.result c.journal-2.new.self c.requires c.gather.ensures c.journal-2.ensures.desk c.journal-2.ensures.grows in
     subst (IsOfGiven caller_of (c.args.out.now.made.options.lanes + 1)) (sym (journal_whole c.args.out.now.made c.room.new.self.made c.add_batch.new.out.made c.args.answers.items c.in_ok-entries.entries.items c.journal.result.now c.journal-2.new.self.seen c.add_batch.ensures c.room.ensures.made c.journal.ensures c.in_ok-entries.ensures.entries has.journal_is))
-    (read_given c.args.out.now.made.options.lanes c.args.out.now.made.journal c.args.desks.now (slice_set c.gather.new.desks 0 c.journal-2.new.self) c.journal-2.new.self c.index-desks-0-2.result has c.numbers-left.ensures.given)
+    (read_given c.args.out.now.made.options.lanes c.args.out.now.made.journal c.args.desks.now (slice_set c.gather.new.desks 0 c.journal-2.new.self) c.journal-2.new.self c.index-desks-0-2.result has c.seen_are_of_given.ensures)
 
 pub returns-clause-lawful : goal.returns-clause-lawful
 returns-clause-lawful g c =

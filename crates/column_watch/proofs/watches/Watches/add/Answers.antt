@@ -13,6 +13,6 @@ invariant_of-self-2 c =
     let none : c.self.inside.journal.items ≡ [] = ap (λ (v : WatchesOf). v.journal) c.self.view_is ∙ c.requires.empty in
     let kept : IsKept [] states held = subst (λ (journal : List Entry). IsKept journal states held) none c.self.invariant in
     let few : length states < 16 = omega (arith, c.requires.few, ap (λ (v : WatchesOf). length v.queries) c.self.view_is, length-map states watch_of) in
-    let more = kept_more states held c.args.query c.args.k kept few c.len-different.ensures.different in
+    let more = kept_more states held c.args.query c.args.k kept few c.keys_differ.ensures in
     let after = c.in_ok-push.ensures.items ∙ ap (λ (state : StateOf). states ++ state ∷ []) c.new.ensures in
     subst (λ (journal : List Entry). IsKept journal c.push.new.self.items held) (sym none) (subst (λ (us : List StateOf). IsKept [] us held) (sym after) more)
