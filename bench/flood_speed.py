@@ -12,8 +12,8 @@ each, and a front before each block that keeps it without effect in the slots. T
 which no way is known to choose many keys of one hash, so it is measured with these floods only.
 
 The random keys are of the same length as those of the flood, and have the same fronts but for one letter. Keys come in random order. A time is the least CPU
-time of N whole runs, in which the flood and the random keys take turns; that of a search, and of the watched queries (to read them, to index them and to find
-their rows), is what the run takes beyond the load.
+time of N whole runs, in which the flood and the random keys take turns; that of a search is a fifth of what a run with five of them takes beyond the load, and
+that of the watched queries (to read them, to index them and to find their rows) is what the run with them takes beyond it.
 It exits with 1 if a flood takes more than twice the time of the random keys that it is compared with.
 """
 import itertools
@@ -27,6 +27,7 @@ from merge_speed import measured
 from program import given_words
 
 KEYS, SIZE, LETTERS = 1_000_000, 32, string.ascii_lowercase
+SEARCHES = 5
 LONG_KEYS, BLOCKS = 400_000, 4  # a script's block has at most 64 MiB
 QUERIES, MOST = 4, 10
 FRONT, FREE = "joinablekewcbluzeevfwjbx", 8  # the hash of each key with this front and eight more bytes is 0
@@ -117,11 +118,11 @@ def written(folder, name, text):
 
 
 def runs_of(josie, folder, name, keys):
-    """The words and the script of each run with these keys: the load, the load and a search, and the load with watched queries."""
+    """The words and the script of each run with these keys: the load, the load and some searches, and the load with watched queries."""
     lines = [key + "\n" for key in keys]
     load = f"load t\nc\n{''.join(lines)}.\n"
     alone = written(folder, f"{name}-load", load)
-    both = written(folder, f"{name}-search", f"{load}sync\nsearch {MOST}\n{''.join(lines)}.\n")
+    both = written(folder, f"{name}-search", load + f"sync\nsearch {MOST}\n{''.join(lines)}.\n" * SEARCHES)
     queries = [written(folder, f"{name}-q{number}", "".join(lines[number::QUERIES])) for number in range(QUERIES)]
     return (([josie, "run"], alone), ([josie, "run"], both), ([josie, "watch", str(MOST), *queries], alone))
 
@@ -138,7 +139,7 @@ def times(given, folder, flood, usual):
             for own, best in zip(runs, least):
                 words, path = own[what]
                 best[what] = min(best[what], measured(1, words, path)[0])
-    return [(loaded, searched - loaded, watched - loaded) for loaded, searched, watched in least]
+    return [(loaded, (searched - loaded) / SEARCHES, watched - loaded) for loaded, searched, watched in least]
 
 
 def main():
