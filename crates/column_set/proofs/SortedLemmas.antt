@@ -1,12 +1,11 @@
 -- The indices of texts in sorted order, and the texts that repeat an earlier one.
-use Rattle.std.proofs.Common.{true≢false, ◌≡◌, refl, ap, sym, ◌∙◌, subst, ℕ, suc, ◌+◌, ◌-◌, ◌<◌, ◌≤◌, inl, inr, List, [], ◌∷◌, ◌++◌, map, take, drop, get_or, length, Bool, true, false, ◌||◌, ◌&&◌, arith, append_assoc, append-nil, length-append, length-drop, length-set, get_or-set_same, get_or-set_other, replicate, set}
-use Rattle.std.specs.Prelude.{bytes_eq, fold, not, slice_range, OnOk}
+use Rattle.std.proofs.Common.{true≢false, ◌≡◌, refl, ap, sym, ◌∙◌, subst, ℕ, suc, zero, ◌+◌, ◌-◌, ◌<◌, ◌≤◌, inl, inr, List, [], ◌∷◌, ◌++◌, map, take, drop, get_or, length, Bool, true, false, ◌||◌, arith, append_assoc, append-nil, length-append, length-drop, length-set, get_or-set_same, get_or-set_other, replicate, set}
+use Rattle.std.specs.Prelude.{bytes_eq, fold, slice_range, OnOk}
 use Rattle.std.proofs.Math.Dec.{eqb}
-use Rattle.std.specs.Cmp.{IsStrictWeakOrder, IsTotalOrder, nat_cmp_is}
+use Rattle.std.specs.Cmp.{IsStrictWeakOrder, IsTotalOrder}
 use Rattle.std.specs.Cmp.Lexicographic.{slice_cmp}
-use Rattle.std.specs.Fn.{Called, ComparesAs}
 use Rattle.std.specs.List.{All, AllByRecursion, Contains, IsDistinct, list_any, range_with_len}
-use Rattle.std.specs.List.Sorted.{IsBinarySearchResult, IsPartitionPoint, IsPermutation, IsSearchInRange, IsSorted, IsSortedByKey, IsStableByKey, ties}
+use Rattle.std.specs.List.Sorted.{IsBinarySearchResult, IsPartitionPoint, IsPermutation, IsSearchInRange, IsSorted}
 use Rattle.std.specs.Ordering.{is_eq, is_lt, nat_cmp, ordering_reverse, ordering_then}
 use Rattle.std.specs.Result.{is_ok}
 use Rattle.std.specs.declared.cmp.Ordering.{Ordering}
@@ -15,11 +14,10 @@ use Rattle.std.specs.declared.result.Result.{Result}
 use Rattle.std.specs.declared.result.Result.TheVariants.{Err, Ok}
 use Rattle.std.proofs.lemmas.Bool.{cases_Bool, cases_lt, eqb-false, ne_eqb}
 use Rattle.std.proofs.lemmas.Cmp.{nat_cmp_total, nat_list_cmp_total, nat_eq_equiv, nat_list_eq_equiv, on_total, then_total, tied_itself}
-use Rattle.std.proofs.lemmas.Fn.{always_returns_same}
-use Rattle.std.proofs.lemmas.List.{drop-map, get_or-drop, get_or-replicate, get_or_default, length-replicate, length-take-le, map-append, take-map, take_more, take_more_set, take_all}
+use Rattle.std.proofs.lemmas.List.{drop-map, get_or-drop, get_or-map, length-map, get_or-replicate, get_or_default, length-replicate, length-take-le, map-append, take-map, take_more, take_more_set, take_all}
 use Rattle.std.proofs.lemmas.List.Elements.{All-append, All-drop, All-from_recursion, All-same, All-take, recursion_from_All}
 use Rattle.std.proofs.lemmas.List.Folds.{list_any-append, list_any_at, list_any_none}
-use Rattle.std.proofs.lemmas.List.Sorted.{Contains-permutation, All-permutation, length_permutation, ranks_by, searchable_from_sorted, sorted_far, ties_stay_sorted}
+use Rattle.std.proofs.lemmas.List.Sorted.{Contains-permutation, All-permutation, IsPermutation-map, length_permutation, ranks_by, searchable_from_sorted, sorted_far}
 use Rattle.std.proofs.lemmas.List.FromFn.{get_or-range_with_len, length-range_with_len}
 use Rattle.std.proofs.lemmas.Map.Keys.{apart_from_distinct, ge_from_not_lt, IsDistinct-IsPermutation, IsDistinct-from_apart}
 use Rattle.std.proofs.lemmas.Map.Lookups.{exact_bytes}
@@ -27,10 +25,10 @@ use Rattle.std.proofs.lemmas.Map.Steps.{list_any_congr}
 use Rattle.std.proofs.lemmas.Slice.Eq.{bytes_eq-Decides}
 use Rattle.lake_model.specs.Texts.{Text}
 use Rattle.lake_model.specs.Tables.{add_key, distinct, has_key}
-use Rattle.column_set.specs.Sorted.{place_cmp, repeats_behind, repeats_of, unmarked, AreSortedPlaces}
+use Rattle.column_set.specs.Hashes.{sip_of}
+use Rattle.column_set.specs.Sorted.{entry_cmp, hashed_text, place_cmp, place_of, repeats_behind, repeats_of, sorted_by, unmarked, AreSortedPlaces, IsHashed, IsHashOrder}
+use Rattle.column_set.specs.declared.sorted.HashedPlace.{HashedPlace}
 use Rattle.column_set.proofs.ListsLemmas.{in_part, length-part}
-use denote.Ref.{Bor}
-use denote.Param.Members.{Mut}
 
 pub on_ok : {P : Type 0} {T E : Type 0} (r : Result T E) → P → OnOk r P
 on_ok (Ok x) p = p
@@ -199,7 +197,7 @@ repeats_are seen (text ∷ texts) (mark ∷ marks) long right =
 -- ---- the order of indices
 
 place_cmp_total : (texts : List Text) → IsTotalOrder (place_cmp texts)
-place_cmp_total texts = then_total (on_total (λ (p : ℕ). get_or texts p []) nat_list_cmp_total) nat_cmp_total
+place_cmp_total texts = then_total (on_total (λ (p : ℕ). hashed_text (get_or texts p [])) nat_list_cmp_total) nat_cmp_total
 
 module _ (texts : List Text) where
   abbrev text_of : ℕ → Text
@@ -211,8 +209,11 @@ module _ (texts : List Text) where
   order : IsStrictWeakOrder less
   order = ranks_by (place_cmp_total texts) (λ (p : ℕ). p)
 
-  text_not_less : (a b : ℕ) → less a b ≡ false → is_lt (slice_cmp nat_cmp (text_of a) (text_of b)) ≡ false
-  text_not_less a b = by (slice_cmp nat_cmp (text_of a) (text_of b)) (nat_cmp a b)
+  abbrev key_of : ℕ → List ℕ
+  key_of p = hashed_text (text_of p)
+
+  key_not_less : (a b : ℕ) → less a b ≡ false → is_lt (slice_cmp nat_cmp (key_of a) (key_of b)) ≡ false
+  key_not_less a b = by (slice_cmp nat_cmp (key_of a) (key_of b)) (nat_cmp a b)
     where
       by : (o r : Ordering) → is_lt (ordering_then o r) ≡ false → is_lt o ≡ false
       by Less r e = e
@@ -221,55 +222,64 @@ module _ (texts : List Text) where
 
   place_not_less : (a b : ℕ) → text_of a ≡ text_of b → less a b ≡ false → b ≤ a
   place_not_less a b same e =
-      let tied : slice_cmp nat_cmp (text_of a) (text_of b) ≡ Equal = ap (slice_cmp nat_cmp (text_of a)) (sym same) ∙ tied_itself nat_list_cmp_total (text_of a) in
+      let tied : slice_cmp nat_cmp (key_of a) (key_of b) ≡ Equal = ap (λ (t : Text). slice_cmp nat_cmp (key_of a) (hashed_text t)) (sym same) ∙ tied_itself nat_list_cmp_total (key_of a) in
       ge_from_not_lt a b (ap (λ (o : Ordering). is_lt (ordering_then o (nat_cmp a b))) (sym tied) ∙ e)
 
-same_text : (x y : Text) → is_lt (slice_cmp nat_cmp x y) ≡ false → is_lt (slice_cmp nat_cmp y x) ≡ false → x ≡ y
-same_text x y n m = exact_bytes x y (level (slice_cmp nat_cmp x y) n (ap is_lt (sym (nat_list_cmp_total.antisymm y x)) ∙ m))
+same_text : (x y : Text) → is_lt (slice_cmp nat_cmp (hashed_text x) (hashed_text y)) ≡ false → is_lt (slice_cmp nat_cmp (hashed_text y) (hashed_text x)) ≡ false → x ≡ y
+same_text x y n m = ap (drop 1) (exact_bytes (hashed_text x) (hashed_text y) (level (slice_cmp nat_cmp (hashed_text x) (hashed_text y)) n (ap is_lt (sym (nat_list_cmp_total.antisymm (hashed_text y) (hashed_text x))) ∙ m)))
   where
     level : (r : Ordering) → is_lt r ≡ false → is_lt (ordering_reverse r) ≡ false → r ≡ Equal
     level Less n m = absurd (let e : true ≡ false = n in cc)
     level Equal n m = refl
     level Greater n m = absurd (let e : true ≡ false = m in cc)
 
--- ---- a stable sort by the texts, applied to the indices in order
+-- ---- the sort
 
-not_less_from_ge : (a b : ℕ) → b ≤ a → is_lt (nat_cmp a b) ≡ false
-not_less_from_ge a b le = elim (cases_lt b a) [
-  | inl l ↦ ap is_lt (sym (nat_cmp_is a b Greater l))
-  | inr m ↦ ap is_lt (sym (nat_cmp_is a b Equal (omega (arith, le, m))))
-]
+abbrev blank : HashedPlace
+blank = record { hash = 0; place = 0 }
 
-range_rises : (from n : ℕ) → IsSorted nat_cmp (range_with_len from n)
-range_rises from n k d low h =
-    let long = length-range_with_len from n in
-    let first = get_or-range_with_len from n k d (omega (arith, h, long)) in
-    let second = get_or-range_with_len from n (k + 1) d (omega (arith, h, long)) in
-    not_less_from_ge (get_or (range_with_len from n) (k + 1) d) (get_or (range_with_len from n) k d) (omega (arith, first, second))
+pub entry_total : (texts : List Text) → IsTotalOrder (entry_cmp texts)
+entry_total texts = then_total (on_total (sorted_by texts) nat_list_cmp_total) (on_total place_of nat_cmp_total)
 
-pub stably_sorted : (texts : List Text) (from : ℕ) (made places : List ℕ) → made ≡ range_with_len from (length texts - from) → IsPermutation made places
-    → IsSortedByKey (λ p. get_or texts p []) (slice_cmp nat_cmp) places → IsStableByKey (λ p. get_or texts p []) (slice_cmp nat_cmp) made places → AreSortedPlaces texts from places
-stably_sorted texts from made places is moved up stable = record {
-  all = subst (λ (xs : List ℕ). IsPermutation xs places) is moved;
-  sorted = λ k d low h. by k d h (slice_cmp nat_cmp (get_or texts (get_or places (k + 1) d) []) (get_or texts (get_or places k d) [])) refl (up k d low h);
-}
+-- one more index with its hash
+pub hashed_more : (texts : List Text) (before after : List HashedPlace) (entry : HashedPlace) → All (IsHashed texts) before → IsHashed texts entry → after ≡ before ++ entry ∷ [] → All (IsHashed texts) after
+hashed_more texts before after entry all one e = subst (All (IsHashed texts)) (sym e) (All-append (IsHashed texts) before (entry ∷ []) all (All-from_recursion (IsHashed texts) (entry ∷ []) (one, tt)))
+
+range_more : (a n j : ℕ) → a + n ≡ j → range_with_len a (suc n) ≡ range_with_len a n ++ j ∷ []
+range_more a zero j e = let same : a ≡ j = omega arith in ap (λ k. k ∷ []) same
+range_more a (suc n) j e = ap (λ ks. a ∷ ks) (range_more (a + 1) n j (omega arith))
+
+pub places_more : (from place : ℕ) (before after : List HashedPlace) (entry : HashedPlace) → from ≤ place → entry.place ≡ place → map place_of before ≡ range_with_len from (place - from) → after ≡ before ++ entry ∷ [] → map place_of after ≡ range_with_len from (place + 1 - from)
+places_more from place before after entry low is so_far e =
+    let one : suc (place - from) ≡ place + 1 - from = omega (arith, low) in
+    ap (map place_of) e ∙ map-append place_of before (entry ∷ []) ∙ (λ j. so_far j ++ is j ∷ []) ∙ sym (range_more from (place - from) place (omega (arith, low))) ∙ ap (range_with_len from) one
+
+module _ (texts : List Text) (order : List HashedPlace) (hashed : All (IsHashed texts) order) (k : ℕ) (within : k < length order) where
+  abbrev entry : HashedPlace
+  entry = get_or order k blank
+
+  pub place_there : (d : ℕ) → get_or (map place_of order) k d ≡ entry.place
+  place_there d = get_or-map place_of order k blank d within
+
+  -- what an entry is sorted by is what its index is sorted by
+  key_there : hashed_text (get_or texts entry.place []) ≡ sorted_by texts entry
+  key_there = let own : entry.hash ≡ sip_of (get_or texts entry.place []) = hashed k blank within in ap (λ (h : ℕ). h ∷ get_or texts entry.place []) (sym own)
+
+pub hash_ordered : (texts : List Text) (from : ℕ) (made order : List HashedPlace) → All (IsHashed texts) made → map place_of made ≡ range_with_len from (length texts - from) → IsPermutation made order → IsSorted (entry_cmp texts) order → IsHashOrder texts from order
+hash_ordered texts from made order all is moved up = record { hashed = hashed; places = record { all = subst (λ (ps : List ℕ). IsPermutation ps (map place_of order)) is (IsPermutation-map place_of made order moved); sorted = sorted } }
   where
-    tie : (a b : ℕ) → slice_cmp nat_cmp (get_or texts b []) (get_or texts a []) ≡ Equal → ties (λ x y. is_lt (slice_cmp nat_cmp (get_or texts x []) (get_or texts y []))) a b ≡ true
-    tie a b e =
-        let back : slice_cmp nat_cmp (get_or texts a []) (get_or texts b []) ≡ Equal = nat_list_cmp_total.antisymm (get_or texts a []) (get_or texts b []) ∙ ap ordering_reverse e in
-        λ j. not (is_lt (back j)) && not (is_lt (e j))
+    hashed : All (IsHashed texts) order
+    hashed = All-permutation (IsHashed texts) made order moved all
 
-    by : (k d : ℕ) → k + 1 < length places → (o : Ordering) → slice_cmp nat_cmp (get_or texts (get_or places (k + 1) d) []) (get_or texts (get_or places k d) []) ≡ o → is_lt o ≡ false → is_lt (ordering_then o (nat_cmp (get_or places (k + 1) d) (get_or places k d))) ≡ false
-    by k d h Less e n = n
-    by k d h Greater e n = refl
-    by k d h Equal e n =
-        ties_stay_sorted (λ x y. is_lt (nat_cmp x y)) (λ x y. is_lt (slice_cmp nat_cmp (get_or texts x []) (get_or texts y []))) (ranks_by nat_cmp_total (λ (p : ℕ). p)) (ranks_by nat_list_cmp_total (λ (p : ℕ). get_or texts p [])) made places
-        (subst (IsSorted nat_cmp) (sym is) (range_rises from (length texts - from))) stable k d h (tie (get_or places k d) (get_or places (k + 1) d) e)
-
--- the test by which `sort_by` sorts, if each call of its closure compares two keys
-pub compares_keys : {X K : Type 0} (R : K → K → Ordering) (key : X → K) → {F : Type 0} {g : Mut F (Bor X × (Bor X × Unit {0})) Ordering} {f : F}
-    → ((a : Bor X × (Bor X × Unit {0})) (r : Ordering) (f' : F) → Called g f a r f' → (r ≡ R (key a.0.now) (key a.1.0.now)) × (f' ≡ f)) → ComparesAs g (λ x y. is_lt (R (key x) (key y))) f
-compares_keys R key {g = g} {f = f} h = always_returns_same g (λ a r. is_lt r ≡ is_lt (R (key a.0.now) (key a.1.0.now))) f (λ a r f' called. (ap is_lt (h a r f' called).0, (h a r f' called).1))
+    sorted : IsSorted (place_cmp texts) (map place_of order)
+    sorted k d low h =
+        let b : k + 1 < length order = omega (arith, h, length-map order place_of) in
+        let a : k < length order = omega arith in
+        let x = get_or order (k + 1) blank in
+        let y = get_or order k blank in
+        (λ j. is_lt (place_cmp texts (place_there texts order hashed (k + 1) b d j) (place_there texts order hashed k a d j)))
+        ∙ (λ j. is_lt (ordering_then (slice_cmp nat_cmp (key_there texts order hashed (k + 1) b j) (key_there texts order hashed k a j)) (nat_cmp x.place y.place)))
+        ∙ up k blank low b
 
 -- whether a text equals one at a smaller index, from an index on
 abbrev repeats_from : List Text → ℕ → ℕ → Bool
@@ -362,10 +372,10 @@ module _ (texts : List Text) (from : ℕ) (places : List ℕ) (s : AreSortedPlac
     repeats_not : bytes_eq (get_or texts here []) (get_or texts before []) ≡ false → repeats here ≡ false
     repeats_not differs = no_repeat_at here (are_places i 0 h).1 (λ p low lower same.
         let found = earlier i h p low lower same in
-        let down = text_not_less texts here before (far (i - 1) i (omega arith) h) in
-        let up : is_lt (slice_cmp nat_cmp (get_or texts before []) (get_or texts here [])) ≡ false =
-        ap (λ (t : Text). is_lt (slice_cmp nat_cmp (get_or texts before []) t)) (sym same) ∙ ap (λ (q : ℕ). is_lt (slice_cmp nat_cmp (get_or texts before []) (get_or texts q []))) (sym found.2)
-        ∙ text_not_less texts before (get_or places found.0 0) (far found.0 (i - 1) (omega (arith, found.1)) (omega arith)) in
+        let down = key_not_less texts here before (far (i - 1) i (omega arith) h) in
+        let up : is_lt (slice_cmp nat_cmp (hashed_text (get_or texts before [])) (hashed_text (get_or texts here []))) ≡ false =
+        ap (λ (t : Text). is_lt (slice_cmp nat_cmp (hashed_text (get_or texts before [])) (hashed_text t))) (sym same) ∙ ap (λ (q : ℕ). is_lt (slice_cmp nat_cmp (hashed_text (get_or texts before [])) (hashed_text (get_or texts q [])))) (sym found.2)
+        ∙ key_not_less texts before (get_or places found.0 0) (far found.0 (i - 1) (omega (arith, found.1)) (omega arith)) in
         let equal : bytes_eq (get_or texts here []) (get_or texts before []) ≡ true = (bytes_eq-Decides (get_or texts here []) (get_or texts before [])).1 (same_text (get_or texts here []) (get_or texts before []) down up) in
         let no : true ≡ false = sym equal ∙ differs in cc)
 
@@ -418,28 +428,47 @@ module _ (texts : List Text) (from : ℕ) (places : List ℕ) (s : AreSortedPlac
 
 -- ---- a binary search
 
-module _ (texts : List Text) (places : List ℕ) (s : AreSortedPlaces texts 0 places) (key : Text) where
-  abbrev answer : ℕ → Ordering
-  answer p = slice_cmp nat_cmp (get_or texts p []) key
+module _ (texts : List Text) (order : List HashedPlace) (s : IsHashOrder texts 0 order) (hash : ℕ) (key : Text) (own : hash ≡ sip_of key) where
+  abbrev places : List ℕ
+  places = map place_of order
 
-  pub found_is : (r : Result ℕ ℕ) → IsSearchInRange r (length places) → IsBinarySearchResult answer places r → is_ok r ≡ has_key texts key
+  abbrev answer : HashedPlace → Ordering
+  answer e = slice_cmp nat_cmp (sorted_by texts e) (hash ∷ key)
+
+  rises : (k : ℕ) (d : HashedPlace) → 0 ≤ k → k + 1 < length order → is_lt (slice_cmp nat_cmp (sorted_by texts (get_or order (k + 1) blank)) (sorted_by texts (get_or order k blank))) ≡ false
+  rises k d low h =
+      let a : k < length order = omega arith in
+      let x = get_or order (k + 1) blank in
+      let y = get_or order k blank in
+      let up : is_lt (place_cmp texts x.place y.place) ≡ false =
+      (λ j. is_lt (place_cmp texts (sym (place_there texts order s.hashed (k + 1) h 0) j) (sym (place_there texts order s.hashed k a 0) j)))
+      ∙ s.places.sorted k 0 low (omega (arith, h, length-map order place_of)) in
+      (λ j. is_lt (slice_cmp nat_cmp (sym (key_there texts order s.hashed (k + 1) h) j) (sym (key_there texts order s.hashed k a) j))) ∙ key_not_less texts x.place y.place up
+
+  pub found_is : (r : Result ℕ ℕ) → IsSearchInRange r (length order) → IsBinarySearchResult answer order r → is_ok r ≡ has_key texts key
   found_is (Ok i) within at =
-      let p = get_or places i 0 in
-      let same : get_or texts p [] ≡ key = exact_bytes (get_or texts p []) key (at 0) in
-      sym (list_any_at (bytes_eq key) texts p [] (are_places texts 0 places s i 0 within).1 ((bytes_eq-Decides key (get_or texts p [])).1 (sym same)))
+      let e = get_or order i blank in
+      let same : get_or texts e.place [] ≡ key = ap (drop 1) (exact_bytes (sorted_by texts e) (hash ∷ key) (at blank)) in
+      let inside : e.place < length texts = omega (arith, (are_places texts 0 places s.places i 0 (omega (arith, within, length-map order place_of))).1, place_there texts order s.hashed i within 0) in
+      sym (list_any_at (bytes_eq key) texts e.place [] inside ((bytes_eq-Decides key (get_or texts e.place [])).1 (sym same)))
   found_is (Err i) within at =
-      let rises = searchable_from_sorted nat_list_cmp_total (λ (p : ℕ). get_or texts p []) places key (λ k d low h. text_not_less texts (get_or places (k + 1) d) (get_or places k d) (s.sorted k d low h)) in
-      let parted = at rises in
+      let up = searchable_from_sorted nat_list_cmp_total (sorted_by texts) order (hash ∷ key) (λ k d low h.
+      (λ j. is_lt (slice_cmp nat_cmp (sorted_by texts (get_or_default order (k + 1) d blank h j)) (sorted_by texts (get_or_default order k d blank (omega arith) j)))) ∙ rises k d low h) in
+      let parted = at up in
       sym (list_any_none (bytes_eq key) texts (λ k d less. by parted k d less (bytes_eq key (get_or texts k d)) refl))
     where
-      by : IsPartitionPoint (λ p. answer p ≡ Less) (λ p. answer p ≡ Greater) places i → (k : ℕ) (d : Text) → k < length texts → (b : Bool) → bytes_eq key (get_or texts k d) ≡ b → b ≡ false
+      by : IsPartitionPoint (λ e. answer e ≡ Less) (λ e. answer e ≡ Greater) order i → (k : ℕ) (d : Text) → k < length texts → (b : Bool) → bytes_eq key (get_or texts k d) ≡ b → b ≡ false
       by parted k d less false e = refl
       by parted k d less true e =
-          let found = index_of texts 0 places s k (omega arith) less in
+          let found = index_of texts 0 places s.places k (omega arith) less in
           let j = found.0 in
-          let same : get_or texts k [] ≡ key = get_or_default texts k [] d less ∙ sym ((bytes_eq-Decides key (get_or texts k d)).0 e) in
-          let tied : answer (get_or places j k) ≡ Equal = ap answer found.2 ∙ ap (λ (t : Text). slice_cmp nat_cmp t key) same ∙ tied_itself nat_list_cmp_total key in
+          let inside : j < length order = omega (arith, found.1, length-map order place_of) in
+          let x = get_or order j blank in
+          let place : x.place ≡ k = sym (place_there texts order s.hashed j inside k) ∙ found.2 in
+          let same : get_or texts x.place [] ≡ key = ap (λ (n : ℕ). get_or texts n []) place ∙ get_or_default texts k [] d less ∙ sym ((bytes_eq-Decides key (get_or texts k d)).0 e) in
+          let hashes : x.hash ≡ hash = s.hashed j blank inside ∙ ap sip_of same ∙ sym own in
+          let tied : answer x ≡ Equal = (λ i. slice_cmp nat_cmp (hashes i ∷ same i) (hash ∷ key)) ∙ tied_itself nat_list_cmp_total (hash ∷ key) in
           absurd (elim (cases_lt j i) [
-            | inl l ↦ let f : Less ≡ Equal = sym (parted.0 j k (omega arith) l) ∙ tied in let g : true ≡ false = ap is_lt f in cc
-            | inr m ↦ let f : Greater ≡ Equal = sym (parted.1 j k m found.1) ∙ tied in let g : false ≡ true = ap is_eq f in cc
+            | inl l ↦ let f : Less ≡ Equal = sym (parted.0 j blank (omega arith) l) ∙ tied in let g : true ≡ false = ap is_lt f in cc
+            | inr m ↦ let f : Greater ≡ Equal = sym (parted.1 j blank m inside) ∙ tied in let g : false ≡ true = ap is_eq f in cc
           ])

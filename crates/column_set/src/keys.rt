@@ -9,7 +9,7 @@ ghost use Rattle.column_set.specs.Indexes.{IsIndexOf};
 ghost use Rattle.column_set.specs.Slots.{IsSlottedSet};
 
 use crate::index::KeyIndex;
-use crate::slots::{Seat, free_slots, hash_key, seat_of, widened};
+use crate::slots::{Seat, free_slots, hash_key, seat_of, steps_to, widened};
 use crate::sorted::{leave_out_repeats, sorted_distinct};
 use crate::texts::Texts;
 use no_memory::NoMemory;
@@ -20,17 +20,27 @@ use value_key::{Keys, key_into};
 /// The most keys that a column or a query may have.
 pub const MOST_KEYS: usize = 4_194_304;
 
+/// The most slots behind the first that are visited for each new key of a list on average. Keys that were not chosen to
+/// collide take one or two.
+const MOST_STEPS: u64 = 4;
+
+/// The slots behind the first that may be visited for the new keys of a list besides, so that a few unlucky keys at the
+/// beginning of a list do no harm.
+const FIRST_STEPS: u64 = 1_024;
+
 /// Lists of keys in one region, one after another: the finished lists, and the current one, whose keys are found by
 /// their slots. Its model is the keys of the finished lists, and the distinct keys of the current one in order of first
 /// occurrence.
 ///
-/// If too many keys share a hash, there are no slots. From then on keys are appended without a look-up, and repeats are
-/// removed when the list is closed.
+/// If many keys share a hash, there are no slots. From then on keys are appended without a look-up, and repeats are
+/// removed when the list is closed. `steps` tells: it is the number of slots that were visited for the new keys of the
+/// current list, not counting the first one for each.
 #[derive(Drop)]
 pub struct KeyGatherer {
     keys: Texts,
     from: u32,
     slots: Option<Vec<u32>>,
+    steps: u64,
     room: u32,
 }
 
@@ -58,6 +68,7 @@ impl KeyGatherer {
             keys,
             from: 0,
             slots: Some(slots),
+            steps: 0,
             room: list,
         })
     }
@@ -89,7 +100,14 @@ impl KeyGatherer {
         let Some(slots) = self.slots.take() else {
             return self.keys.push_buffer(key);
         };
-        self.slots = entered(alloc, slots, &mut self.keys, self.from, key)?;
+        self.slots = entered(
+            alloc,
+            slots,
+            &mut self.steps,
+            &mut self.keys,
+            self.from,
+            key,
+        )?;
         Ok(())
     }
 
@@ -104,6 +122,7 @@ impl KeyGatherer {
         let end = self.keys.len();
         let size = end - self.from;
         self.from = end;
+        self.steps = 0;
         // Clearing the slots of a long list would make a short list after it cost the same.
         self.slots = Some(free_slots(alloc, self.room)?);
         Ok(size)
@@ -142,17 +161,18 @@ impl KeyGatherer {
             keys.shrink_to_fit();
             return Ok((keys, KeyIndex::Slots(slots)));
         }
-        let places = sorted_distinct(alloc, &mut keys)?;
+        let order = sorted_distinct(alloc, &mut keys)?;
         keys.shrink_to_fit();
-        Ok((keys, KeyIndex::Places(places)))
+        Ok((keys, KeyIndex::Sorted(order)))
     }
 }
 
-// Appends the key in the buffer if it is not among the keys from index `from` on. Returns the slots of these keys, or
-// `None` if too many of them share a hash.
+// Appends the key in the buffer if it is not among the keys from index `from` on, and adds the number of slots visited
+// behind the first to `steps`. Returns the slots of these keys, or `None` if too many of them share a hash.
 fn entered(
     alloc: Global,
     mut slots: Vec<u32>,
+    steps: &mut u64,
     keys: &mut Texts,
     from: u32,
     key: &mut String,
@@ -164,11 +184,17 @@ fn entered(
     ensures within { from ≤ length keys.new }
 {
     let text = key.as_str();
-    match seat_of(&slots, keys, from, text, hash_key(text)) {
+    let hash = hash_key(text);
+    match seat_of(&slots, keys, from, text, hash) {
         Seat::Taken => Ok(Some(slots)),
         Seat::Free(at) => {
+            *steps = steps.saturating_add(steps_to(slots.len(), hash, at));
             keys.push_buffer(key)?;
-            slots[at] = keys.len() - from;
+            let count = keys.len() - from;
+            slots[at] = count;
+            if is_crowded(*steps, count) {
+                return Ok(None);
+            }
             widened(alloc, slots, keys, from)
         }
         Seat::Crowded => {
@@ -176,6 +202,11 @@ fn entered(
             Ok(None)
         }
     }
+}
+
+// Returns whether more slots were visited for this many new keys than for keys that were not chosen to collide.
+fn is_crowded(steps: u64, keys: u32) -> bool {
+    steps > FIRST_STEPS + MOST_STEPS * keys as u64
 }
 
 // Removes the repeats among the keys from index `from` on. If these keys have slots, there are none.

@@ -13,7 +13,7 @@ use std::alloc::Global;
 use std::hash::{FoldHasher, Hasher};
 
 /// The number of slots that a look-up visits at most. While half of the slots are free, keys that were not chosen to
-/// collide take fewer.
+/// collide take fewer, and one or two on average.
 const MOST_PROBES: usize = 128;
 
 /// The result of a look-up of a key.
@@ -52,6 +52,14 @@ pub fn behind(size: usize, at: usize) -> usize
     ensures within { result < size }
 {
     (at + 1) & (size - 1)
+}
+
+/// Returns how many slots a look-up visits, besides the last one, if it begins at the home of a hash and ends at `at`, a
+/// slot of `size`.
+pub fn steps_to(size: usize, hash: u64, at: usize) -> u64
+    requires { at < size }
+{
+    (at.wrapping_sub(home(size, hash)) & (size - 1)) as u64
 }
 
 /// Looks up a key among the keys from index `from` on, whose numbers are in the slots. Returns that it is there, or the

@@ -24,7 +24,8 @@ use Rattle.list_laws.proofs.ListLemmas.{all_append, all_both, all_left, all_righ
 use Rattle.lake_model.specs.Texts.{Text}
 use Rattle.lake_model.specs.Tables.{has_key}
 use Rattle.column_watch.specs.Held.{StateOf}
-use Rattle.column_watch.specs.Index.{AreKeysOf, IsHashed, IsIndexOf, IsStretch, all_from, has_query, hash_of, key_cmp, key_with, keys_from, says, sorted_by, text_of}
+use Rattle.column_set.specs.Hashes.{sip_of}
+use Rattle.column_watch.specs.Index.{AreKeysOf, IsHashed, IsIndexOf, IsStretch, all_from, has_query, key_cmp, key_with, keys_from, says, sorted_by, text_of}
 use Rattle.column_watch.specs.declared.holders.KeyAt.{KeyAt}
 use Rattle.column_watch.proofs.HolderLemmas.{keys_of, query_itself, query_of_both, query_other}
 
@@ -131,7 +132,7 @@ module _ (queries : List (List Text)) where
 
   hashed_keys : (v i : ℕ) (keys : List Text) → AreRead v i keys → AllByRecursion (IsHashed queries) (keys_from v i keys)
   hashed_keys v i [] read = tt
-  hashed_keys v i (key ∷ keys) read = (ap hash_of (sym (first_key v i key keys read)), hashed_keys v (i + 1) keys (next_keys v i key keys read))
+  hashed_keys v i (key ∷ keys) read = (ap sip_of (sym (first_key v i key keys read)), hashed_keys v (i + 1) keys (next_keys v i key keys read))
 
   hashed_all : (v : ℕ) (rest : List (List Text)) → AllRead v rest → AllByRecursion (IsHashed queries) (all_from v rest)
   hashed_all v [] read = tt
@@ -186,20 +187,20 @@ module _ (queries : List (List Text)) where
 
 -- ---- the keys, appended one by one
 
-keys_suc : (w n : ℕ) (keys : List Text) (i : ℕ) → i < length keys → keys_from w n (take (suc i) keys) ≡ keys_from w n (take i keys) ++ key_with (hash_of (get_or keys i [])) w (n + i) (2 ^ w) ∷ []
+keys_suc : (w n : ℕ) (keys : List Text) (i : ℕ) → i < length keys → keys_from w n (take (suc i) keys) ≡ keys_from w n (take i keys) ++ key_with (sip_of (get_or keys i [])) w (n + i) (2 ^ w) ∷ []
 keys_suc w n [] i h = absurd (omega arith)
-keys_suc w n (key ∷ keys) zero h = let e : n ≡ n + 0 = omega arith in ap (λ (m : ℕ). key_with (hash_of key) w m (2 ^ w) ∷ []) e
+keys_suc w n (key ∷ keys) zero h = let e : n ≡ n + 0 = omega arith in ap (λ (m : ℕ). key_with (sip_of key) w m (2 ^ w) ∷ []) e
 keys_suc w n (key ∷ keys) (suc i) h =
     let e : n + 1 + i ≡ n + suc i = omega arith in
-    ap (λ us. key_with (hash_of key) w n (2 ^ w) ∷ us) (keys_suc w (n + 1) keys i (omega arith) ∙ ap (λ (m : ℕ). keys_from w (n + 1) (take i keys) ++ key_with (hash_of (get_or keys i [])) w m (2 ^ w) ∷ []) e)
+    ap (λ us. key_with (sip_of key) w n (2 ^ w) ∷ us) (keys_suc w (n + 1) keys i (omega arith) ∙ ap (λ (m : ℕ). keys_from w (n + 1) (take i keys) ++ key_with (sip_of (get_or keys i [])) w m (2 ^ w) ∷ []) e)
 
 -- one more key
-pub keys_more : (w : ℕ) (keys : List Text) (i hash mask : ℕ) (start before after : List KeyAt) → i < length keys → hash ≡ hash_of (get_or keys i []) → mask ≡ 2 ^ w → before ≡ start ++ keys_from w 0 (take i keys) → after ≡ before ++ key_with hash w i mask ∷ []
+pub keys_more : (w : ℕ) (keys : List Text) (i hash mask : ℕ) (start before after : List KeyAt) → i < length keys → hash ≡ sip_of (get_or keys i []) → mask ≡ 2 ^ w → before ≡ start ++ keys_from w 0 (take i keys) → after ≡ before ++ key_with hash w i mask ∷ []
     → after ≡ start ++ keys_from w 0 (take (i + 1) keys)
 keys_more w keys i hash mask start before after h e m so_far push =
     let n : suc i ≡ i + 1 = omega arith in
     let z : i ≡ 0 + i = omega arith in
-    push ∙ (λ j. so_far j ++ key_with (e j) w (z j) (m j) ∷ []) ∙ append_assoc start (keys_from w 0 (take i keys)) (key_with (hash_of (get_or keys i [])) w (0 + i) (2 ^ w) ∷ [])
+    push ∙ (λ j. so_far j ++ key_with (e j) w (z j) (m j) ∷ []) ∙ append_assoc start (keys_from w 0 (take i keys)) (key_with (sip_of (get_or keys i [])) w (0 + i) (2 ^ w) ∷ [])
     ∙ ap (λ us. start ++ us) (sym (keys_suc w 0 keys i h)) ∙ ap (λ (m : ℕ). start ++ keys_from w 0 (take m keys)) n
 
 pub length-keys_from : (w i : ℕ) (keys : List Text) → length (keys_from w i keys) ≡ length keys
@@ -371,7 +372,7 @@ only_one p (x ∷ xs) zero d h others =
 only_one p (x ∷ xs) (suc i) d h others =
     ap (λ b. b || list_any p xs) (others 0 (omega arith) (λ f. omega (arith, f))) ∙ only_one p xs i d (omega (arith, h)) (λ k l apart. others (suc k) (omega (arith, l)) (λ f. apart (omega (arith, f))))
 
-module _ (queries : List (List Text)) (key : Text) (hash : ℕ) (own : hash ≡ hash_of key) where
+module _ (queries : List (List Text)) (key : Text) (hash : ℕ) (own : hash ≡ sip_of key) where
   -- an entry that does not compare equal to the key says nothing of it
   says_nothing : (w : ℕ) (at : KeyAt) → IsHashed queries at → (sorted_by queries at ≡ hash ∷ key → ⊥) → says queries key w at ≡ false
   says_nothing w at hashed apart = by (bytes_eq key (text_of queries at)) refl
@@ -380,7 +381,7 @@ module _ (queries : List (List Text)) (key : Text) (hash : ℕ) (own : hash ≡ 
       by false e = refl
       by true e =
           let same : text_of queries at ≡ key = sym ((bytes_eq-Decides key (text_of queries at)).0 e) in
-          absurd (apart (λ j. (hashed ∙ ap hash_of same ∙ sym own) j ∷ same j))
+          absurd (apart (λ j. (hashed ∙ ap sip_of same ∙ sym own) j ∷ same j))
 
   other_hash : (w : ℕ) (keys : List KeyAt) → AllByRecursion (IsHashed queries) keys → AllByRecursion (λ at. at.hash ≡ hash → ⊥) keys → AllByRecursion (λ at. says queries key w at ≡ false) keys
   other_hash w keys hashed apart = all_both (IsHashed queries) (λ at. at.hash ≡ hash → ⊥) (λ at. says queries key w at ≡ false) keys (λ at h a. says_nothing w at h (λ e. a (ap head e))) hashed apart

@@ -1,7 +1,6 @@
 -- The keys of all watched queries, each once, in the order of their hashes, and the queries that hold them.
 use Rattle.std.specs.Prelude.{◌≡◌, ◌+◌, ◌/◌, ◌^◌, ◌<◌, ◌≤◌, ◌&&◌, ℕ, Bool, List, [], ◌∷◌, ◌++◌, bytes_eq, get_or, length, nat_eq}
 use Rattle.std.specs.Cmp.Lexicographic.{slice_cmp}
-use Rattle.std.specs.Hash.DefaultHasher as sip
 use Rattle.std.specs.Int.{bit_at}
 use Rattle.std.specs.List.{AllByRecursion, list_any}
 use Rattle.std.specs.List.Sorted.{IsPartitionPoint, IsStrictlySortedBy}
@@ -9,11 +8,8 @@ use Rattle.std.specs.Ordering.{nat_cmp}
 use Rattle.std.specs.declared.cmp.Ordering.{Ordering}
 use Rattle.lake_model.specs.Texts.{Text}
 use Rattle.lake_model.specs.Tables.{has_key}
+use Rattle.column_set.specs.Hashes.{sip_of}
 use Rattle.column_watch.specs.declared.holders.KeyAt.{KeyAt}
-
--- the hash of a key: SipHash-1-3, both keys of which are 0
-unfoldable pub hash_of : Text → ℕ
-hash_of key = sip.finish (sip.write sip.initial key)
 
 abbrev pub key_with : ℕ → ℕ → ℕ → ℕ → KeyAt
 key_with hash query index holders = record { hash = hash; query = query; index = index; holders = holders }
@@ -34,7 +30,7 @@ abbrev pub key_cmp : List (List Text) → KeyAt → KeyAt → Ordering
 key_cmp queries a b = slice_cmp nat_cmp (sorted_by queries a) (sorted_by queries b)
 
 abbrev pub IsHashed : List (List Text) → KeyAt → Type 0
-IsHashed queries at = at.hash ≡ hash_of (text_of queries at)
+IsHashed queries at = at.hash ≡ sip_of (text_of queries at)
 
 -- whether `at` says that the query of index w holds this key
 abbrev pub says : List (List Text) → Text → ℕ → KeyAt → Bool
@@ -53,7 +49,7 @@ pub record IsIndexOf (queries : List (List Text)) (index : List KeyAt) : Type 0 
 -- the keys of the query of index w, the first of them at index i
 abbrev pub keys_from : ℕ → ℕ → List Text → List KeyAt
 keys_from w i [] = []
-keys_from w i (key ∷ keys) = key_with (hash_of key) w i (2 ^ w) ∷ keys_from w (i + 1) keys
+keys_from w i (key ∷ keys) = key_with (sip_of key) w i (2 ^ w) ∷ keys_from w (i + 1) keys
 
 -- the keys of the queries, the first of which has index w
 abbrev pub all_from : ℕ → List (List Text) → List KeyAt

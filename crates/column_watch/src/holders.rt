@@ -5,14 +5,14 @@ ghost use Rattle.std.specs.List.{AllByRecursion, list_any};
 ghost use Rattle.std.specs.List.Sorted.{IsNonDecreasingBy, IsSorted, IsStrictlySortedBy};
 ghost use Rattle.std.specs.Ordering.{nat_cmp};
 ghost use Rattle.lake_model.specs.Tables.{has_key};
-ghost use Rattle.column_watch.specs.Index.{has_query, hash_of, key_cmp, keys_from, says, sorted_by, text_of, AreKeysOf, AreStarts, IsHashed, IsIndexOf, IsStretch};
+ghost use Rattle.column_set.specs.Hashes.{sip_of};
+ghost use Rattle.column_watch.specs.Index.{has_query, key_cmp, keys_from, says, sorted_by, text_of, AreKeysOf, AreStarts, IsHashed, IsIndexOf, IsStretch};
 
 use crate::watched::Watched;
-use column_set::QuerySet;
+use column_set::{QuerySet, sip_hash};
 use no_memory::NoMemory;
 use std::alloc::Global;
 use std::cmp::Ordering;
-use std::hash::{DefaultHasher, Hasher};
 use std::marker::Model;
 
 /// The most keys of a part that are compared with a hash one by one. A part has more only if keys were chosen to cause
@@ -36,7 +36,7 @@ pub(crate) struct KeyAt {
 ///
 /// It takes 16 bytes for each distinct key, and 4 to 8 for the parts. A search is a binary search among the keys of one
 /// part, which are usually few; so no choice of keys makes it worse than logarithmic. It compares numbers, and texts
-/// only where hashes are equal; [`hash_key`] says why different keys rarely have equal hashes.
+/// only where hashes are equal; [`sip_hash`] says why different keys rarely have equal hashes.
 #[derive(Drop)]
 pub(crate) struct Holders {
     keys: Vec<KeyAt>,
@@ -84,23 +84,6 @@ impl Holders {
     }
 }
 
-/// Returns the hash of a key: SipHash-1-3, all 64 bits. Keys of equal hashes are compared by their texts, so the choice
-/// of the hash matters only for speed.
-///
-/// An adversary can choose a million keys that share a 32-bit FNV-1a hash, and then the sort and each look-up compare
-/// texts. No way is known to choose many keys that share all 64 bits of this hash, so texts are rarely compared unless
-/// they are equal. It has no secret: the keys of SipHash are fixed, so an adversary can compute it, and choose keys
-/// that share some of its bits. If many keys share all bits nevertheless, a look-up compares a logarithmic number of
-/// texts.
-#[tactic(auto, unfolding(crate::specs::Index::hash_of))]
-pub(crate) fn hash_key(key: &str) -> u64
-    ensures { result ≡ hash_of key.now }
-{
-    let mut hasher = DefaultHasher::default();
-    hasher.write(key.as_bytes());
-    hasher.finish()
-}
-
 /// Returns each key of the queries, once, in order. It reads each key of each query once and sorts them; the texts of
 /// keys are compared only if their hashes are equal. For a while it takes a few times 16 bytes for each key of each
 /// query.
@@ -120,7 +103,7 @@ pub(crate) fn index_queries(alloc: Global, queries: &[Watched]) -> Result<Holder
 
 /// Returns the queries that hold a key of this hash: bit w says whether the query of index w does.
 pub(crate) fn holders_of(holders: &Holders, queries: &[Watched], hash: u64, key: &str) -> u16
-    requires own { hash ≡ hash_of key.now }
+    requires own { hash ≡ sip_of key.now }
     requires indexed { IsIndexOf (map (λ state. state.keys) queries.now) holders.now }
     ensures { (w : ℕ) → has_query result w ≡ has_key (get_or (map (λ state. state.keys) queries.now) w []) key.now }
 {
@@ -163,7 +146,7 @@ fn add_keys(keys: &mut Vec<KeyAt>, query: &QuerySet, w: u8) -> Result<(), NoMemo
 {
     keys.reserve(query.len() as usize)?;
     for index in 0..query.len() {
-        let hash = hash_key(query.key(index));
+        let hash = sip_hash(query.key(index));
         keys.push(KeyAt {
             hash,
             index,
@@ -266,7 +249,7 @@ fn start_at(starts: &[u32], part: usize, other: usize) -> usize
 // Returns the queries that hold a key. The keys are in order, and the key is among them if any query holds it; it is
 // mostly the first of them. A text is read only if its hash equals that of the key.
 fn holders_among(queries: &[Watched], keys: &[KeyAt], hash: u64, key: &str) -> u16
-    requires own { hash ≡ hash_of key.now }
+    requires own { hash ≡ sip_of key.now }
     requires rising { IsStrictlySortedBy (key_cmp (map (λ state. state.keys) queries.now)) keys.now }
     requires hashed { AllByRecursion (IsHashed (map (λ state. state.keys) queries.now)) keys.now }
     ensures { (w : ℕ) → has_query result w ≡ list_any (says (map (λ state. state.keys) queries.now) key.now w) keys.now }
@@ -289,7 +272,7 @@ fn is_key(queries: &[Watched], at: KeyAt, hash: u64, key: &str) -> bool
 
 // Does the same by a binary search.
 fn search_holders(queries: &[Watched], keys: &[KeyAt], hash: u64, key: &str) -> u16
-    requires own { hash ≡ hash_of key.now }
+    requires own { hash ≡ sip_of key.now }
     requires rising { IsStrictlySortedBy (key_cmp (map (λ state. state.keys) queries.now)) keys.now }
     requires hashed { AllByRecursion (IsHashed (map (λ state. state.keys) queries.now)) keys.now }
     ensures { (w : ℕ) → has_query result w ≡ list_any (says (map (λ state. state.keys) queries.now) key.now w) keys.now }

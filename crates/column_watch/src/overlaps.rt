@@ -11,9 +11,9 @@ ghost use Rattle.column_watch.specs.Hits.{hit_keys, IsHit};
 ghost use Rattle.column_watch.specs.Index.{IsIndexOf};
 
 use crate::held::Held;
-use crate::holders::{Holders, hash_key, holders_of};
+use crate::holders::{Holders, holders_of};
 use crate::watched::Watched;
-use column_set::{Row, TableSets};
+use column_set::{Row, TableSets, sip_hash};
 use no_memory::NoMemory;
 use std::alloc::Global;
 
@@ -79,7 +79,7 @@ fn column_hits(
 {
     let mut hits = Vec::new(alloc);
     for index in 0..table.size(place) {
-        let hash = hash_key(table.key(place, index));
+        let hash = sip_hash(table.key(place, index));
         if holders.has_hash(hash) {
             hits.push(Hit { hash, index })?;
         }

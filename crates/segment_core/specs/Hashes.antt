@@ -1,11 +1,12 @@
 -- The tokens of a segment in the order of the hashes of their keys.
-use Rattle.std.specs.Prelude.{◌≡◌, ℕ, ◌*◌, ◌<◌, ◌%◌, ◌^◌, List, ◌∷◌, length, map, fold, get_or, bit_xor}
+use Rattle.std.specs.Prelude.{◌≡◌, ℕ, ◌<◌, List, ◌∷◌, bit_and, length, map, get_or}
 use Rattle.std.specs.Cmp.Lexicographic.{slice_cmp}
 use Rattle.std.specs.List.{All}
 use Rattle.std.specs.List.Sorted.{IsPermutation, IsSortedByKey}
 use Rattle.std.specs.Ordering.{nat_cmp}
 use Rattle.lake_model.specs.Texts.{Text}
 use Rattle.lake_model.specs.Tables.{Table}
+use Rattle.column_set.specs.Hashes.{sip_of}
 use Rattle.search_model.specs.Arrays.{AreArrays, IsAt, key_of, numbers_of, owner_of, pointed, token_keys}
 use Rattle.search_model.specs.Segment.{Token, segment}
 use Rattle.search_model.specs.declared.Owner.{Owner}
@@ -13,17 +14,9 @@ use Rattle.search_model.specs.declared.Posting.{Posting}
 use Rattle.search_model.specs.declared.TokenAt.{TokenAt}
 use Rattle.segment_core.specs.declared.hashes.HashedToken.{HashedToken}
 
--- one round of FNV-1a
-abbrev pub fnv_round : ℕ → ℕ → ℕ
-fnv_round hash byte = (bit_xor hash byte * 0x1000193) % 2 ^ 32
-
--- a round for each byte
-abbrev pub hash_from : ℕ → Text → ℕ
-hash_from start bytes = fold fnv_round start bytes
-
--- FNV-1a of 32 bits
+-- the low 32 bits of SipHash-1-3
 unfoldable pub hash_of : Text → ℕ
-hash_of key = hash_from 0x811C9DC5 key
+hash_of key = bit_and (sip_of key) 0xFFFFFFFF
 
 -- the hash of the key of a token
 abbrev pub hash_at : List Token → ℕ → ℕ

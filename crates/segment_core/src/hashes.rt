@@ -6,9 +6,9 @@ ghost use Rattle.std.specs.List.Sorted.{IsNonDecreasingBy};
 ghost use Rattle.std.specs.Ordering.{nat_cmp};
 ghost use Rattle.search_model.specs.Arrays.{key_of, numbers_of, owner_of, pointed, IsAt};
 ghost use Rattle.search_model.specs.Segment.{segment};
-ghost use Rattle.segment_core.specs.Hashes.{hash_from, hash_of, sorted_by, token_hash, token_number, AreKeys, IsByHash, IsHashed, IsOneOf};
+ghost use Rattle.segment_core.specs.Hashes.{hash_of, sorted_by, token_hash, token_number, AreKeys, IsByHash, IsHashed, IsOneOf};
 
-use column_set::SharedTable;
+use column_set::{SharedTable, sip_hash};
 use hash_directory::HashDirectory;
 use no_memory::NoMemory;
 use search_model::{Owner, TokenAt};
@@ -198,21 +198,11 @@ pub(crate) fn key_there<'a>(tables: &'a [SharedTable], owners: &[Owner], at: Tok
         .key(owner.place, at.index)
 }
 
-/// Returns the hash of a key: 32-bit FNV-1a. How few keys share a hash matters only for speed.
+/// Returns the hash of a key: the low 32 bits of SipHash-1-3 ([`sip_hash`]). How few keys share a hash matters only for
+/// speed.
+#[tactic(auto, unfolding(crate::specs::Hashes::hash_of))]
 pub fn hash_key(key: &str) -> u32
     ensures { result ≡ hash_of key.now }
 {
-    hash_bytes(0x811C_9DC5, key.as_bytes())
-}
-
-// Returns the hash after these bytes, from the hash before them.
-fn hash_bytes(start: u32, bytes: &[u8]) -> u32
-    ensures { result ≡ hash_from start bytes.now }
-{
-    let mut hash = start;
-    for byte in bytes {
-        hash ^= u32::from(*byte);
-        hash = hash.wrapping_mul(0x0100_0193);
-    }
-    hash
+    (sip_hash(key) & 0xFFFF_FFFF) as u32
 }

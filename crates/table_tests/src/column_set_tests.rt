@@ -233,6 +233,58 @@ fn colliding_query(rt: HostRuntime) -> Result<(), Fail> {
     Ok(())
 }
 
+// The first 24 bytes of keys of 48 bytes whose hash depends only on their last sixteen bytes.
+const GROUPED: &str = "avbjulvqvultacdyhalhncda";
+
+// Returns one line for each of 2,000 keys, in groups of 100 that share a hash, and then the same lines again.
+fn grouped_lines(alloc: Global) -> Result<String, Fail> {
+    let mut lines = String::new(alloc);
+    for _ in 0..2 {
+        for number in 0..2_000u32 {
+            let group = number % 20;
+            lines.push_str(format!(in alloc; "{GROUPED}{number:08}{group:016}\n")?.as_str())?;
+        }
+    }
+    Ok(lines)
+}
+
+// Keys that collide in groups, each smaller than the number of slots that a look-up visits at most, are each in a query
+// once, and are found.
+#[test]
+fn grouped_query(rt: HostRuntime) -> Result<(), Fail> {
+    assert_eq!(rt;
+        hash_of("avbjulvqvultacdyhalhncda000000010000000000000001"),
+        hash_of("avbjulvqvultacdyhalhncda000000210000000000000001")
+    );
+    let lines = grouped_lines(rt.alloc())?;
+    let asked = query(rt.alloc(), lines.as_str())?;
+    assert_eq!(rt; asked.len(), 2_000);
+    assert_eq!(rt;
+        asked.key(1_999),
+        "avbjulvqvultacdyhalhncda000019990000000000000019"
+    );
+    expect_has(
+        &rt,
+        &asked,
+        "avbjulvqvultacdyhalhncda000000000000000000000000",
+        true,
+    );
+    expect_has(
+        &rt,
+        &asked,
+        "avbjulvqvultacdyhalhncda000019990000000000000019",
+        true,
+    );
+    expect_has(
+        &rt,
+        &asked,
+        "avbjulvqvultacdyhalhncda000019990000000000000018",
+        false,
+    );
+    expect_has(&rt, &asked, "rome", false);
+    Ok(())
+}
+
 // Keys that collide are each in a column once, beside a column of other keys, and the column is used as a query.
 #[test]
 fn colliding_column(rt: HostRuntime) -> Result<(), Fail> {

@@ -290,26 +290,3 @@ const ROWS_BEHIND: [Step<'_>; 12] = [
 fn rows_behind_the_first(rt: HostRuntime) -> Result<(), Fail> {
     run(&rt, ["a\nb\nc\nd\n", "b\nd\ne\n", "e\n"], 3, &ROWS_BEHIND)
 }
-
-const KEYS_OF_ONE_HASH: [&str; 3] = [
-    "liquid\nbbfnvwgx\nbjupuneu\nbkdbefyq\nchdzyqte\n",
-    "costarring\ncugejptr\nbkdbefyq\ncxmykoub\n",
-    "z\n",
-];
-
-const TABLE_OF_ONE_HASH: &str = "c,c\nbkdbefyq,cybuhtxg\nliquid,cugejptr\ncostarring,dhqvtngf\n";
-
-// All keys but z have the same 32 bit FNV-1a hash: each of them counts only for its own queries.
-const ONE_HASH: [Step<'_>; 1] = [(
-    Change::Load("s", TABLE_OF_ONE_HASH),
-    [
-        (true, 1, &[(2, "s", 1)]),
-        (true, 2, &[(2, "s", 1), (1, "s", 2)]),
-        (false, 0, &[]),
-    ],
-)];
-
-#[test]
-fn keys_of_one_hash(rt: HostRuntime) -> Result<(), Fail> {
-    run(&rt, KEYS_OF_ONE_HASH, 3, &ONE_HASH)
-}

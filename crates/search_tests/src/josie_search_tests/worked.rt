@@ -105,12 +105,12 @@ fn equal_bound_of_an_earlier_name(rt: HostRuntime) -> Result<(), Fail> {
     expect(&rt, &pin, "a\nb\nc\nd\n", &Profile, (2, "aa"), &looks)
 }
 
-// Twelve keys of one hash: the table has the first ten of them, and the query has the last ten.
+// Twelve keys with the same low 32 bits of SipHash-1-3: the table has the first ten of them, and the query has the last ten.
 const TABLE_OF_ONE_HASH: &str =
-    "c\nafcrvqsd\nbfmdfpyf\nbrtpvupk\ncayzqxpn\ncrwvbqwv\ncucnwzrb\nepoehbyn\neymnweve\nfxbgimkt\nhbcnaefi\n";
+    "c\naeqczybv\naevnofxs\naifkpdts\nausabszu\naziyueox\nbeefhshu\nbesjofta\nboarnmzt\nbqzkntid\nbrwzogjb\n";
 
 const QUERY_OF_ONE_HASH: &str =
-    "brtpvupk\ncayzqxpn\ncrwvbqwv\ncucnwzrb\nepoehbyn\neymnweve\nfxbgimkt\nhbcnaefi\nhiygmwwp\nhtalgfsa\n";
+    "aifkpdts\nausabszu\naziyueox\nbeefhshu\nbesjofta\nboarnmzt\nbqzkntid\nbrwzogjb\nbtxpaalh\nbxcuksct\n";
 
 // No key of the query is the first of its hash among the part's tokens, so the query is asked for each token's key.
 // Eight keys are in both: the tokens from the third on, since all lists have one posting.

@@ -9,20 +9,25 @@ use Rattle.column_set.proofs.keys.entered.Goals as goal
 pub widened-requires-clause-slotted : goal.widened-requires-clause-slotted
 widened-requires-clause-slotted c =
     let added = c.in_ok-push_buffer-in-Free.ensures.added ∙ ap (λ (key : Text). c.args.keys.now ++ key ∷ []) (sym c.as_str-text.ensures.value) in
-    let set = entered_set c.args.from c.args.keys.now c.as_str-text.result.now c.args.slots.items c.in-Free.at c.hash_key.result c.requires.from c.requires.slotted c.hash_key.ensures
-    c.deref.result.now c.deref.ensures.value c.in-Free.ensures c.push_buffer.new.self added c.len.result c.len.ensures.value in
+    let set = entered_set c.args.from c.args.keys.now c.as_str-text.result.now c.args.slots.items c.in-Free.at c.hash_key-hash.result c.requires.from c.requires.slotted c.hash_key-hash.ensures
+    c.deref.result.now c.deref.ensures.value c.in-Free.ensures c.push_buffer.new.self added c.len-in-Free.result c.len-in-Free.ensures.value in
     set.slotted
 
-pub returns-in_ok-push_buffer-in-Free-clause-keys : goal.returns-in_ok-push_buffer-in-Free-clause-keys
-returns-in_ok-push_buffer-in-Free-clause-keys c =
+pub returns-then-is_crowded-clause-keys : goal.returns-then-is_crowded-clause-keys
+returns-then-is_crowded-clause-keys c =
+    let absent = subst (λ (key : Text). has_key (drop c.args.from c.args.keys.now) key ≡ false) c.as_str-text.ensures.value c.in-Free.ensures.0 in
+    c.in_ok-push_buffer-in-Free.ensures.added ∙ entered_new c.args.from c.args.keys.now (string_bytes c.args.key.now) absent
+
+pub returns-else-is_crowded-clause-keys : goal.returns-else-is_crowded-clause-keys
+returns-else-is_crowded-clause-keys c =
     let absent = subst (λ (key : Text). has_key (drop c.args.from c.args.keys.now) key ≡ false) c.as_str-text.ensures.value c.in-Free.ensures.0 in
     on_ok c.widened.result (c.in_ok-push_buffer-in-Free.ensures.added ∙ entered_new c.args.from c.args.keys.now (string_bytes c.args.key.now) absent)
 
-pub returns-in_ok-push_buffer-in-Free-clause-slotted : goal.returns-in_ok-push_buffer-in-Free-clause-slotted
-returns-in_ok-push_buffer-in-Free-clause-slotted c =
+pub returns-else-is_crowded-clause-slotted : goal.returns-else-is_crowded-clause-slotted
+returns-else-is_crowded-clause-slotted c =
     let added = c.in_ok-push_buffer-in-Free.ensures.added ∙ ap (λ (key : Text). c.args.keys.now ++ key ∷ []) (sym c.as_str-text.ensures.value) in
-    let set = entered_set c.args.from c.args.keys.now c.as_str-text.result.now c.args.slots.items c.in-Free.at c.hash_key.result c.requires.from c.requires.slotted c.hash_key.ensures
-    c.deref.result.now c.deref.ensures.value c.in-Free.ensures c.push_buffer.new.self added c.len.result c.len.ensures.value in
+    let set = entered_set c.args.from c.args.keys.now c.as_str-text.result.now c.args.slots.items c.in-Free.at c.hash_key-hash.result c.requires.from c.requires.slotted c.hash_key-hash.ensures
+    c.deref.result.now c.deref.ensures.value c.in-Free.ensures c.push_buffer.new.self added c.len-in-Free.result c.len-in-Free.ensures.value in
     if_slotted (drop c.args.from c.push_buffer.new.self) c.widened.result (λ v. v.items) set.different c.widened.ensures
 
 pub returns-in_ok-push_buffer-in-Crowded-clause-keys : goal.returns-in_ok-push_buffer-in-Crowded-clause-keys

@@ -9,4 +9,4 @@ pub leave_out-requires : goal.leave_out-requires
 leave_out-requires c = each_marked c.args.texts.now 0 c.deref-3.result.now (c.deref-3.ensures.value ∙ c.in_ok-repeats.ensures) (omega arith)
 
 pub returns-clause-left : goal.returns-clause-left
-returns-clause-left c = on_ok c.sorted_places-2.result (left_distinct c.args.texts.now c.leave_out.new.self 0 c.deref-3.result.now (c.deref-3.ensures.value ∙ c.in_ok-repeats.ensures) c.leave_out.ensures)
+returns-clause-left c = on_ok c.hash_order-2.result (left_distinct c.args.texts.now c.leave_out.new.self 0 c.deref-3.result.now (c.deref-3.ensures.value ∙ c.in_ok-repeats.ensures) c.leave_out.ensures)

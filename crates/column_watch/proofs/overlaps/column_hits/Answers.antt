@@ -4,7 +4,7 @@ use Rattle.std.proofs.Math.Seq.{take-length}
 use Rattle.std.proofs.lemmas.List.Elements.{All-append, All-from_recursion}
 use Rattle.column_set.proofs.OverlapLemmas.{overlap_both_ways}
 use Rattle.lake_model.specs.Tables.{has_key, keys_at}
-use Rattle.column_watch.specs.Index.{hash_of}
+use Rattle.column_set.specs.Hashes.{sip_of}
 use Rattle.column_watch.specs.Hits.{hit_keys, IsHit}
 use Rattle.column_watch.specs.declared.overlaps.Hit.{Hit}
 use Rattle.column_watch.proofs.CountLemmas.{hits_more, hits_same}
@@ -19,8 +19,8 @@ loop-index-preserved c =
     let before = c.loop-index.hits.items in
     let kept = c.loop-index.invariant in
     let within : i < length keys = omega (arith, c.size-index-end.ensures.value) in
-    let hash = c.hash_key-hash.result in
-    let own = c.hash_key-hash.ensures ∙ ap hash_of c.key.ensures in
+    let hash = c.sip_hash-hash.result in
+    let own = c.sip_hash-hash.ensures ∙ ap sip_of c.key.ensures in
     elim c.if-has_hash.branch [
       | then-has_hash+in_ok-push w ↦
           let hit : Hit = record { hash = hash; index = i } in

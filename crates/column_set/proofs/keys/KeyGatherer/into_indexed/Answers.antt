@@ -1,5 +1,6 @@
-use Rattle.std.proofs.Common.{◌∙◌, ap, drop}
-use Rattle.column_set.proofs.GatherLemmas.{indexed_current}
+use Rattle.std.proofs.Common.{◌∙◌, ap, drop, sym}
+use Rattle.lake_model.specs.Tables.{distinct}
+use Rattle.column_set.proofs.GatherLemmas.{from_front, indexed_current}
 use Rattle.column_set.proofs.SlotLemmas.{set_where_slotted}
 use Rattle.column_set.proofs.keys.KeyGatherer.into_indexed.Goals as goal
 
@@ -9,3 +10,8 @@ returns-in-Some-clause-keys c =
     c.shrink_to_fit.ensures
     ∙ indexed_current c.self.inside.from c.self.inside.keys c.self.invariant.0 (ap (λ g. g.finished) c.self.view_is ∙ c.requires) set.different
     ∙ ap (λ g. g.current) c.self.view_is
+
+pub returns-clause-keys : goal.returns-clause-keys
+returns-clause-keys c =
+    let behind = from_front c.self.inside.from c.self.inside.keys c.self.invariant.0 (ap (λ g. g.finished) c.self.view_is ∙ c.requires) in
+    c.shrink_to_fit-2.ensures ∙ c.in_ok-order.ensures.left ∙ ap distinct (sym behind) ∙ ap (λ g. g.current) c.self.view_is
