@@ -58,6 +58,7 @@ pub fn behind(size: usize, at: usize) -> usize
 /// slot of `size`.
 pub fn steps_to(size: usize, hash: u64, at: usize) -> u64
     requires { at < size }
+    ensures { result < size }
 {
     (at.wrapping_sub(home(size, hash)) & (size - 1)) as u64
 }
