@@ -1,3 +1,4 @@
+#!/usr/bin/env python3
 """What a column, a query and watched queries cost if their keys were chosen to collide, compared with random keys.
 
     bench/flood_speed.py [JOSIE] [--times N]
