@@ -14,6 +14,7 @@ use no_memory::NoMemory;
 use std::alloc::Global;
 use std::marker::Model;
 use std::sync::Wait;
+use std::sync::atomic::AtomicU32;
 
 /// A lock whose word counts the history of the value that it holds.
 ///
@@ -23,6 +24,8 @@ use std::sync::Wait;
 #[derive(Drop)]
 pub struct HistoryLock<V: Kept> {
     pub(crate) table: Table<Option<V>, View<V::Entry>, (), KeepsHistory<V>, Global>,
+    /// How many callers sleep, or are about to. While none does, a turn ends without a call of the system.
+    pub(crate) sleepers: AtomicU32,
 }
 
 impl<V: Kept> Model for HistoryLock<V> {
@@ -61,7 +64,10 @@ impl<V: Kept> HistoryLock<V> {
             return Err(NoMemory);
         };
         Ok((
-            HistoryLock { table },
+            HistoryLock {
+                table,
+                sleepers: AtomicU32::new(0),
+            },
             Pass {
                 seat,
                 caller: 0,
@@ -98,7 +104,7 @@ impl<V: Kept> HistoryLock<V> {
         let Turn { value } = turn;
         let count = value.entries();
         self.put_back(&mut pass.seat, value, count);
-        self.table.shared.wake_one(0);
+        self.wake();
     }
 
     /// Makes a note of what the pass has seen.

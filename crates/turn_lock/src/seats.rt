@@ -10,6 +10,7 @@ use crate::view::View;
 use atomic_table::Seat;
 use std::hint;
 use std::sync::Wait;
+use std::sync::atomic::Ordering;
 
 /// How often a caller looks at a lock that is held before it sleeps. A turn is over after a microsecond or two, which is the
 /// time of about this many looks; to sleep and to be woken takes many times as long.
@@ -29,12 +30,29 @@ impl<V: Kept> HistoryLock<V> {
         for _ in rt.forever() {
             let found = self.look();
             if found % 2 == 1 {
-                self.table.shared.park(rt, 0, (found % (1 << 32)) as u32);
+                self.sleep(rt, (found % (1 << 32)) as u32);
             } else if let Some(value) = self.try_take(seat, found) {
                 return value;
             }
         }
         unreachable!()
+    }
+
+    // Sleeps if the low half of the word is still as it was found, until a wake.
+    //
+    // No wake is missed: whoever frees the lock changes the word before it counts the sleepers, so either it counts this
+    // one, or this one finds the word changed.
+    fn sleep<R: Wait>(&self, rt: &R, found: u32) {
+        self.sleepers.fetch_add(1, Ordering::SeqCst);
+        self.table.shared.park(rt, 0, found);
+        self.sleepers.fetch_sub(1, Ordering::SeqCst);
+    }
+
+    // Wakes one sleeper, if there is any.
+    pub(crate) fn wake(&self) {
+        if self.sleepers.load(Ordering::SeqCst) > 0 {
+            self.table.shared.wake_one(0);
+        }
     }
 
     // Returns the word as soon as it shows that the lock is free, or, after a while, even if it does not.
