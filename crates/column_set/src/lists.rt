@@ -2,7 +2,7 @@
 ghost use Rattle.std.specs.Prelude.{◌≡◌, ◌+◌, ◌<◌, [], get_or, length, slice_index, sum_by, IfOk, IfSome};
 ghost use Rattle.lake_model.specs.Tables.{has_key, overlap as overlap_of};
 ghost use Rattle.column_set.specs.Indexes.{IsIndexOf};
-ghost use Rattle.column_set.specs.Lists.{parts_of, AreLists};
+ghost use Rattle.column_set.specs.Lists.{joined, parts_of, AreLists};
 
 use crate::index::KeyIndex;
 use crate::texts::Texts;
@@ -92,6 +92,23 @@ impl KeyLists {
             return "";
         }
         self.keys.text(from + i)
+    }
+
+    /// Returns the number of a key of a list, given by its index, from 0: its index among the keys of all lists.
+    pub fn number(&self, list: u32, i: u32) -> u32
+        requires list { list < length self.now }
+        requires key { i < length (get_or self.now list []) }
+        ensures { get_or (joined self.now) result [] ≡ get_or (get_or self.now list []) i [] }
+    {
+        let (from, _to) = bounds(&self.starts, list);
+        from + i
+    }
+
+    /// Returns a key by its number among the keys of all lists, or an empty text past the last.
+    pub fn numbered(&self, number: u32) -> &str
+        ensures { result.now ≡ get_or (joined self.now) number [] }
+    {
+        self.keys.text(number)
     }
 
     /// Returns whether a list has the key. It walks over the list.

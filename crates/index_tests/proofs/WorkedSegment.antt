@@ -76,8 +76,8 @@ worked_arrays = record {
 pub worked_keys : AreKeys (worked_table ∷ []) worked_owners worked_tokens
 worked_keys = keys_kept _ _ _ _ _ _ _ _ worked_arrays
 
-pub worked_kept : (order : List HashedToken) → IsByHash (worked_table ∷ []) order → AreKept (worked_table ∷ []) worked_owners worked_tokens order (0 ∷ 1 ∷ 3 ∷ []) worked_postings (0 ∷ 2 ∷ 3 ∷ []) (0 ∷ 1 ∷ 1 ∷ [])
-worked_kept order is = record { by_key = 1 ∷ 0 ∷ []; arrays = worked_arrays; order = is }
+pub worked_kept : (order : List HashedToken) → IsByHash (worked_table ∷ []) order → AreKept (worked_table ∷ []) worked_owners order (0 ∷ 1 ∷ 3 ∷ []) worked_postings (0 ∷ 2 ∷ 3 ∷ []) (0 ∷ 1 ∷ 1 ∷ [])
+worked_kept order is = record { tokens = worked_tokens; by_key = 1 ∷ 0 ∷ []; arrays = worked_arrays; order = is }
 
 -- each column's rank is its number
 pub worked_inverse : AreInverse (0 ∷ 1 ∷ []) (0 ∷ 1 ∷ [])

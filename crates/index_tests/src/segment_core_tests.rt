@@ -153,7 +153,6 @@ fn segment(alloc: Global) -> Result<Segment, Fail>
     Ok(Segment::new(
         tables,
         owners,
-        tokens,
         by_hash,
         list_starts,
         postings,

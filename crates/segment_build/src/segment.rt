@@ -17,7 +17,7 @@ use token_order::{TokenLists, Vocab};
 /// It sorts all keys of all columns by their bytes, once, which gives the token of each key of each column. The
 /// distinct keys and the sets are then sorted as numbers, and the posting lists are written in one pass. Keys are
 /// compared again only if their hashes are equal, while the tokens are sorted by these. The columns are also sorted
-/// once, by their names. The segment keeps 16 bytes for each key of each column, 30 to 32 for each distinct key, and 20
+/// once, by their names. The segment keeps 16 bytes for each key of each column, 22 to 24 for each distinct key, and 20
 /// for each column. The most memory is taken while the keys are sorted and counted: 28 bytes for each key of each
 /// column, and at most 32 for each distinct key. It fails only if memory runs out.
 pub fn build(alloc: Global, tables: Vec<SharedTable>) -> Result<Segment, NoMemory>
@@ -35,9 +35,10 @@ pub fn build(alloc: Global, tables: Vec<SharedTable>) -> Result<Segment, NoMemor
     } = vocab.into_lists();
     let list_starts = list_starts(alloc, &frequencies)?;
     // The starts hold the same information, so the frequencies are freed before the steps that follow take their
-    // memory.
+    // memory. So does the order by hash, for where the keys of the tokens are.
     drop(frequencies);
     let by_hash = order_by_hash(alloc, &tables, &sets.owners, &tokens)?;
+    drop(tokens);
     let PostingLists { starts, postings } = posting_lists(
         alloc,
         &sets.starts,
@@ -47,7 +48,6 @@ pub fn build(alloc: Global, tables: Vec<SharedTable>) -> Result<Segment, NoMemor
     Ok(Segment::new(
         tables,
         sets.owners,
-        tokens,
         by_hash,
         starts,
         postings,

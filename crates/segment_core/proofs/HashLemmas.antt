@@ -24,9 +24,8 @@ use Rattle.lake_model.specs.Tables.{Table}
 use Rattle.search_model.specs.Segment.{Token, segment}
 use Rattle.search_model.specs.Arrays.{key_of, numbers_of, token_with, IsToken}
 use Rattle.hash_directory.specs.Buckets.{IsNear}
-use Rattle.segment_core.specs.Hashes.{hash_at, hash_of, hashed_from, sorted_by, token_hash, token_number, IsByHash, IsHashed, IsOneOf}
+use Rattle.segment_core.specs.Hashes.{hash_at, hash_of, hashed_from, key_there, sorted_by, token_hash, token_number, IsByHash, IsHashed, IsOneOf}
 use Rattle.segment_core.specs.declared.hashes.HashedToken.{HashedToken}
-use Rattle.segment_core.proofs.SegmentLemmas.{no_token}
 use Rattle.search_model.proofs.RankLemmas.{first_late}
 
 -- ---- the tokens' numbers
@@ -73,7 +72,7 @@ numbers_all tokens i e = ap (λ (n : ℕ). take n (numbers_of tokens)) (e ∙ sy
 
 -- the tokens with their hashes, sorted
 pub ordered : (tables : List Table) (hashed sorted : List HashedToken) → All (IsHashed tables) hashed → map token_number hashed ≡ numbers_of (segment tables).tokens → IsPermutation hashed sorted
-    → IsSortedByKey (sorted_by (segment tables).tokens) (slice_cmp nat_cmp) sorted → IsByHash tables sorted
+    → IsSortedByKey (sorted_by tables) (slice_cmp nat_cmp) sorted → IsByHash tables sorted
 ordered tables hashed sorted all numbers same up = record {
   hashed = All-permutation (IsHashed tables) hashed sorted same all;
   rising = up;
@@ -100,7 +99,7 @@ not_more a b e = elim (cases_lt b a) [
 ]
 
 abbrev pub blank : HashedToken
-blank = hashed_from 0 0 no_token
+blank = hashed_from 0 0 0 0
 
 -- what holds of all of these holds of one of them
 pub one_of : (tables : List Table) (order : List HashedToken) (entry : HashedToken) → All (IsHashed tables) order → IsOneOf order entry → IsHashed tables entry
@@ -114,8 +113,8 @@ module _ (tables : List Table) (order : List HashedToken) (is : IsByHash tables 
   entries_rise i j d l m =
       let x = get_or order i d in
       let y = get_or order j d in
-      let far = sorted_far (λ x y. is_lt (slice_cmp nat_cmp (sorted_by tokens x) (sorted_by tokens y))) (ranks_by nat_list_cmp_total (sorted_by tokens)) order is.rising i j d l m in
-      not_more x.hash y.hash (first_late (nat_cmp y.hash x.hash) (slice_cmp nat_cmp (key_of tokens y.token) (key_of tokens x.token)) far)
+      let far = sorted_far (λ x y. is_lt (slice_cmp nat_cmp (sorted_by tables x) (sorted_by tables y))) (ranks_by nat_list_cmp_total (sorted_by tables)) order is.rising i j d l m in
+      not_more x.hash y.hash (first_late (nat_cmp y.hash x.hash) (slice_cmp nat_cmp (key_there tables y) (key_there tables x)) far)
 
   pub hashes_rise : IsNonDecreasingBy (λ (n : ℕ). n) (map token_hash order)
   hashes_rise i j d l m =
@@ -135,22 +134,23 @@ module _ (tables : List Table) (order : List HashedToken) (is : IsByHash tables 
 
   module _ (hash : ℕ) (key : Text) (same_hash : hash ≡ hash_of key) where
     abbrev compare : HashedToken → Ordering
-    compare entry = slice_cmp nat_cmp (sorted_by tokens entry) (hash ∷ key)
+    compare entry = slice_cmp nat_cmp (sorted_by tables entry) (hash ∷ key)
 
     pub rising : IsNonDecreasingBy (λ entry. ordering_index (compare entry)) order
-    rising = searchable_from_sorted nat_list_cmp_total (sorted_by tokens) order (hash ∷ key) is.rising
+    rising = searchable_from_sorted nat_list_cmp_total (sorted_by tables) order (hash ∷ key) is.rising
 
     pub found : (at : ℕ) (entry : HashedToken) → at < length order → entry ≡ get_or order at entry → compare entry ≡ Equal → IsToken tokens key (Some entry.token)
     found at entry h e same =
         let here = subst (IsHashed tables) (sym e) (is.hashed at entry h) in
-        (here.there, ap behind (exact_bytes (sorted_by tokens entry) (hash ∷ key) same))
+        (here.there, sym here.key ∙ ap behind (exact_bytes (sorted_by tables entry) (hash ∷ key) same))
 
     differs : (entry : HashedToken) → IsHashed tables entry → is_eq (compare entry) ≡ false → key_of tokens entry.token ≡ key → ⊥
     differs entry here e same =
         let own : entry.hash ≡ hash = here.hash ∙ ap hash_of same ∙ sym same_hash in
-        let whole : sorted_by tokens entry ≡ (hash ∷ key) = (λ i. own i ∷ same i) in
-        let yes : bytes_eq (sorted_by tokens entry) (hash ∷ key) ≡ true = (bytes_eq-Decides (sorted_by tokens entry) (hash ∷ key)).1 whole in
-        let not_equal : bytes_eq (sorted_by tokens entry) (hash ∷ key) ≡ false = sym (is_eq-slice_cmp (sorted_by tokens entry) (hash ∷ key)) ∙ e in
+        let there : key_there tables entry ≡ key = here.key ∙ same in
+        let whole : sorted_by tables entry ≡ (hash ∷ key) = (λ i. own i ∷ there i) in
+        let yes : bytes_eq (sorted_by tables entry) (hash ∷ key) ≡ true = (bytes_eq-Decides (sorted_by tables entry) (hash ∷ key)).1 whole in
+        let not_equal : bytes_eq (sorted_by tables entry) (hash ∷ key) ≡ false = sym (is_eq-slice_cmp (sorted_by tables entry) (hash ∷ key)) ∙ e in
         let wrong : true ≡ false = sym yes ∙ not_equal in
         cc
 

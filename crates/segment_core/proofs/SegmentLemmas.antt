@@ -68,6 +68,7 @@ pub record IsRead (tables : List Table) (at : TokenAt) (owner : Owner) : Type 0 
   pub table : owner.table < length tables
   pub low : 0 < owner.place
   pub high : owner.place ≤ length (table_at tables owner.table).columns
+  pub index : at.index < length (keys_at (table_at tables owner.table) owner.place)
   pub key : get_or (keys_at (table_at tables owner.table) owner.place) at.index [] ≡ pointed tables at
 
 module _ (tables : List Table) (owners : List Owner) (owned : owners ≡ map owner_of (segment tables).columns) (at : TokenAt) (there : IsAt tables at) where
@@ -85,6 +86,10 @@ module _ (tables : List Table) (owners : List Owner) (owned : owners ≡ map own
   unfolding segment
   pointed_here = refl
 
+  index_here : at.index < length (titled_at (segment tables).columns at.column).column.keys
+  unfolding segment
+  index_here = there.index
+
   pub is_read : (owner : Owner) → owner ≡ get_or owners at.column owner → IsRead tables at owner
   is_read owner e =
       let here = stands_there tables at.column column_there in
@@ -92,6 +97,7 @@ module _ (tables : List Table) (owners : List Owner) (owned : owners ≡ map own
         table = here.table;
         low = here.low;
         high = here.high;
+        index = omega (arith, index_here, ap length here.keys);
         key = ap (λ (ks : List Text). get_or ks at.index []) here.keys ∙ pointed_here;
       })
 

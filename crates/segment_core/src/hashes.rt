@@ -4,9 +4,9 @@ ghost use Rattle.std.specs.Cmp.Lexicographic.{slice_cmp};
 ghost use Rattle.std.specs.List.{All};
 ghost use Rattle.std.specs.List.Sorted.{IsNonDecreasingBy};
 ghost use Rattle.std.specs.Ordering.{nat_cmp};
-ghost use Rattle.search_model.specs.Arrays.{key_of, numbers_of, owner_of, pointed, IsAt};
+ghost use Rattle.search_model.specs.Arrays.{numbers_of, owner_of, pointed, IsAt};
 ghost use Rattle.search_model.specs.Segment.{segment};
-ghost use Rattle.segment_core.specs.Hashes.{hash_of, sorted_by, token_hash, token_number, AreKeys, IsByHash, IsHashed, IsOneOf};
+ghost use Rattle.segment_core.specs.Hashes.{hash_of, key_there, sorted_by, token_hash, token_number, AreKeys, IsByHash, IsHashed, IsOneOf};
 
 use column_set::{SharedTable, sip_hash};
 use hash_directory::HashDirectory;
@@ -16,12 +16,14 @@ use std::alloc::Global;
 use std::cmp::Ordering;
 use std::marker::Model;
 
-/// A token of a segment, with the hash of its key and where the key is.
+/// A token of a segment, with the hash of its key and where the key is: the index of a table, and the number of the key
+/// among those of all columns of that table. To read the key from there takes fewer steps than by its column.
 #[derive(Clone, Copy)]
 pub struct HashedToken {
     pub hash: u32,
     pub token: u32,
-    pub at: TokenAt,
+    pub table: u32,
+    pub number: u32,
 }
 
 /// The tokens of a segment, sorted by the hashes of their keys and then by the bytes of the keys, with a directory of
@@ -112,7 +114,7 @@ fn sorted_tokens(
     ensures few { IfOk result (λ hashed. length hashed.items < 2 ^ 32) }
 {
     let mut hashed = hashed_tokens(alloc, tables, owners, tokens)?;
-    hashed.sort_unstable_by(|a, b| hashed_order(tables, owners, tokens, *a, *b));
+    hashed.sort_unstable_by(|a, b| hashed_order(tables, *a, *b));
     Ok(hashed)
 }
 
@@ -130,31 +132,36 @@ fn hashed_tokens(
 {
     let mut hashed = Vec::with_capacity(alloc, tokens.len())?;
     for (token, at) in tokens.iter().enumerate() {
-        let hash = hash_key(key_there(tables, owners, *at));
-        hashed.push(HashedToken {
-            hash,
-            token: token as u32,
-            at: *at,
-        })?;
+        hashed.push(hashed_token(tables, owners, token as u32, *at))?;
     }
     Ok(hashed)
 }
 
+// Returns a token, whose key is at `at`, with the hash of the key.
+fn hashed_token(tables: &[SharedTable], owners: &[Owner], token: u32, at: TokenAt) -> HashedToken
+    requires owned { owners.now ≡ map owner_of (segment tables.now).columns }
+    requires there { IsAt tables.now at }
+    ensures token { result.token ≡ token }
+    ensures hash { result.hash ≡ hash_of (pointed tables.now at) }
+    ensures key { key_there tables.now result ≡ pointed tables.now at }
+{
+    let owner = owners[at.column as usize];
+    let table = tables[owner.table as usize].table();
+    let number = table.key_number(owner.place, at.index);
+    HashedToken {
+        hash: hash_key(table.numbered_key(number)),
+        token,
+        table: owner.table,
+        number,
+    }
+}
+
 // Compares by the hash, then by the key, which is read only if the hashes are equal.
-fn hashed_order(
-    tables: &[SharedTable],
-    owners: &[Owner],
-    tokens: &[TokenAt],
-    a: HashedToken,
-    b: HashedToken,
-) -> Ordering
-    requires { AreKeys tables.now owners.now tokens.now }
-    ensures { result ≡ slice_cmp nat_cmp (sorted_by (segment tables.now).tokens a) (sorted_by (segment tables.now).tokens b) }
+fn hashed_order(tables: &[SharedTable], a: HashedToken, b: HashedToken) -> Ordering
+    ensures { result ≡ slice_cmp nat_cmp (sorted_by tables.now a) (sorted_by tables.now b) }
 {
     match a.hash.cmp(&b.hash) {
-        Ordering::Equal => {
-            key_at(tables, owners, tokens, a.token).cmp(key_at(tables, owners, tokens, b.token))
-        }
+        Ordering::Equal => key_there(tables, a).cmp(key_there(tables, b)),
         unequal => unequal,
     }
 }
@@ -170,32 +177,14 @@ fn hashes_of(alloc: Global, entries: &[HashedToken]) -> Result<Vec<u32>, NoMemor
     Ok(hashes)
 }
 
-/// Returns the key of a token, or an empty text if there is no such token.
-pub(crate) fn key_at<'a>(
-    tables: &'a [SharedTable],
-    owners: &[Owner],
-    tokens: &[TokenAt],
-    token: u32,
-) -> &'a str
-    requires { AreKeys tables.now owners.now tokens.now }
-    ensures { result.now ≡ key_of (segment tables.now).tokens token }
+/// Returns the key of a token, which is read from where the entry says; if nothing is there, the result is an empty text.
+pub(crate) fn key_there(tables: &[SharedTable], entry: HashedToken) -> &str
+    ensures { result.now ≡ key_there tables.now entry }
 {
-    if token as usize >= tokens.len() {
-        return "";
+    match tables.get(entry.table as usize) {
+        Some(table) => table.table().numbered_key(entry.number),
+        None => "",
     }
-    key_there(tables, owners, tokens[token as usize])
-}
-
-/// Returns the key that is at `at`.
-pub(crate) fn key_there<'a>(tables: &'a [SharedTable], owners: &[Owner], at: TokenAt) -> &'a str
-    requires owned { owners.now ≡ map owner_of (segment tables.now).columns }
-    requires there { IsAt tables.now at }
-    ensures { result.now ≡ pointed tables.now at }
-{
-    let owner = owners[at.column as usize];
-    tables[owner.table as usize]
-        .table()
-        .key(owner.place, at.index)
 }
 
 /// Returns the hash of a key: the low 32 bits of SipHash-1-3 ([`sip_hash`]). How few keys share a hash matters only for

@@ -1,5 +1,5 @@
 //! The inverted index of a list of tables, in flat arrays.
-ghost use Rattle.std.specs.Prelude.{◌≡◌, ◌⊎◌, ◌+◌, ◌<◌, ◌≤◌, ◌∷◌, ℕ, [], drop, get_or, length, slice_index, slice_range, IfErr, IfNone, IfOk, IfSome, None, OnOk, Some};
+ghost use Rattle.std.specs.Prelude.{◌≡◌, ◌⊎◌, ◌+◌, ◌<◌, ◌≤◌, ◌∷◌, ℕ, [], drop, get_or, length, map, slice_index, slice_range, IfErr, IfNone, IfOk, IfSome, None, OnOk, Some};
 ghost use Rattle.std.specs.Cmp.Lexicographic.{slice_cmp};
 ghost use Rattle.std.specs.List.Sorted.{IsPermutation};
 ghost use Rattle.std.specs.Ordering.{nat_cmp};
@@ -10,21 +10,15 @@ ghost use Rattle.segment_core.specs.LiveColumn.{fault_in, keys_in};
 
 use crate::column::ColumnRefused;
 use crate::hashed::HashedQuery;
-use crate::hashes::{HashOrder, HashedToken, hash_key, key_at, key_there};
+use crate::hashes::{HashOrder, HashedToken, hash_key, key_there};
 use crate::order::ColumnOrder;
 use column_set::{QuerySet, SharedTable};
 use no_memory::NoMemory;
-use search_model::{Owner, Posting, TokenAt};
+use search_model::{Owner, Posting};
 use std::alloc::Global;
 use std::cmp::Ordering as Comparison;
 use std::marker::Model;
 use std::sync::atomic::{AtomicU64, Ordering};
-
-/// The number of hits that are examined to see whether the keys of a query were chosen to collide.
-const SAMPLE_HITS: usize = 64;
-
-/// About how many tokens can be asked for in the time that a look-up among colliding keys takes.
-const TOKENS_FOR_A_HIT: usize = 128;
 
 /// A token whose key may be that of a query at an index, from 0: they have the same hash.
 #[derive(Clone, Copy)]
@@ -45,7 +39,6 @@ struct Hit {
 pub struct Segment {
     tables: Vec<SharedTable>,
     owners: Vec<Owner>,
-    tokens: Vec<TokenAt>,
     by_hash: HashOrder,
     list_starts: Vec<u32>,
     postings: Vec<Posting>,
@@ -67,21 +60,18 @@ impl Model for Segment {
 
     ghost view = { λ s. s.tables.items };
 
-    ghost invariant = { λ s. AreKept s.tables.items s.owners.items s.tokens.items s.by_hash s.list_starts.items s.postings.items s.set_starts.items s.set_tokens.items × AreRanks (segment s.tables.items).columns s.ranks.items × AreInverse s.ranks.items s.by_rank.items };
+    ghost invariant = { λ s. AreKept s.tables.items s.owners.items s.by_hash s.list_starts.items s.postings.items s.set_starts.items s.set_tokens.items × AreRanks (segment s.tables.items).columns s.ranks.items × AreInverse s.ranks.items s.by_rank.items };
 }
 
 impl Segment {
-    ghost use Rattle.search_model.specs.Arrays.{pointed, IsAt};
-    ghost use Rattle.segment_core.specs.Hashes.{hash_at, hash_of, sorted_by, AreKept, IsHashed};
+    ghost use Rattle.segment_core.specs.Hashes.{hash_at, hash_of, key_there, sorted_by, AreKept, IsHashed};
 
-    /// Makes the segment of these tables from its arrays: where each column is; where each token's key is, in the order
-    /// of the tokens; the tokens in the order of their hashes; the posting lists, one after another, with the index at
-    /// which each begins, and the end; the columns' tokens in the same form; each column's rank in the order of names,
-    /// and the columns by their ranks. It allocates nothing.
+    /// Makes the segment of these tables from its arrays: where each column is; the tokens in the order of their hashes;
+    /// the posting lists, one after another, with the index at which each begins, and the end; the columns' tokens in the
+    /// same form; each column's rank in the order of names, and the columns by their ranks. It allocates nothing.
     pub fn new(
         tables: Vec<SharedTable>,
         owners: Vec<Owner>,
-        tokens: Vec<TokenAt>,
         by_hash: HashOrder,
         list_starts: Vec<u32>,
         postings: Vec<Posting>,
@@ -90,7 +80,7 @@ impl Segment {
         ranks: Vec<u32>,
         by_rank: Vec<u32>,
     ) -> Segment
-        requires arrays { AreKept tables.items owners.items tokens.items by_hash list_starts.items postings.items set_starts.items set_tokens.items }
+        requires arrays { AreKept tables.items owners.items by_hash list_starts.items postings.items set_starts.items set_tokens.items }
         requires ranks { AreRanks (segment tables.items).columns ranks.items }
         requires inverse { AreInverse ranks.items by_rank.items }
         ensures { result ≡ tables.items }
@@ -98,7 +88,6 @@ impl Segment {
         Segment {
             tables,
             owners,
-            tokens,
             by_hash,
             list_starts,
             postings,
@@ -131,7 +120,7 @@ impl Segment {
     {
         let hash = hash_key(key);
         let entry = self.first_hashed(hash)?;
-        self.token_at(entry, hash, key)
+        self.token_at(entry, self.key_there(entry), hash, key)
     }
 
     // Returns the first token whose key has the hash, in the order of the keys' bytes.
@@ -142,13 +131,14 @@ impl Segment {
         self.by_hash.first(hash)
     }
 
-    // Returns the key's token, given the first token whose key has the key's hash.
-    fn token_at(&self, first: HashedToken, hash: u32, key: &str) -> Option<u32>
+    // Returns the key's token, given the first token whose key has the key's hash, and the key of that token.
+    fn token_at(&self, first: HashedToken, first_key: &str, hash: u32, key: &str) -> Option<u32>
         requires hashed { IsHashed self.now first }
+        requires first { first_key.now ≡ key_there self.now first }
         requires own { hash ≡ hash_of key.now }
         ensures { IsToken (segment self.now).tokens key.now result }
     {
-        if self.key_there(first.at) == key {
+        if first_key == key {
             return Some(first.token);
         }
         self.lookup_colliding(hash, key)
@@ -168,10 +158,10 @@ impl Segment {
 
     // Compares a token with a key: by their hashes, and then by the bytes of the keys.
     fn hash_order(&self, entry: HashedToken, hash: u32, key: &str) -> Comparison
-        ensures { result ≡ slice_cmp nat_cmp (sorted_by (segment self.now).tokens entry) (hash ∷ key.now) }
+        ensures { result ≡ slice_cmp nat_cmp (sorted_by self.now entry) (hash ∷ key.now) }
     {
         match entry.hash.cmp(&hash) {
-            Comparison::Equal => self.key(entry.token).cmp(key),
+            Comparison::Equal => self.key_there(entry).cmp(key),
             unequal => unequal,
         }
     }
@@ -263,19 +253,11 @@ impl Segment {
         self.meter.load(Ordering::SeqCst)
     }
 
-    // Returns the key of a token, or an empty text if there is no such token.
-    fn key(&self, token: u32) -> &str
-        ensures { result.now ≡ key_of (segment self.now).tokens token }
+    // Returns the key of a token, from where the entry says.
+    fn key_there(&self, entry: HashedToken) -> &str
+        ensures { result.now ≡ key_there self.now entry }
     {
-        key_at(&self.tables, &self.owners, &self.tokens, token)
-    }
-
-    // Returns the key that is at `at`.
-    fn key_there(&self, at: TokenAt) -> &str
-        requires { IsAt self.now at }
-        ensures { result.now ≡ pointed self.now at }
-    {
-        key_there(&self.tables, &self.owners, at)
+        key_there(&self.tables, entry)
     }
 }
 
@@ -283,7 +265,7 @@ impl Segment {
     ghost use Rattle.std.specs.List.{All};
     ghost use Rattle.lake_model.specs.Tables.{has_key};
     ghost use Rattle.segment_core.specs.Among.{found_by, hit_keys, IsHit};
-    ghost use Rattle.segment_core.specs.Hashes.{IsHashed};
+    ghost use Rattle.segment_core.specs.Hashes.{key_there, IsHashed};
 
     /// Returns the tokens whose keys are the query's, in increasing order. It walks over the smaller of the two: the
     /// tokens or the keys of the query.
@@ -294,7 +276,7 @@ impl Segment {
     ) -> Result<Vec<u32>, NoMemory>
         ensures { IfOk result (λ tokens. tokens.items ≡ tokens_in (segment self.now).tokens query.now) }
     {
-        if self.tokens.len() < query.query().len() as usize {
+        if self.by_hash.entries().len() < query.query().len() as usize {
             self.asked_tokens(alloc, query)
         } else {
             self.found_tokens(alloc, query)
@@ -329,7 +311,7 @@ impl Segment {
         requires { IsHashed self.now entry }
         ensures { result ≡ has_key query.now (key_of (segment self.now).tokens entry.token) }
     {
-        query.has(entry.hash, self.key_there(entry.at))
+        query.has(entry.hash, self.key_there(entry))
     }
 
     // Returns the same by looking up each key of the query among the tokens.
@@ -337,16 +319,16 @@ impl Segment {
         ensures { IfOk result (λ tokens. tokens.items ≡ tokens_in (segment self.now).tokens query.now) }
     {
         let hits = self.hits(alloc, query)?;
-        if self.is_flooded(query, &hits) {
-            return self.asked_tokens(alloc, query);
-        }
-        let mut tokens = self.tokens_of_hits(alloc, query, &hits)?;
+        let keys = self.keys_of_hits(alloc, &hits)?;
+        let mut tokens = self.tokens_of_hits(alloc, query, &hits, &keys)?;
         tokens.sort_unstable();
         Ok(tokens)
     }
 
-    // Returns, for each key of the query whose hash some token has, the first such token. No key of a token is read
-    // yet: these reads are cache misses, which overlap as long as nothing else happens between them.
+    // Returns, for each key of the query whose hash some token has, the first such token.
+    //
+    // No key of a token is read yet. Where a key is, is read in a second pass, and the key itself in a third: these reads
+    // are cache misses, which overlap as long as nothing else comes between them.
     fn hits(&self, alloc: Global, query: &HashedQuery<'_>) -> Result<Vec<Hit>, NoMemory>
         ensures hits { IfOk result (λ hits. All (IsHit self.now query.now) hits.items) }
         ensures all { IfOk result (λ hits. IsPermutation (tokens_in (segment self.now).tokens query.now) (found_by (segment self.now).tokens (hit_keys query.now hits.items))) }
@@ -360,41 +342,33 @@ impl Segment {
         Ok(hits)
     }
 
-    // Returns whether it is cheaper to ask the query for the key of each token than to look up these hits. That is so
-    // if many hits have another key than the first token with their hash, as keys have that were chosen to collide: to
-    // look up one of them takes a binary search that compares texts. Only a sample of the hits is examined.
-    fn is_flooded(&self, query: &HashedQuery<'_>, hits: &[Hit]) -> bool
-        requires { All (IsHit self.now query.now) hits.now }
+    // Returns the keys of the tokens of these hits.
+    fn keys_of_hits(&self, alloc: Global, hits: &[Hit]) -> Result<Vec<&str>, NoMemory>
+        ensures { IfOk result (λ keys. map (λ key. key.now) keys.items ≡ map (λ hit. key_there self.now hit.entry) hits.now) }
     {
-        if self.by_hash.entries().len() / TOKENS_FOR_A_HIT > hits.len() {
-            return false;
+        let mut keys = Vec::with_capacity(alloc, hits.len())?;
+        for hit in hits {
+            keys.push(self.key_there(hit.entry))?;
         }
-        let step = (hits.len() / SAMPLE_HITS).max(1);
-        let mut others = 0usize;
-        for i in 0..SAMPLE_HITS {
-            if let Some(hit) = hits.get(i.saturating_mul(step)) {
-                if self.key_there(hit.entry.at) != query.query().key(hit.index) {
-                    others = others.saturating_add(1);
-                }
-            }
-        }
-        others > SAMPLE_HITS / 8
+        Ok(keys)
     }
 
-    // Returns the tokens of the keys of these hits, in order.
+    // Returns the tokens that have the keys of these hits, in order, given the keys of the hits' own tokens.
     fn tokens_of_hits(
         &self,
         alloc: Global,
         query: &HashedQuery<'_>,
         hits: &[Hit],
+        keys: &[&str],
     ) -> Result<Vec<u32>, NoMemory>
-        requires { All (IsHit self.now query.now) hits.now }
+        requires hits { All (IsHit self.now query.now) hits.now }
+        requires keys { map (λ key. key.now) keys.now ≡ map (λ hit. key_there self.now hit.entry) hits.now }
         ensures { IfOk result (λ tokens. tokens.items ≡ found_by (segment self.now).tokens (hit_keys query.now hits.now)) }
     {
         let mut tokens = Vec::with_capacity(alloc, hits.len())?;
-        for hit in hits {
+        for (i, hit) in hits.iter().enumerate() {
             let key = query.query().key(hit.index);
-            if let Some(token) = self.token_at(hit.entry, query.hash(hit.index), key) {
+            if let Some(token) = self.token_at(hit.entry, keys[i], query.hash(hit.index), key) {
                 tokens.push(token)?;
             }
         }

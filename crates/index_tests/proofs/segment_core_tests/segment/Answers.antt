@@ -17,7 +17,7 @@ pub new-requires-clause-arrays : goal.new-requires-clause-arrays
 new-requires-clause-arrays c =
     let tables : c.in_ok-tables.tables.items ≡ worked_table ∷ [] = c.in_ok-tables.ensures.items ∙ ap (λ (t : Table). t ∷ []) c.in_ok-table.ensures in
     let order = subst (λ (ts : List Table). IsByHash ts c.in_ok-by_hash.by_hash) (c.deref.ensures.value ∙ tables) c.in_ok-by_hash.ensures in
-    rw (tables, c.in_ok-owners.ensures, c.in_ok-tokens.ensures, c.in_ok-list_starts.ensures.items, c.in_ok-postings.ensures, c.in_ok-set_starts.ensures.items, c.in_ok-set_tokens.ensures.items) (worked_kept c.in_ok-by_hash.by_hash order)
+    rw (tables, c.in_ok-owners.ensures, c.in_ok-list_starts.ensures.items, c.in_ok-postings.ensures, c.in_ok-set_starts.ensures.items, c.in_ok-set_tokens.ensures.items) (worked_kept c.in_ok-by_hash.by_hash order)
 
 pub new-requires-clause-ranks : goal.new-requires-clause-ranks
 new-requires-clause-ranks c =

@@ -52,6 +52,7 @@ new-requires-clause-arrays c =
     let posted = c.in_ok-starts.ensures.postings ∙ (λ i. all_of (lists_from (sets_in (c.deref-8.ensures.value i) (c.deref-9.ensures.value i)) 0 (length starts - 1))) in
     let are = arrays _ _ _ _ _ _ made by_key postings within sorted c.requires.columns c.into_lists-tokens.ensures.few posted in
     record {
+      tokens = tokens;
       by_key = by_key;
       arrays = subst (λ (ns : List ℕ). AreArrays c.args.tables.items c.in_ok-sets.sets.owners.items tokens by_key ns postings c.in_ok-sets.sets.starts.items c.in_ok-sets.sets.tokens.items) (sym c.in_ok-starts.ensures.starts) are;
       order = subst (λ (ts : List Table). IsByHash ts c.in_ok-by_hash.by_hash) c.deref-5.ensures.value c.in_ok-by_hash.ensures;

@@ -1,0 +1,62 @@
+use Rattle.std.proofs.Common.{◌≡◌, ◌∙◌, ap, sym, [], get_or, length, arith}
+use Rattle.std.proofs.lemmas.List.{get_or_default}
+use Rattle.lake_model.specs.Tables.{Table, keys_at}
+use Rattle.search_model.specs.Arrays.{table_at, no_table}
+use Rattle.column_set.specs.Columns.{all_keys}
+use Rattle.segment_core.specs.Hashes.{hash_of}
+use Rattle.segment_core.proofs.SegmentLemmas.{is_read, no_owner, owner_there}
+use Rattle.segment_core.proofs.hashes.hashed_token.Goals as goal
+
+pub bounds-owners-at : goal.bounds-owners-at
+bounds-owners-at c = owner_there c.args.tables.now c.args.owners.now c.requires.owned c.args.at c.requires.there
+
+pub bounds-tables-owner : goal.bounds-tables-owner
+bounds-tables-owner c =
+    let owners = c.args.owners.now in
+    let at = c.args.at in
+    let owner = get_or owners at.column no_owner in
+    (is_read c.args.tables.now owners c.requires.owned at c.requires.there owner (get_or_default owners at.column no_owner owner (owner_there c.args.tables.now owners c.requires.owned at c.requires.there))).table
+
+pub key_number-number-requires-clause-low : goal.key_number-number-requires-clause-low
+key_number-number-requires-clause-low c =
+    let owners = c.args.owners.now in
+    let at = c.args.at in
+    let owner = get_or owners at.column no_owner in
+    (is_read c.args.tables.now owners c.requires.owned at c.requires.there owner (get_or_default owners at.column no_owner owner (owner_there c.args.tables.now owners c.requires.owned at c.requires.there))).low
+
+pub key_number-number-requires-clause-high : goal.key_number-number-requires-clause-high
+key_number-number-requires-clause-high c =
+    let owners = c.args.owners.now in
+    let at = c.args.at in
+    let owner = get_or owners at.column no_owner in
+    let read = is_read c.args.tables.now owners c.requires.owned at c.requires.there owner (get_or_default owners at.column no_owner owner (owner_there c.args.tables.now owners c.requires.owned at c.requires.there)) in
+    let table : c.table-table.result.now ≡ table_at c.args.tables.now owner.table = c.table-table.ensures ∙ c.index-tables-owner.is ∙ get_or_default c.args.tables.now owner.table c.index-tables-owner.result no_table read.table in
+    omega (arith, read.high, ap (λ (t : Table). length t.columns) table)
+
+pub key_number-number-requires-clause-key : goal.key_number-number-requires-clause-key
+key_number-number-requires-clause-key c =
+    let owners = c.args.owners.now in
+    let at = c.args.at in
+    let owner = get_or owners at.column no_owner in
+    let read = is_read c.args.tables.now owners c.requires.owned at c.requires.there owner (get_or_default owners at.column no_owner owner (owner_there c.args.tables.now owners c.requires.owned at c.requires.there)) in
+    let table : c.table-table.result.now ≡ table_at c.args.tables.now owner.table = c.table-table.ensures ∙ c.index-tables-owner.is ∙ get_or_default c.args.tables.now owner.table c.index-tables-owner.result no_table read.table in
+    omega (arith, read.index, ap (λ (t : Table). length (keys_at t owner.place)) table)
+
+pub returns-clause-hash : goal.returns-clause-hash
+returns-clause-hash c =
+    let owners = c.args.owners.now in
+    let at = c.args.at in
+    let owner = get_or owners at.column no_owner in
+    let read = is_read c.args.tables.now owners c.requires.owned at c.requires.there owner (get_or_default owners at.column no_owner owner (owner_there c.args.tables.now owners c.requires.owned at c.requires.there)) in
+    let table : c.table-table.result.now ≡ table_at c.args.tables.now owner.table = c.table-table.ensures ∙ c.index-tables-owner.is ∙ get_or_default c.args.tables.now owner.table c.index-tables-owner.result no_table read.table in
+    let key = c.key_number-number.ensures ∙ ap (λ (t : Table). get_or (keys_at t owner.place) at.index []) table ∙ read.key in
+    c.hash_key.ensures ∙ ap hash_of (c.numbered_key.ensures ∙ key)
+
+pub returns-clause-key : goal.returns-clause-key
+returns-clause-key c =
+    let owners = c.args.owners.now in
+    let at = c.args.at in
+    let owner = get_or owners at.column no_owner in
+    let read = is_read c.args.tables.now owners c.requires.owned at c.requires.there owner (get_or_default owners at.column no_owner owner (owner_there c.args.tables.now owners c.requires.owned at c.requires.there)) in
+    let table : c.table-table.result.now ≡ table_at c.args.tables.now owner.table = c.table-table.ensures ∙ c.index-tables-owner.is ∙ get_or_default c.args.tables.now owner.table c.index-tables-owner.result no_table read.table in
+    ap (λ (t : Table). get_or (all_keys t) c.key_number-number.result []) (sym table) ∙ c.key_number-number.ensures ∙ ap (λ (t : Table). get_or (keys_at t owner.place) at.index []) table ∙ read.key
