@@ -24,6 +24,7 @@ use run_record::RunRecord;
 use script_model::ScriptLimits;
 use script_text::Gather;
 use std::alloc::Global;
+use std::mem;
 use std::sync::Wait;
 use std::thread::Threads;
 
@@ -127,7 +128,7 @@ fn run_over<
         return Status::NoMemory;
     };
     out.set_options(options);
-    run_batches(
+    let status = run_batches(
         rt,
         alloc,
         &mut gather,
@@ -137,7 +138,11 @@ fn run_over<
         shelf,
         gate,
         out,
-    )
+    );
+    // To give back all tables and segments one by one takes as long as a small batch, and the process ends next.
+    drop(desks);
+    mem::forget(lake);
+    status
 }
 
 /// Runs a script over an empty lake with the given options, which state no order, into an empty record. The lanes of a

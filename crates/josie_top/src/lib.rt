@@ -142,7 +142,8 @@ fn status_of_refused(refused: WordsRefused) -> Status
 /// name, the streams, the files, the gate that is told of the moments of each command, and an empty record. If no order
 /// is stated, the lanes of a batch run at the same time, each on its own thread, and the merger beside them; what a
 /// single lane does alone, or a lane for which no thread can be created, runs on the caller's thread. The call waits
-/// for the lanes, so its contract holds if it returns.
+/// for the lanes, so its contract holds if it returns. The memory of a lake without a stated order is left to the end of
+/// the process.
 pub fn run<R: Threads + Wait + Sync, S: Source, K: Sink, F: Shelf, G: Gate + Sync>(
     rt: &R,
     alloc: Global,
