@@ -68,8 +68,7 @@ impl RawTable {
         requires high { place ≤ column_count self.now }
         ensures { result.now ≡ field_at self.now row place }
     {
-        // The length is read only because it bounds the index.
-        let _fields = self.store.len();
+        prove!(self.store.len() <= usize::MAX);
         let index = row as usize * self.columns as usize + (place as usize - 1);
         self.store.field(index)
     }
