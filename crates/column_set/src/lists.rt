@@ -100,7 +100,7 @@ impl KeyLists {
         requires key { i < length (get_or self.now list []) }
         ensures { get_or (joined self.now) result [] ≡ get_or (get_or self.now list []) i [] }
     {
-        let (from, _to) = bounds(&self.starts, list);
+        let (from, _) = bounds(&self.starts, list);
         from + i
     }
 

@@ -35,9 +35,10 @@ pub fn build(alloc: Global, tables: Vec<SharedTable>) -> Result<Segment, NoMemor
     } = vocab.into_lists();
     let list_starts = list_starts(alloc, &frequencies)?;
     // The starts hold the same information, so the frequencies are freed before the steps that follow take their
-    // memory. So does the order by hash, for where the keys of the tokens are.
+    // memory.
     drop(frequencies);
     let by_hash = order_by_hash(alloc, &tables, &sets.owners, &tokens)?;
+    // The order has its own note of where each token's key is.
     drop(tokens);
     let PostingLists { starts, postings } = posting_lists(
         alloc,
