@@ -14,3 +14,4 @@ pub mod LoopLemmas
 pub mod PartsLemmas
 pub mod SureLemmas
 pub mod OfferLemmas
+pub mod RoomLemmas

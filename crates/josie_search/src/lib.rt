@@ -2,6 +2,7 @@
 //! probes sets as a chooser says, and leaves a part once none of its columns can come before the k-th known row.
 #![tactic(auto)]
 
+mod asked;
 mod candidates;
 mod cost;
 mod first;

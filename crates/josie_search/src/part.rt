@@ -1,5 +1,5 @@
 //! The search of one part.
-ghost use Rattle.std.specs.Prelude.{◌≡◌, ◌<◌, ◌≤◌, ◌+◌, ◌++◌, ◌∷◌, ◌^◌, ℕ, [], List, bytes_eq, false, get_or, length, slice_set, take, true};
+ghost use Rattle.std.specs.Prelude.{◌≡◌, ◌<◌, ◌≤◌, ◌+◌, ◌++◌, ◌∷◌, ◌^◌, ℕ, [], List, bytes_eq, false, get_or, length, slice_set, take, true, IfSome};
 ghost use Rattle.std.specs.List.{IsDistinct};
 ghost use Rattle.lake_model.specs.Answer.{row_cmp};
 ghost use Rattle.lake_model.specs.Sorting.{put_in_order};
@@ -14,6 +14,7 @@ ghost use Rattle.josie_search.specs.Costs.{lengths_of, AreSums};
 ghost use Rattle.josie_search.specs.Offers.{shared_row};
 ghost use Rattle.part_columns.specs.Room.{looks_bound};
 ghost use Rattle.part_columns.specs.Tallies.{no_tally, tally_at, tally_of};
+ghost use Rattle.token_set.specs.Bits.{IsSetOf};
 
 use crate::candidates::Candidates;
 use crate::hold::follow;
@@ -24,6 +25,7 @@ use crate::row::row_of;
 use cost_model::Chooser;
 use part_columns::{Columns, probe};
 use segment_core::{ColumnOrder, Look, Looks};
+use token_set::TokenSet;
 use topk_heap::TopK;
 
 /// Probes a column, marks it as known, and offers its row.
@@ -32,6 +34,7 @@ pub(crate) fn probe_column<'a>(
     part: u32,
     query: &Asked<'_>,
     tokens: &[u32],
+    set: Option<&TokenSet>,
     read: u32,
     column: u32,
     columns: &mut Columns,
@@ -46,6 +49,7 @@ pub(crate) fn probe_column<'a>(
     requires seen { 0 < (tally_at columns.old.tallies column).count }
     requires tally { tally_at columns.old.tallies column ≡ tally_of (get_or (segment_at looks.old.version.parts part).sets column []) (hits (get_or (segment_at looks.old.version.parts part).sets column []) (take read tokens.now)) }
     requires tokens { tokens.now ≡ (searched query.now (part_at looks.old.version.parts part)).query }
+    requires set { IfSome set (λ set. IsSetOf set.now tokens.now) }
     requires live { is_eligible query.now (searched query.now (part_at looks.old.version.parts part)) (column_at (searched query.now (part_at looks.old.version.parts part)) column) ≡ true }
     requires distinct { IsDistinct bytes_eq query.now.keys }
     ensures version { looks.new.version ≡ looks.old.version }
@@ -57,20 +61,29 @@ pub(crate) fn probe_column<'a>(
     ensures k { top.new.k ≡ top.old.k }
     ensures rows { top.new.rows ≡ take top.old.k (put_in_order row_cmp (shared_row query.now (searched query.now (part_at looks.old.version.parts part)) column) top.old.rows) }
 {
-    let overlap = probe(looks, part, tokens, read, column, columns.tally(column));
+    let overlap = probe(
+        looks,
+        part,
+        tokens,
+        set,
+        read,
+        column,
+        columns.tally(column),
+    );
     columns.know(column);
     let row = row_of(looks, part, column, overlap, query.except);
     offer(top, row);
 }
 
 /// Searches a part: reads lists and probes columns as the chooser says, until no column of the part can come before the
-/// k-th row. `sums` has what it costs to read the first lists. No column may have been seen before the call. It takes no
-/// memory.
+/// k-th row. `set` may have the tokens as a set, and `sums` has what it costs to read the first lists. No column may have
+/// been seen before the call. It takes no memory.
 pub(crate) fn search_part<'a, C: Chooser>(
     looks: &mut Looks<'a>,
     part: u32,
     query: &Asked<'_>,
     tokens: &[u32],
+    set: Option<&TokenSet>,
     sums: &[u64],
     columns: &mut Columns,
     candidates: &mut Candidates,
@@ -81,6 +94,7 @@ pub(crate) fn search_part<'a, C: Chooser>(
     requires part { part < length looks.old.version.parts }
     requires few { length tokens.now ≤ 4194304 }
     requires tokens { tokens.now ≡ (searched query.now (part_at looks.old.version.parts part)).query }
+    requires set { IfSome set (λ set. IsSetOf set.now tokens.now) }
     requires sums { AreSums (lengths_of (segment_at looks.old.version.parts part) tokens.now) sums.now }
     requires distinct { IsDistinct bytes_eq query.now.keys }
     requires some { 0 < query.now.k }
@@ -128,8 +142,8 @@ pub(crate) fn search_part<'a, C: Chooser>(
                 read += 1;
                 follow(candidates, columns, order.ranks, lists - read, list);
             }
-            Some(Look::Probe { set, .. }) => {
-                probe_column(looks, part, query, tokens, read, set, columns, top);
+            Some(Look::Probe { set: column, .. }) => {
+                probe_column(looks, part, query, tokens, set, read, column, columns, top);
             }
         }
     }

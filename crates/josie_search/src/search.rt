@@ -5,6 +5,7 @@ ghost use Rattle.josie_search.specs.Search.{answer_of, query_with, search_with};
 ghost use Rattle.search_model.specs.Looks.{log};
 ghost use Rattle.segment_core.specs.Versions.{live_of};
 
+use crate::asked::{clear, fill, set_for};
 use crate::candidates::Candidates;
 use crate::cost::sum_costs;
 use crate::part::search_part;
@@ -16,6 +17,7 @@ use part_columns::{Answer, Columns, most_columns, most_probes};
 use segment_core::{HashedQuery, Looks};
 use std::alloc::Global;
 use std::marker::Model;
+use token_set::TokenSet;
 use topk_heap::TopK;
 
 /// A search that is ready to run and holds all the memory that it needs. Its model is the version and the query.
@@ -24,6 +26,7 @@ pub struct Prepared<'a, 'q> {
     looks: Looks<'a>,
     query: Asked<'q>,
     tokens: Vec<Vec<u32>>,
+    set: Option<TokenSet>,
     /// Room for what it costs to read the first lists of a part.
     sums: Vec<u64>,
     columns: Columns,
@@ -32,19 +35,19 @@ pub struct Prepared<'a, 'q> {
 }
 
 impl<'a, 'q> Model for Prepared<'a, 'q> {
-    ghost use Rattle.std.specs.Prelude.{◌≡◌, ◌<◌, [], length, map, vec_capacity};
-    ghost use Rattle.josie_search.specs.Ready.{IsReady};
+    ghost use Rattle.std.specs.Prelude.{◌≡◌, ◌<◌, [], length, map, vec_capacity, IfSome};
+    ghost use Rattle.josie_search.specs.Ready.{IsReady, IsReadySet};
     ghost use Rattle.josie_search.specs.Search.{search_with, SearchOf};
 
     ghost Value = { SearchOf };
 
     ghost view = { λ p. search_with p.looks.version p.query };
 
-    ghost invariant = { λ p. (p.looks.log ≡ []) × IsReady p.looks.version.parts p.query p.looks.spare (map (λ tokens. tokens.items) p.tokens.items) p.columns p.candidates p.top × (length p.query.keys < vec_capacity p.sums) };
+    ghost invariant = { λ p. (p.looks.log ≡ []) × IsReady p.looks.version.parts p.query p.looks.spare (map (λ tokens. tokens.items) p.tokens.items) p.columns p.candidates p.top × (length p.query.keys < vec_capacity p.sums) × IfSome p.set (λ set. IsReadySet set (map (λ tokens. tokens.items) p.tokens.items)) };
 }
 
-/// Prepares a search, and takes all that it needs: the query's tokens of each part; room for a sum for each key of the
-/// query; a tally, a mark and room for four candidates for each column of the part with the most columns; the first k
+/// Prepares a search, and takes all that it needs: the query's tokens of each part, and, if it has more than a few keys,
+/// a bit for each token of a part; room for a sum for each key of the query; a tally, a mark and room for four candidates for each column of the part with the most columns; the first k
 /// rows; and room in the log for as many looks as the search can take. In each part these are one for each list of the
 /// query's tokens, plus one for each of their postings or one for each column of the part, whichever are fewer. The
 /// search leaves out the columns of the table named `except`, if any.
@@ -63,6 +66,7 @@ pub fn prepare<'a, 'q>(
     ensures { IfOk result (λ prepared. prepared ≡ search_with looks.entry.version (query_with k query.now (option_copied except.entry))) }
 {
     let tokens = ask_parts(alloc, &mut looks, query)?;
+    let set = set_for(alloc, query.len(), &tokens)?;
     let most = most_columns(&looks);
     let columns = Columns::new(alloc, most)?;
     let candidates = Candidates::new(alloc, most)?;
@@ -79,6 +83,7 @@ pub fn prepare<'a, 'q>(
             except,
         },
         tokens,
+        set,
         sums,
         columns,
         candidates,
@@ -128,6 +133,7 @@ impl<'a, 'q> Prepared<'a, 'q> {
             mut looks,
             query,
             tokens,
+            mut set,
             mut sums,
             mut columns,
             mut candidates,
@@ -135,14 +141,16 @@ impl<'a, 'q> Prepared<'a, 'q> {
         } = self;
         for part in 0..looks.parts() {
             columns.clear();
-            let asked = &tokens[part as usize];
+            let asked: &[u32] = &tokens[part as usize];
             let order = looks.order(part);
             sum_costs(&looks, part, asked, &mut sums);
+            fill(&mut set, asked);
             search_part(
                 &mut looks,
                 part,
                 &query,
                 asked,
+                set.as_ref(),
                 &sums,
                 &mut columns,
                 &mut candidates,
@@ -150,6 +158,7 @@ impl<'a, 'q> Prepared<'a, 'q> {
                 &mut top,
                 chooser,
             );
+            clear(&mut set, asked);
         }
         Answer {
             rows: top.into_rows(),

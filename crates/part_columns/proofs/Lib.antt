@@ -6,3 +6,4 @@ pub mod SegmentLists
 pub mod RoomLemmas
 pub mod AskedLemmas
 pub mod SeekLemmas
+pub mod UnreadLemmas

@@ -31,6 +31,26 @@ both_ways xs ys up over = omega (arith, hits_le_count ys xs (distinct_rising ys 
 
 -- ---- the tokens of a set after one of its own
 
+-- how many tokens of a set are below the first one, and below a later one
+rank_first : (s l : ℕ) (set : List ℕ) → AllByRecursion (λ y. s < y) set → nat_eq l s ≡ true → rank (s ∷ set) l + 1 ≡ 1
+rank_first s l set low f =
+    let at : s ≡ l = grind (arith, nat_tests) in
+    let itself : nat_lt s l ≡ false = grind (arith, nat_tests) in
+    let none = rank_front l set (subst (λ (m : ℕ). AllByRecursion (λ y. m < y) set) at low) in
+    omega (arith, count-cons (λ o. nat_lt o l) s set, ap once itself, none)
+
+rank_later : (s l : ℕ) (set : List ℕ) → s < l → rank (s ∷ set) l + 1 ≡ suc (rank set l + 1)
+rank_later s l set low =
+    let below : nat_lt s l ≡ true = grind (arith, nat_tests) in
+    omega (arith, count-cons (λ o. nat_lt o l) s set, ap once below)
+
+later_above : (s l : ℕ) (set : List ℕ) → AllByRecursion (λ y. s < y) set → is_among set l ≡ true → s < l
+later_above s l [] a g = absurd (let k : false ≡ true = g in cc)
+later_above s l (x ∷ xs) a g = elim (nat_eq l x) as (λ b. nat_eq l x ≡ b → (b || is_among xs l) ≡ true → s < l) [
+  | true ↦ λ k j. let lt = a.0 in grind (arith, nat_tests)
+  | false ↦ λ k j. later_above s l xs a.1 j
+] refl g
+
 -- the tokens of the set above l are those after l
 among_tail : (set : List ℕ) (l t : ℕ) → Rises set → is_among set l ≡ true → l < t → is_among set t ≡ is_among (drop (rank set l + 1) set) t
 among_tail [] l t up e h = absurd (let f : false ≡ true = e in cc)
@@ -38,26 +58,25 @@ among_tail (s ∷ set) l t up e h = by (λ there. among_tail set l t up.1 there 
   where
     by : (is_among set l ≡ true → is_among set t ≡ is_among (drop (rank set l + 1) set) t) → (b : Bool) → nat_eq l s ≡ b → is_among (s ∷ set) t ≡ is_among (drop (rank (s ∷ set) l + 1) (s ∷ set)) t
     by later true f =
-        let at : s ≡ l = grind (arith, nat_tests) in
         let apart : nat_eq t s ≡ false = grind (arith, nat_tests) in
-        let itself : nat_lt s l ≡ false = grind (arith, nat_tests) in
-        let none = rank_front l set (subst (λ (m : ℕ). AllByRecursion (λ y. m < y) set) at up.0) in
-        let z : rank (s ∷ set) l + 1 ≡ 1 = omega (arith, count-cons (λ o. nat_lt o l) s set, ap once itself, none) in
-        ap (λ b. b || is_among set t) apart ∙ sym (ap (λ (n : ℕ). is_among (drop n (s ∷ set)) t) z)
+        ap (λ b. b || is_among set t) apart ∙ sym (ap (λ (n : ℕ). is_among (drop n (s ∷ set)) t) (rank_first s l set up.0 f))
     by later false f =
         let there : is_among set l ≡ true = ap (λ b. b || is_among set l) (sym f) ∙ e in
-        let low : s < l = above set up.0 there in
-        let below : nat_lt s l ≡ true = grind (arith, nat_tests) in
+        let low : s < l = later_above s l set up.0 there in
         let apart : nat_eq t s ≡ false = grind (arith, nat_tests) in
-        let z : rank (s ∷ set) l + 1 ≡ suc (rank set l + 1) = omega (arith, count-cons (λ o. nat_lt o l) s set, ap once below) in
-        ap (λ b. b || is_among set t) apart ∙ later there ∙ sym (ap (λ (n : ℕ). is_among (drop n (s ∷ set)) t) z)
-      where
-        above : (xs : List ℕ) → AllByRecursion (λ y. s < y) xs → is_among xs l ≡ true → s < l
-        above [] a g = absurd (let k : false ≡ true = g in cc)
-        above (x ∷ xs) a g = elim (nat_eq l x) as (λ b. nat_eq l x ≡ b → (b || is_among xs l) ≡ true → s < l) [
-          | true ↦ λ k j. let lt = a.0 in grind (arith, nat_tests)
-          | false ↦ λ k j. above xs a.1 j
-        ] refl g
+        ap (λ b. b || is_among set t) apart ∙ later there ∙ sym (ap (λ (n : ℕ). is_among (drop n (s ∷ set)) t) (rank_later s l set low))
+
+-- and l is not one of those
+pub front_has : (set : List ℕ) (l : ℕ) → Rises set → is_among set l ≡ true → is_among (take (rank set l + 1) set) l ≡ true
+front_has [] l up e = e
+front_has (s ∷ set) l up e = by (λ there. front_has set l up.1 there) (nat_eq l s) refl
+  where
+    by : (is_among set l ≡ true → is_among (take (rank set l + 1) set) l ≡ true) → (b : Bool) → nat_eq l s ≡ b → is_among (take (rank (s ∷ set) l + 1) (s ∷ set)) l ≡ true
+    by later true f = ap (λ (n : ℕ). is_among (take n (s ∷ set)) l) (rank_first s l set up.0 f) ∙ ap (λ b. b || false) f
+    by later false f =
+        let there : is_among set l ≡ true = ap (λ b. b || is_among set l) (sym f) ∙ e in
+        let low : s < l = later_above s l set up.0 there in
+        ap (λ (n : ℕ). is_among (take n (s ∷ set)) l) (rank_later s l set low) ∙ ap (λ b. b || is_among (take (rank set l + 1) set) l) f ∙ later there
 
 same_counts : (p q : ℕ → Bool) (ts : List ℕ) (l : ℕ) → AllByRecursion (λ t. l < t) ts → ((t : ℕ) → l < t → p t ≡ q t) → count_by p ts ≡ count_by q ts
 same_counts p q [] l h w = refl
@@ -65,6 +84,10 @@ same_counts p q (t ∷ ts) l h w = omega (arith, count-cons p t ts, count-cons q
 
 pub rising_drop : (n : ℕ) (xs : List ℕ) → Rises xs → Rises (drop n xs)
 rising_drop n xs up = rises_right (take n xs) (drop n xs) (subst Rises (sym (take-append-drop n xs)) up)
+
+-- the last hit is a hit
+pub last_hit : (set qs : List ℕ) (i : ℕ) → 0 < length (hits set (take i qs)) → IsHit (is_among set) (take i qs) (get_or (hits set (take i qs)) (length (hits set (take i qs)) - 1) 0)
+last_hit set qs i some = let found = hits set (take i qs) in All-from_recursion (IsHit (is_among set) (take i qs)) found (all_hits (is_among set) (take i qs)) (length found - 1) 0 (omega (arith, some))
 
 -- After the last hit l, a probe finds the rest of what the set and the query share.
 pub probed_overlap : (set qs : List ℕ) (i : ℕ) → Rises set → Rises qs → 0 < length (hits set (take i qs))
@@ -74,7 +97,7 @@ probed_overlap set qs i over up some =
     let l = get_or found (length found - 1) 0 in
     let left = drop i qs in
     let tail = drop (rank set l + 1) set in
-    let hit : IsHit (is_among set) (take i qs) l = All-from_recursion (IsHit (is_among set) (take i qs)) found (all_hits (is_among set) (take i qs)) (length found - 1) 0 (omega arith) in
+    let hit = last_hit set qs i some in
     let parts : take i qs ++ drop i qs ≡ qs = take-append-drop i qs in
     let above : AllByRecursion (λ t. l < t) left = after_all (take i qs) left l (subst Rises (sym parts) up) hit.1 in
     let whole : length (hits set qs) ≡ length found + length (hits set left) = ap (λ xs. length (hits set xs)) (sym parts) ∙ ap length (hits-append set (take i qs) left) ∙ length-append found (hits set left) in
@@ -111,15 +134,18 @@ found_among xs x r is up = by r (searched xs x r is (λ i j h l. rise_far xs i j
 
 -- ---- what a probe finds of a column with this tally
 
-last_of : (set found : List ℕ) (tally : Tally) → 0 < tally.count → tally ≡ tally_of set found → (tally.count ≡ length found) × (tally.position ≡ rank set (get_or found (length found - 1) 0)) × (0 < length found)
+pub last_of : (set found : List ℕ) (tally : Tally) → 0 < tally.count → tally ≡ tally_of set found → (tally.count ≡ length found) × (tally.position ≡ rank set (get_or found (length found - 1) 0)) × (0 < length found)
 last_of set [] tally some e = let n = ap (λ (t : Tally). t.count) e in absurd (omega (arith, n, some))
 last_of set (t ∷ ts) tally some e = (ap (λ (t : Tally). t.count) e, ap (λ (t : Tally). t.position) e, omega arith)
+
+pub position_is : (set qs : List ℕ) (i : ℕ) (tally : Tally) → 0 < tally.count → tally ≡ tally_of set (hits set (take i qs)) → tally.position ≡ rank set (get_or (hits set (take i qs)) (length (hits set (take i qs)) - 1) 0)
+position_is set qs i tally some e = (last_of set (hits set (take i qs)) tally some e).1
 
 pub position_within : (set qs : List ℕ) (i : ℕ) (tally : Tally) → 0 < tally.count → tally ≡ tally_of set (hits set (take i qs)) → tally.position < length set
 position_within set qs i tally some e =
     let found = hits set (take i qs) in
     let is = last_of set found tally some e in
-    let hit : IsHit (is_among set) (take i qs) (get_or found (length found - 1) 0) = All-from_recursion (IsHit (is_among set) (take i qs)) found (all_hits (is_among set) (take i qs)) (length found - 1) 0 (let n = is.2 in omega arith) in
+    let hit = last_hit set qs i is.2 in
     omega (arith, is.1, rank_within set (get_or found (length found - 1) 0) hit.0)
 
 pub probe_counts : (set qs : List ℕ) (i count : ℕ) (left tail : List ℕ) (tally : Tally) → Rises set → Rises qs → 0 < tally.count → tally ≡ tally_of set (hits set (take i qs))

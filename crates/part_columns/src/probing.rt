@@ -1,5 +1,5 @@
 //! The probe of a column.
-ghost use Rattle.std.specs.Prelude.{◌≡◌, ◌<◌, ◌≤◌, ◌+◌, ◌++◌, ◌∷◌, ◌^◌, [], count_by, get_or, length, take};
+ghost use Rattle.std.specs.Prelude.{◌≡◌, ◌<◌, ◌≤◌, ◌+◌, ◌++◌, ◌∷◌, ◌^◌, [], count_by, get_or, length, take, IfSome};
 ghost use Rattle.std.specs.List.Sorted.{IsStrictlyIncreasing};
 ghost use Rattle.lake_model.specs.Layout.{is_among};
 ghost use Rattle.lake_model.specs.Texts.{Text};
@@ -9,17 +9,21 @@ ghost use Rattle.search_model.specs.Segment.{tokens_in};
 ghost use Rattle.search_model.specs.declared.Look.TheVariants.{Probe};
 ghost use Rattle.segment_core.specs.Versions.{part_at, segment_at};
 ghost use Rattle.part_columns.specs.Tallies.{tally_of};
+ghost use Rattle.token_set.specs.Bits.{has, IsSetOf};
 
 use crate::seeking::{Sought, seek};
 use crate::tally::Tally;
 use segment_core::Looks;
+use token_set::TokenSet;
 
 /// Returns how many of the query's tokens a column has whose tally after the first `read` lists is `tally`. Reads the
-/// column's tokens after the last one in these lists, and logs the probe.
+/// column's tokens after the last one in these lists, and logs the probe. If there is a set of the query's tokens, each
+/// of the column's is looked up in it.
 pub fn probe(
     looks: &mut Looks<'_>,
     part: u32,
     tokens: &[u32],
+    set: Option<&TokenSet>,
     read: u32,
     column: u32,
     tally: Tally,
@@ -31,6 +35,7 @@ pub fn probe(
     requires room { 0 < looks.old.spare }
     requires seen { 0 < tally.count }
     requires tally { tally ≡ tally_of (get_or (segment_at looks.old.version.parts part).sets column []) (hits (get_or (segment_at looks.old.version.parts part).sets column []) (take read tokens.now)) }
+    requires set { IfSome set (λ set. IsSetOf set.now tokens.now) }
     requires tokens { (keys : List Text) × (tokens.now ≡ tokens_in (segment_at looks.old.version.parts part).tokens keys) }
     ensures overlap { result ≡ length (hits (get_or (segment_at looks.old.version.parts part).sets column []) tokens.now) }
     ensures version { looks.new.version ≡ looks.old.version }
@@ -38,7 +43,22 @@ pub fn probe(
     ensures spare { looks.new.spare + 1 ≡ looks.old.spare }
 {
     let tail = looks.tail(part, column, tally.position);
-    tally.count + count_shared(&tokens[read as usize..], tail) as u32
+    let unread = &tokens[read as usize..];
+    tally.count + count_asked(set, unread, tail) as u32
+}
+
+// Returns how many of a column's tokens behind those in the lists read are among the query's tokens of the other lists.
+// The set has all of the query's tokens, but none of the column's tokens there is one of a list read.
+fn count_asked(set: Option<&TokenSet>, unread: &[u32], tail: &[u32]) -> usize
+    requires set { IfSome set (λ set. count_by (has set.now) tail.now ≡ count_by (is_among unread.now) tail.now) }
+    requires unread { IsStrictlyIncreasing unread.now }
+    requires tail { IsStrictlyIncreasing tail.now }
+    ensures { result ≡ count_by (is_among unread.now) tail.now }
+{
+    match set {
+        Some(set) => set.count(tail),
+        None => count_shared(unread, tail),
+    }
 }
 
 // Returns how many tokens two rising lists share. It walks the shorter one and looks its tokens up in the other.

@@ -16,6 +16,9 @@ use std::alloc::Global;
 use std::cmp::Ordering;
 use std::marker::Model;
 
+/// The most entries of a bucket among which a hash is looked for by a walk. Few buckets have more than ten.
+const MOST_WALKED: usize = 16;
+
 /// A token of a segment, with the hash of its key and where the key is: the index of a table, and the number of the key
 /// among those of all columns of that table. To read the key from there takes fewer steps than by its column.
 #[derive(Clone, Copy)]
@@ -70,6 +73,35 @@ impl HashOrder {
 
 // Returns the first entry that has the hash.
 fn first_of(entries: &[HashedToken], hash: u32) -> Option<HashedToken>
+    requires { IsNonDecreasingBy token_hash entries.now }
+    ensures there { IfSome result (λ entry. IsOneOf entries.now entry) }
+    ensures hash { IfSome result (λ entry. entry.hash ≡ hash) }
+    ensures lacking { IfNone result (All (λ entry. entry.hash ≡ hash → ⊥) entries.now) }
+{
+    if entries.len() > MOST_WALKED {
+        first_by_halves(entries, hash)
+    } else {
+        first_by_walk(entries, hash)
+    }
+}
+
+// Finds the entry by a walk. Of the few entries of a bucket, this takes less time than a binary search, which does not
+// know which of them to read next before it has read one.
+fn first_by_walk(entries: &[HashedToken], hash: u32) -> Option<HashedToken>
+    ensures there { IfSome result (λ entry. IsOneOf entries.now entry) }
+    ensures hash { IfSome result (λ entry. entry.hash ≡ hash) }
+    ensures lacking { IfNone result (All (λ entry. entry.hash ≡ hash → ⊥) entries.now) }
+{
+    for entry in entries {
+        if entry.hash == hash {
+            return Some(*entry);
+        }
+    }
+    None
+}
+
+// Finds the entry by a binary search, since it is easy to choose many keys whose hashes are in one bucket.
+fn first_by_halves(entries: &[HashedToken], hash: u32) -> Option<HashedToken>
     requires { IsNonDecreasingBy token_hash entries.now }
     ensures there { IfSome result (λ entry. IsOneOf entries.now entry) }
     ensures hash { IfSome result (λ entry. entry.hash ≡ hash) }

@@ -333,8 +333,9 @@ impl Segment {
         ensures hits { IfOk result (λ hits. All (IsHit self.now query.now) hits.items) }
         ensures all { IfOk result (λ hits. IsPermutation (tokens_in (segment self.now).tokens query.now) (found_by (segment self.now).tokens (hit_keys query.now hits.items))) }
     {
-        let mut hits = Vec::new(alloc);
-        for index in 0..query.query().len() {
+        let keys = query.query();
+        let mut hits = Vec::with_capacity(alloc, keys.len() as usize)?;
+        for index in 0..keys.len() {
             if let Some(entry) = self.first_hashed(query.hash(index)) {
                 hits.push(Hit { entry, index })?;
             }

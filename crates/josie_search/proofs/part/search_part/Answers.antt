@@ -173,26 +173,26 @@ loop-read-preserved-in-Some-Read g c =
 
 pub probe_column-requires-clause-column : goal.probe_column-requires-clause-column
 probe_column-requires-clause-column g c =
-    let is : Some c.in-Some-Probe.field-0 ≡ Some (Probe c.in-Some-Probe.field-0-0 c.in-Some-Probe.set c.in-Some-Probe.field-0-2) = ap Some c.in-Some-Probe.field-0-is in
+    let is : Some c.in-Some-Probe.field-0 ≡ Some (Probe c.in-Some-Probe.field-0-0 c.in-Some-Probe.column c.in-Some-Probe.field-0-2) = ap Some c.in-Some-Probe.field-0-is in
     (c.in-Some-Probe.ensures.probed _ _ _ is).1
 
 pub probe_column-requires-clause-wide : goal.probe_column-requires-clause-wide
 probe_column-requires-clause-wide g c =
-    let is : Some c.in-Some-Probe.field-0 ≡ Some (Probe c.in-Some-Probe.field-0-0 c.in-Some-Probe.set c.in-Some-Probe.field-0-2) = ap Some c.in-Some-Probe.field-0-is in
+    let is : Some c.in-Some-Probe.field-0 ≡ Some (Probe c.in-Some-Probe.field-0-0 c.in-Some-Probe.column c.in-Some-Probe.field-0-2) = ap Some c.in-Some-Probe.field-0-is in
     let looked = c.in-Some-Probe.ensures.probed _ _ _ is in
     omega (arith, looked.1, c.loop-read.invariant.wide, c.requires.wide, ap (λ (v : VersionOf). length (segment_at v.parts c.args.part).sets) c.loop-read.invariant.version)
 
 pub probe_column-requires-clause-seen : goal.probe_column-requires-clause-seen
 probe_column-requires-clause-seen g c =
-    let is : Some c.in-Some-Probe.field-0 ≡ Some (Probe c.in-Some-Probe.field-0-0 c.in-Some-Probe.set c.in-Some-Probe.field-0-2) = ap Some c.in-Some-Probe.field-0-is in
+    let is : Some c.in-Some-Probe.field-0 ≡ Some (Probe c.in-Some-Probe.field-0-0 c.in-Some-Probe.column c.in-Some-Probe.field-0-2) = ap Some c.in-Some-Probe.field-0-is in
     let looked = c.in-Some-Probe.ensures.probed _ _ _ is in
-    (lead_parts c.args.query.now (searched c.args.query.now (part_at c.loop-read.looks.version.parts c.args.part)) c.loop-read.columns.tallies c.loop-read.columns.known c.in-Some-Probe.set looked.2).2
+    (lead_parts c.args.query.now (searched c.args.query.now (part_at c.loop-read.looks.version.parts c.args.part)) c.loop-read.columns.tallies c.loop-read.columns.known c.in-Some-Probe.column looked.2).2
 
 pub probe_column-requires-clause-live : goal.probe_column-requires-clause-live
 probe_column-requires-clause-live g c =
-    let is : Some c.in-Some-Probe.field-0 ≡ Some (Probe c.in-Some-Probe.field-0-0 c.in-Some-Probe.set c.in-Some-Probe.field-0-2) = ap Some c.in-Some-Probe.field-0-is in
+    let is : Some c.in-Some-Probe.field-0 ≡ Some (Probe c.in-Some-Probe.field-0-0 c.in-Some-Probe.column c.in-Some-Probe.field-0-2) = ap Some c.in-Some-Probe.field-0-is in
     let looked = c.in-Some-Probe.ensures.probed _ _ _ is in
-    (lead_parts c.args.query.now (searched c.args.query.now (part_at c.loop-read.looks.version.parts c.args.part)) c.loop-read.columns.tallies c.loop-read.columns.known c.in-Some-Probe.set looked.2).0
+    (lead_parts c.args.query.now (searched c.args.query.now (part_at c.loop-read.looks.version.parts c.args.part)) c.loop-read.columns.tallies c.loop-read.columns.known c.in-Some-Probe.column looked.2).0
 
 pub offer_rest-requires-clause-small : goal.offer_rest-requires-clause-small
 offer_rest-requires-clause-small g c = λ column.
@@ -243,14 +243,14 @@ returns-clause-rows g c =
 
 pub loop-read-smaller : goal.loop-read-smaller
 loop-read-smaller g c =
-    let is : Some c.in-Some-Probe.field-0 ≡ Some (Probe c.in-Some-Probe.field-0-0 c.in-Some-Probe.set c.in-Some-Probe.field-0-2) = ap Some c.in-Some-Probe.field-0-is in
+    let is : Some c.in-Some-Probe.field-0 ≡ Some (Probe c.in-Some-Probe.field-0-0 c.in-Some-Probe.column c.in-Some-Probe.field-0-2) = ap Some c.in-Some-Probe.field-0-is in
     let looked = c.in-Some-Probe.ensures.probed _ _ _ is in
-    let led = lead_parts c.args.query.now (searched c.args.query.now (part_at c.loop-read.looks.version.parts c.args.part)) c.loop-read.columns.tallies c.loop-read.columns.known c.in-Some-Probe.set looked.2 in
-    let within : c.in-Some-Probe.set < length c.loop-read.columns.known = omega (arith, looked.1, c.loop-read.invariant.wide, c.requires.wide, c.probe_column.ensures.marks, ap (λ (v : VersionOf). length (segment_at v.parts c.args.part).sets) c.loop-read.invariant.version) in
+    let led = lead_parts c.args.query.now (searched c.args.query.now (part_at c.loop-read.looks.version.parts c.args.part)) c.loop-read.columns.tallies c.loop-read.columns.known c.in-Some-Probe.column looked.2 in
+    let within : c.in-Some-Probe.column < length c.loop-read.columns.known = omega (arith, looked.1, c.loop-read.invariant.wide, c.requires.wide, c.probe_column.ensures.marks, ap (λ (v : VersionOf). length (segment_at v.parts c.args.part).sets) c.loop-read.invariant.version) in
     let version = c.args.looks.now.version in
     let sets = (segment_at version.parts c.args.part).sets in
-    let columns : c.in-Some-Probe.set < length sets = omega (arith, looked.1, ap (λ (v : VersionOf). length (segment_at v.parts c.args.part).sets) c.loop-read.invariant.version) in
-    let less = probed_less sets c.args.tokens.now (searched c.args.query.now (part_at version.parts c.args.part)).query c.loop-read.columns.tallies c.loop-read.columns.known c.in-Some-Probe.set c.loop-read.read c.requires.tokens c.loop-read.invariant.going.tallies_are columns within led.1 led.2 in
+    let columns : c.in-Some-Probe.column < length sets = omega (arith, looked.1, ap (λ (v : VersionOf). length (segment_at v.parts c.args.part).sets) c.loop-read.invariant.version) in
+    let less = probed_less sets c.args.tokens.now (searched c.args.query.now (part_at version.parts c.args.part)).query c.loop-read.columns.tallies c.loop-read.columns.known c.in-Some-Probe.column c.loop-read.read c.requires.tokens c.loop-read.invariant.going.tallies_are columns within led.1 led.2 in
     omega (arith, less, ap (unprobed sets c.args.tokens.now) c.probe_column.ensures.known)
 
 pub loop-read-preserved : goal.loop-read-preserved
@@ -262,7 +262,7 @@ loop-read-preserved g c =
     let part = searched query whole in
     let kept = c.loop-read.invariant in
     let read = c.loop-read.read in
-    let x = c.in-Some-Probe.set in
+    let x = c.in-Some-Probe.column in
     let unread : read < length part.query = omega (arith, c.loop-read-test.true, ap (λ (ts : List ℕ). length ts) c.requires.tokens) in
     let next = next_now says query c.args.part c.loop-read.looks.version version c.args.top.now.rows c.args.looks.now.log c.loop-read.looks.log read c.loop-read.columns.tallies c.loop-read.columns.known c.loop-read.top.rows (Some c.in-Some-Probe.field-0) kept.version kept.going unread c.in-Some-Probe.ensures.next in
     let is : Some c.in-Some-Probe.field-0 ≡ Some (Probe c.in-Some-Probe.field-0-0 x c.in-Some-Probe.field-0-2) = ap Some c.in-Some-Probe.field-0-is in

@@ -12,6 +12,7 @@ use Rattle.part_columns.specs.Room.{asked_in, looks_bound}
 use Rattle.josie_search.specs.Search.{SearchOf}
 use Rattle.josie_search.proofs.PartsLemmas.{rows_kept, through_log, through_more, through_none, through_rows, length-searched, searched_at}
 use Rattle.part_columns.proofs.AskedLemmas.{asked_there, few_tokens, room_here, tokens_within}
+use Rattle.josie_search.proofs.RoomLemmas.{as_many, ready_again, room_kept, room_there}
 use Rattle.josie_search.proofs.search.Prepared.run.Goals as goal
 
 pub loop-part-init : goal.loop-part-init
@@ -28,6 +29,7 @@ loop-part-init g c =
       wide = ready.wide;
       kept = ready.kept;
       sums = subst (λ (s : SearchOf). length s.query.keys < vec_capacity c.self.inside.sums) c.self.view_is c.self.invariant.2;
+      set = c.self.invariant.3;
       room = ready.room;
     }
 
@@ -38,7 +40,7 @@ sum_costs-requires-clause-few g c =
     let query = c.self.inside.query in
     let parts = c.self.inside.looks.version.parts in
     let same = ap (λ (s : SearchOf). length s.version.parts) c.self.view_is in
-    let asked = asked_there query.keys parts c.self.inside.tokens.items c.loop-part.part _ _ ready.asked (omega (arith, c.loop-part-test.true, kept.end, same)) c.index-asked.ensures c.deref.ensures.value in
+    let asked = asked_there query.keys parts c.self.inside.tokens.items c.loop-part.part _ _ ready.asked (omega (arith, c.loop-part-test.true, kept.end, same)) c.index.ensures c.deref-asked.ensures.value in
     omega (arith, few_tokens query (part_at parts c.loop-part.part) _ ready.different asked, ready.few)
 
 pub sum_costs-requires-clause-tokens : goal.sum_costs-requires-clause-tokens
@@ -47,7 +49,7 @@ sum_costs-requires-clause-tokens g c =
     let query = c.args.self.query in
     let version = c.args.self.version in
     let lists = subst (λ (s : SearchOf). map (λ v. v.items) c.self.inside.tokens.items ≡ map (asked_in s.query.keys) s.version.parts) c.self.view_is c.self.invariant.1.asked in
-    let asked = asked_there query.keys version.parts c.self.inside.tokens.items c.loop-part.part _ _ lists (omega (arith, c.loop-part-test.true, kept.end)) c.index-asked.ensures c.deref.ensures.value in
+    let asked = asked_there query.keys version.parts c.self.inside.tokens.items c.loop-part.part _ _ lists (omega (arith, c.loop-part-test.true, kept.end)) c.index.ensures c.deref-asked.ensures.value in
     tokens_within c.loop-part.looks.version version query.keys c.loop-part.part _ kept.version asked
 
 pub sum_costs-requires-clause-room : goal.sum_costs-requires-clause-room
@@ -57,8 +59,20 @@ sum_costs-requires-clause-room g c =
     let parts = c.args.self.version.parts in
     let lists = subst (λ (s : SearchOf). map (λ v. v.items) c.self.inside.tokens.items ≡ map (asked_in s.query.keys) s.version.parts) c.self.view_is c.self.invariant.1.asked in
     let different = subst (λ (s : SearchOf). IsDistinct bytes_eq s.query.keys) c.self.view_is c.self.invariant.1.different in
-    let asked = asked_there query.keys parts c.self.inside.tokens.items c.loop-part.part _ _ lists (omega (arith, c.loop-part-test.true, kept.end)) c.index-asked.ensures c.deref.ensures.value in
+    let asked = asked_there query.keys parts c.self.inside.tokens.items c.loop-part.part _ _ lists (omega (arith, c.loop-part-test.true, kept.end)) c.index.ensures c.deref-asked.ensures.value in
     omega (arith, few_tokens query (part_at parts c.loop-part.part) _ different asked, kept.sums)
+
+pub fill-requires-clause-room : goal.fill-requires-clause-room
+fill-requires-clause-room g c =
+    let kept = c.loop-part.invariant in
+    let lists = subst (λ (s : SearchOf). map (λ v. v.items) c.self.inside.tokens.items ≡ map (asked_in s.query.keys) s.version.parts) c.self.view_is c.self.invariant.1.asked in
+    room_there c.loop-part.set c.self.inside.tokens.items c.loop-part.part _ _ (omega (arith, c.loop-part-test.true, kept.end, as_many _ _ _ lists)) c.index.ensures c.deref-asked.ensures.value kept.set
+
+pub clear-requires-in-loop-part-clause-room : goal.clear-requires-in-loop-part-clause-room
+clear-requires-in-loop-part-clause-room g c =
+    let kept = c.loop-part.invariant in
+    let lists = subst (λ (s : SearchOf). map (λ v. v.items) c.self.inside.tokens.items ≡ map (asked_in s.query.keys) s.version.parts) c.self.view_is c.self.invariant.1.asked in
+    room_kept c.loop-part.set c.fill.new.set c.deref-asked.result.now c.fill.ensures.room (room_there c.loop-part.set c.self.inside.tokens.items c.loop-part.part _ _ (omega (arith, c.loop-part-test.true, kept.end, as_many _ _ _ lists)) c.index.ensures c.deref-asked.ensures.value kept.set)
 
 pub search_part-requires-clause-few : goal.search_part-requires-clause-few
 search_part-requires-clause-few g c =
@@ -67,7 +81,7 @@ search_part-requires-clause-few g c =
     let query = c.self.inside.query in
     let parts = c.self.inside.looks.version.parts in
     let same = ap (λ (s : SearchOf). length s.version.parts) c.self.view_is in
-    let asked = asked_there query.keys parts c.self.inside.tokens.items c.loop-part.part _ _ ready.asked (omega (arith, c.loop-part-test.true, kept.end, same)) c.index-asked.ensures c.deref.ensures.value in
+    let asked = asked_there query.keys parts c.self.inside.tokens.items c.loop-part.part _ _ ready.asked (omega (arith, c.loop-part-test.true, kept.end, same)) c.index.ensures c.deref-asked.ensures.value in
     omega (arith, few_tokens query (part_at parts c.loop-part.part) _ ready.different asked, ready.few)
 
 pub search_part-requires-clause-tokens : goal.search_part-requires-clause-tokens
@@ -77,7 +91,7 @@ search_part-requires-clause-tokens g c =
     let query = c.self.inside.query in
     let parts = c.self.inside.looks.version.parts in
     let same = ap (λ (s : SearchOf). length s.version.parts) c.self.view_is in
-    let asked = asked_there query.keys parts c.self.inside.tokens.items c.loop-part.part _ _ ready.asked (omega (arith, c.loop-part-test.true, kept.end, same)) c.index-asked.ensures c.deref-in-loop-part.ensures.value in
+    let asked = asked_there query.keys parts c.self.inside.tokens.items c.loop-part.part _ _ ready.asked (omega (arith, c.loop-part-test.true, kept.end, same)) c.index.ensures c.deref-asked.ensures.value in
     let back : c.self.inside.looks.version ≡ c.loop-part.looks.version = ap (λ (s : SearchOf). s.version) c.self.view_is ∙ sym kept.version in
     asked ∙ ap (λ (v : VersionOf). asked_in query.keys (part_at v.parts c.loop-part.part)) back
 
@@ -88,11 +102,11 @@ search_part-requires-clause-room g c =
     let query = c.args.self.query in
     let parts = c.args.self.version.parts in
     let lists = subst (λ (s : SearchOf). map (λ v. v.items) c.self.inside.tokens.items ≡ map (asked_in s.query.keys) s.version.parts) c.self.view_is ready.asked in
-    let asked = asked_there query.keys parts c.self.inside.tokens.items c.loop-part.part _ _ lists (omega (arith, c.loop-part-test.true, kept.end)) c.index-asked.ensures c.deref-in-loop-part.ensures.value in
+    let asked = asked_there query.keys parts c.self.inside.tokens.items c.loop-part.part _ _ lists (omega (arith, c.loop-part-test.true, kept.end)) c.index.ensures c.deref-asked.ensures.value in
     omega (
       arith,
       room_here query.keys parts c.loop-part.part _ c.loop-part.looks.spare (omega (arith, c.loop-part-test.true, kept.end)) asked kept.room,
-      ap (λ (v : VersionOf). looks_bound (part_at v.parts c.loop-part.part) c.deref-in-loop-part.result.now) kept.version,
+      ap (λ (v : VersionOf). looks_bound (part_at v.parts c.loop-part.part) c.deref-asked.result.now) kept.version,
     )
 
 pub search_part-requires-clause-rows : goal.search_part-requires-clause-rows
@@ -114,7 +128,7 @@ loop-part-preserved g c =
     let within : part < length parts = omega (arith, c.loop-part-test.true, kept.end) in
     let some = subst (λ (s : SearchOf). 0 < s.query.k) c.self.view_is c.self.invariant.1.some in
     let lists = subst (λ (s : SearchOf). map (λ v. v.items) c.self.inside.tokens.items ≡ map (asked_in s.query.keys) s.version.parts) c.self.view_is c.self.invariant.1.asked in
-    let asked = asked_there query.keys parts c.self.inside.tokens.items part _ _ lists within c.index-asked.ensures c.deref-in-loop-part.ensures.value in
+    let asked = asked_there query.keys parts c.self.inside.tokens.items part _ _ lists within c.index.ensures c.deref-asked.ensures.value in
     let same : c.self.inside.query ≡ query = ap (λ (s : SearchOf). s.query) c.self.view_is in
     let here : searched c.self.inside.query (part_at c.loop-part.looks.version.parts part) ≡ get_or (map (searched query) parts) part (searched query (part_with 0 [])) =
     (λ i. searched (same i) (part_at (kept.version i).parts part)) ∙ sym (searched_at query parts part within) in
@@ -128,11 +142,12 @@ loop-part-preserved g c =
       wide = λ i h. (let w = kept.wide i h in omega (arith, w, done.wide, c.clear.ensures.wide));
       kept = omega (arith, kept.kept, done.wide, done.kept, c.clear.ensures.wide);
       sums = omega (arith, kept.sums, c.sum_costs.ensures.room);
+      set = ready_again c.loop-part.set c.clear-in-loop-part.new.set _ (c.clear-in-loop-part.ensures.room ∙ c.fill.ensures.room) kept.set c.clear-in-loop-part.ensures.empty;
       room = omega (
         arith,
         done.spare,
         room_here query.keys parts part _ c.loop-part.looks.spare within asked kept.room,
-        ap (λ (v : VersionOf). looks_bound (part_at v.parts part) c.deref-in-loop-part.result.now) kept.version,
+        ap (λ (v : VersionOf). looks_bound (part_at v.parts part) c.deref-asked.result.now) kept.version,
       );
     }
 

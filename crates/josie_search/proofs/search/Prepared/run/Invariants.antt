@@ -1,6 +1,8 @@
 use Rattle.std.proofs.Common.{◌≡◌, ◌<◌, ◌≤◌, length, map, drop, sum_by, vec_capacity}
+use Rattle.std.specs.Prelude.{IfSome}
 use Rattle.search_model.specs.Looks.{searched}
 use Rattle.part_columns.specs.Room.{IsMost, looks_in}
+use Rattle.josie_search.specs.Ready.{IsReadySet}
 use Rattle.josie_search.proofs.PartsLemmas.{Through}
 use Rattle.josie_search.proofs.search.Prepared.run.Given as goal
 
@@ -13,5 +15,6 @@ invariant-loop-part g l = record {
   wide : IsMost l.fn.self.version.parts (length l.columns.tallies);
   kept : length l.columns.tallies ≤ l.candidates.room;
   sums : length l.fn.self.query.keys < vec_capacity l.sums;
+  set : IfSome l.set (λ set. IsReadySet set (map (λ v. v.items) l.tokens.items));
   room : sum_by (looks_in l.fn.self.query.keys) (drop l.part l.fn.self.version.parts) ≤ l.looks.spare;
 }

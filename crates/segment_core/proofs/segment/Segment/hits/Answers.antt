@@ -22,7 +22,7 @@ loop-index-preserved c =
     let keys = c.args.query.now in
     let i = c.loop-index.index in
     let before = c.loop-index.hits.items in
-    let same = c.query.ensures in
+    let same = c.query-keys.ensures in
     let within : i < length keys = omega (arith, ap length same) in
     elim c.match-first_hashed.branch [
       | in-Some+in_ok-push w ↦
@@ -47,7 +47,7 @@ pub returns-clause-all : goal.returns-clause-all
 returns-clause-all c =
     let tokens = (segment c.args.self.now).tokens in
     let keys = c.args.query.now in
-    let same = c.query.ensures in
+    let same = c.query-keys.ensures in
     let all : c.loop-index.index ≡ length keys = omega (arith, ap length same) in
     let is : found_by tokens (hit_keys keys c.loop-index.hits.items) ≡ found_by tokens keys = c.loop-index.invariant.all ∙ ap (λ (n : ℕ). found_by tokens (take n keys)) all ∙ ap (found_by tokens) (take-length keys) in
     subst (IsPermutation (tokens_in tokens keys)) (sym is) (each_key tokens keys (subst (IsDistinct bytes_eq) same c.len-index-end.ensures.different))

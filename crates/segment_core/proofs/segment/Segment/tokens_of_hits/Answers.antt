@@ -1,4 +1,4 @@
-use Rattle.std.proofs.Common.{◌≡◌, ◌∙◌, sym, ap, subst, ℕ, ◌<◌, List, get_or, [], ◌∷◌, ◌++◌, Bor, Some, None, length, take, arith, append-nil}
+use Rattle.std.proofs.Common.{◌∙◌, sym, ap, subst, ℕ, ◌<◌, List, get_or, [], ◌∷◌, ◌++◌, Bor, Some, None, length, take, arith, append-nil}
 use Rattle.std.proofs.lemmas.List.{get_or-map, length-map, take_all}
 use Rattle.lake_model.specs.Texts.{Text}
 use Rattle.search_model.specs.Arrays.{IsToken}

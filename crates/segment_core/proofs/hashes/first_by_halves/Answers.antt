@@ -4,8 +4,8 @@ use Rattle.std.proofs.lemmas.List.Sorted.{IsPartitionPoint-from_clause, IsPartit
 use Rattle.segment_core.specs.Hashes.{token_hash}
 use Rattle.segment_core.specs.declared.hashes.HashedToken.{HashedToken}
 use Rattle.segment_core.proofs.HashLemmas.{blank, none_from}
-use Rattle.segment_core.proofs.hashes.first_of.Goals as goal
-use Rattle.segment_core.proofs.hashes.first_of.Goals.{then-at-entries-via-then-at-entries, then-at-entries-via-else-at-entries+then-entries-at}
+use Rattle.segment_core.proofs.hashes.first_by_halves.Goals as goal
+use Rattle.segment_core.proofs.hashes.first_by_halves.Goals.{then-at-entries-via-then-at-entries, then-at-entries-via-else-at-entries+then-entries-at}
 
 pub returns-then-at-entries-clause-lacking : goal.returns-then-at-entries-clause-lacking
 returns-then-at-entries-clause-lacking c =

@@ -1,0 +1,73 @@
+//! The query's tokens of the part that is searched, as a set in which the tokens of probed columns are looked up.
+ghost use Rattle.std.specs.Prelude.{◌≡◌, ◌*◌, ◌<◌, ◌≤◌, [], length, map, option_map, IfOk, IfSome};
+ghost use Rattle.std.specs.List.{All};
+ghost use Rattle.josie_search.specs.Ready.{IsRoomFor};
+ghost use Rattle.token_set.specs.Bits.{IsSetOf};
+
+use no_memory::NoMemory;
+use std::alloc::Global;
+use token_set::TokenSet;
+
+/// The fewest keys of a query for which there is a set. For fewer, a walk over the tokens takes less time than to make it.
+const FEWEST_KEYS: u32 = 32;
+
+/// Returns an empty set with room for the tokens of each part, or `None` if the query has few keys.
+pub(crate) fn set_for(
+    alloc: Global,
+    keys: u32,
+    tokens: &[Vec<u32>],
+) -> Result<Option<TokenSet>, NoMemory>
+    ensures empty { IfOk result (λ made. IfSome made (λ set. IsSetOf set [])) }
+    ensures room { IfOk result (λ made. IfSome made (λ set. IsRoomFor (length set) (map (λ list. list.items) tokens.now))) }
+{
+    if keys < FEWEST_KEYS {
+        return Ok(None);
+    }
+    Ok(Some(TokenSet::new(alloc, greatest(tokens))?))
+}
+
+// Returns the greatest token of all parts, or 0 if there is none.
+fn greatest(tokens: &[Vec<u32>]) -> u32
+    ensures { All (λ list. All (λ token. token ≤ result) list.items) tokens.now }
+{
+    let mut most = 0;
+    for list in tokens {
+        most = most.max(greatest_of(list));
+    }
+    most
+}
+
+// Returns the greatest of these tokens, or 0 if there is none.
+fn greatest_of(tokens: &[u32]) -> u32
+    ensures { All (λ token. token ≤ result) tokens.now }
+{
+    let mut most = 0;
+    for token in tokens {
+        most = most.max(*token);
+    }
+    most
+}
+
+/// Puts the tokens of a part into the set, if there is one.
+pub(crate) fn fill(set: &mut Option<TokenSet>, tokens: &[u32])
+    requires empty { IfSome set.old (λ set. IsSetOf set []) }
+    requires room { IfSome set.old (λ set. All (λ token. token < 64 * length set) tokens.now) }
+    ensures set { IfSome set.new (λ set. IsSetOf set tokens.now) }
+    ensures room { option_map length set.new ≡ option_map length set.old }
+{
+    if let Some(set) = set {
+        set.fill(tokens);
+    }
+}
+
+/// Takes the tokens of a part out of the set, if there is one.
+pub(crate) fn clear(set: &mut Option<TokenSet>, tokens: &[u32])
+    requires set { IfSome set.old (λ set. IsSetOf set tokens.now) }
+    requires room { IfSome set.old (λ set. All (λ token. token < 64 * length set) tokens.now) }
+    ensures empty { IfSome set.new (λ set. IsSetOf set []) }
+    ensures room { option_map length set.new ≡ option_map length set.old }
+{
+    if let Some(set) = set {
+        set.clear(tokens);
+    }
+}

@@ -1,0 +1,52 @@
+//! Sets whose tokens lie on both sides of the ends of words.
+use crate::TokenSet;
+use std::alloc::Global;
+use std::test::Fail;
+
+// Tokens at both ends of the first words, and further on.
+const SOME: [u32; 6] = [0, 63, 64, 127, 130, 199];
+
+// Tokens that are not among them: their neighbours, those with the same bit of another word, and one past the last.
+const OTHERS: [u32; 10] = [1, 2, 62, 65, 126, 128, 129, 131, 198, 200];
+
+// Returns the set of these tokens, with room for those up to 199.
+fn set_of(alloc: Global, tokens: &[u32]) -> Result<TokenSet, Fail> {
+    let mut set = TokenSet::new(alloc, 199)?;
+    if tokens.iter().any(|token| *token > 199) {
+        return Err(Fail::from("a token past the last"));
+    }
+    set.fill(tokens);
+    Ok(set)
+}
+
+#[test]
+fn has_what_was_put_in(rt: HostRuntime) -> Result<(), Fail> {
+    let set = set_of(rt.alloc(), &SOME)?;
+    for token in SOME {
+        assert!(rt; set.has(token));
+    }
+    for token in OTHERS {
+        assert!(rt; !set.has(token));
+    }
+    assert!(rt; !set.has(u32::MAX));
+    Ok(())
+}
+
+#[test]
+fn counts_what_it_has(rt: HostRuntime) -> Result<(), Fail> {
+    let set = set_of(rt.alloc(), &SOME)?;
+    assert_eq!(rt; set.count(&SOME), 6);
+    assert_eq!(rt; set.count(&OTHERS), 0);
+    assert_eq!(rt; set.count(&[0, 1, 63, 64, 65, 300]), 3);
+    Ok(())
+}
+
+#[test]
+fn is_empty_again(rt: HostRuntime) -> Result<(), Fail> {
+    let mut set = set_of(rt.alloc(), &SOME)?;
+    set.clear(&SOME);
+    assert_eq!(rt; set.count(&SOME), 0);
+    set.fill(&[5]);
+    assert_eq!(rt; set.count(&[0, 5, 63]), 1);
+    Ok(())
+}
