@@ -16,9 +16,12 @@ use crate::tally::Tally;
 use segment_core::Looks;
 use token_set::TokenSet;
 
+/// How many tokens of a column are looked up in a set in the time in which one is searched for among them.
+const STEPS_OF_A_SEARCH: usize = 16;
+
 /// Returns how many of the query's tokens a column has whose tally after the first `read` lists is `tally`. Reads the
 /// column's tokens after the last one in these lists, and logs the probe. If there is a set of the query's tokens, each
-/// of the column's is looked up in it.
+/// of the column's is looked up in it, unless it has many more than there are lists left.
 pub fn probe(
     looks: &mut Looks<'_>,
     part: u32,
@@ -56,8 +59,8 @@ fn count_asked(set: Option<&TokenSet>, unread: &[u32], tail: &[u32]) -> usize
     ensures { result ≡ count_by (is_among unread.now) tail.now }
 {
     match set {
-        Some(set) => set.count(tail),
-        None => count_shared(unread, tail),
+        Some(set) if tail.len() / STEPS_OF_A_SEARCH <= unread.len() => set.count(tail),
+        _ => count_shared(unread, tail),
     }
 }
 

@@ -117,13 +117,17 @@ fn all_layouts(alloc: Global, asked: Asked) -> Result<(), Fail> {
     Ok(())
 }
 
+// More keys than a search looks up by a walk over the tokens. No table has those that are no letters up to l.
+const LONG: &str = "0\n1\n2\n3\n4\n5\n6\n7\n8\n9\na\nb\nc\nd\ne\nf\ng\nh\ni\nj\nk\nl\nm\nn\no\np\nq\nr\ns\nt\nu\nv\nw\nx\ny\nz\n";
+
 // The queries, and how many rows are asked for. No table has the key z.
-const QUERIES: [(&str, u32); 5] = [
+const QUERIES: [(&str, u32); 6] = [
     ("a\nb\nc\nd\ne\nf\ng\nh\ni\nj\nk\nl\n", 3),
     ("a\nb\nc\nd\ne\nf\ng\nh\ni\nj\nk\nl\n", 1),
     ("b\nd\nf\ng\nh\nj\nk\nl\n", 2),
     ("a\nc\ne\ng\nz\n", 4),
     ("h\n", 8),
+    (LONG, 3),
 ];
 
 // Searches a lake for each query, with these marked tables and this excepted one.
