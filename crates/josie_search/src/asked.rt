@@ -8,10 +8,11 @@ use no_memory::NoMemory;
 use std::alloc::Global;
 use token_set::TokenSet;
 
-/// The fewest keys of a query for which there is a set. For fewer, a walk over the tokens takes less time than to make it.
-const FEWEST_KEYS: u32 = 32;
+/// How many tokens a set may have room for, for each key of the query: with a bit for each, to make the set takes less
+/// time than to look up the keys.
+const ROOM_FOR_A_KEY: u64 = 8_192;
 
-/// Returns an empty set with room for the tokens of each part, or `None` if the query has few keys.
+/// Returns an empty set with room for the tokens of each part, or `None` if that is much room for so few keys.
 pub(crate) fn set_for(
     alloc: Global,
     keys: u32,
@@ -20,10 +21,11 @@ pub(crate) fn set_for(
     ensures empty { IfOk result (λ made. IfSome made (λ set. IsSetOf set [])) }
     ensures room { IfOk result (λ made. IfSome made (λ set. IsRoomFor (length set) (map (λ list. list.items) tokens.now))) }
 {
-    if keys < FEWEST_KEYS {
+    let greatest = greatest(tokens);
+    if u64::from(greatest) > ROOM_FOR_A_KEY * u64::from(keys) {
         return Ok(None);
     }
-    Ok(Some(TokenSet::new(alloc, greatest(tokens))?))
+    Ok(Some(TokenSet::new(alloc, greatest)?))
 }
 
 // Returns the greatest token of all parts, or 0 if there is none.

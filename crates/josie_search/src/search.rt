@@ -46,8 +46,8 @@ impl<'a, 'q> Model for Prepared<'a, 'q> {
     ghost invariant = { λ p. (p.looks.log ≡ []) × IsReady p.looks.version.parts p.query p.looks.spare (map (λ tokens. tokens.items) p.tokens.items) p.columns p.candidates p.top × (length p.query.keys < vec_capacity p.sums) × IfSome p.set (λ set. IsReadySet set (map (λ tokens. tokens.items) p.tokens.items)) };
 }
 
-/// Prepares a search, and takes all that it needs: the query's tokens of each part, and, if it has more than a few keys,
-/// a bit for each token of a part; room for a sum for each key of the query; a tally, a mark and room for four candidates for each column of the part with the most columns; the first k
+/// Prepares a search, and takes all that it needs: the query's tokens of each part, and a bit for each token of a part,
+/// unless that is much for so few keys; room for a sum for each key of the query; a tally, a mark and room for four candidates for each column of the part with the most columns; the first k
 /// rows; and room in the log for as many looks as the search can take. In each part these are one for each list of the
 /// query's tokens, plus one for each of their postings or one for each column of the part, whichever are fewer. The
 /// search leaves out the columns of the table named `except`, if any.
