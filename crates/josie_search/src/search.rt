@@ -47,10 +47,11 @@ impl<'a, 'q> Model for Prepared<'a, 'q> {
 }
 
 /// Prepares a search, and takes all that it needs: the query's tokens of each part, and a bit for each token of a part,
-/// unless that is much for so few keys; room for a sum for each key of the query; a tally, a mark and room for four candidates for each column of the part with the most columns; the first k
-/// rows; and room in the log for as many looks as the search can take. In each part these are one for each list of the
-/// query's tokens, plus one for each of their postings or one for each column of the part, whichever are fewer. The
-/// search leaves out the columns of the table named `except`, if any.
+/// unless that is much for so few keys; room for a sum for each key of the query; a tally, a mark and room for four
+/// candidates for each column of the part with the most columns; the first k rows; and room in the log for as many looks
+/// as the search can take. In each part these are one for each list of the query's tokens, plus one for each of their
+/// postings or one for each column of the part, whichever are fewer. The search leaves out the columns of the table
+/// named `except`, if any.
 ///
 /// Returns `Err(NoMemory)` only if memory runs out; running the search takes no memory.
 pub fn prepare<'a, 'q>(
