@@ -118,7 +118,8 @@ fn all_layouts(alloc: Global, asked: Asked) -> Result<(), Fail> {
 }
 
 // More keys than all tables have: theirs are letters up to l.
-const LONG: &str = "0\n1\n2\n3\n4\n5\n6\n7\n8\n9\na\nb\nc\nd\ne\nf\ng\nh\ni\nj\nk\nl\nm\nn\no\np\nq\nr\ns\nt\nu\nv\nw\nx\ny\nz\n";
+const LONG: &str =
+    "0\n1\n2\n3\n4\n5\n6\n7\n8\n9\na\nb\nc\nd\ne\nf\ng\nh\ni\nj\nk\nl\nm\nn\no\np\nq\nr\ns\nt\nu\nv\nw\nx\ny\nz\n";
 
 // The queries, and how many rows are asked for. No table has the key z.
 const QUERIES: [(&str, u32); 6] = [
