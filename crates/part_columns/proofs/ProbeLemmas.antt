@@ -44,7 +44,8 @@ rank_later s l set low =
     let below : nat_lt s l ≡ true = grind (arith, nat_tests) in
     omega (arith, count-cons (λ o. nat_lt o l) s set, ap once below)
 
-later_above : (s l : ℕ) (set : List ℕ) → AllByRecursion (λ y. s < y) set → is_among set l ≡ true → s < l
+-- what is below all of these is below each of them
+pub later_above : (s l : ℕ) (set : List ℕ) → AllByRecursion (λ y. s < y) set → is_among set l ≡ true → s < l
 later_above s l [] a g = absurd (let k : false ≡ true = g in cc)
 later_above s l (x ∷ xs) a g = elim (nat_eq l x) as (λ b. nat_eq l x ≡ b → (b || is_among xs l) ≡ true → s < l) [
   | true ↦ λ k j. let lt = a.0 in grind (arith, nat_tests)

@@ -3,6 +3,7 @@
 use Rattle.std.proofs.Common.{◌≡◌, refl, ap, sym, ◌∙◌, subst, ℕ, suc, ◌+◌, ◌-◌, ◌<◌, ◌≤◌, List, [], ◌∷◌, Bool, true, false, ◌||◌, cond, length, arith, take, drop, get_or, Bor, Option, Some, None, eqb as nat_eq}
 use Rattle.std.specs.Prelude.{IfSome}
 use Rattle.std.specs.List.{AllByRecursion, count_by}
+use Rattle.std.proofs.Math.Bool.{or-true}
 use Rattle.std.proofs.lemmas.Bool.Decides.{nat_tests}
 use Rattle.std.proofs.lemmas.List.{take-append-drop}
 use Rattle.std.proofs.lemmas.List.Elements.{All-from_recursion}
@@ -16,7 +17,7 @@ use Rattle.search_model.proofs.FilterLemmas.{after_all, IsHit}
 use Rattle.part_columns.specs.declared.tally.Tally.{Tally}
 use Rattle.part_columns.specs.Tallies.{tally_of}
 use Rattle.token_set.specs.Bits.{has, IsSetOf}
-use Rattle.part_columns.proofs.ProbeLemmas.{front_has, last_hit, last_of, position_is}
+use Rattle.part_columns.proofs.ProbeLemmas.{front_has, last_hit, later_above, last_of, position_is}
 use Rattle.part_columns.proofs.TouchedLemmas.{all_among}
 
 -- none of these numbers is greater than the last
@@ -44,12 +45,8 @@ is_hit : (set qs : List ℕ) (t : ℕ) → is_among set t ≡ true → is_among 
 is_hit set [] t there e = e
 is_hit set (q ∷ qs) t there e = by (is_hit set qs t there) (nat_eq t q) refl e
   where
-    or_true : (b : Bool) → (b || true) ≡ true
-    or_true true = refl
-    or_true false = refl
-
     behind : (b : Bool) → is_among (hits set qs) t ≡ true → is_among (cond b (q ∷ hits set qs) (hits set qs)) t ≡ true
-    behind true h = ap (λ (c : Bool). nat_eq t q || c) h ∙ or_true (nat_eq t q)
+    behind true h = ap (λ (c : Bool). nat_eq t q || c) h ∙ or-true (nat_eq t q)
     behind false h = h
 
     by : (is_among qs t ≡ true → is_among (hits set qs) t ≡ true) → (b : Bool) → nat_eq t q ≡ b → (b || is_among qs t) ≡ true → is_among (cond (is_among set q) (q ∷ hits set qs) (hits set qs)) t ≡ true
@@ -62,15 +59,6 @@ is_hit set (q ∷ qs) t there e = by (is_hit set qs t there) (nat_eq t q) refl e
 agree : (p q : ℕ → Bool) (ts : List ℕ) → AllByRecursion (λ t. p t ≡ q t) ts → count_by p ts ≡ count_by q ts
 agree p q [] h = refl
 agree p q (t ∷ ts) h = omega (arith, count-cons p t ts, count-cons q t ts, ap once h.0, agree p q ts h.1)
-
--- a number that all of these are above
-above : (low t : ℕ) (xs : List ℕ) → AllByRecursion (λ x. low < x) xs → is_among xs t ≡ true → low < t
-above low t [] a e = not_both (low < t) false e refl
-above low t (x ∷ xs) a e = by (above low t xs a.1) (nat_eq t x) refl e
-  where
-    by : (is_among xs t ≡ true → low < t) → (b : Bool) → nat_eq t x ≡ b → (b || is_among xs t) ≡ true → low < t
-    by later true f h = let lt = a.0 in grind (arith, nat_tests)
-    by later false f h = later h
 
 -- a set of the tokens counts as many as the tokens themselves
 pub set_counts : (set : Option (Bor (List ℕ))) (tokens tail : List ℕ) (count : ℕ) → IfSome set (λ s. IsSetOf s.now tokens) → count_by (is_among tokens) tail ≡ count → IfSome set (λ s. count_by (has s.now) tail ≡ count)
@@ -98,21 +86,17 @@ module _ (set qs : List ℕ) (i : ℕ) (tally : Tally) (over : Rises set) (up : 
   found_rises : Rises found
   found_rises = rises_filter (is_among set) (take i qs) (rises_left (take i qs) (drop i qs) (subst Rises (sym (take-append-drop i qs)) up))
 
-  or_behind : (a b : Bool) → b ≡ true → (a || b) ≡ true
-  or_behind true b e = refl
-  or_behind false b e = e
-
   -- a token behind the last hit is in none of the lists read
   none_read : (t : ℕ) → is_among (drop n set) t ≡ true → last < t → is_among (take i qs) t ≡ false
   none_read t there high = split_bool (is_among (take i qs) t ≡ false) (is_among (take i qs) t)
       (λ e.
-      let own : is_among set t ≡ true = ap (λ (xs : List ℕ). is_among xs t) (sym (take-append-drop n set)) ∙ list_any-append (nat_eq t) (take n set) (drop n set) ∙ or_behind (is_among (take n set) t) _ there in
+      let own : is_among set t ≡ true = ap (λ (xs : List ℕ). is_among xs t) (sym (take-append-drop n set)) ∙ list_any-append (nat_eq t) (take n set) (drop n set) ∙ ap (λ (b : Bool). is_among (take n set) t || b) there ∙ or-true (is_among (take n set) t) in
       absurd (omega (arith, high, not_behind_last found t found_rises (is_hit set (take i qs) t own e))))
       (λ e. e)
 
   same_there : (t : ℕ) → is_among (drop n set) t ≡ true → is_among qs t ≡ is_among (drop i qs) t
   same_there t there =
-      let high : last < t = above last t (drop n set) greater there in
+      let high : last < t = later_above last t (drop n set) greater there in
       ap (λ (xs : List ℕ). is_among xs t) (sym (take-append-drop i qs)) ∙ list_any-append (nat_eq t) (take i qs) (drop i qs) ∙ ap (λ (b : Bool). b || is_among (drop i qs) t) (none_read t there high)
 
   -- the tokens behind the last hit that are among all of the query's are among those of the lists that were not read

@@ -60,7 +60,7 @@ impl HashOrder {
     }
 
     /// Returns the first token whose key has the hash, or `None`. It reads no text: usually a few numbers, and never
-    /// more than the logarithm of the number of tokens.
+    /// more than sixteen or the logarithm of the number of tokens.
     pub(crate) fn first(&self, hash: u32) -> Option<HashedToken>
         ensures there { IfSome result (λ entry. IsOneOf self.now entry) }
         ensures hash { IfSome result (λ entry. entry.hash ≡ hash) }
