@@ -10,7 +10,7 @@ use token_set::TokenSet;
 
 /// How many tokens a set may have room for, for each key of the query: with a bit for each, to make the set takes less
 /// time than to look up the keys.
-const ROOM_FOR_A_KEY: u64 = 8_192;
+const ROOM_FOR_A_KEY: u64 = 32_768;
 
 /// Returns an empty set with room for the tokens of each part, or `None` if that is much room for so few keys.
 pub(crate) fn set_for(
