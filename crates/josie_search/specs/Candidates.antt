@@ -1,11 +1,8 @@
 -- The columns of a part that may be open, in two heaps: one by bounds, and one by counts, for bounds that fall with
 -- each list that is read.
-use Rattle.std.specs.Prelude.{◌≡◌, ◌≢◌, ℕ, ◌+◌, ◌<◌, ◌≤◌, Bool, true, false, ◌&&◌, ◌||◌, not, List, [], ◌++◌, get_or, map, nat_eq, nat_le, nat_lt, if◌then◌else◌, slice_get, sum_by, Option, Some, None}
+use Rattle.std.specs.Prelude.{◌≡◌, ◌≢◌, ℕ, ◌+◌, ◌-◌, ◌*◌, ◌/◌, ◌%◌, ◌^◌, ◌<◌, ◌≤◌, Bool, true, false, ◌&&◌, ◌||◌, not, List, [], ◌++◌, get_or, map, nat_eq, nat_le, nat_lt, if◌then◌else◌, slice_get, sum_by, Option, Some, None}
 use Rattle.std.specs.List.{AllByRecursion, list_any}
 use Rattle.std.specs.Option.{MatchOption}
-use Rattle.std.specs.Ordering.{nat_cmp, ordering_then}
-use Rattle.std.specs.declared.cmp.Ordering.{Ordering}
-use Rattle.std.specs.declared.cmp.Reverse.{Reverse}
 use Rattle.lake_model.specs.Answer.{Query, Row}
 use Rattle.lake_model.specs.Layout.{is_among}
 use Rattle.search_model.specs.Looks.{Searched}
@@ -22,32 +19,33 @@ IsOfRank n ranks rank column = MatchOption column ((x : ℕ) → x < n → get_o
 
 -- ---- two heaps
 
--- a number and a rank: the greater number comes first; of equal numbers, the lower rank
-abbrev pub entry_cmp : ℕ × Reverse ℕ → ℕ × Reverse ℕ → Ordering
-entry_cmp a b = ordering_then (nat_cmp a.0 b.0) (nat_cmp b.1.0 a.1.0)
-
 abbrev pub candidate : Bool → ℕ → ℕ → Candidate
 candidate by_count number rank = record { by_count = by_count; number = number; rank = rank }
 
-abbrev pub reverse_of : ℕ → Reverse ℕ
-reverse_of n = record { 0 = n }
+-- A heap holds a number and a rank as one number, the entry, so that one comparison decides between two of them. The
+-- rank is counted down from the greatest one: the greater number comes first; of equal numbers, the lower rank.
+abbrev pub entry_of : Candidate → ℕ
+entry_of c = c.number * 2 ^ 32 + (2 ^ 32 - 1 - c.rank)
 
-abbrev pub entry_of : Candidate → ℕ × Reverse ℕ
-entry_of c = (c.number, reverse_of c.rank)
+abbrev pub number_in : ℕ → ℕ
+number_in entry = entry / 2 ^ 32
 
-abbrev pub of_entry : Bool → ℕ × Reverse ℕ → Candidate
-of_entry by_count e = candidate by_count e.0 e.1.0
+abbrev pub rank_in : ℕ → ℕ
+rank_in entry = 2 ^ 32 - 1 - entry % 2 ^ 32
+
+abbrev pub of_entry : Bool → ℕ → Candidate
+of_entry by_count entry = candidate by_count (number_in entry) (rank_in entry)
 
 -- the contents of the two heaps, the lowest bound for which they hold columns, how many candidates they have, and the
 -- room for them
 pub record CandidatesOf : Type 0 where
-  pub sized : List (ℕ × Reverse ℕ)
-  pub asked : List (ℕ × Reverse ℕ)
+  pub sized : List ℕ
+  pub asked : List ℕ
   pub low : ℕ
   pub many : ℕ
   pub room : ℕ
 
-abbrev pub candidates_with : List (ℕ × Reverse ℕ) → List (ℕ × Reverse ℕ) → ℕ → ℕ → ℕ → CandidatesOf
+abbrev pub candidates_with : List ℕ → List ℕ → ℕ → ℕ → ℕ → CandidatesOf
 candidates_with sized asked low many room = record { sized = sized; asked = asked; low = low; many = many; room = room }
 
 abbrev pub all_of : CandidatesOf → List Candidate
@@ -71,10 +69,10 @@ better left (Some a) None = Some a
 better left (Some a) (Some b) = if is_ahead left a b then Some a else Some b
 
 -- the candidate is the first of a heap
-pub record IsFirstIn (by_count : Bool) (items : List (ℕ × Reverse ℕ)) (t : Candidate) : Type 0 where
+pub record IsFirstIn (by_count : Bool) (items : List ℕ) (t : Candidate) : Type 0 where
   pub kind : t.by_count ≡ by_count
   pub at : slice_get items 0 ≡ Some (entry_of t)
-  pub ahead : AllByRecursion (λ e. (e.0 ≤ t.number) × (e.0 ≡ t.number → t.rank ≤ e.1.0)) items
+  pub ahead : AllByRecursion (λ e. (number_in e ≤ t.number) × (number_in e ≡ t.number → t.rank ≤ rank_in e)) items
 
 -- the candidate is first in its heap
 abbrev pub StandsFirst : CandidatesOf → Candidate → Type 0

@@ -3,14 +3,17 @@ ghost use Rattle.std.specs.Prelude.{◌≡◌, ◌<◌, ◌≤◌, ◌+◌, ◌*
 ghost use Rattle.std.specs.BinaryHeap.{heap_capacity, heap_items, heap_len, IsHeap};
 ghost use Rattle.std.specs.List.Sorted.{IsPermutation};
 ghost use Rattle.std.specs.Option.{MatchOption};
-ghost use Rattle.josie_search.specs.Candidates.{all_of, better, candidate_of, entry_cmp, entry_of, IsFirstIn, IsTop, most_now, StandsFirst};
+ghost use Rattle.std.specs.Ordering.{nat_cmp};
+ghost use Rattle.josie_search.specs.Candidates.{all_of, better, candidate_of, entry_of, IsFirstIn, IsTop, most_now, of_entry, StandsFirst};
 
 use no_memory::NoMemory;
 use part_columns::{Tally, most_of, rest_of};
 use std::alloc::Global;
-use std::cmp::Reverse;
 use std::collections::BinaryHeap;
 use std::marker::Model;
+
+// The number of ranks that a `u32` can hold.
+const RANKS: u64 = 1 << 32;
 
 /// A column that may be open, by its rank, and an upper limit on its bound: `number` itself, or, if `by_count` is set,
 /// `number` plus the number of lists that are left.
@@ -28,8 +31,8 @@ pub(crate) struct Candidate {
 /// and the room.
 #[derive(Drop)]
 pub(crate) struct Candidates {
-    sized: BinaryHeap<(u32, Reverse<u32>)>,
-    asked: BinaryHeap<(u32, Reverse<u32>)>,
+    sized: BinaryHeap<u64>,
+    asked: BinaryHeap<u64>,
     low: u32,
     room: usize,
     debt: usize,
@@ -38,13 +41,14 @@ pub(crate) struct Candidates {
 impl Model for Candidates {
     ghost use Rattle.std.specs.Prelude.{◌≤◌, ◌+◌};
     ghost use Rattle.std.specs.BinaryHeap.{heap_capacity, heap_items, heap_len, IsHeap};
-    ghost use Rattle.josie_search.specs.Candidates.{CandidatesOf, candidates_with, entry_cmp};
+    ghost use Rattle.std.specs.Ordering.{nat_cmp};
+    ghost use Rattle.josie_search.specs.Candidates.{CandidatesOf, candidates_with};
 
     ghost Value = { CandidatesOf };
 
     ghost view = { λ c. candidates_with (heap_items c.sized) (heap_items c.asked) c.low (heap_len c.sized + heap_len c.asked) c.room };
 
-    ghost invariant = { λ c. (heap_len c.sized + heap_len c.asked ≤ c.room) × (c.room ≤ heap_capacity c.sized) × (c.room ≤ heap_capacity c.asked) × IsHeap entry_cmp (heap_items c.sized) × IsHeap entry_cmp (heap_items c.asked) };
+    ghost invariant = { λ c. (heap_len c.sized + heap_len c.asked ≤ c.room) × (c.room ≤ heap_capacity c.sized) × (c.room ≤ heap_capacity c.asked) × IsHeap nat_cmp (heap_items c.sized) × IsHeap nat_cmp (heap_items c.asked) };
 }
 
 impl Candidates {
@@ -190,27 +194,48 @@ pub(crate) fn candidate_of(tally: Tally, left: u32, rank: u32) -> Candidate
     }
 }
 
+// Returns the candidate as one number, so that one comparison decides which of two comes first: that of the greater
+// number or, if their numbers are equal, that of the lower rank.
+fn entry_of(candidate: Candidate) -> u64
+    ensures entry { result ≡ entry_of candidate }
+    ensures back { of_entry candidate.by_count result ≡ candidate }
+{
+    u64::from(candidate.number) * RANKS + u64::from(u32::MAX - candidate.rank)
+}
+
+// Returns the candidate whose entry this is.
+fn candidate_from(entry: u64, by_count: bool) -> Candidate
+    ensures candidate { result ≡ of_entry by_count entry }
+    ensures back { entry_of result ≡ entry }
+{
+    Candidate {
+        by_count,
+        number: (entry / RANKS) as u32,
+        rank: u32::MAX - (entry % RANKS) as u32,
+    }
+}
+
 // Adds one; there must be room.
-fn put(heap: &mut BinaryHeap<(u32, Reverse<u32>)>, candidate: Candidate)
+fn put(heap: &mut BinaryHeap<u64>, candidate: Candidate)
     requires room { heap_len heap.old < heap_capacity heap.old }
-    requires order { IsHeap entry_cmp (heap_items heap.old) }
+    requires order { IsHeap nat_cmp (heap_items heap.old) }
     ensures items { IsPermutation (entry_of candidate ∷ heap_items heap.old) (heap_items heap.new) }
-    ensures order { IsHeap entry_cmp (heap_items heap.new) }
+    ensures order { IsHeap nat_cmp (heap_items heap.new) }
     ensures capacity { heap_capacity heap.old ≤ heap_capacity heap.new }
     ensures len { heap_len heap.new ≡ heap_len heap.old + 1 }
 {
-    match heap.push((candidate.number, Reverse(candidate.rank))) {
+    match heap.push(entry_of(candidate)) {
         Ok(()) => {}
         Err(_) => unreachable!(),
     }
 }
 
 // Takes out the first one.
-fn take(heap: &mut BinaryHeap<(u32, Reverse<u32>)>, top: Candidate)
+fn take(heap: &mut BinaryHeap<u64>, top: Candidate)
     requires first { slice_get (heap_items heap.old) 0 ≡ Some (entry_of top) }
-    requires order { IsHeap entry_cmp (heap_items heap.old) }
+    requires order { IsHeap nat_cmp (heap_items heap.old) }
     ensures items { IsPermutation (heap_items heap.old) (entry_of top ∷ heap_items heap.new) }
-    ensures order { IsHeap entry_cmp (heap_items heap.new) }
+    ensures order { IsHeap nat_cmp (heap_items heap.new) }
     ensures capacity { heap_capacity heap.new ≡ heap_capacity heap.old }
     ensures len { heap_len heap.new + 1 ≡ heap_len heap.old }
 {
@@ -222,18 +247,14 @@ fn take(heap: &mut BinaryHeap<(u32, Reverse<u32>)>, top: Candidate)
 }
 
 // Returns the first one.
-fn first(heap: &BinaryHeap<(u32, Reverse<u32>)>, by_count: bool) -> Option<Candidate>
-    requires order { IsHeap entry_cmp (heap_items heap.now) }
+fn first(heap: &BinaryHeap<u64>, by_count: bool) -> Option<Candidate>
+    requires order { IsHeap nat_cmp (heap_items heap.now) }
     ensures { MatchOption result (heap_items heap.now ≡ []) (IsFirstIn by_count (heap_items heap.now)) }
 {
     prove!(heap.as_slice().len() == heap.len());
     match heap.peek() {
         None => None,
-        Some(first) => Some(Candidate {
-            by_count,
-            number: first.0,
-            rank: first.1.0,
-        }),
+        Some(first) => Some(candidate_from(*first, by_count)),
     }
 }
 
