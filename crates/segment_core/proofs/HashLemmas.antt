@@ -1,17 +1,17 @@
 -- The tokens in the order of the hashes of their keys: how they are sorted, and what a search among them finds.
-use Rattle.std.proofs.Common.{◌≡◌, refl, ap, sym, ◌∙◌, subst, inl, inr, ℕ, ◌+◌, ◌-◌, ◌<◌, ◌≤◌, List, [], ◌∷◌, ◌++◌, Bool, true, false, map, length, get_or, take, drop, ltb, Option, Some, None, arith}
+use Rattle.std.proofs.Common.{◌≡◌, refl, ap, sym, ◌∙◌, subst, inl, inr, ℕ, ◌+◌, ◌-◌, ◌<◌, ◌≤◌, List, [], ◌∷◌, ◌++◌, Bool, true, false, map, length, get_or, take, drop, Option, Some, None, arith}
 use Rattle.std.specs.Prelude.{IfNone, IfSome, bytes_eq}
 use Rattle.std.specs.Cmp.{nat_cmp_is}
 use Rattle.std.specs.Cmp.Lexicographic.{slice_cmp}
 use Rattle.std.specs.List.{list_any, enumerate_from, slice_range, All}
-use Rattle.std.specs.List.Sorted.{IsNonDecreasingBy, IsPartitionPoint, IsPermutation, IsSortedByKey}
+use Rattle.std.specs.List.Sorted.{IsNonDecreasingBy, IsPermutation, IsSortedByKey}
 use Rattle.std.specs.Ordering.{is_eq, is_lt, nat_cmp, ordering_index}
 use Rattle.std.specs.declared.cmp.Ordering.{Ordering}
 use Rattle.std.specs.declared.cmp.Ordering.TheVariants.{Less, Equal, Greater}
 use Rattle.std.proofs.Math.Seq.{take-length}
-use Rattle.std.proofs.lemmas.Bool.{cases_lt, ltb-true, ltb-false}
+use Rattle.std.proofs.lemmas.Bool.{cases_lt}
 use Rattle.std.proofs.lemmas.Cmp.{nat_list_cmp_total}
-use Rattle.std.proofs.lemmas.List.{get_or-drop, get_or-map, get_or-take, length-drop, length-map, length-take, map-append, take_more}
+use Rattle.std.proofs.lemmas.List.{get_or_default, get_or-drop, get_or-map, get_or-take, length-drop, length-map, length-take, map-append, take_more}
 use Rattle.std.proofs.lemmas.List.Elements.{All-append, All-from_recursion}
 use Rattle.std.proofs.lemmas.List.Folds.{list_any_none}
 use Rattle.std.proofs.lemmas.List.FromFn.{get_or-enumerate_from, length-enumerate_from}
@@ -24,7 +24,7 @@ use Rattle.lake_model.specs.Tables.{Table}
 use Rattle.search_model.specs.Segment.{Token, segment}
 use Rattle.search_model.specs.Arrays.{key_of, numbers_of, token_with, IsToken}
 use Rattle.hash_directory.specs.Buckets.{IsNear}
-use Rattle.segment_core.specs.Hashes.{hash_at, hash_of, hashed_from, key_there, sorted_by, token_hash, token_number, IsByHash, IsHashed, IsOneOf}
+use Rattle.segment_core.specs.Hashes.{hash_at, hash_of, hashed_from, key_there, sorted_by, token_hash, token_number, IsByHash, IsHashed, IsOneOf, IsSplit, IsSplitIn}
 use Rattle.segment_core.specs.declared.hashes.HashedToken.{HashedToken}
 use Rattle.search_model.proofs.RankLemmas.{first_late}
 
@@ -176,15 +176,41 @@ pub rise_in : (order : List HashedToken) (from to : ℕ) → IsNonDecreasingBy t
 rise_in order from to up = IsNonDecreasingBy-take token_hash (to - from) (drop from order) (IsNonDecreasingBy-drop token_hash from order up)
 
 -- nothing has a hash that is not at the index where it would have to be
-pub none_from : (order : List HashedToken) (hash at : ℕ) → IsNonDecreasingBy token_hash order → IsPartitionPoint (λ entry. ltb entry.hash hash ≡ true) (λ entry. ltb entry.hash hash ≡ false) order at
-    → ((d : HashedToken) → at < length order → (get_or order at d).hash ≡ hash → ⊥) → All (λ entry. entry.hash ≡ hash → ⊥) order
-none_from order hash at up point apart k d h e = elim (cases_lt k at) [
-  | inl l ↦ (let low = ltb-true (get_or order k d).hash hash (point.0 k d (omega arith) l) in omega (arith, low, e))
+pub none_from : (order : List HashedToken) (hash at : ℕ) → IsNonDecreasingBy token_hash order → IsSplit order hash at → ((d : HashedToken) → at < length order → (get_or order at d).hash ≡ hash → ⊥) → All (λ entry. entry.hash ≡ hash → ⊥) order
+none_from order hash at up split apart k d h e = elim (cases_lt k at) [
+  | inl l ↦ (let low = split.lower k d l h in omega (arith, low, e))
   | inr g ↦
       let there : at < length order = omega (arith, g, h) in
-      let high = ltb-false (get_or order at d).hash hash (point.1 at d (omega arith) there) in
+      let high = split.others at d (omega arith) there in
       apart d there (omega (arith, high, up at k d g h, e))
 ]
+
+-- one more hash is counted
+module _ (entries : List HashedToken) (hash at i : ℕ) (up : IsNonDecreasingBy token_hash entries) (within : i < length entries) (few : at ≤ i) (split : IsSplitIn i entries hash at) where
+  pub one_lower : (get_or entries i blank).hash < hash → IsSplitIn (i + 1) entries hash (at + 1)
+  one_lower h = record {
+    lower = λ k d l m. elim (cases_lt k at) [
+      | inl b ↦ split.lower k d b (omega (arith, b, few))
+      | inr g ↦ (let same : k ≡ i = omega (arith, all_lower, g, l) in omega (arith, ap (λ (n : ℕ). (get_or entries n d).hash) same, ap token_hash (get_or_default entries i blank d within), h))
+    ];
+    others = λ k d l m. absurd (omega (arith, all_lower, l, m));
+  }
+    where
+      -- a hash before it that is not lower would be greater
+      all_lower : at ≡ i
+      all_lower = elim (cases_lt at i) [
+        | inl b ↦ absurd (omega (arith, split.others at blank (omega arith) b, up at i blank (omega (arith, b)) within, h))
+        | inr g ↦ omega (arith, few, g)
+      ]
+
+  pub none_lower : hash ≤ (get_or entries i blank).hash → IsSplitIn (i + 1) entries hash at
+  none_lower h = record {
+    lower = λ k d l m. split.lower k d l (omega (arith, l, few));
+    others = λ k d l m. elim (cases_lt k i) [
+      | inl b ↦ split.others k d l b
+      | inr g ↦ (let same : k ≡ i = omega (arith, g, m) in omega (arith, ap (λ (n : ℕ). (get_or entries n d).hash) same, ap token_hash (get_or_default entries i blank d within), h))
+    ];
+  }
 
 -- ---- the range that a directory gives
 

@@ -1,5 +1,5 @@
 -- The tokens of a segment in the order of the hashes of their keys.
-use Rattle.std.specs.Prelude.{◌≡◌, ℕ, ◌<◌, List, [], ◌∷◌, bit_and, length, map, get_or}
+use Rattle.std.specs.Prelude.{◌≡◌, ℕ, ◌<◌, ◌≤◌, List, [], ◌∷◌, bit_and, length, map, get_or}
 use Rattle.std.specs.Cmp.Lexicographic.{slice_cmp}
 use Rattle.std.specs.List.{All}
 use Rattle.std.specs.List.Sorted.{IsPermutation, IsSortedByKey}
@@ -44,6 +44,15 @@ token_number entry = entry.token
 -- it is one of these
 abbrev pub IsOneOf : List HashedToken → HashedToken → Type 0
 IsOneOf order entry = (i : ℕ) × (i < length order) × (get_or order i entry ≡ entry)
+
+-- of the first `count` hashes, those before this index are lower than the given one, and the others are not
+pub record IsSplitIn (count : ℕ) (entries : List HashedToken) (hash at : ℕ) : Type 0 where
+  pub lower : (i : ℕ) (d : HashedToken) → i < at → i < count → (get_or entries i d).hash < hash
+  pub others : (i : ℕ) (d : HashedToken) → at ≤ i → i < count → hash ≤ (get_or entries i d).hash
+
+-- the hashes before this index are lower than the given one, and the others are not
+abbrev pub IsSplit : List HashedToken → ℕ → ℕ → Type 0
+IsSplit entries hash at = IsSplitIn (length entries) entries hash at
 
 -- a token of the segment of these tables, with the hash of its key and where its key is
 pub record IsHashed (tables : List Table) (entry : HashedToken) : Type 0 where

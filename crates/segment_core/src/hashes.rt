@@ -6,7 +6,7 @@ ghost use Rattle.std.specs.List.Sorted.{IsNonDecreasingBy};
 ghost use Rattle.std.specs.Ordering.{nat_cmp};
 ghost use Rattle.search_model.specs.Arrays.{numbers_of, owner_of, pointed, IsAt};
 ghost use Rattle.search_model.specs.Segment.{segment};
-ghost use Rattle.segment_core.specs.Hashes.{hash_of, key_there, sorted_by, token_hash, token_number, AreKeys, IsByHash, IsHashed, IsOneOf};
+ghost use Rattle.segment_core.specs.Hashes.{hash_of, key_there, sorted_by, token_hash, token_number, AreKeys, IsByHash, IsHashed, IsOneOf, IsSplit};
 
 use column_set::{SharedTable, sip_hash};
 use hash_directory::HashDirectory;
@@ -16,8 +16,8 @@ use std::alloc::Global;
 use std::cmp::Ordering;
 use std::marker::Model;
 
-/// The most entries of a bucket among which a hash is looked for by a walk. Few buckets have more than ten.
-const MOST_WALKED: usize = 16;
+/// The most entries of a bucket of which the lower ones are counted to find a hash. Few buckets have more than ten.
+const MOST_COUNTED: usize = 16;
 
 /// A token of a segment, with the hash of its key and where the key is: the index of a table, and the number of the key
 /// among those of all columns of that table. To read the key from there takes fewer steps than by its column.
@@ -78,40 +78,46 @@ fn first_of(entries: &[HashedToken], hash: u32) -> Option<HashedToken>
     ensures hash { IfSome result (λ entry. entry.hash ≡ hash) }
     ensures lacking { IfNone result (All (λ entry. entry.hash ≡ hash → ⊥) entries.now) }
 {
-    if entries.len() > MOST_WALKED {
-        first_by_halves(entries, hash)
-    } else {
-        first_by_walk(entries, hash)
-    }
-}
-
-// Finds the entry by a walk. Of the few entries of a bucket, this takes less time than a binary search, which does not
-// know which of them to read next before it has read one.
-fn first_by_walk(entries: &[HashedToken], hash: u32) -> Option<HashedToken>
-    ensures there { IfSome result (λ entry. IsOneOf entries.now entry) }
-    ensures hash { IfSome result (λ entry. entry.hash ≡ hash) }
-    ensures lacking { IfNone result (All (λ entry. entry.hash ≡ hash → ⊥) entries.now) }
-{
-    for entry in entries {
-        if entry.hash == hash {
-            return Some(*entry);
-        }
-    }
-    None
-}
-
-// Finds the entry by a binary search, since it is easy to choose many keys whose hashes are in one bucket.
-fn first_by_halves(entries: &[HashedToken], hash: u32) -> Option<HashedToken>
-    requires { IsNonDecreasingBy token_hash entries.now }
-    ensures there { IfSome result (λ entry. IsOneOf entries.now entry) }
-    ensures hash { IfSome result (λ entry. entry.hash ≡ hash) }
-    ensures lacking { IfNone result (All (λ entry. entry.hash ≡ hash → ⊥) entries.now) }
-{
-    let at = entries.partition_point(|entry| entry.hash < hash);
+    let at = split_of(entries, hash);
     if at >= entries.len() || entries[at].hash != hash {
         return None;
     }
     Some(entries[at])
+}
+
+// Returns the index before which all hashes are lower than the given one, and from which on none is.
+fn split_of(entries: &[HashedToken], hash: u32) -> usize
+    requires { IsNonDecreasingBy token_hash entries.now }
+    ensures { IsSplit entries.now hash result }
+{
+    if entries.len() > MOST_COUNTED {
+        split_by_halves(entries, hash)
+    } else {
+        count_lower(entries, hash)
+    }
+}
+
+// Returns the same by counting the lower hashes. Of the few entries of a bucket, this takes less time than a walk that
+// ends at the hash, or than a binary search: no branch depends on what was read, so the next look-up does not wait.
+fn count_lower(entries: &[HashedToken], hash: u32) -> usize
+    requires { IsNonDecreasingBy token_hash entries.now }
+    ensures { IsSplit entries.now hash result }
+{
+    let mut lower = 0;
+    for entry in entries {
+        if entry.hash < hash {
+            lower += 1;
+        }
+    }
+    lower
+}
+
+// Returns the same by a binary search, since it is easy to choose many keys whose hashes are in one bucket.
+fn split_by_halves(entries: &[HashedToken], hash: u32) -> usize
+    requires { IsNonDecreasingBy token_hash entries.now }
+    ensures { IsSplit entries.now hash result }
+{
+    entries.partition_point(|entry| entry.hash < hash)
 }
 
 /// Returns the tokens in the order of the hashes of their keys. It reads each key once and sorts one number for each
