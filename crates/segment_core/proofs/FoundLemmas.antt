@@ -1,6 +1,6 @@
 -- The tokens whose keys are in a set, found key by key, and then sorted.
-use Rattle.std.proofs.Common.{◌≡◌, refl, ap, sym, ◌∙◌, subst, ℕ, zero, suc, ◌+◌, ◌<◌, List, [], ◌∷◌, ◌++◌, Bool, true, false, ◌||◌, cond, map, length, get_or, take, Option, Some, None, arith, append-nil}
-use Rattle.std.specs.Prelude.{bytes_eq}
+use Rattle.std.proofs.Common.{◌≡◌, refl, ap, sym, ◌∙◌, subst, ℕ, zero, suc, ◌+◌, ◌<◌, List, [], ◌∷◌, ◌++◌, Bool, true, false, ◌||◌, cond, map, length, get_or, take, nat_eq, Option, Some, None, Result, Ok, Err, arith, append-nil}
+use Rattle.std.specs.Prelude.{bytes_eq, IfOk}
 use Rattle.std.specs.Option.{option_to_list}
 use Rattle.std.specs.Ordering.{is_lt, nat_cmp}
 use Rattle.std.specs.List.{filter, flat_map, enumerate_from, list_any, AllByRecursion, IsDistinct}
@@ -11,7 +11,7 @@ use Rattle.std.proofs.lemmas.List.{get_or-map, map-append, length-map, take_more
 use Rattle.std.proofs.lemmas.List.Concat.{flat_map-append}
 use Rattle.std.proofs.lemmas.List.Elements.{All-from_recursion}
 use Rattle.std.proofs.lemmas.List.Folds.{list_any_none}
-use Rattle.std.proofs.lemmas.List.Sorted.{IsPermutation-refl, IsPermutation-sym, IsPermutation-trans, IsPermutation-cons, IsPermutation-middle, IsPermutation-append, IsPermutation-map}
+use Rattle.std.proofs.lemmas.List.Sorted.{IsPermutation-refl, IsPermutation-sym, IsPermutation-trans, IsPermutation-cons, IsPermutation-middle, IsPermutation-append, IsPermutation-map, list_any-IsPermutation}
 use Rattle.std.proofs.lemmas.Map.Keys.{IsDistinct-IsPermutation}
 use Rattle.std.proofs.lemmas.Map.Lookups.{exact_unsigned}
 use Rattle.std.proofs.lemmas.Slice.Eq.{bytes_eq-Decides}
@@ -28,6 +28,8 @@ use Rattle.search_model.proofs.OverlapLemmas.{front, tokens_from, tokens_from-co
 use Rattle.lake_model.proofs.DistinctLemmas.{distinct_differ}
 use Rattle.search_model.proofs.TokenLemmas.{flips, itself, keys_back}
 use Rattle.list_laws.specs.Distinct.{Rises}
+use Rattle.list_laws.proofs.ListLemmas.{rises_same}
+use Rattle.lake_model.specs.Layout.{is_among}
 
 -- ---- one key at a time
 
@@ -167,9 +169,18 @@ not_less a b h = grind (arith, nat_tests)
 sorted_rising : (xs : List ℕ) → Rises xs → IsSorted nat_cmp xs
 sorted_rising xs r k d low h = not_less _ _ (below xs r k d h)
 
--- the tokens of a set, sorted
-pub sorted_tokens : (tokens : List Token) (keys : List Text) (found sorted : List ℕ) → IsPermutation (tokens_in tokens keys) found → IsPermutation found sorted → IsSorted nat_cmp sorted → sorted ≡ tokens_in tokens keys
-sorted_tokens tokens keys found sorted p q up =
+-- the numbers of a rising list, sorted
+pub sorted_rises : (ns found sorted : List ℕ) → Rises ns → IsPermutation ns found → IsPermutation found sorted → IsSorted nat_cmp sorted → sorted ≡ ns
+sorted_rises ns found sorted rises p q up =
     sorted_is nat_cmp_total exact_unsigned sorted up
     ∙ in_order-IsPermutation nat_cmp_total exact_unsigned _ _ (IsPermutation-trans _ _ _ p q)
-    ∙ sym (sorted_is nat_cmp_total exact_unsigned (tokens_in tokens keys) (sorted_rising _ (rising tokens keys)))
+    ∙ sym (sorted_is nat_cmp_total exact_unsigned ns (sorted_rising ns rises))
+
+-- the tokens of a set, sorted
+pub sorted_tokens : (tokens : List Token) (keys : List Text) (found sorted : List ℕ) → IsPermutation (tokens_in tokens keys) found → IsPermutation found sorted → IsSorted nat_cmp sorted → sorted ≡ tokens_in tokens keys
+sorted_tokens tokens keys found sorted p q up = sorted_rises (tokens_in tokens keys) found sorted (rising tokens keys) p q up
+
+-- a rising list that has the same numbers
+pub listed_rises : {X E : Type 0} (list : X → List ℕ) (result : Result X E) (ns found : List ℕ) → Rises ns → IsPermutation ns found → IfOk result (λ x. Rises (list x)) → IfOk result (λ x. (n : ℕ) → is_among (list x) n ≡ is_among found n) → IfOk result (λ x. list x ≡ ns)
+listed_rises list (Ok x) ns found up p rises same = rises_same (list x) ns rises up (λ n. same n ∙ sym (list_any-IsPermutation (nat_eq n) ns found p))
+listed_rises list (Err e) ns found up p rises same = tt

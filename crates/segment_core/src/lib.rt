@@ -13,6 +13,7 @@ mod order;
 mod pin;
 mod plan;
 mod segment;
+mod sorting;
 mod swap;
 mod version;
 

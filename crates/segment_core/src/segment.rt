@@ -12,6 +12,7 @@ use crate::column::ColumnRefused;
 use crate::hashed::HashedQuery;
 use crate::hashes::{HashOrder, HashedToken, hash_key, key_there};
 use crate::order::ColumnOrder;
+use crate::sorting::in_order;
 use column_set::{QuerySet, SharedTable};
 use no_memory::NoMemory;
 use search_model::{Owner, Posting};
@@ -288,9 +289,7 @@ impl Segment {
     fn asked_tokens(&self, alloc: Global, query: &HashedQuery<'_>) -> Result<Vec<u32>, NoMemory>
         ensures { IfOk result (λ tokens. tokens.items ≡ tokens_in (segment self.now).tokens query.now) }
     {
-        let mut tokens = self.tokens_asked(alloc, query)?;
-        tokens.sort_unstable();
-        Ok(tokens)
+        in_order(alloc, self.tokens_asked(alloc, query)?)
     }
 
     // Returns the tokens whose keys the query has, by the hashes of the keys.
@@ -320,9 +319,7 @@ impl Segment {
     {
         let hits = self.hits(alloc, query)?;
         let keys = self.keys_of_hits(alloc, &hits)?;
-        let mut tokens = self.tokens_of_hits(alloc, query, &hits, &keys)?;
-        tokens.sort_unstable();
-        Ok(tokens)
+        in_order(alloc, self.tokens_of_hits(alloc, query, &hits, &keys)?)
     }
 
     // Returns, for each key of the query whose hash some token has, the first such token.

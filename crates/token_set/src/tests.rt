@@ -59,3 +59,12 @@ fn is_empty_again(rt: HostRuntime) -> Result<(), Fail> {
     assert_eq!(rt; refilled(rt.alloc(), &SOME)?, (0, 6));
     Ok(())
 }
+
+#[test]
+fn tells_what_it_has_in_order(rt: HostRuntime) -> Result<(), Fail> {
+    let tokens = set_of(rt.alloc(), &[199, 64, 0, 130, 63, 127])?.in_order(rt.alloc(), 6)?;
+    assert_eq!(rt; tokens.as_slice(), SOME.as_slice());
+    let none = set_of(rt.alloc(), &[])?.in_order(rt.alloc(), 0)?;
+    assert!(rt; none.is_empty());
+    Ok(())
+}

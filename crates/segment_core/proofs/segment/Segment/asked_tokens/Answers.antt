@@ -1,7 +1,9 @@
-use Rattle.search_model.specs.Segment.{segment}
-use Rattle.segment_core.proofs.FoundLemmas.{sorted_tokens}
+use Rattle.search_model.specs.Segment.{segment, tokens_in}
+use Rattle.search_model.proofs.FilterLemmas.{rising}
 use Rattle.segment_core.proofs.segment.Segment.asked_tokens.Goals as goal
 
 pub returns : goal.returns
 returns c =
-    sorted_tokens (segment c.args.self.now).tokens c.args.query.now c.in_ok-tokens.tokens.items c.sort_unstable.new.self.items c.in_ok-tokens.ensures c.sort_unstable.ensures.permutation c.sort_unstable.ensures.sorted
+    let tokens = (segment c.args.self.now).tokens in
+    let keys = c.args.query.now in
+    c.in_order.ensures (tokens_in tokens keys) (rising tokens keys) c.in_ok-tokens_asked.ensures
