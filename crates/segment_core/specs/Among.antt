@@ -1,10 +1,13 @@
 -- The tokens of a segment whose keys are in a query, found key by key.
-use Rattle.std.specs.Prelude.{ℕ, ◌<◌, List, [], ◌∷◌, get_or, length, map}
+use Rattle.std.specs.Prelude.{◌≡◌, ℕ, ◌<◌, List, [], ◌∷◌, get_or, length, map}
 use Rattle.std.specs.List.{flat_map}
 use Rattle.lake_model.specs.Texts.{Text}
 use Rattle.lake_model.specs.Tables.{Table}
 use Rattle.search_model.specs.Segment.{Token, tokens_in}
-use Rattle.segment_core.specs.Hashes.{IsHashed}
+use Rattle.hash_directory.specs.Buckets.{IsNear}
+use Rattle.hash_directory.specs.declared.directory.Near.{Near}
+use Rattle.segment_core.specs.Hashes.{hash_of, token_hash, IsHashed}
+use Rattle.segment_core.specs.declared.hashes.HashedToken.{HashedToken}
 use Rattle.segment_core.specs.declared.segment.Hit.{Hit}
 
 -- the tokens of these keys, in the order of the keys
@@ -18,3 +21,8 @@ IsHit tables keys hit = IsHashed tables hit.entry × (hit.index < length keys)
 -- the keys of hits
 abbrev pub hit_keys : List Text → List Hit → List Text
 hit_keys keys hits = map (λ hit. get_or keys hit.index []) hits
+
+-- a range of the tokens for each key, outside of which none has the key's hash
+pub record AreNear (order : List HashedToken) (keys : List Text) (ranges : List Near) : Type 0 where
+  pub count : length ranges ≡ length keys
+  pub near : (i : ℕ) (d : Near) → i < length ranges → IsNear (map token_hash order) (hash_of (get_or keys i [])) (get_or ranges i d).from (get_or ranges i d).to

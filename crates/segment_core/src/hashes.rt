@@ -6,10 +6,11 @@ ghost use Rattle.std.specs.List.Sorted.{IsNonDecreasingBy};
 ghost use Rattle.std.specs.Ordering.{nat_cmp};
 ghost use Rattle.search_model.specs.Arrays.{numbers_of, owner_of, pointed, IsAt};
 ghost use Rattle.search_model.specs.Segment.{segment};
+ghost use Rattle.hash_directory.specs.Buckets.{IsNear};
 ghost use Rattle.segment_core.specs.Hashes.{hash_of, key_there, sorted_by, token_hash, token_number, AreKeys, IsByHash, IsHashed, IsOneOf, IsSplit};
 
 use column_set::{SharedTable, sip_hash};
-use hash_directory::HashDirectory;
+use hash_directory::{HashDirectory, Near};
 use no_memory::NoMemory;
 use search_model::{Owner, TokenAt};
 use std::alloc::Global;
@@ -59,14 +60,23 @@ impl HashOrder {
         &self.entries
     }
 
-    /// Returns the first token whose key has the hash, or `None`. It reads no text: usually a few numbers, and never
-    /// more than sixteen or the logarithm of the number of tokens.
-    pub(crate) fn first(&self, hash: u32) -> Option<HashedToken>
+    /// Returns the range of the indices of the tokens whose keys may have the hash. It usually is
+    /// empty if no key has it.
+    pub(crate) fn near(&self, hash: u32) -> Near
+        ensures { IsNear (map token_hash self.now) hash result.from result.to }
+    {
+        self.directory.near(hash)
+    }
+
+    /// Returns the first token whose key has the hash, or `None`, given the range near the hash. It
+    /// reads no text: usually a few numbers, and never more than sixteen or the logarithm of the
+    /// number of tokens.
+    pub(crate) fn first_in(&self, near: Near, hash: u32) -> Option<HashedToken>
+        requires { IsNear (map token_hash self.now) hash near.from near.to }
         ensures there { IfSome result (λ entry. IsOneOf self.now entry) }
         ensures hash { IfSome result (λ entry. entry.hash ≡ hash) }
         ensures lacking { IfNone result (All (λ entry. entry.hash ≡ hash → ⊥) self.now) }
     {
-        let near = self.directory.near(hash);
         first_of(&self.entries[near.from..near.to], hash)
     }
 }

@@ -6,6 +6,7 @@ ghost use Rattle.std.specs.Ordering.{nat_cmp};
 ghost use Rattle.search_model.specs.Arrays.{key_of, table_at, titled_at, IsToken};
 ghost use Rattle.search_model.specs.Ranks.{AreInverse, AreRanks};
 ghost use Rattle.search_model.specs.Segment.{segment, tokens_in};
+ghost use Rattle.segment_core.specs.Among.{AreNear};
 ghost use Rattle.segment_core.specs.LiveColumn.{fault_in, keys_in};
 
 use crate::column::ColumnRefused;
@@ -14,6 +15,7 @@ use crate::hashes::{HashOrder, HashedToken, hash_key, key_there};
 use crate::order::ColumnOrder;
 use crate::sorting::in_order;
 use column_set::{QuerySet, SharedTable};
+use hash_directory::Near;
 use no_memory::NoMemory;
 use search_model::{Owner, Posting};
 use std::alloc::Global;
@@ -129,7 +131,7 @@ impl Segment {
         ensures there { IfSome result (λ entry. IsHashed self.now entry) }
         ensures lacking { IfNone result ((n : ℕ) → n < length (segment self.now).tokens → hash_at (segment self.now).tokens n ≡ hash → ⊥) }
     {
-        self.by_hash.first(hash)
+        self.by_hash.first_in(self.by_hash.near(hash), hash)
     }
 
     // Returns the key's token, given the first token whose key has the key's hash, and the key of that token.
@@ -324,16 +326,19 @@ impl Segment {
 
     // Returns, for each key of the query whose hash some token has, the first such token.
     //
-    // No key of a token is read yet. Where a key is, is read in a second pass, and the key itself in a third: these reads
-    // are cache misses, which overlap as long as nothing else comes between them.
+    // The ranges near all hashes are read first, and then the tokens in these ranges. No key of a
+    // token is read yet: where a key is, is read in a third pass, and the key itself in a fourth.
+    // These reads are cache misses, which overlap as long as nothing else comes between them.
     fn hits(&self, alloc: Global, query: &HashedQuery<'_>) -> Result<Vec<Hit>, NoMemory>
         ensures hits { IfOk result (λ hits. All (IsHit self.now query.now) hits.items) }
         ensures all { IfOk result (λ hits. IsPermutation (tokens_in (segment self.now).tokens query.now) (found_by (segment self.now).tokens (hit_keys query.now hits.items))) }
     {
+        let ranges = near_each(alloc, &self.by_hash, query)?;
         let keys = query.query();
-        let mut hits = Vec::with_capacity(alloc, keys.len() as usize)?;
+        let mut hits = Vec::with_capacity(alloc, ranges.len())?;
         for index in 0..keys.len() {
-            if let Some(entry) = self.first_hashed(query.hash(index)) {
+            let near = ranges[index as usize];
+            if let Some(entry) = self.by_hash.first_in(near, query.hash(index)) {
                 hits.push(Hit { entry, index })?;
             }
         }
@@ -372,6 +377,22 @@ impl Segment {
         }
         Ok(tokens)
     }
+}
+
+// Returns, for each key of the query, the range of the tokens whose keys may have its hash.
+fn near_each(
+    alloc: Global,
+    order: &HashOrder,
+    query: &HashedQuery<'_>,
+) -> Result<Vec<Near>, NoMemory>
+    ensures { IfOk result (λ ranges. AreNear order.now query.now ranges.items) }
+{
+    let keys = query.query();
+    let mut ranges = Vec::with_capacity(alloc, keys.len() as usize)?;
+    for index in 0..keys.len() {
+        ranges.push(order.near(query.hash(index)))?;
+    }
+    Ok(ranges)
 }
 
 // Returns the length of the list at an index.
