@@ -1,5 +1,5 @@
 -- The tokens of a segment whose keys are in a query, found key by key.
-use Rattle.std.specs.Prelude.{◌≡◌, ℕ, ◌<◌, List, [], ◌∷◌, get_or, length, map}
+use Rattle.std.specs.Prelude.{ℕ, ◌<◌, List, [], ◌∷◌, get_or, length, map}
 use Rattle.std.specs.List.{flat_map}
 use Rattle.lake_model.specs.Texts.{Text}
 use Rattle.lake_model.specs.Tables.{Table}
@@ -22,7 +22,6 @@ IsHit tables keys hit = IsHashed tables hit.entry × (hit.index < length keys)
 abbrev pub hit_keys : List Text → List Hit → List Text
 hit_keys keys hits = map (λ hit. get_or keys hit.index []) hits
 
--- a range of the tokens for each key, outside of which none has the key's hash
-pub record AreNear (order : List HashedToken) (keys : List Text) (ranges : List Near) : Type 0 where
-  pub count : length ranges ≡ length keys
-  pub near : (i : ℕ) (d : Near) → i < length ranges → IsNear (map token_hash order) (hash_of (get_or keys i [])) (get_or ranges i d).from (get_or ranges i d).to
+-- ranges of the tokens for the first keys, outside of which none has the key's hash
+abbrev pub AreNear : List HashedToken → List Text → List Near → Type 0
+AreNear order keys ranges = (i : ℕ) (d : Near) → i < length ranges → IsNear (map token_hash order) (hash_of (get_or keys i [])) (get_or ranges i d).from (get_or ranges i d).to

@@ -1,12 +1,15 @@
 //! The inverted index of a list of tables, in flat arrays.
-ghost use Rattle.std.specs.Prelude.{◌≡◌, ◌⊎◌, ◌+◌, ◌<◌, ◌≤◌, ◌∷◌, ℕ, [], drop, get_or, length, map, slice_index, slice_range, IfErr, IfNone, IfOk, IfSome, None, OnOk, Some};
+ghost use Rattle.std.specs.Prelude.{◌≡◌, ◌⊎◌, ◌+◌, ◌<◌, ◌≤◌, ◌∷◌, ℕ, List, [], drop, get_or, length, map, slice_index, slice_range, IfErr, IfNone, IfOk, IfSome, None, OnOk, Some};
 ghost use Rattle.std.specs.Cmp.Lexicographic.{slice_cmp};
 ghost use Rattle.std.specs.List.Sorted.{IsPermutation};
 ghost use Rattle.std.specs.Ordering.{nat_cmp};
 ghost use Rattle.search_model.specs.Arrays.{key_of, table_at, titled_at, IsToken};
 ghost use Rattle.search_model.specs.Ranks.{AreInverse, AreRanks};
 ghost use Rattle.search_model.specs.Segment.{segment, tokens_in};
+ghost use Rattle.hash_directory.specs.Buckets.{IsNear};
+ghost use Rattle.lake_model.specs.Texts.{Text};
 ghost use Rattle.segment_core.specs.Among.{AreNear};
+ghost use Rattle.segment_core.specs.Hashes.{hash_of, token_hash};
 ghost use Rattle.segment_core.specs.LiveColumn.{fault_in, keys_in};
 
 use crate::column::ColumnRefused;
@@ -22,6 +25,9 @@ use std::alloc::Global;
 use std::cmp::Ordering as Comparison;
 use std::marker::Model;
 use std::sync::atomic::{AtomicU64, Ordering};
+
+/// The least number of keys of a query whose ranges are all read before the tokens in them.
+const LEAST_IN_PASSES: u32 = 64;
 
 /// A token whose key may be that of a query at an index, from 0: they have the same hash.
 #[derive(Clone, Copy)]
@@ -326,19 +332,19 @@ impl Segment {
 
     // Returns, for each key of the query whose hash some token has, the first such token.
     //
-    // The ranges near all hashes are read first, and then the tokens in these ranges. No key of a
-    // token is read yet: where a key is, is read in a third pass, and the key itself in a fourth.
-    // These reads are cache misses, which overlap as long as nothing else comes between them.
+    // Unless there are few keys, the ranges near all hashes are read first, and then the tokens in these ranges. No key
+    // of a token is read yet: where a key is, is read in a third pass, and the key itself in a fourth. These reads are
+    // cache misses, which overlap as long as nothing else comes between them.
     fn hits(&self, alloc: Global, query: &HashedQuery<'_>) -> Result<Vec<Hit>, NoMemory>
         ensures hits { IfOk result (λ hits. All (IsHit self.now query.now) hits.items) }
         ensures all { IfOk result (λ hits. IsPermutation (tokens_in (segment self.now).tokens query.now) (found_by (segment self.now).tokens (hit_keys query.now hits.items))) }
     {
         let ranges = near_each(alloc, &self.by_hash, query)?;
-        let keys = query.query();
         let mut hits = Vec::with_capacity(alloc, ranges.len())?;
-        for index in 0..keys.len() {
-            let near = ranges[index as usize];
-            if let Some(entry) = self.by_hash.first_in(near, query.hash(index)) {
+        for index in 0..query.query().len() {
+            let hash = query.hash(index);
+            let near = near_of(&self.by_hash, &ranges, index, hash);
+            if let Some(entry) = self.by_hash.first_in(near, hash) {
                 hits.push(Hit { entry, index })?;
             }
         }
@@ -379,7 +385,8 @@ impl Segment {
     }
 }
 
-// Returns, for each key of the query, the range of the tokens whose keys may have its hash.
+// Returns, for each key of the query, the range of the tokens whose keys may have its hash. If the keys are few, it
+// returns no ranges, and takes no memory: a small part usually has none of them.
 fn near_each(
     alloc: Global,
     order: &HashOrder,
@@ -388,11 +395,24 @@ fn near_each(
     ensures { IfOk result (λ ranges. AreNear order.now query.now ranges.items) }
 {
     let keys = query.query();
+    if keys.len() < LEAST_IN_PASSES {
+        return Ok(Vec::new(alloc));
+    }
     let mut ranges = Vec::with_capacity(alloc, keys.len() as usize)?;
     for index in 0..keys.len() {
         ranges.push(order.near(query.hash(index)))?;
     }
     Ok(ranges)
+}
+
+// Returns the range for the key at an index, which has the hash: from the ranges, if it is there, or from the order.
+fn near_of(order: &HashOrder, ranges: &[Near], index: u32, hash: u32) -> Near
+    ensures { (keys : List Text) → AreNear order.now keys ranges.now → hash ≡ hash_of (get_or keys index []) → IsNear (map token_hash order.now) hash result.from result.to }
+{
+    match ranges.get(index as usize) {
+        Some(near) => *near,
+        None => order.near(hash),
+    }
 }
 
 // Returns the length of the list at an index.

@@ -22,7 +22,7 @@ loop-index-preserved c =
     let keys = c.args.query.now in
     let i = c.loop-index.index in
     let before = c.loop-index.hits.items in
-    let same = c.query-keys.ensures in
+    let same = c.query.ensures in
     let by_hash = c.self.inside.by_hash in
     let order = order_of _ _ by_hash c.self.view_is c.self.invariant.0.order in
     let within : i < length keys = omega (arith, ap length same) in
@@ -38,7 +38,7 @@ loop-index-preserved c =
           }
       | in_default w ↦
           let is = ap (λ v. v.items) w.hits-is in
-          let none : IsToken tokens (get_or keys i []) None = none_of tokens (get_or keys i []) (λ n h e. lacks_hash tables by_hash order c.hash.result w.in_default.ensures.lacking n h (ap hash_of e ∙ sym c.hash.ensures)) in
+          let none : IsToken tokens (get_or keys i []) None = none_of tokens (get_or keys i []) (λ n h e. lacks_hash tables by_hash order c.hash-hash.result w.in_default.ensures.lacking n h (ap hash_of e ∙ sym c.hash-hash.ensures)) in
           record {
             hits = subst (All (IsHit tables keys)) (sym is) c.loop-index.invariant.hits;
             all = ap (λ (hs : List Hit). found_by tokens (hit_keys keys hs)) is ∙ found_none tokens keys (hit_keys keys before) i within (tokens_differ c.args.self.now) none c.loop-index.invariant.all;
@@ -49,7 +49,7 @@ pub returns-clause-all : goal.returns-clause-all
 returns-clause-all c =
     let tokens = (segment c.args.self.now).tokens in
     let keys = c.args.query.now in
-    let same = c.query-keys.ensures in
+    let same = c.query.ensures in
     let all : c.loop-index.index ≡ length keys = omega (arith, ap length same) in
     let is : found_by tokens (hit_keys keys c.loop-index.hits.items) ≡ found_by tokens keys = c.loop-index.invariant.all ∙ ap (λ (n : ℕ). found_by tokens (take n keys)) all ∙ ap (found_by tokens) (take-length keys) in
     subst (IsPermutation (tokens_in tokens keys)) (sym is) (each_key tokens keys (subst (IsDistinct bytes_eq) same c.len-index-end.ensures.different))
