@@ -24,6 +24,7 @@ use asof_search::Timeline;
 use batch_work::Work;
 use catalogue::Catalogue;
 use commands::Task;
+use josie_search::SearchRoom;
 use lake_model::{Keys, Policy};
 use no_memory::NoMemory;
 use run_record::{Reply, RunRecord};
@@ -83,7 +84,7 @@ fn reply_at_pin(alloc: Global, keys: Keys, pin: Pin, work: &Work<'_>) -> Reply
     ensures { (limits : Counts) (journal : List Entry) → IsPinOf journal pin → (denied : Bool) × (reply_of result ≡ reply_or_denied denied (answer_to (rules_with keys limits) (work_of work.now).task journal journal)) }
 {
     match work {
-        Work::Given(command) => finish(alloc, keys, pin, command.task()),
+        Work::Given(command) => finish(alloc, keys, pin, command.task(), &mut SearchRoom::new()),
         Work::Merge { .. } => unreachable!(),
     }
 }
@@ -116,7 +117,7 @@ fn list_now(alloc: Global, catalogue: &Catalogue, keys: Keys) -> Reply
     ensures { (denied : Bool) × (reply_of result ≡ reply_or_denied denied (tables_reply catalogue.now.journal)) }
 {
     match catalogue.pin() {
-        Ok(pin) => finish(alloc, keys, pin, &Task::Tables),
+        Ok(pin) => finish(alloc, keys, pin, &Task::Tables, &mut SearchRoom::new()),
         Err(NoMemory) => Reply::NoMemory,
     }
 }

@@ -11,6 +11,7 @@ mod searching;
 
 pub use answering::{Held, begin, reply_now, reply_when_held};
 pub use dropping::reply_to_drop;
+pub use josie_search::SearchRoom;
 pub use loading::{Loadable, make_table, make_table_of_file, reply_to_load};
 pub use merging::{Planned, plan_pinned};
 pub use past::search_past;

@@ -18,7 +18,7 @@ use catalogue::Catalogue;
 use column_set::{KeptRows, Keys, QuerySet};
 use commands::Body;
 use cost_model::Profile;
-use josie_search::prepare;
+use josie_search::{SearchRoom, prepare};
 use no_memory::NoMemory;
 use run_record::Reply;
 use segment_core::Pin;
@@ -41,8 +41,9 @@ fn rows_at(alloc: Global, pin: &Pin, query: &QuerySet, k: u32) -> Result<KeptRow
     requires high { k ≤ 10000 }
     ensures { IfOk result (λ rows. rows ≡ answer (live_of pin.now.parts) query.now k None) }
 {
-    let prepared = prepare(alloc, pin.looks(alloc), query, k, None)?;
-    prepared.run(&Profile).rows.keep_all(alloc)
+    let prepared = prepare(alloc, pin.looks(alloc), query, k, None, SearchRoom::new())?;
+    let (answer, _room) = prepared.run(&Profile);
+    answer.rows.keep_all(alloc)
 }
 
 /// Answers a search of an earlier position, the one after the first `asked` entries, from a timeline that has taken the

@@ -18,11 +18,12 @@ use column_set::{Keys, Name, QueryRefused, QuerySet};
 use commands::{Body, Task};
 use contain_search::prepare_contain;
 use cost_model::Profile;
-use josie_search::{Answer, prepare};
+use josie_search::{Answer, SearchRoom, prepare};
 use no_memory::NoMemory;
 use run_record::Reply;
 use segment_core::{ColumnRefused, Layout, Pin};
 use std::alloc::Global;
+use std::mem;
 
 /// Makes the reply to a body that is not a query.
 pub(crate) fn reply_to_query(refused: QueryRefused) -> Reply
@@ -66,20 +67,25 @@ fn found(
 }
 
 // Finds the answer to a query at a pin, without the columns of the excepted table, and states what was read for it.
+// It searches in `room`, which may be empty afterwards if memory runs out.
 fn find(
     alloc: Global,
     pin: &Pin,
     query: &QuerySet,
     k: u32,
     except: Option<&Name>,
+    room: &mut SearchRoom,
 ) -> Result<Reply, NoMemory>
     requires low { 1 ≤ k }
     requires high { k ≤ 10000 }
     ensures { IfOk result (λ reply. reply_of reply ≡ found_at pin.now (query_with k query.now (option_copied except.entry))) }
 {
     let layout = pin.layout(alloc)?;
-    let prepared = prepare(alloc, pin.looks(alloc), query, k, except)?;
-    found(alloc, query, &prepared.run(&Profile), layout)
+    let taken = mem::replace(room, SearchRoom::new());
+    let prepared = prepare(alloc, pin.looks(alloc), query, k, except, taken)?;
+    let (answer, used) = prepared.run(&Profile);
+    *room = used;
+    found(alloc, query, &answer, layout)
 }
 
 // Finds the columns at a pin that hold at least a of b parts of a query, and states what was read for them.
@@ -101,7 +107,7 @@ fn find_holding(
 }
 
 // Makes the reply to a search: the k columns of the live tables that share most keys with the lines of the body.
-fn search(alloc: Global, keys: Keys, pin: &Pin, k: u32, body: &Body) -> Reply
+fn search(alloc: Global, keys: Keys, pin: &Pin, k: u32, body: &Body, room: &mut SearchRoom) -> Reply
     requires low { 1 ≤ k }
     requires high { k ≤ 10000 }
     ensures { (journal : List Entry) → IsPinOf journal pin.now → (denied : Bool) × (reply_of result ≡ reply_or_denied denied (search_answer k (query_read keys body.now) journal)) }
@@ -110,7 +116,7 @@ fn search(alloc: Global, keys: Keys, pin: &Pin, k: u32, body: &Body) -> Reply
         Ok(query) => query,
         Err(refused) => return reply_to_query(refused),
     };
-    match find(alloc, pin, &query, k, None) {
+    match find(alloc, pin, &query, k, None, room) {
         Ok(reply) => reply,
         Err(NoMemory) => Reply::NoMemory,
     }
@@ -136,7 +142,7 @@ fn contain(alloc: Global, keys: Keys, pin: &Pin, a: u32, b: u32, body: &Body) ->
 
 // Makes the reply to a like: the k columns of the other live tables that share most keys with the column at a place of
 // this one.
-fn like(alloc: Global, pin: &Pin, k: u32, name: &Name, place: u32) -> Reply
+fn like(alloc: Global, pin: &Pin, k: u32, name: &Name, place: u32, room: &mut SearchRoom) -> Reply
     requires low { 1 ≤ k }
     requires high { k ≤ 10000 }
     requires place { 1 ≤ place }
@@ -146,7 +152,7 @@ fn like(alloc: Global, pin: &Pin, k: u32, name: &Name, place: u32) -> Reply
         Ok(query) => query,
         Err(refused) => return reply_to_column(refused, name, place, pin.at()),
     };
-    match find(alloc, pin, &query, k, Some(name)) {
+    match find(alloc, pin, &query, k, Some(name), room) {
         Ok(reply) => reply,
         Err(NoMemory) => Reply::NoMemory,
     }
@@ -166,8 +172,9 @@ fn list(alloc: Global, pin: &Pin) -> Reply
 }
 
 /// Answers a search, a like, a contain or a request for the live tables at a pin. The reply is the one at the journal
-/// whose version the pin holds, or that memory ran out.
-pub fn finish(alloc: Global, keys: Keys, pin: Pin, task: &Task) -> Reply
+/// whose version the pin holds, or that memory ran out. A search or a like takes the memory of `room`, which then serves
+/// the next one; it makes no difference to the reply.
+pub fn finish(alloc: Global, keys: Keys, pin: Pin, task: &Task, room: &mut SearchRoom) -> Reply
     requires asks { is_update_task (task_of task.now) ≡ false }
     requires merges { merge_policy (task_of task.now) ≡ None }
     requires present { is_past (task_of task.now) ≡ false }
@@ -175,8 +182,8 @@ pub fn finish(alloc: Global, keys: Keys, pin: Pin, task: &Task) -> Reply
     ensures { (limits : Counts) (journal : List Entry) → IsPinOf journal pin → (denied : Bool) × (reply_of result ≡ reply_or_denied denied (answer_to (rules_with keys limits) (task_of task.now) journal journal)) }
 {
     match task {
-        Task::Search { k, body } => search(alloc, keys, &pin, *k, body),
-        Task::Like { k, name, place } => like(alloc, &pin, *k, name, *place),
+        Task::Search { k, body } => search(alloc, keys, &pin, *k, body, room),
+        Task::Like { k, name, place } => like(alloc, &pin, *k, name, *place, room),
         Task::Contain { a, b, body } => contain(alloc, keys, &pin, *a, *b, body),
         Task::Tables => list(alloc, &pin),
         Task::Load { .. }

@@ -11,9 +11,11 @@ mod next;
 mod offer;
 mod part;
 mod query;
+mod room;
 mod row;
 mod search;
 mod sure;
 
 pub use part_columns::Answer;
+pub use room::SearchRoom;
 pub use search::{Prepared, prepare};

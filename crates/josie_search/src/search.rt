@@ -6,14 +6,14 @@ ghost use Rattle.search_model.specs.Looks.{log};
 ghost use Rattle.segment_core.specs.Versions.{live_of};
 
 use crate::asked::{clear, fill, set_for};
-use crate::candidates::Candidates;
 use crate::cost::sum_costs;
 use crate::part::search_part;
 use crate::query::Asked;
+use crate::room::{SearchRoom, Seats};
 use column_set::{Name, QuerySet};
 use cost_model::Chooser;
 use no_memory::NoMemory;
-use part_columns::{Answer, Columns, most_columns, most_probes};
+use part_columns::{Answer, most_columns, most_probes};
 use segment_core::{HashedQuery, Looks};
 use std::alloc::Global;
 use std::marker::Model;
@@ -29,37 +29,38 @@ pub struct Prepared<'a, 'q> {
     set: Option<TokenSet>,
     /// Room for what it costs to read the first lists of a part.
     sums: Vec<u64>,
-    columns: Columns,
-    candidates: Candidates,
+    seats: Seats,
     top: TopK<'a>,
 }
 
 impl<'a, 'q> Model for Prepared<'a, 'q> {
     ghost use Rattle.std.specs.Prelude.{◌≡◌, ◌<◌, [], length, map, vec_capacity, IfSome};
-    ghost use Rattle.josie_search.specs.Ready.{IsReady, IsReadySet};
+    ghost use Rattle.josie_search.specs.Ready.{IsFree, IsReady, IsReadySet};
     ghost use Rattle.josie_search.specs.Search.{search_with, SearchOf};
 
     ghost Value = { SearchOf };
 
     ghost view = { λ p. search_with p.looks.version p.query };
 
-    ghost invariant = { λ p. (p.looks.log ≡ []) × IsReady p.looks.version.parts p.query p.looks.spare (map (λ tokens. tokens.items) p.tokens.items) p.columns p.candidates p.top × (length p.query.keys < vec_capacity p.sums) × IfSome p.set (λ set. IsReadySet set (map (λ tokens. tokens.items) p.tokens.items)) };
+    ghost invariant = { λ p. (p.looks.log ≡ []) × IsReady p.looks.version.parts p.query p.looks.spare (map (λ tokens. tokens.items) p.tokens.items) p.seats.columns p.top × IsFree p.seats.most p.seats.columns p.seats.candidates × (length p.query.keys < vec_capacity p.sums) × IfSome p.set (λ set. IsReadySet set (map (λ tokens. tokens.items) p.tokens.items)) };
 }
 
-/// Prepares a search, and takes all that it needs: the query's tokens of each part, and a bit for each token of a part,
-/// unless that is much for so few keys; room for a sum for each key of the query; a tally, a mark and room for four
-/// candidates for each column of the part with the most columns; the first k rows; and room in the log for as many looks
-/// as the search can take. In each part these are one for each list of the query's tokens, plus one for each of their
-/// postings or one for each column of the part, whichever are fewer. The search leaves out the columns of the table
-/// named `except`, if any.
+/// Prepares a search, and takes all that it needs. It takes anew: the query's tokens of each part, and a bit for each
+/// token of a part, unless that is much for so few keys; room for a sum for each key of the query; the first k rows; and
+/// room in the log for as many looks as the search can take. In each part these are one for each list of the query's
+/// tokens, plus one for each of their postings or one for each column of the part, whichever are fewer. It uses what
+/// `room` has: a tally, a mark and room for four candidates for each column of the part with the most columns; if the
+/// room has fewer columns, it is let go and these are taken anew. The search leaves out the columns of the table named
+/// `except`, if any.
 ///
-/// Returns `Err(NoMemory)` only if memory runs out; running the search takes no memory.
+/// Returns `Err(NoMemory)` only if memory runs out, and the room is then lost; running the search takes no memory.
 pub fn prepare<'a, 'q>(
     alloc: Global,
     mut looks: Looks<'a>,
     query: &'q QuerySet,
     k: u32,
     except: Option<&'q Name>,
+    room: SearchRoom,
 ) -> Result<Prepared<'a, 'q>, NoMemory>
     requires log { looks.log ≡ [] }
     requires low { 1 ≤ k }
@@ -68,9 +69,7 @@ pub fn prepare<'a, 'q>(
 {
     let tokens = ask_parts(alloc, &mut looks, query)?;
     let set = set_for(alloc, query.len(), &tokens)?;
-    let most = most_columns(&looks);
-    let columns = Columns::new(alloc, most)?;
-    let candidates = Candidates::new(alloc, most)?;
+    let seats = room.into_seats(alloc, most_columns(&looks))?;
     let top = TopK::new(alloc, k)?;
     // A part has at most as many tokens of the query as the query has keys.
     let sums = Vec::with_capacity(alloc, query.len() as usize + 1)?;
@@ -86,8 +85,7 @@ pub fn prepare<'a, 'q>(
         tokens,
         set,
         sums,
-        columns,
-        candidates,
+        seats,
         top,
     })
 }
@@ -115,20 +113,20 @@ fn ask_parts(
 }
 
 impl<'a, 'q> Prepared<'a, 'q> {
-    /// Returns the answer to the query: of the columns of the live tables that share a key with it, the k that share
-    /// the most (Zhu, Deng, Nargesian and Miller, JOSIE, SIGMOD 2019, problem statement), or all if there are fewer.
-    /// They are ordered by greater overlap, then by the bytes of the table's name, then by those of the column's name,
-    /// and then by place, which also settles ties for the last row. The columns of the excepted table, if any, are left
-    /// out.
+    /// Returns the answer to the query, and the room for the next search. The rows are, of the columns of the live
+    /// tables that share a key with the query, the k that share the most (Zhu, Deng, Nargesian and Miller, JOSIE,
+    /// SIGMOD 2019, problem statement), or all if there are fewer. They are ordered by greater overlap, then by the
+    /// bytes of the table's name, then by those of the column's name, and then by place, which also settles ties for
+    /// the last row. The columns of the excepted table, if any, are left out.
     ///
     /// The answer is the same for every chooser; the chooser decides which lists are read and which columns are probed
     /// for it. No list is read and no column is probed twice, and no list is read and no column probed in a part once
     /// its bounds show that none of its columns can come before the k-th known row. It takes no memory, and cannot
     /// fail.
-    pub fn run<C: Chooser>(self, chooser: &C) -> Answer<'a>
-        ensures rows { result.rows ≡ answer_of (live_of self.entry.version.parts) self.entry.query }
-        ensures log { result.looks.log ≡ log (C.says chooser.now) self.entry.query self.entry.version.parts }
-        ensures version { result.looks.version ≡ self.entry.version }
+    pub fn run<C: Chooser>(self, chooser: &C) -> (Answer<'a>, SearchRoom)
+        ensures rows { result.0.rows ≡ answer_of (live_of self.entry.version.parts) self.entry.query }
+        ensures log { result.0.looks.log ≡ log (C.says chooser.now) self.entry.query self.entry.version.parts }
+        ensures version { result.0.looks.version ≡ self.entry.version }
     {
         let Prepared {
             mut looks,
@@ -136,12 +134,10 @@ impl<'a, 'q> Prepared<'a, 'q> {
             tokens,
             mut set,
             mut sums,
-            mut columns,
-            mut candidates,
+            mut seats,
             mut top,
         } = self;
         for part in 0..looks.parts() {
-            columns.clear();
             let asked: &[u32] = &tokens[part as usize];
             let order = looks.order(part);
             sum_costs(&looks, part, asked, &mut sums);
@@ -153,17 +149,19 @@ impl<'a, 'q> Prepared<'a, 'q> {
                 asked,
                 set.as_ref(),
                 &sums,
-                &mut columns,
-                &mut candidates,
+                &mut seats.columns,
+                &mut seats.candidates,
                 order,
                 &mut top,
                 chooser,
             );
+            seats.clear();
             clear(&mut set, asked);
         }
-        Answer {
+        let answer = Answer {
             rows: top.into_rows(),
             looks,
-        }
+        };
+        (answer, seats.into_room())
     }
 }

@@ -15,7 +15,7 @@ ghost use Rattle.lake_desk.specs.Answering.{IsAnswered};
 use crate::changing::{drop_table, load, replace};
 use asof_search::Timeline;
 use column_set::{Keys, Name};
-use command_replies::{Loadable, finish, make_table, make_table_of_file, search_past};
+use command_replies::{Loadable, SearchRoom, finish, make_table, make_table_of_file, search_past};
 use commands::{Body, FileBody, Task};
 use lake::{Bounds, Lake, Pass};
 use lake_io::{Gate, Point};
@@ -107,13 +107,14 @@ pub(crate) fn drop_named<B: Bounds, R: Wait>(
 }
 
 /// Answers a search, a like, a contain or a request for the live tables, at a pin of the newest version. The lock is
-/// free from the pin on.
+/// free from the pin on. A search or a like takes the memory of `room`, which then serves the next one.
 pub(crate) fn ask<B: Bounds, R: Wait, G: Gate>(
     rt: &R,
     alloc: Global,
     keys: Keys,
     lake: &Lake<B>,
     pass: &mut Pass<B>,
+    room: &mut SearchRoom,
     number: u64,
     task: &Task,
     gate: &G,
@@ -132,7 +133,7 @@ pub(crate) fn ask<B: Bounds, R: Wait, G: Gate>(
         return Reply::NoMemory;
     };
     gate.at(pass.caller(), number, Point::Pinned);
-    finish(alloc, keys, pin, task)
+    finish(alloc, keys, pin, task, room)
 }
 
 /// Answers a search of an earlier position, at the newest one. The timeline takes the entries of the journal that it

@@ -17,6 +17,7 @@ use crate::merging::merge_parts;
 use asof_search::Timeline;
 use catalogue::Entry;
 use column_set::Keys;
+use command_replies::SearchRoom;
 use commands::Task;
 use lake::{Bounds, Lake, Note, Pass};
 use lake_io::{Gate, Point};
@@ -32,7 +33,8 @@ use std::thread::Threads;
 /// whole lake. Contracts see it as the caller's pass, which holds no turn.
 ///
 /// Its timeline takes what the caller has seen of the lake's journal, but only when an earlier position is asked for;
-/// until then it holds no memory.
+/// until then it holds no memory. Its room is what the caller's searches share: the first takes the memory, and the next
+/// ones use it again.
 #[derive(Drop)]
 pub struct LakeDesk<'a, B: Bounds> {
     alloc: Global,
@@ -40,6 +42,7 @@ pub struct LakeDesk<'a, B: Bounds> {
     lake: &'a Lake<B>,
     pass: Pass<B>,
     past: Timeline,
+    room: SearchRoom,
 }
 
 impl<'a, B: Bounds> Model for LakeDesk<'a, B> {
@@ -80,6 +83,7 @@ impl<'a, B: Bounds> LakeDesk<'a, B> {
             lake,
             pass,
             past: past.unwrap_or(Timeline::new(alloc)),
+            room: SearchRoom::new(),
         }
     }
 
@@ -187,6 +191,7 @@ impl<'a, B: Bounds> LakeDesk<'a, B> {
                 keys,
                 lake,
                 &mut self.pass,
+                &mut self.room,
                 number,
                 task,
                 gate,

@@ -3,9 +3,10 @@
 use super::model::{Counted, Part, is_counted, search};
 use column_set::{Name, QuerySet, Row};
 use cost_model::{AlwaysProbe, AlwaysRead, Chooser, Listed, Profile};
-use josie_search::prepare;
+use josie_search::{SearchRoom, prepare};
 use segment_core::Pin;
 use std::alloc::Global;
+use std::mem;
 use std::test::Fail;
 
 // The answers of eight choosers.
@@ -43,14 +44,21 @@ pub(crate) struct Laid<'l> {
 }
 
 impl Laid<'_> {
-    // Compares the log with that of the plain model for this chooser, and the rows with `rows`.
-    fn compare<C: Chooser>(&self, alloc: Global, chooser: &C) -> Result<(), Fail> {
+    // Searches in `room`. Compares the log with that of the plain model for this chooser, and the rows with `rows`.
+    fn compare<C: Chooser>(
+        &self,
+        alloc: Global,
+        room: &mut SearchRoom,
+        chooser: &C,
+    ) -> Result<(), Fail> {
         let k = self.k;
         if k == 0 || k > 10_000 {
             return Err(Fail::from("no such number of rows"));
         }
         let looks = self.pin.looks(alloc);
-        let answer = prepare(alloc, looks, self.query, k, self.except)?.run(chooser);
+        let taken = mem::replace(room, SearchRoom::new());
+        let (answer, used) = prepare(alloc, looks, self.query, k, self.except, taken)?.run(chooser);
+        *room = used;
         let (_known, log) = search(alloc, self.parts, self.letters, k as usize, chooser)?;
         if answer.looks.log() != log.as_slice() {
             return Err(Fail::from("other looks"));
@@ -62,21 +70,21 @@ impl Laid<'_> {
     }
 
     // Does the same with the choosers that follow a list of answers.
-    fn compare_listed(&self, alloc: Global) -> Result<(), Fail> {
+    fn compare_listed(&self, alloc: Global, room: &mut SearchRoom) -> Result<(), Fail> {
         for answers in LISTS {
             if answers.is_empty() {
                 return Err(Fail::from("no answers"));
             }
-            self.compare(alloc, &Listed::new(alloc, answers)?)?;
+            self.compare(alloc, room, &Listed::new(alloc, answers)?)?;
         }
         Ok(())
     }
 
-    /// Does the same with all choosers.
-    pub(crate) fn compare_all(&self, alloc: Global) -> Result<(), Fail> {
-        self.compare(alloc, &Profile)?;
-        self.compare(alloc, &AlwaysRead)?;
-        self.compare(alloc, &AlwaysProbe)?;
-        self.compare_listed(alloc)
+    /// Does the same with all choosers, one after the other in the same room.
+    pub(crate) fn compare_all(&self, alloc: Global, room: &mut SearchRoom) -> Result<(), Fail> {
+        self.compare(alloc, room, &Profile)?;
+        self.compare(alloc, room, &AlwaysRead)?;
+        self.compare(alloc, room, &AlwaysProbe)?;
+        self.compare_listed(alloc, room)
     }
 }

@@ -4,6 +4,7 @@ use super::comparing::Laid;
 use super::model::{Column, Counted, Part, search};
 use crate::making::{empty, load, merge, name};
 use cost_model::AlwaysRead;
+use josie_search::SearchRoom;
 use segment_core::Pin;
 use std::alloc::Global;
 use std::test::Fail;
@@ -104,7 +105,7 @@ fn compare(
         except: Some(&excepted),
         rows: &rows,
     };
-    laid.compare_all(alloc)
+    laid.compare_all(alloc, &mut SearchRoom::new())
 }
 
 // Searches for both columns, for one row, for two and for ten.

@@ -19,17 +19,17 @@ pub loop-part-init : goal.loop-part-init
 loop-part-init g c =
     let query = c.args.self.query in
     let parts = c.args.self.version.parts in
-    let ready : IsReady parts query c.self.inside.looks.spare (map (λ v. v.items) c.self.inside.tokens.items) c.self.inside.columns c.self.inside.candidates c.self.inside.top =
-    subst (λ (s : SearchOf). IsReady s.version.parts s.query c.self.inside.looks.spare (map (λ v. v.items) c.self.inside.tokens.items) c.self.inside.columns c.self.inside.candidates c.self.inside.top) c.self.view_is c.self.invariant.1 in
+    let ready : IsReady parts query c.self.inside.looks.spare (map (λ v. v.items) c.self.inside.tokens.items) c.self.inside.seats.columns c.self.inside.top =
+    subst (λ (s : SearchOf). IsReady s.version.parts s.query c.self.inside.looks.spare (map (λ v. v.items) c.self.inside.tokens.items) c.self.inside.seats.columns c.self.inside.top) c.self.view_is c.self.invariant.1 in
     record {
       end = c.parts-part-end.ensures ∙ ap (λ (s : SearchOf). length s.version.parts) c.self.view_is;
       version = ap (λ (s : SearchOf). s.version) c.self.view_is;
       through = through_none (g.C.Chooser.says c.args.chooser.now) query ready.some (map (searched query) parts) c.self.inside.looks.log c.self.inside.top.rows c.self.invariant.0 (ap (λ (t : FirstRows). t.rows) ready.first);
       k = ap (λ (t : FirstRows). t.k) ready.first;
       wide = ready.wide;
-      kept = ready.kept;
-      sums = subst (λ (s : SearchOf). length s.query.keys < vec_capacity c.self.inside.sums) c.self.view_is c.self.invariant.2;
-      set = c.self.invariant.3;
+      free = c.self.invariant.2;
+      sums = subst (λ (s : SearchOf). length s.query.keys < vec_capacity c.self.inside.sums) c.self.view_is c.self.invariant.3;
+      set = c.self.invariant.4;
       room = ready.room;
     }
 
@@ -140,7 +140,7 @@ loop-part-preserved g c =
           (done.rows ∙ (λ i. best row_cmp (same i).k (c.loop-part.top.rows ++ known_rows (same i) (here i) (run says (same i) c.loop-part.top.rows (here i) start).1)));
       k = done.k ∙ kept.k;
       wide = λ i h. (let w = kept.wide i h in omega (arith, w, done.wide, c.clear.ensures.wide));
-      kept = omega (arith, kept.kept, done.wide, done.kept, c.clear.ensures.wide);
+      free = c.clear.ensures.free;
       sums = omega (arith, kept.sums, c.sum_costs.ensures.room);
       set = ready_again c.loop-part.set c.clear-in-loop-part.new.set _ (c.clear-in-loop-part.ensures.room ∙ c.fill.ensures.room) kept.set c.clear-in-loop-part.ensures.empty;
       room = omega (
