@@ -6,7 +6,7 @@ ghost use Rattle.token_set.specs.Bits.{IsSetOf};
 
 use no_memory::NoMemory;
 use std::alloc::Global;
-use token_set::TokenSet;
+use token_set::{TokenSet, greatest_of};
 
 /// How many tokens a set may have room for, for each key of the query: with a bit for each, to make the set takes less
 /// time than to look up the keys.
@@ -35,17 +35,6 @@ fn greatest(tokens: &[Vec<u32>]) -> u32
     let mut most = 0;
     for list in tokens {
         most = most.max(greatest_of(list));
-    }
-    most
-}
-
-// Returns the greatest of these tokens, or 0 if there is none.
-fn greatest_of(tokens: &[u32]) -> u32
-    ensures { All (λ token. token ≤ result) tokens.now }
-{
-    let mut most = 0;
-    for token in tokens {
-        most = most.max(*token);
     }
     most
 }

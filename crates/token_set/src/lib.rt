@@ -3,7 +3,7 @@
 
 mod tokens;
 
-pub use tokens::TokenSet;
+pub use tokens::{TokenSet, greatest_of};
 
 #[cfg(test)]
 mod tests;
