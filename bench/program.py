@@ -17,4 +17,6 @@ def given_words(about, times, has_beside=False, has_lake=False):
         words.add_argument("--lake", nargs=2, metavar=("LOADS", "SEARCHES"))
     given = words.parse_args()
     given.josie = os.path.abspath(given.josie)
+    # As `./josie` does; a program that is measured beside it gets the same.
+    os.environ.setdefault("GLIBC_TUNABLES", "glibc.malloc.hugetlb=1")
     return given
