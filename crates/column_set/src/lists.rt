@@ -94,23 +94,6 @@ impl KeyLists {
         self.keys.text(from + i)
     }
 
-    /// Returns the number of a key of a list, given by its index, from 0: its index among the keys of all lists.
-    pub fn number(&self, list: u32, i: u32) -> u32
-        requires list { list < length self.now }
-        requires key { i < length (get_or self.now list []) }
-        ensures { get_or (joined self.now) result [] ≡ get_or (get_or self.now list []) i [] }
-    {
-        let (from, _) = bounds(&self.starts, list);
-        from + i
-    }
-
-    /// Returns a key by its number among the keys of all lists, or an empty text past the last.
-    pub fn numbered(&self, number: u32) -> &str
-        ensures { result.now ≡ get_or (joined self.now) number [] }
-    {
-        self.keys.text(number)
-    }
-
     /// Returns whether a list has the key. It walks over the list.
     pub fn has(&self, list: u32, key: &str) -> bool
         requires { list < length self.now }

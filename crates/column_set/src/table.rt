@@ -3,7 +3,7 @@ ghost use Rattle.std.specs.Prelude.{◌≡◌, ◌⊎◌, ◌<◌, ◌≤◌, �
 ghost use Rattle.std.specs.List.{AllByRecursion, IsDistinct};
 ghost use Rattle.lake_model.specs.Records.{column_at, column_count, field_at, places_of, sets_fault, table_of, text_size};
 ghost use Rattle.lake_model.specs.Tables.{column_name, has_key, keys_at, titles_of, titles_with};
-ghost use Rattle.column_set.specs.Columns.{all_keys, HasDistinctKeys, IsSmall};
+ghost use Rattle.column_set.specs.Columns.{HasDistinctKeys, IsSmall};
 
 use crate::keys::{KeyGatherer, MOST_KEYS};
 use crate::lists::KeyLists;
@@ -144,25 +144,6 @@ impl TableSets {
         ensures { result.now ≡ get_or (keys_at self.now place) i [] }
     {
         self.sets.key(place - 1, i)
-    }
-
-    /// Returns the number of a key of the column at a place, counted from 1: the index of the key, from 0, among those of
-    /// all columns, one column after another. The index `i` counts the keys of the column.
-    pub fn key_number(&self, place: u32, i: u32) -> u32
-        requires low { 0 < place }
-        requires high { place ≤ length self.now.columns }
-        requires key { i < length (keys_at self.now place) }
-        ensures { get_or (all_keys self.now) result [] ≡ get_or (keys_at self.now place) i [] }
-    {
-        self.sets.number(place - 1, i)
-    }
-
-    /// Returns a key by its number among those of all columns; past the last key the result is an empty text. It reads
-    /// less memory than [`TableSets::key`].
-    pub fn numbered_key(&self, number: u32) -> &str
-        ensures { result.now ≡ get_or (all_keys self.now) number [] }
-    {
-        self.sets.numbered(number)
     }
 
     /// Returns whether the column at a place, counted from 1, has the key. It walks over the column's keys.

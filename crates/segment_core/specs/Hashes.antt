@@ -6,13 +6,14 @@ use Rattle.std.specs.List.Sorted.{IsPermutation, IsSortedByKey}
 use Rattle.std.specs.Ordering.{nat_cmp}
 use Rattle.lake_model.specs.Texts.{Text}
 use Rattle.lake_model.specs.Tables.{Table}
-use Rattle.column_set.specs.Columns.{all_keys}
 use Rattle.column_set.specs.Hashes.{sip_of}
 use Rattle.search_model.specs.Arrays.{AreArrays, IsAt, key_of, numbers_of, owner_of, pointed, table_at, token_keys}
 use Rattle.search_model.specs.Segment.{Token, segment}
 use Rattle.search_model.specs.declared.Owner.{Owner}
 use Rattle.search_model.specs.declared.Posting.{Posting}
 use Rattle.search_model.specs.declared.TokenAt.{TokenAt}
+use Rattle.text_region.specs.Spans.{IsSpan, text_at}
+use Rattle.text_region.specs.Written.{Written}
 use Rattle.segment_core.specs.declared.hashes.HashedToken.{HashedToken}
 
 -- the low 32 bits of SipHash-1-3
@@ -23,27 +24,46 @@ hash_of key = bit_and (sip_of key) 0xFFFFFFFF
 abbrev pub hash_at : List Token → ℕ → ℕ
 hash_at tokens n = hash_of (key_of tokens n)
 
--- a hash, the number of a token, and where its key is
-abbrev pub hashed_from : ℕ → ℕ → ℕ → ℕ → HashedToken
-hashed_from hash token table number = record { hash = hash; token = token; table = table; number = number }
+-- a token of a part with its key, and the hash of the key
+pub record KeyedToken : Type 0 where
+  pub hash : ℕ
+  pub token : ℕ
+  pub key : Text
 
--- the key that is there
-abbrev pub key_there : List Table → HashedToken → Text
-key_there tables entry = get_or (all_keys (table_at tables entry.table)) entry.number []
+abbrev pub keyed_from : ℕ → ℕ → Text → KeyedToken
+keyed_from hash token key = record { hash = hash; token = token; key = key }
+
+-- a token whose key is in the region
+abbrev pub keyed_in : Written → HashedToken → KeyedToken
+keyed_in keys entry = keyed_from entry.hash entry.token (text_at keys entry.key)
+
+-- tokens whose keys are in the region
+abbrev pub all_keyed : Written → List HashedToken → List KeyedToken
+all_keyed keys entries = map (keyed_in keys) entries
+
+-- the key of each entry is in the region
+abbrev pub AreKeyed : Written → List HashedToken → Type 0
+AreKeyed keys entries = All (λ entry. IsSpan keys entry.key) entries
+
+-- the token at an index
+abbrev pub keyed_at : List KeyedToken → ℕ → KeyedToken
+keyed_at order i = get_or order i (keyed_from 0 0 [])
 
 -- what such tokens are sorted by
-abbrev pub sorted_by : List Table → HashedToken → List ℕ
-sorted_by tables entry = entry.hash ∷ key_there tables entry
+abbrev pub sorted_by : KeyedToken → List ℕ
+sorted_by entry = entry.hash ∷ entry.key
 
-abbrev pub token_hash : HashedToken → ℕ
+abbrev pub token_hash : KeyedToken → ℕ
 token_hash entry = entry.hash
 
-abbrev pub token_number : HashedToken → ℕ
+abbrev pub token_number : KeyedToken → ℕ
 token_number entry = entry.token
 
--- it is one of these
-abbrev pub IsOneOf : List HashedToken → HashedToken → Type 0
-IsOneOf order entry = (i : ℕ) × (i < length order) × (get_or order i entry ≡ entry)
+abbrev pub entry_hash : HashedToken → ℕ
+entry_hash entry = entry.hash
+
+abbrev pub entry_number : HashedToken → ℕ
+entry_number entry = entry.token
 
 -- of the first `count` hashes, those before this index are lower than the given one, and the others are not
 pub record IsSplitIn (count : ℕ) (entries : List HashedToken) (hash at : ℕ) : Type 0 where
@@ -54,16 +74,19 @@ pub record IsSplitIn (count : ℕ) (entries : List HashedToken) (hash at : ℕ) 
 abbrev pub IsSplit : List HashedToken → ℕ → ℕ → Type 0
 IsSplit entries hash at = IsSplitIn (length entries) entries hash at
 
--- a token of the segment of these tables, with the hash of its key and where its key is
-pub record IsHashed (tables : List Table) (entry : HashedToken) : Type 0 where
-  pub there : entry.token < length (segment tables).tokens
-  pub hash : entry.hash ≡ hash_at (segment tables).tokens entry.token
-  pub key : key_there tables entry ≡ key_of (segment tables).tokens entry.token
+-- tokens with the hashes of their keys, sorted by these and then by the bytes of the keys
+pub record AreInOrder (order : List KeyedToken) : Type 0 where
+  pub hashes : All (λ entry. entry.hash ≡ hash_of entry.key) order
+  pub rising : IsSortedByKey sorted_by (slice_cmp nat_cmp) order
 
--- all tokens of the segment of these tables, each once, by the hashes of their keys and then by their keys
-pub record IsByHash (tables : List Table) (order : List HashedToken) : Type 0 where
+-- a token of the segment of these tables, with its key
+pub record IsHashed (tables : List Table) (entry : KeyedToken) : Type 0 where
+  pub there : entry.token < length (segment tables).tokens
+  pub key : entry.key ≡ key_of (segment tables).tokens entry.token
+
+-- all tokens of the segment of these tables, each once
+pub record IsByHash (tables : List Table) (order : List KeyedToken) : Type 0 where
   pub hashed : All (IsHashed tables) order
-  pub rising : IsSortedByKey (sorted_by tables) (slice_cmp nat_cmp) order
   pub same : IsPermutation (numbers_of (segment tables).tokens) (map token_number order)
 
 -- where the columns are, and where the keys of the tokens are
@@ -74,7 +97,7 @@ pub record AreKeys (tables : List Table) (owners : List Owner) (tokens : List To
 
 -- The arrays that a segment keeps: those of its tables, with the order of the tokens by hash in place of that by key and
 -- of the places at which their keys are.
-pub record AreKept (tables : List Table) (owners : List Owner) (by_hash : List HashedToken) (list_starts : List ℕ) (postings : List Posting) (set_starts set_tokens : List ℕ) : Type 0 where
+pub record AreKept (tables : List Table) (owners : List Owner) (by_hash : List KeyedToken) (list_starts : List ℕ) (postings : List Posting) (set_starts set_tokens : List ℕ) : Type 0 where
   pub tokens : List TokenAt
   pub by_key : List ℕ
   pub arrays : AreArrays tables owners tokens by_key list_starts postings set_starts set_tokens

@@ -1,5 +1,5 @@
 //! The tokens of a segment in the order of the hashes of their keys.
-ghost use Rattle.std.specs.Prelude.{◌≡◌, ◌∷◌, ◌<◌, ◌^◌, length, map, IfNone, IfOk, IfSome};
+ghost use Rattle.std.specs.Prelude.{◌≡◌, ◌∷◌, ◌<◌, ◌^◌, ℕ, length, map, IfNone, IfOk, IfSome};
 ghost use Rattle.std.specs.Cmp.Lexicographic.{slice_cmp};
 ghost use Rattle.std.specs.List.{All};
 ghost use Rattle.std.specs.List.Sorted.{IsNonDecreasingBy};
@@ -7,7 +7,8 @@ ghost use Rattle.std.specs.Ordering.{nat_cmp};
 ghost use Rattle.search_model.specs.Arrays.{numbers_of, owner_of, pointed, IsAt};
 ghost use Rattle.search_model.specs.Segment.{segment};
 ghost use Rattle.hash_directory.specs.Buckets.{IsNear};
-ghost use Rattle.segment_core.specs.Hashes.{hash_of, key_there, sorted_by, token_hash, token_number, AreKeys, IsByHash, IsHashed, IsOneOf, IsSplit};
+ghost use Rattle.text_region.specs.Spans.{text_at};
+ghost use Rattle.segment_core.specs.Hashes.{all_keyed, entry_hash, entry_number, hash_of, keyed_at, keyed_from, keyed_in, sorted_by, token_hash, AreKeyed, AreKeys, IsByHash, IsHashed, IsSplit};
 
 use column_set::{SharedTable, sip_hash};
 use hash_directory::{HashDirectory, Near};
@@ -16,48 +17,72 @@ use search_model::{Owner, TokenAt};
 use std::alloc::Global;
 use std::cmp::Ordering;
 use std::marker::Model;
+use text_region::{Region, Span};
 
 /// The most entries of a bucket of which the lower ones are counted to find a hash. Few buckets have more than ten.
 const MOST_COUNTED: usize = 16;
 
-/// A token of a segment, with the hash of its key and where the key is: the index of a table, and the number of the key
-/// among those of all columns of that table. To read the key from there takes fewer steps than by its column.
+/// A token of a part, with the hash of its key and where the key is in the region of the keys.
 #[derive(Clone, Copy)]
-pub struct HashedToken {
-    pub hash: u32,
-    pub token: u32,
-    pub table: u32,
-    pub number: u32,
+struct HashedToken {
+    hash: u32,
+    token: u32,
+    key: Span,
 }
 
-/// The tokens of a segment, sorted by the hashes of their keys and then by the bytes of the keys, with a directory of
-/// the hashes. Its model is the list of the tokens.
+/// The tokens of a part with their keys, sorted by the hashes of the keys and then by their bytes, with a directory of
+/// the hashes. It has its own copy of each key: in its table, a key would lie behind two more reads, which mostly are
+/// cache misses. Its model is the list of the tokens, each with its key and the hash of that.
 #[derive(Drop)]
 pub struct HashOrder {
     entries: Vec<HashedToken>,
+    keys: Region,
     directory: HashDirectory,
 }
 
 impl Model for HashOrder {
     ghost use Rattle.std.specs.Prelude.{List, map};
-    ghost use Rattle.std.specs.List.Sorted.{IsNonDecreasingBy};
     ghost use Rattle.hash_directory.specs.Buckets.{IsDirectoryOf};
-    ghost use Rattle.segment_core.specs.Hashes.{token_hash};
-    ghost use Rattle.segment_core.specs.declared.hashes.HashedToken.{HashedToken as HashedOf};
+    ghost use Rattle.segment_core.specs.Hashes.{all_keyed, entry_hash, AreInOrder, AreKeyed, KeyedToken};
 
-    ghost Value = { List HashedOf };
+    ghost Value = { List KeyedToken };
 
-    ghost view = { λ o. o.entries.items };
+    ghost view = { λ o. all_keyed o.keys o.entries.items };
 
-    ghost invariant = { λ o. IsDirectoryOf (map token_hash o.entries.items) o.directory × IsNonDecreasingBy token_hash o.entries.items };
+    ghost invariant = { λ o. AreKeyed o.keys o.entries.items × AreInOrder (all_keyed o.keys o.entries.items) × IsDirectoryOf (map entry_hash o.entries.items) o.directory };
 }
 
 impl HashOrder {
-    /// Returns the tokens, in order.
-    pub(crate) fn entries(&self) -> &[HashedToken]
-        ensures { result.now ≡ self.now }
+    /// Returns the number of tokens.
+    pub(crate) fn len(&self) -> usize
+        ensures { result ≡ length self.now }
     {
-        &self.entries
+        self.entries.len()
+    }
+
+    /// Returns the token at an index, from 0.
+    pub(crate) fn token(&self, at: usize) -> u32
+        requires { at < length self.now }
+        ensures { result ≡ (keyed_at self.now at).token }
+    {
+        self.entries[at].token
+    }
+
+    /// Returns the hash of the key of the token at an index, from 0.
+    pub(crate) fn hash(&self, at: usize) -> u32
+        requires { at < length self.now }
+        ensures value { result ≡ (keyed_at self.now at).hash }
+        ensures own { result ≡ hash_of (keyed_at self.now at).key }
+    {
+        self.entries[at].hash
+    }
+
+    /// Returns the key of the token at an index, from 0.
+    pub(crate) fn key(&self, at: usize) -> &str
+        requires { at < length self.now }
+        ensures { result.now ≡ (keyed_at self.now at).key }
+    {
+        self.keys.text(self.entries[at].key)
     }
 
     /// Returns the range of the indices of the tokens whose keys may have the hash. It usually is
@@ -68,36 +93,48 @@ impl HashOrder {
         self.directory.near(hash)
     }
 
-    /// Returns the first token whose key has the hash, or `None`, given the range near the hash. It
-    /// reads no text: usually a few numbers, and never more than sixteen or the logarithm of the
-    /// number of tokens.
-    pub(crate) fn first_in(&self, near: Near, hash: u32) -> Option<HashedToken>
+    /// Returns the index of the first token whose key has the hash, or `None`, given the range near the hash. It reads
+    /// no text: usually a few numbers, and never more than sixteen or the logarithm of the number of tokens.
+    pub(crate) fn first_in(&self, near: Near, hash: u32) -> Option<usize>
         requires { IsNear (map token_hash self.now) hash near.from near.to }
-        ensures there { IfSome result (λ entry. IsOneOf self.now entry) }
-        ensures hash { IfSome result (λ entry. entry.hash ≡ hash) }
+        ensures there { IfSome result (λ at. at < length self.now) }
+        ensures hash { IfSome result (λ at. (keyed_at self.now at).hash ≡ hash) }
         ensures lacking { IfNone result (All (λ entry. entry.hash ≡ hash → ⊥) self.now) }
     {
-        first_of(&self.entries[near.from..near.to], hash)
+        let at = near.from + split_of(&self.entries[near.from..near.to], hash);
+        if at >= near.to || self.entries[at].hash != hash {
+            return None;
+        }
+        Some(at)
+    }
+
+    /// Returns the token of this key, which has the hash, or `None`. It takes a binary search, and compares texts
+    /// wherever the hashes are equal.
+    pub(crate) fn search(&self, hash: u32, key: &str) -> Option<u32>
+        ensures found { IfSome result (λ token. (at : ℕ) × (at < length self.now) × (keyed_at self.now at ≡ keyed_from hash token key.now)) }
+        ensures lacking { IfNone result (All (λ entry. sorted_by entry ≡ hash ∷ key.now → ⊥) self.now) }
+    {
+        let keys = &self.keys;
+        match (self.entries).binary_search_by(|entry| hash_order(keys, *entry, hash, key)) {
+            Ok(at) => Some(self.entries[at].token),
+            Err(_) => None,
+        }
     }
 }
 
-// Returns the first entry that has the hash.
-fn first_of(entries: &[HashedToken], hash: u32) -> Option<HashedToken>
-    requires { IsNonDecreasingBy token_hash entries.now }
-    ensures there { IfSome result (λ entry. IsOneOf entries.now entry) }
-    ensures hash { IfSome result (λ entry. entry.hash ≡ hash) }
-    ensures lacking { IfNone result (All (λ entry. entry.hash ≡ hash → ⊥) entries.now) }
+// Compares a token with a key: by their hashes, and then by the bytes of the keys.
+fn hash_order(keys: &Region, entry: HashedToken, hash: u32, key: &str) -> Ordering
+    ensures { result ≡ slice_cmp nat_cmp (sorted_by (keyed_in keys.now entry)) (hash ∷ key.now) }
 {
-    let at = split_of(entries, hash);
-    if at >= entries.len() || entries[at].hash != hash {
-        return None;
+    match entry.hash.cmp(&hash) {
+        Ordering::Equal => keys.bytes(entry.key).cmp(key.as_bytes()),
+        unequal => unequal,
     }
-    Some(entries[at])
 }
 
 // Returns the index before which all hashes are lower than the given one, and from which on none is.
 fn split_of(entries: &[HashedToken], hash: u32) -> usize
-    requires { IsNonDecreasingBy token_hash entries.now }
+    requires { IsNonDecreasingBy entry_hash entries.now }
     ensures { IsSplit entries.now hash result }
 {
     if entries.len() > MOST_COUNTED {
@@ -110,7 +147,7 @@ fn split_of(entries: &[HashedToken], hash: u32) -> usize
 // Returns the same by counting the lower hashes. Of the few entries of a bucket, this takes less time than a walk that
 // ends at the hash, or than a binary search: no branch depends on what was read, so the next look-up does not wait.
 fn count_lower(entries: &[HashedToken], hash: u32) -> usize
-    requires { IsNonDecreasingBy token_hash entries.now }
+    requires { IsNonDecreasingBy entry_hash entries.now }
     ensures { IsSplit entries.now hash result }
 {
     let mut lower = 0;
@@ -124,15 +161,15 @@ fn count_lower(entries: &[HashedToken], hash: u32) -> usize
 
 // Returns the same by a binary search, since it is easy to choose many keys whose hashes are in one bucket.
 fn split_by_halves(entries: &[HashedToken], hash: u32) -> usize
-    requires { IsNonDecreasingBy token_hash entries.now }
+    requires { IsNonDecreasingBy entry_hash entries.now }
     ensures { IsSplit entries.now hash result }
 {
     entries.partition_point(|entry| entry.hash < hash)
 }
 
-/// Returns the tokens in the order of the hashes of their keys. It reads each key once and sorts one number for each
-/// token. It takes 22 to 24 bytes for each token, of which 18 to 20 are kept. Keys are compared only if their hashes
-/// are equal.
+/// Returns the tokens in the order of the hashes of their keys. It reads each key once, copies it, and sorts one number
+/// for each token. It takes 22 to 24 bytes for each token, of which 18 to 20 are kept, and the bytes of the keys, up to
+/// three times while they are copied. Keys are compared only if their hashes are equal.
 pub fn order_by_hash(
     alloc: Global,
     tables: &[SharedTable],
@@ -143,96 +180,77 @@ pub fn order_by_hash(
     requires few { length tokens.now < 2 ^ 32 }
     ensures { IfOk result (λ order. IsByHash tables.now order) }
 {
-    let entries = sorted_tokens(alloc, tables, owners, tokens)?;
+    let mut keys = Region::new(alloc, 0)?;
+    let mut entries = hashed_tokens(alloc, tables, owners, tokens, &mut keys)?;
+    keys.shrink_to_fit();
+    entries.sort_unstable_by(|a, b| hashed_order(&keys, *a, *b));
     let hashes = hashes_of(alloc, &entries)?;
     let directory = HashDirectory::of(alloc, &hashes)?;
-    Ok(HashOrder { entries, directory })
+    Ok(HashOrder {
+        entries,
+        keys,
+        directory,
+    })
 }
 
-// Returns the tokens in that order, each with the hash of its key.
-fn sorted_tokens(
-    alloc: Global,
-    tables: &[SharedTable],
-    owners: &[Owner],
-    tokens: &[TokenAt],
-) -> Result<Vec<HashedToken>, NoMemory>
-    requires keys { AreKeys tables.now owners.now tokens.now }
-    requires few { length tokens.now < 2 ^ 32 }
-    ensures order { IfOk result (λ hashed. IsByHash tables.now hashed.items) }
-    ensures few { IfOk result (λ hashed. length hashed.items < 2 ^ 32) }
-{
-    let mut hashed = hashed_tokens(alloc, tables, owners, tokens)?;
-    hashed.sort_unstable_by(|a, b| hashed_order(tables, *a, *b));
-    Ok(hashed)
-}
-
-// Returns the tokens in their own order, each with the hash of its key.
+// Returns the tokens in their own order, each with the hash of its key, and puts the keys into the region.
 fn hashed_tokens(
     alloc: Global,
     tables: &[SharedTable],
     owners: &[Owner],
     tokens: &[TokenAt],
+    keys: &mut Region,
 ) -> Result<Vec<HashedToken>, NoMemory>
     requires keys { AreKeys tables.now owners.now tokens.now }
     requires few { length tokens.now < 2 ^ 32 }
-    ensures hashed { IfOk result (λ hashed. All (IsHashed tables.now) hashed.items) }
-    ensures numbers { IfOk result (λ hashed. map token_number hashed.items ≡ numbers_of (segment tables.now).tokens) }
+    ensures keyed { IfOk result (λ hashed. AreKeyed keys.new hashed.items) }
+    ensures hashes { IfOk result (λ hashed. All (λ entry. entry.hash ≡ hash_of (text_at keys.new entry.key)) hashed.items) }
+    ensures hashed { IfOk result (λ hashed. All (IsHashed tables.now) (all_keyed keys.new hashed.items)) }
+    ensures numbers { IfOk result (λ hashed. map entry_number hashed.items ≡ numbers_of (segment tables.now).tokens) }
 {
     let mut hashed = Vec::with_capacity(alloc, tokens.len())?;
     for (token, at) in tokens.iter().enumerate() {
-        hashed.push(hashed_token(tables, owners, token as u32, *at))?;
+        let key = key_at(tables, owners, *at);
+        keys.reserve(key.len())?;
+        hashed.push(HashedToken {
+            hash: hash_key(key),
+            token: token as u32,
+            key: keys.put(key),
+        })?;
     }
     Ok(hashed)
 }
 
-// Returns a token, whose key is at `at`, with the hash of the key.
-fn hashed_token(tables: &[SharedTable], owners: &[Owner], token: u32, at: TokenAt) -> HashedToken
+// Returns the key of a token, which is at `at`.
+fn key_at<'a>(tables: &'a [SharedTable], owners: &[Owner], at: TokenAt) -> &'a str
     requires owned { owners.now ≡ map owner_of (segment tables.now).columns }
     requires there { IsAt tables.now at }
-    ensures token { result.token ≡ token }
-    ensures hash { result.hash ≡ hash_of (pointed tables.now at) }
-    ensures key { key_there tables.now result ≡ pointed tables.now at }
+    ensures { result.now ≡ pointed tables.now at }
 {
     let owner = owners[at.column as usize];
     let table = tables[owner.table as usize].table();
-    let number = table.key_number(owner.place, at.index);
-    HashedToken {
-        hash: hash_key(table.numbered_key(number)),
-        token,
-        table: owner.table,
-        number,
-    }
+    table.key(owner.place, at.index)
 }
 
 // Compares by the hash, then by the key, which is read only if the hashes are equal.
-fn hashed_order(tables: &[SharedTable], a: HashedToken, b: HashedToken) -> Ordering
-    ensures { result ≡ slice_cmp nat_cmp (sorted_by tables.now a) (sorted_by tables.now b) }
+fn hashed_order(keys: &Region, a: HashedToken, b: HashedToken) -> Ordering
+    ensures { result ≡ slice_cmp nat_cmp (sorted_by (keyed_in keys.now a)) (sorted_by (keyed_in keys.now b)) }
 {
     match a.hash.cmp(&b.hash) {
-        Ordering::Equal => key_there(tables, a).cmp(key_there(tables, b)),
+        Ordering::Equal => keys.bytes(a.key).cmp(keys.bytes(b.key)),
         unequal => unequal,
     }
 }
 
 // Returns the hashes of the entries.
 fn hashes_of(alloc: Global, entries: &[HashedToken]) -> Result<Vec<u32>, NoMemory>
-    ensures { IfOk result (λ hashes. hashes.items ≡ map token_hash entries.now) }
+    ensures { IfOk result (λ hashes. hashes.items ≡ map entry_hash entries.now) }
 {
     let mut hashes = Vec::with_capacity(alloc, entries.len())?;
     for entry in entries {
         hashes.push(entry.hash)?;
     }
     Ok(hashes)
-}
-
-/// Returns the key of a token, which is read from where the entry says; if nothing is there, the result is an empty text.
-pub(crate) fn key_there(tables: &[SharedTable], entry: HashedToken) -> &str
-    ensures { result.now ≡ key_there tables.now entry }
-{
-    match tables.get(entry.table as usize) {
-        Some(table) => table.table().numbered_key(entry.number),
-        None => "",
-    }
 }
 
 /// Returns the hash of a key: the low 32 bits of SipHash-1-3 ([`sip_hash`]). How few keys share a hash matters only for

@@ -4,6 +4,7 @@
 
 mod column;
 mod find;
+mod finding;
 mod hashed;
 mod hashes;
 mod layout;
@@ -19,7 +20,7 @@ mod version;
 
 pub use column::ColumnRefused;
 pub use hashed::HashedQuery;
-pub use hashes::{HashOrder, HashedToken, hash_key, order_by_hash};
+pub use hashes::{HashOrder, hash_key, order_by_hash};
 pub use layout::{Layout, Places, TableLines};
 pub use looks::Looks;
 pub use numbers::{Marks, Numbers};

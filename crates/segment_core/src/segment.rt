@@ -1,40 +1,20 @@
 //! The inverted index of a list of tables, in flat arrays.
 ghost use Rattle.std.specs.Prelude.{◌≡◌, ◌⊎◌, ◌+◌, ◌<◌, ◌≤◌, ◌∷◌, ℕ, List, [], drop, get_or, length, map, slice_index, slice_range, IfErr, IfNone, IfOk, IfSome, None, OnOk, Some};
-ghost use Rattle.std.specs.Cmp.Lexicographic.{slice_cmp};
-ghost use Rattle.std.specs.List.Sorted.{IsPermutation};
-ghost use Rattle.std.specs.Ordering.{nat_cmp};
 ghost use Rattle.search_model.specs.Arrays.{key_of, table_at, titled_at, IsToken};
 ghost use Rattle.search_model.specs.Ranks.{AreInverse, AreRanks};
 ghost use Rattle.search_model.specs.Segment.{segment, tokens_in};
-ghost use Rattle.hash_directory.specs.Buckets.{IsNear};
-ghost use Rattle.lake_model.specs.Texts.{Text};
-ghost use Rattle.segment_core.specs.Among.{AreNear};
-ghost use Rattle.segment_core.specs.Hashes.{hash_of, token_hash};
 ghost use Rattle.segment_core.specs.LiveColumn.{fault_in, keys_in};
 
 use crate::column::ColumnRefused;
 use crate::hashed::HashedQuery;
-use crate::hashes::{HashOrder, HashedToken, hash_key, key_there};
+use crate::hashes::HashOrder;
 use crate::order::ColumnOrder;
-use crate::sorting::in_order;
 use column_set::{QuerySet, SharedTable};
-use hash_directory::Near;
 use no_memory::NoMemory;
 use search_model::{Owner, Posting};
 use std::alloc::Global;
-use std::cmp::Ordering as Comparison;
 use std::marker::Model;
 use std::sync::atomic::{AtomicU64, Ordering};
-
-/// The least number of keys of a query whose ranges are all read before the tokens in them.
-const LEAST_IN_PASSES: u32 = 64;
-
-/// A token whose key may be that of a query at an index, from 0: they have the same hash.
-#[derive(Clone, Copy)]
-struct Hit {
-    entry: HashedToken,
-    index: u32,
-}
 
 /// The inverted index of a list of tables. Its columns are those of the tables, numbered from 0 by table and then by
 /// place. Its tokens are the distinct keys of the columns, numbered from 0 by increasing frequency (how many columns
@@ -73,7 +53,7 @@ impl Model for Segment {
 }
 
 impl Segment {
-    ghost use Rattle.segment_core.specs.Hashes.{hash_at, hash_of, key_there, sorted_by, AreKept, IsHashed};
+    ghost use Rattle.segment_core.specs.Hashes.{AreKept};
 
     /// Makes the segment of these tables from its arrays: where each column is; the tokens in the order of their hashes;
     /// the posting lists, one after another, with the index at which each begins, and the end; the columns' tokens in the
@@ -127,52 +107,7 @@ impl Segment {
     pub fn lookup(&self, key: &str) -> Option<u32>
         ensures { IsToken (segment self.now).tokens key.now result }
     {
-        let hash = hash_key(key);
-        let entry = self.first_hashed(hash)?;
-        self.token_at(entry, self.key_there(entry), hash, key)
-    }
-
-    // Returns the first token whose key has the hash, in the order of the keys' bytes.
-    fn first_hashed(&self, hash: u32) -> Option<HashedToken>
-        ensures there { IfSome result (λ entry. IsHashed self.now entry) }
-        ensures lacking { IfNone result ((n : ℕ) → n < length (segment self.now).tokens → hash_at (segment self.now).tokens n ≡ hash → ⊥) }
-    {
-        self.by_hash.first_in(self.by_hash.near(hash), hash)
-    }
-
-    // Returns the key's token, given the first token whose key has the key's hash, and the key of that token.
-    fn token_at(&self, first: HashedToken, first_key: &str, hash: u32, key: &str) -> Option<u32>
-        requires hashed { IsHashed self.now first }
-        requires first { first_key.now ≡ key_there self.now first }
-        requires own { hash ≡ hash_of key.now }
-        ensures { IsToken (segment self.now).tokens key.now result }
-    {
-        if first_key == key {
-            return Some(first.token);
-        }
-        self.lookup_colliding(hash, key)
-    }
-
-    // Returns the key's token if other keys may have its hash, too.
-    fn lookup_colliding(&self, hash: u32, key: &str) -> Option<u32>
-        requires { hash ≡ hash_of key.now }
-        ensures { IsToken (segment self.now).tokens key.now result }
-    {
-        let entries = self.by_hash.entries();
-        match entries.binary_search_by(|entry| self.hash_order(*entry, hash, key)) {
-            Ok(at) => Some(entries[at].token),
-            Err(_) => None,
-        }
-    }
-
-    // Compares a token with a key: by their hashes, and then by the bytes of the keys.
-    fn hash_order(&self, entry: HashedToken, hash: u32, key: &str) -> Comparison
-        ensures { result ≡ slice_cmp nat_cmp (sorted_by self.now entry) (hash ∷ key.now) }
-    {
-        match entry.hash.cmp(&hash) {
-            Comparison::Equal => self.key_there(entry).cmp(key),
-            unequal => unequal,
-        }
+        self.by_hash.lookup(key)
     }
 
     /// Returns how many columns hold the token.
@@ -262,20 +197,6 @@ impl Segment {
         self.meter.load(Ordering::SeqCst)
     }
 
-    // Returns the key of a token, from where the entry says.
-    fn key_there(&self, entry: HashedToken) -> &str
-        ensures { result.now ≡ key_there self.now entry }
-    {
-        key_there(&self.tables, entry)
-    }
-}
-
-impl Segment {
-    ghost use Rattle.std.specs.List.{All};
-    ghost use Rattle.lake_model.specs.Tables.{has_key};
-    ghost use Rattle.segment_core.specs.Among.{found_by, hit_keys, IsHit};
-    ghost use Rattle.segment_core.specs.Hashes.{key_there, IsHashed};
-
     /// Returns the tokens whose keys are the query's, in increasing order. It walks over the smaller of the two: the
     /// tokens or the keys of the query.
     pub(crate) fn tokens_among(
@@ -285,133 +206,7 @@ impl Segment {
     ) -> Result<Vec<u32>, NoMemory>
         ensures { IfOk result (λ tokens. tokens.items ≡ tokens_in (segment self.now).tokens query.now) }
     {
-        if self.by_hash.entries().len() < query.query().len() as usize {
-            self.asked_tokens(alloc, query)
-        } else {
-            self.found_tokens(alloc, query)
-        }
-    }
-
-    // Returns the same by looking up each token's key in the query, in the order in which the tokens are stored by
-    // hash.
-    fn asked_tokens(&self, alloc: Global, query: &HashedQuery<'_>) -> Result<Vec<u32>, NoMemory>
-        ensures { IfOk result (λ tokens. tokens.items ≡ tokens_in (segment self.now).tokens query.now) }
-    {
-        in_order(alloc, self.tokens_asked(alloc, query)?)
-    }
-
-    // Returns the tokens whose keys the query has, by the hashes of the keys.
-    fn tokens_asked(&self, alloc: Global, query: &HashedQuery<'_>) -> Result<Vec<u32>, NoMemory>
-        ensures { IfOk result (λ tokens. IsPermutation (tokens_in (segment self.now).tokens query.now) tokens.items) }
-    {
-        let mut tokens = Vec::new(alloc);
-        for entry in self.by_hash.entries() {
-            if self.is_asked(query, *entry) {
-                tokens.push(entry.token)?;
-            }
-        }
-        Ok(tokens)
-    }
-
-    // Returns whether the query has the key of a token.
-    fn is_asked(&self, query: &HashedQuery<'_>, entry: HashedToken) -> bool
-        requires { IsHashed self.now entry }
-        ensures { result ≡ has_key query.now (key_of (segment self.now).tokens entry.token) }
-    {
-        query.has(entry.hash, self.key_there(entry))
-    }
-
-    // Returns the same by looking up each key of the query among the tokens.
-    fn found_tokens(&self, alloc: Global, query: &HashedQuery<'_>) -> Result<Vec<u32>, NoMemory>
-        ensures { IfOk result (λ tokens. tokens.items ≡ tokens_in (segment self.now).tokens query.now) }
-    {
-        let hits = self.hits(alloc, query)?;
-        let keys = self.keys_of_hits(alloc, &hits)?;
-        in_order(alloc, self.tokens_of_hits(alloc, query, &hits, &keys)?)
-    }
-
-    // Returns, for each key of the query whose hash some token has, the first such token.
-    //
-    // Unless there are few keys, the ranges near all hashes are read first, and then the tokens in these ranges. No key
-    // of a token is read yet: where a key is, is read in a third pass, and the key itself in a fourth. These reads are
-    // cache misses, which overlap as long as nothing else comes between them.
-    fn hits(&self, alloc: Global, query: &HashedQuery<'_>) -> Result<Vec<Hit>, NoMemory>
-        ensures hits { IfOk result (λ hits. All (IsHit self.now query.now) hits.items) }
-        ensures all { IfOk result (λ hits. IsPermutation (tokens_in (segment self.now).tokens query.now) (found_by (segment self.now).tokens (hit_keys query.now hits.items))) }
-    {
-        let ranges = near_each(alloc, &self.by_hash, query)?;
-        let mut hits = Vec::with_capacity(alloc, ranges.len())?;
-        for index in 0..query.query().len() {
-            let hash = query.hash(index);
-            let near = near_of(&self.by_hash, &ranges, index, hash);
-            if let Some(entry) = self.by_hash.first_in(near, hash) {
-                hits.push(Hit { entry, index })?;
-            }
-        }
-        Ok(hits)
-    }
-
-    // Returns the keys of the tokens of these hits.
-    fn keys_of_hits(&self, alloc: Global, hits: &[Hit]) -> Result<Vec<&str>, NoMemory>
-        ensures { IfOk result (λ keys. map (λ key. key.now) keys.items ≡ map (λ hit. key_there self.now hit.entry) hits.now) }
-    {
-        let mut keys = Vec::with_capacity(alloc, hits.len())?;
-        for hit in hits {
-            keys.push(self.key_there(hit.entry))?;
-        }
-        Ok(keys)
-    }
-
-    // Returns the tokens that have the keys of these hits, in order, given the keys of the hits' own tokens.
-    fn tokens_of_hits(
-        &self,
-        alloc: Global,
-        query: &HashedQuery<'_>,
-        hits: &[Hit],
-        keys: &[&str],
-    ) -> Result<Vec<u32>, NoMemory>
-        requires hits { All (IsHit self.now query.now) hits.now }
-        requires keys { map (λ key. key.now) keys.now ≡ map (λ hit. key_there self.now hit.entry) hits.now }
-        ensures { IfOk result (λ tokens. tokens.items ≡ found_by (segment self.now).tokens (hit_keys query.now hits.now)) }
-    {
-        let mut tokens = Vec::with_capacity(alloc, hits.len())?;
-        for (i, hit) in hits.iter().enumerate() {
-            let key = query.query().key(hit.index);
-            if let Some(token) = self.token_at(hit.entry, keys[i], query.hash(hit.index), key) {
-                tokens.push(token)?;
-            }
-        }
-        Ok(tokens)
-    }
-}
-
-// Returns, for each key of the query, the range of the tokens whose keys may have its hash. If the keys are few, it
-// returns no ranges, and takes no memory: a small part usually has none of them.
-fn near_each(
-    alloc: Global,
-    order: &HashOrder,
-    query: &HashedQuery<'_>,
-) -> Result<Vec<Near>, NoMemory>
-    ensures { IfOk result (λ ranges. AreNear order.now query.now ranges.items) }
-{
-    let keys = query.query();
-    if keys.len() < LEAST_IN_PASSES {
-        return Ok(Vec::new(alloc));
-    }
-    let mut ranges = Vec::with_capacity(alloc, keys.len() as usize)?;
-    for index in 0..keys.len() {
-        ranges.push(order.near(query.hash(index)))?;
-    }
-    Ok(ranges)
-}
-
-// Returns the range for the key at an index, which has the hash: from the ranges, if it is there, or from the order.
-fn near_of(order: &HashOrder, ranges: &[Near], index: u32, hash: u32) -> Near
-    ensures { (keys : List Text) → AreNear order.now keys ranges.now → hash ≡ hash_of (get_or keys index []) → IsNear (map token_hash order.now) hash result.from result.to }
-{
-    match ranges.get(index as usize) {
-        Some(near) => *near,
-        None => order.near(hash),
+        self.by_hash.tokens_among(alloc, query)
     }
 }
 

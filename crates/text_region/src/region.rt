@@ -177,4 +177,14 @@ impl Region {
         let start = at.start as usize;
         &self.text.as_str()[start..start + at.len as usize]
     }
+
+    /// Returns the bytes of the text at a span, without copying them. A span of another region may be asked for, too: it
+    /// gives the bytes of this region that lie there, if any.
+    pub fn bytes(&self, at: Span) -> &[u8]
+        ensures { result.now ≡ text_at self.now at }
+    {
+        let bytes = self.text.as_str().as_bytes();
+        let end = (at.start as usize + at.len as usize).min(bytes.len());
+        &bytes[(at.start as usize).min(end)..end]
+    }
 }
