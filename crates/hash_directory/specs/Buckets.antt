@@ -1,5 +1,5 @@
 -- Hashes in buckets: the hashes of a bucket differ only in their last bits.
-use Rattle.std.specs.Prelude.{◌≡◌, ◌-◌, ◌/◌, ◌%◌, ◌^◌, ◌<◌, ◌≤◌, ℕ, Bool, true, List, get_or, length, nat_eq}
+use Rattle.std.specs.Prelude.{◌≡◌, ◌-◌, ◌/◌, ◌%◌, ◌^◌, ◌<◌, ◌≤◌, ◌&&◌, ℕ, Bool, true, List, get_or, length, nat_eq}
 use Rattle.std.specs.Int.{bit_at}
 use Rattle.std.specs.List.{AllByRecursion, AllWithin}
 
@@ -7,7 +7,7 @@ use Rattle.std.specs.List.{AllByRecursion, AllWithin}
 abbrev pub bucket_of : ℕ → ℕ → ℕ
 bucket_of shift hash = hash / 2 ^ shift
 
--- a bit for each bucket, in words of 64
+-- a word of 64 bits for each bucket
 pub record FilterOf : Type 0 where
   pub shift : ℕ
   pub words : List ℕ
@@ -15,13 +15,21 @@ pub record FilterOf : Type 0 where
 abbrev pub filter_with : ℕ → List ℕ → FilterOf
 filter_with shift words = record { shift = shift; words = words }
 
--- whether the bit of a bucket is set; a bucket outside the words counts as set
-abbrev pub is_set : List ℕ → ℕ → Bool
-is_set words bucket = nat_eq (bit_at (get_or words (bucket / 64) (2 ^ 64 - 1)) (bucket % 64)) 1
+-- the word of a hash; one outside the words counts as full
+abbrev pub word_of : FilterOf → ℕ → ℕ
+word_of filter hash = get_or filter.words (bucket_of filter.shift hash) (2 ^ 64 - 1)
+
+-- whether the bit of a word is set whose number is the last six bits of `number`
+abbrev pub is_set : ℕ → ℕ → Bool
+is_set word number = nat_eq (bit_at word (number % 64)) 1
+
+-- whether the three bits of a hash are set
+abbrev pub are_set : ℕ → ℕ → Bool
+are_set word hash = is_set word hash && is_set word (hash / 2 ^ 6) && is_set word (hash / 2 ^ 12)
 
 -- whether the hash may be one of those in the filter
 abbrev pub may_have : FilterOf → ℕ → Bool
-may_have filter hash = is_set filter.words (bucket_of filter.shift hash)
+may_have filter hash = are_set (word_of filter hash) hash
 
 -- the filter denies none of these hashes
 abbrev pub AreIn : FilterOf → List ℕ → Type 0

@@ -19,7 +19,7 @@ pub struct Near {
 /// otherwise the directory gives the indices of the hashes in the same bucket. The buckets cut the range of all hashes
 /// into equal parts, and there are a quarter to half as many of them as hashes. Its model is its arrays.
 ///
-/// It takes 2 to 4 bytes for each hash, and at least 16. Its answers are right whatever the hashes are, but if many are
+/// It takes 2 to 4 bytes for each hash, and at least 24. Its answers are right whatever the hashes are, but if many are
 /// in one bucket, the indices are many.
 #[derive(Drop)]
 pub struct HashDirectory {

@@ -1,14 +1,22 @@
 //! A filter of hashes.
 ghost use Rattle.std.specs.Prelude.{◌≡◌, ◌<◌, ◌^◌, ℕ, IfOk, length, true};
-ghost use Rattle.hash_directory.specs.Buckets.{may_have, AreIn};
+ghost use Rattle.hash_directory.specs.Buckets.{are_set, is_set, may_have, AreIn};
 
 use no_memory::NoMemory;
 use std::alloc::Global;
 use std::marker::Model;
 
-/// A filter that shows of most hashes that are not in a list that they are not, and never denies one that is. The range
-/// of all hashes is cut into equal buckets with one bit each: 8 to 16 buckets for each hash, but at least 64 and at
-/// most 2^32. Its model is the bits.
+/// A filter that shows of most hashes that are not in a list that they are not, and never denies one that is. Its model
+/// is its words.
+///
+/// It is a blocked Bloom filter: Putze, Sanders and Singler, "Cache-, Hash-, and Space-Efficient Bloom Filters" (2007;
+/// ACM Journal of Experimental Algorithmics 14, 2010). The range of all hashes is cut into equal parts with one word of
+/// 64 bits each: a word for each 4 to 8 hashes, and at least two words. Each hash sets three bits of its word, whose
+/// numbers are the last six bits of the hash, the six before them, and the six before those. So a look reads one word.
+///
+/// In a simulation with random hashes, 0.8 to 4 % of the hashes that were not in a list of 8 to 131,071 passed. In a
+/// longer list, the first bits of a hash, which choose its word, are also among those that choose its bits, and more
+/// pass: up to 8 % for lists of up to 16 million hashes, and up to 14 % for longer ones.
 #[derive(Drop)]
 pub struct HashFilter {
     shift: u32,
@@ -27,7 +35,7 @@ impl Model for HashFilter {
 }
 
 impl HashFilter {
-    /// Returns the filter of these hashes. It takes 1 to 2 bytes for each hash, and at least 8.
+    /// Returns the filter of these hashes. It takes 1 to 2 bytes for each hash, and at least 16.
     pub fn of(alloc: Global, hashes: &[u32]) -> Result<HashFilter, NoMemory>
         requires { length hashes.now < 2 ^ 32 }
         ensures { IfOk result (λ filter. AreIn filter hashes.now) }
@@ -43,17 +51,19 @@ impl HashFilter {
     pub fn may_have(&self, hash: u32) -> bool
         ensures { result ≡ may_have self.now hash }
     {
-        let bucket = hash >> self.shift;
-        match self.words.get((bucket / 64) as usize) {
-            Some(word) => (*word >> (bucket % 64)) & 1 == 1,
+        // `&` and not `&&`, so that no branch depends on the bits that were read: the processor could not foresee it.
+        match self.words.get((hash >> self.shift) as usize) {
+            Some(word) => has_bit(*word, hash)
+                & has_bit(*word, hash >> 6)
+                & has_bit(*word, hash >> 12),
             None => true,
         }
     }
 
     // Returns an empty filter with room for `count` hashes.
     fn with_room(alloc: Global, count: u32) -> Result<HashFilter, NoMemory> {
-        let shift = count.leading_zeros().saturating_sub(3).min(26);
-        let words = vec![in alloc; 0; 1usize << (26 - shift)]?;
+        let shift = (count.leading_zeros() + 3).min(31);
+        let words = vec![in alloc; 0; 1usize << (32 - shift)]?;
         Ok(HashFilter { shift, words })
     }
 
@@ -62,10 +72,32 @@ impl HashFilter {
         ensures added { may_have self.new hash ≡ true }
         ensures kept { (other : ℕ) → may_have self.old other ≡ true → may_have self.new other ≡ true }
     {
-        let bucket = hash >> self.shift;
-        let place = (bucket / 64) as usize;
+        let place = (hash >> self.shift) as usize;
         if place < self.words.len() {
-            self.words[place] |= 1 << (bucket % 64);
+            self.words[place] = with_bits(self.words[place], hash);
         }
     }
+}
+
+// Returns whether the bit is set whose number is the last six bits of `number`.
+fn has_bit(word: u64, number: u32) -> bool
+    ensures { result ≡ is_set word number }
+{
+    (word >> (number % 64)) & 1 == 1
+}
+
+// Sets the three bits of a hash.
+fn with_bits(word: u64, hash: u32) -> u64
+    ensures set { are_set result hash ≡ true }
+    ensures kept { (other : ℕ) → are_set word other ≡ true → are_set result other ≡ true }
+{
+    with_bit(with_bit(with_bit(word, hash), hash >> 6), hash >> 12)
+}
+
+// Sets the bit whose number is the last six bits of `number`.
+fn with_bit(word: u64, number: u32) -> u64
+    ensures set { is_set result number ≡ true }
+    ensures kept { (other : ℕ) → is_set word other ≡ true → is_set result other ≡ true }
+{
+    word | 1 << (number % 64)
 }

@@ -1,10 +1,11 @@
-//! Directories and filters of small lists, whose buckets were worked out by hand.
+//! Directories and filters of small lists, whose buckets and bits were worked out by hand, and of longer ones, for which
+//! a Python program counted from the definition what passes.
 use crate::{HashDirectory, HashFilter, Near};
 use std::alloc::Global;
 use std::test::Fail;
 
-// The directory of these eight hashes has four buckets of 2^30 hashes. Their filter has 128 buckets of 2^25, and the
-// hashes are in those with the numbers 0, 32, 63, 64 and 127.
+// The directory of these eight hashes has four buckets of 2^30 hashes. Their filter has two words of 2^31 hashes: in the
+// first one the bits 0, 1, 5 and 63 are set, in the second one the bits 0 and 63.
 const EIGHT: [u32; 8] = [
     0,
     5,
@@ -16,26 +17,34 @@ const EIGHT: [u32; 8] = [
     0xffff_ffff,
 ];
 
-// Hashes that are not among the eight, but are in a filter bucket of one of them, with the range of the directory's
-// bucket.
-const NEIGHBOURS: [(u32, usize, usize); 6] = [
-    (6, 0, 2),
-    (0x01ff_ffff, 0, 2),
-    (0x41ff_ffff, 2, 5),
-    (0x7e00_0000, 2, 5),
-    (0x81ff_ffff, 5, 6),
-    (0xfe00_0000, 6, 8),
+// Hashes that are not among the eight, but whose three bits are set, with the range of the directory's bucket. The first
+// has the bits 1, 0 and 0, the second the word and the bits of 5, and the last two the bits 63, 0, 0 and 0, 63, 0.
+const NEIGHBOURS: [(u32, usize, usize); 7] = [
+    (0x0000_0001, 0, 2),
+    (0x0004_0005, 0, 2),
+    (0x0003_ffff, 0, 2),
+    (0x4000_0005, 2, 5),
+    (0x4000_1041, 2, 5),
+    (0x8000_003f, 5, 6),
+    (0xc000_0fc0, 6, 8),
 ];
 
-// The first and the last hash of each run of filter buckets that hold none of the eight.
-const DENIED: [u32; 6] = [
-    0x0200_0000,
-    0x3fff_ffff,
-    0x4200_0000,
-    0x7dff_ffff,
-    0x8200_0000,
-    0xfdff_ffff,
+// Hashes of whose three bits one is not set: by turns that of the last six bits of the hash, of the six before them, and
+// of the six before those.
+const DENIED: [u32; 9] = [
+    0x0000_0002,
+    0x0000_0080,
+    0x0000_2000,
+    0x4000_0006,
+    0x4000_0181,
+    0x4000_3001,
+    0xffff_fffe,
+    0xffff_ffbf,
+    0xffff_efff,
 ];
+
+// Hashes that the filter would let pass if their word were the other one.
+const OF_THE_OTHER_WORD: [u32; 2] = [0x8000_0001, 0x8000_0005];
 
 // Returns the directory of a list of the tests.
 fn directory_of(alloc: Global, hashes: &[u32]) -> Result<HashDirectory, Fail> {
@@ -45,11 +54,19 @@ fn directory_of(alloc: Global, hashes: &[u32]) -> Result<HashDirectory, Fail> {
     Ok(HashDirectory::of(alloc, hashes)?)
 }
 
-// Returns the hashes 0, 2^22, 2 * 2^22, and so on.
+// Returns the filter of a list of the tests.
+fn filter_of(alloc: Global, hashes: &[u32]) -> Result<HashFilter, Fail> {
+    if hashes.len() > 1024 {
+        return Err(Fail::from("a list that is long"));
+    }
+    Ok(HashFilter::of(alloc, hashes)?)
+}
+
+// Returns the hashes 0, 4,051,337, 2 * 4,051,337, and so on. They are spread evenly, and their bits vary.
 fn spread_out(alloc: Global) -> Result<Vec<u32>, Fail> {
     let mut hashes = Vec::new(alloc);
     for i in 0..1024u32 {
-        hashes.push(i << 22)?;
+        hashes.push(i * 4_051_337)?;
     }
     Ok(hashes)
 }
@@ -130,6 +147,10 @@ fn filter_of_eight(rt: HostRuntime) -> Result<(), Fail> {
     for hash in DENIED {
         assert!(rt; !filter.may_have(hash));
     }
+    for hash in OF_THE_OTHER_WORD {
+        assert!(rt; !filter.may_have(hash));
+        assert!(rt; filter.may_have(hash ^ 0x8000_0000));
+    }
     Ok(())
 }
 
@@ -145,16 +166,36 @@ fn nothing_is_near(rt: HostRuntime) -> Result<(), Fail> {
     Ok(())
 }
 
-// The directory of 1,024 hashes has 512 buckets, and their filter has 16 for each hash. So if the hashes are spread
-// evenly, one hash in 16 may be there, and it is near two of them.
+// The filter of 1,024 hashes has 256 words, and their directory 512 buckets of 2^23 hashes, so that two or three of these
+// hashes are near each hash that passes. Of the 16,384 hashes that are looked up, only 0 is in the list. This Python
+// program counts those that pass:
+//
+//     words = [0] * 256
+//     bits = lambda h: {h % 64, h // 64 % 64, h // 4096 % 64}
+//     for h in range(0, 1024 * 4051337, 4051337):
+//         for bit in bits(h):
+//             words[h // 2**24] |= 2**bit
+//     hashes = range(0, 2**14 * 262111, 262111)
+//     print(sum(all(words[h // 2**24] & 2**bit for bit in bits(h)) for h in hashes))
 #[test]
 fn most_are_denied(rt: HostRuntime) -> Result<(), Fail> {
     let hashes = spread_out(rt.alloc())?;
     let directory = directory_of(rt.alloc(), &hashes)?;
-    for i in 0..1u32 << 14 {
-        let near = directory.near(i << 18);
-        let places = if i % 16 == 0 { 2 } else { 0 };
-        assert_eq!(rt; near.to.saturating_sub(near.from), places);
+    let filter = filter_of(rt.alloc(), &hashes)?;
+    for hash in &hashes {
+        assert!(rt; filter.may_have(*hash));
     }
+    let mut passed = 0u32;
+    for i in 0..1u32 << 14 {
+        let near = directory.near(i * 262_111);
+        let places = near.to.saturating_sub(near.from);
+        if filter.may_have(i * 262_111) {
+            assert!(rt; places == 2 || places == 3);
+            passed = passed.saturating_add(1);
+        } else {
+            assert_eq!(rt; places, 0);
+        }
+    }
+    assert_eq!(rt; passed, 95);
     Ok(())
 }
