@@ -1,7 +1,8 @@
 //! A directory of sorted hashes.
 ghost use Rattle.std.specs.Prelude.{◌≡◌, ◌<◌, ◌^◌, ℕ, List, IfOk, get_or, length};
+ghost use Rattle.std.specs.List.{list_any};
 ghost use Rattle.std.specs.List.Sorted.{IsNonDecreasingBy};
-ghost use Rattle.hash_directory.specs.Buckets.{AreStarts, IsDirectoryOf, IsNear, IsStart};
+ghost use Rattle.hash_directory.specs.Buckets.{AreStarts, IsDirectoryOf, IsNear, IsStart, may_have};
 
 use crate::filter::HashFilter;
 use no_memory::NoMemory;
@@ -56,6 +57,13 @@ impl HashDirectory {
             shift,
             count: hashes.len(),
         })
+    }
+
+    /// Returns whether any of these hashes may be in the list, as far as the filter shows.
+    pub fn may_have_any(&self, hashes: &[u32]) -> bool
+        ensures { result ≡ list_any (may_have self.now.filter) hashes.now }
+    {
+        self.filter.may_have_any(hashes)
     }
 
     /// Returns the range of indices outside of which the hash is not in the list.

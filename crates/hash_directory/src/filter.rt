@@ -1,5 +1,6 @@
 //! A filter of hashes.
 ghost use Rattle.std.specs.Prelude.{◌≡◌, ◌<◌, ◌^◌, ℕ, IfOk, length, true};
+ghost use Rattle.std.specs.List.{list_any};
 ghost use Rattle.hash_directory.specs.Buckets.{are_set, is_set, may_have, AreIn};
 
 use no_memory::NoMemory;
@@ -58,6 +59,17 @@ impl HashFilter {
                 & has_bit(*word, hash >> 12),
             None => true,
         }
+    }
+
+    /// Returns whether any of these hashes may be one of those in the filter. No branch depends on what it reads.
+    pub fn may_have_any(&self, hashes: &[u32]) -> bool
+        ensures { result ≡ list_any (may_have self.now) hashes.now }
+    {
+        let mut any = false;
+        for hash in hashes {
+            any |= self.may_have(*hash);
+        }
+        any
     }
 
     // Returns an empty filter with room for `count` hashes.
