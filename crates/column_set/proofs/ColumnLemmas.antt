@@ -1,6 +1,6 @@
 -- A table from its titles and the sets of its columns: how many columns it has, its titles, the set at a place, and the sums.
-use Rattle.std.proofs.Common.{◌≡◌, refl, ap, sym, ◌∙◌, ℕ, ◌-◌, ◌<◌, ◌≤◌, List, [], ◌∷◌, ◌++◌, map, length, arith, drop, get_or, subst}
-use Rattle.std.specs.Prelude.{bytes_eq, flat_map, sum_by}
+use Rattle.std.proofs.Common.{◌≡◌, refl, ap, sym, ◌∙◌, ℕ, ◌-◌, ◌<◌, ◌≤◌, List, [], ◌∷◌, map, length, arith, drop, get_or, subst}
+use Rattle.std.specs.Prelude.{bytes_eq, sum_by}
 use Rattle.std.specs.List.{AllByRecursion, IsDistinct}
 use Rattle.std.proofs.lemmas.List.FromFn.{length-map-range_with_len}
 use Rattle.std.proofs.lemmas.List.Sums.{sum_by-cons}
@@ -10,8 +10,7 @@ use Rattle.lake_model.specs.Records.{Record, column_at, column_count, field_at, 
 use Rattle.lake_model.specs.Tables.{Column, Table, Titles, column_with, table_with, titles_of, titles_with, keys_at, members, key_bytes}
 use Rattle.lake_model.proofs.DistinctLemmas.{distinct_differ}
 use Rattle.list_laws.proofs.ListLemmas.{all_at, all_map, all_of}
-use Rattle.column_set.specs.Columns.{HasDistinctKeys, IsHeld, IsSmall, all_keys, columns_with, table_from}
-use Rattle.column_set.specs.Lists.{joined}
+use Rattle.column_set.specs.Columns.{HasDistinctKeys, IsHeld, IsSmall, columns_with, table_from}
 
 length-columns_with : (names : List Text) (sets : List (List Text)) → length names ≡ length sets → length (columns_with names sets) ≡ length sets
 length-columns_with [] sets h = h
@@ -46,12 +45,6 @@ all-columns_with P [] sets h = tt
 all-columns_with P (name ∷ names) [] h = tt
 all-columns_with P (name ∷ names) (keys ∷ sets) h = (h.0, all-columns_with P names sets h.1)
 
-keys-columns_with : (names : List Text) (sets : List (List Text)) → length names ≡ length sets → flat_map (λ c. c.keys) (columns_with names sets) ≡ joined sets
-keys-columns_with [] [] h = refl
-keys-columns_with [] (keys ∷ sets) h = absurd (omega arith)
-keys-columns_with (name ∷ names) [] h = refl
-keys-columns_with (name ∷ names) (keys ∷ sets) h = ap (λ ks. keys ++ ks) (keys-columns_with names sets (omega arith))
-
 members-table_from : (titles : Titles) (sets : List (List Text)) → length titles.columns ≡ length sets → members (table_from titles sets) ≡ sum_by (λ keys. length keys) sets
 members-table_from titles sets as_many = sum_by-columns_with (λ keys. length keys) titles.columns sets as_many
 
@@ -68,9 +61,6 @@ module _ {titles : Titles} {sets : List (List Text)} {members key_bytes : ℕ} (
 
   pub titles_held : titles ≡ titles_of table
   titles_held = sym (ap (titles_with titles.table) (names-columns_with titles.columns sets held.as_many)) ∙ ap titles_of is
-
-  pub all_keys_held : all_keys table ≡ joined sets
-  all_keys_held = ap all_keys (sym is) ∙ keys-columns_with titles.columns sets held.as_many
 
   module _ (place : ℕ) (low : 0 < place) (high : place ≤ length table.columns) where
     pub place_held : place - 1 < length sets

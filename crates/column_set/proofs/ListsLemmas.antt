@@ -7,7 +7,7 @@ use Rattle.std.proofs.lemmas.List.{drop_all, drop-drop, take-append-drop, drop-a
 use Rattle.std.proofs.Math.ListN.{get_or-eq_default}
 use Rattle.std.proofs.Math.Seq.{drop-append_seam, take-length}
 use Rattle.lake_model.specs.Texts.{Text}
-use Rattle.column_set.specs.Lists.{AreLists, AreParts, joined, parts_from, parts_of}
+use Rattle.column_set.specs.Lists.{AreLists, AreParts, parts_from, parts_of}
 
 length-parts_from : {X : Type 0} (from : ℕ) (ends : List ℕ) (flat : List X) → length (parts_from from ends flat) ≡ length ends
 length-parts_from from [] flat = refl
@@ -120,19 +120,6 @@ lists_sum f [] texts held lists is = absurd held
 lists_sum f (from ∷ ends) texts held lists is =
     let front : drop from texts ≡ texts = ap (λ (k : ℕ). drop k texts) held.0 in
     ap (sum_by f) (sym front) ∙ sym (sum-parts_from f from ends texts held.1) ∙ ap (sum_by (λ (keys : List Text). sum_by f keys)) is
-
--- ---- all texts of all lists
-
-joined_from : (from : ℕ) (ends : List ℕ) (texts : List Text) → AreParts from ends texts → joined (parts_from from ends texts) ≡ drop from texts
-joined_from from [] texts h = sym (drop_all from texts (omega (arith, h)))
-joined_from from (to ∷ ends) texts h =
-    let seam : from + (to - from) ≡ to = omega (arith, h.0) in
-    let behind : drop (to - from) (drop from texts) ≡ drop to texts = drop-drop (to - from) from texts ∙ ap (λ (k : ℕ). drop k texts) seam in
-    ap (λ (ts : List Text). slice_range texts from to ++ ts) (joined_from to ends texts h.1 ∙ sym behind) ∙ take-append-drop (to - from) (drop from texts)
-
-pub lists_joined : (starts : List ℕ) (texts : List Text) → AreLists starts texts → (lists : List (List Text)) → parts_of starts texts ≡ lists → joined lists ≡ texts
-lists_joined [] texts held lists is = absurd held
-lists_joined (from ∷ ends) texts held lists is = ap joined (sym is) ∙ joined_from from ends texts held.1 ∙ ap (λ (k : ℕ). drop k texts) held.0
 
 -- ---- an element of a part
 

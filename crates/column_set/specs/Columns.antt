@@ -1,5 +1,5 @@
 -- A table from its titles and the sets of its columns, one set for each column of the titles.
-use Rattle.std.specs.Prelude.{◌≡◌, ◌≤◌, ℕ, List, [], ◌∷◌, bytes_eq, flat_map, length}
+use Rattle.std.specs.Prelude.{◌≡◌, ◌≤◌, ℕ, List, [], ◌∷◌, bytes_eq, length}
 use Rattle.std.specs.List.{AllByRecursion, IsDistinct}
 use Rattle.lake_model.specs.Texts.{Text}
 use Rattle.lake_model.specs.Tables as tables
@@ -12,10 +12,6 @@ columns_with (name ∷ names) (keys ∷ sets) = column_with name keys ∷ column
 
 abbrev pub table_from : Titles → List (List Text) → Table
 table_from titles sets = table_with titles.table (columns_with titles.columns sets)
-
--- the keys of all columns of a table, one column after another
-abbrev pub all_keys : Table → List Text
-all_keys table = flat_map (λ column. column.keys) table.columns
 
 -- no column has a key twice
 abbrev pub HasDistinctKeys : Table → Type 0

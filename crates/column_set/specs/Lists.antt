@@ -1,5 +1,5 @@
 -- Texts in a region, and lists of texts one after another in one list.
-use Rattle.std.specs.Prelude.{◌≡◌, ◌<◌, ◌≤◌, ◌^◌, ℕ, List, [], ◌∷◌, bytes_eq, flat_map, length, slice_range}
+use Rattle.std.specs.Prelude.{◌≡◌, ◌<◌, ◌≤◌, ◌^◌, ℕ, List, [], ◌∷◌, bytes_eq, length, slice_range}
 use Rattle.std.specs.List.{AllByRecursion, IsDistinct}
 use Rattle.lake_model.specs.Texts.{Text}
 use Rattle.text_region.specs.Spans.{IsSpan}
@@ -20,10 +20,6 @@ parts_from from (to ∷ ends) flat = slice_range flat from to ∷ parts_from to 
 abbrev pub parts_of : {X : Type 0} → List ℕ → List X → List (List X)
 parts_of [] flat = []
 parts_of (from ∷ ends) flat = parts_from from ends flat
-
--- all texts of these lists, one list after another
-abbrev pub joined : List (List Text) → List Text
-joined lists = flat_map (λ texts. texts) lists
 
 -- the parts reach the end of the list
 abbrev pub AreParts : ℕ → List ℕ → List Text → Type 0

@@ -2,7 +2,7 @@
 ghost use Rattle.std.specs.Prelude.{◌≡◌, ◌+◌, ◌<◌, [], get_or, length, slice_index, sum_by, IfOk, IfSome};
 ghost use Rattle.lake_model.specs.Tables.{has_key, overlap as overlap_of};
 ghost use Rattle.column_set.specs.Indexes.{IsIndexOf};
-ghost use Rattle.column_set.specs.Lists.{joined, parts_of, AreLists};
+ghost use Rattle.column_set.specs.Lists.{parts_of, AreLists};
 
 use crate::index::KeyIndex;
 use crate::texts::Texts;

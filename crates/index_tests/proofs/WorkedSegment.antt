@@ -14,8 +14,7 @@ use Rattle.search_model.specs.Ranks.{number_cmp, AreInverse, AreRanks}
 use Rattle.search_model.specs.Segment.{columns_of, segment, Token, tokens_of}
 use Rattle.search_model.proofs.RankLemmas.{ranks_are}
 use Rattle.search_model.specs.declared.TokenAt.{TokenAt}
-use Rattle.segment_core.specs.Hashes.{AreKept, AreKeys, IsByHash}
-use Rattle.segment_core.specs.declared.hashes.HashedToken.{HashedToken}
+use Rattle.segment_core.specs.Hashes.{AreKept, AreKeys, IsByHash, KeyedToken}
 use Rattle.segment_core.proofs.SegmentLemmas.{keys_kept}
 use Rattle.index_tests.specs.Worked.{worked_owners, worked_postings, worked_table, worked_tokens}
 
@@ -76,7 +75,7 @@ worked_arrays = record {
 pub worked_keys : AreKeys (worked_table ∷ []) worked_owners worked_tokens
 worked_keys = keys_kept _ _ _ _ _ _ _ _ worked_arrays
 
-pub worked_kept : (order : List HashedToken) → IsByHash (worked_table ∷ []) order → AreKept (worked_table ∷ []) worked_owners order (0 ∷ 1 ∷ 3 ∷ []) worked_postings (0 ∷ 2 ∷ 3 ∷ []) (0 ∷ 1 ∷ 1 ∷ [])
+pub worked_kept : (order : List KeyedToken) → IsByHash (worked_table ∷ []) order → AreKept (worked_table ∷ []) worked_owners order (0 ∷ 1 ∷ 3 ∷ []) worked_postings (0 ∷ 2 ∷ 3 ∷ []) (0 ∷ 1 ∷ 1 ∷ [])
 worked_kept order is = record { tokens = worked_tokens; by_key = 1 ∷ 0 ∷ []; arrays = worked_arrays; order = is }
 
 -- each column's rank is its number

@@ -18,16 +18,15 @@ use Rattle.search_model.specs.Segment.{Token, segment, tokens_in}
 use Rattle.search_model.specs.Arrays.{key_of, numbers_of, token_keys}
 use Rattle.segment_core.specs.Among.{found_by}
 use Rattle.hash_directory.specs.Buckets.{AreIn, FilterOf, may_have}
-use Rattle.segment_core.specs.Hashes.{hash_of, token_number, IsByHash, IsHashed}
-use Rattle.segment_core.specs.declared.hashes.HashedToken.{HashedToken}
+use Rattle.segment_core.specs.Hashes.{KeyedToken, hash_of, token_number, IsByHash, IsHashed}
 use Rattle.segment_core.proofs.FoundLemmas.{each_key, looked_up, tokens_differ}
 use Rattle.search_model.proofs.TokenLemmas.{flips, itself}
 
 -- the keys of tokens in their order by hash, and those of them that are in a set
-abbrev pub keys_by : List Token → List HashedToken → List Text
+abbrev pub keys_by : List Token → List KeyedToken → List Text
 keys_by tokens order = map (λ entry. key_of tokens entry.token) order
 
-abbrev pub asked_keys : List Token → List Text → List HashedToken → List Text
+abbrev pub asked_keys : List Token → List Text → List KeyedToken → List Text
 asked_keys tokens keys order = filter (has_key keys) (keys_by tokens order)
 
 distinct_passed : (p : Text → Bool) (ks : List Text) → IsDistinct bytes_eq ks → IsDistinct bytes_eq (filter p ks)
@@ -53,15 +52,15 @@ module _ (tables : List Table) (keys : List Text) where
   tokens = (segment tables).tokens
 
   -- one more token
-  pub asked_more : (order : List HashedToken) (i : ℕ) (d : HashedToken) → i < length order
+  pub asked_more : (order : List KeyedToken) (i : ℕ) (d : KeyedToken) → i < length order
       → asked_keys tokens keys (take (i + 1) order) ≡ asked_keys tokens keys (take i order) ++ filter (has_key keys) (key_of tokens (get_or order i d).token ∷ [])
   asked_more order i d h =
-      let key : HashedToken → Text = λ entry. key_of tokens entry.token in
+      let key : KeyedToken → Text = λ entry. key_of tokens entry.token in
       ap (asked_keys tokens keys) (take_more order i d h)
       ∙ ap (filter (has_key keys)) (map-append key (take i order) (get_or order i d ∷ []))
       ∙ filter-append (has_key keys) (map key (take i order)) (key (get_or order i d) ∷ [])
 
-  pub asked_in : (before after : List Text) (entry : HashedToken) → IsHashed tables entry → has_key keys (key_of tokens entry.token) ≡ true → after ≡ before ++ filter (has_key keys) (key_of tokens entry.token ∷ [])
+  pub asked_in : (before after : List Text) (entry : KeyedToken) → IsHashed tables entry → has_key keys (key_of tokens entry.token) ≡ true → after ≡ before ++ filter (has_key keys) (key_of tokens entry.token ∷ [])
       → found_by tokens after ≡ found_by tokens before ++ entry.token ∷ []
   asked_in before after entry is has e =
       let of : Text → List ℕ = λ key. tokens_in tokens (key ∷ []) in
@@ -70,7 +69,7 @@ module _ (tables : List Table) (keys : List Text) where
       ∙ flat_map-append of before (key ∷ [])
       ∙ ap (λ (ns : List ℕ). found_by tokens before ++ ns) (append-nil (of key) ∙ looked_up tokens key (Some entry.token) (tokens_differ tables) (is.there, refl))
 
-  pub asked_out : (before after : List Text) (entry : HashedToken) → has_key keys (key_of tokens entry.token) ≡ false → after ≡ before ++ filter (has_key keys) (key_of tokens entry.token ∷ []) → found_by tokens after ≡ found_by tokens before
+  pub asked_out : (before after : List Text) (entry : KeyedToken) → has_key keys (key_of tokens entry.token) ≡ false → after ≡ before ++ filter (has_key keys) (key_of tokens entry.token ∷ []) → found_by tokens after ≡ found_by tokens before
   asked_out before after entry has e =
       ap (found_by tokens) (e ∙ ap (λ (b : Bool). before ++ cond b (key_of tokens entry.token ∷ []) []) has ∙ append-nil before)
 
@@ -84,14 +83,14 @@ module _ (tables : List Table) (keys : List Text) where
       let more = numbered (n + 1) rest (λ i h. (let s : n + 1 + i ≡ n + suc i = omega arith in ap (key_of tokens) s ∙ same (suc i) (omega (arith, h)))) in
       (λ j. first j ∷ more j)
 
-  module _ (order : List HashedToken) (is : IsByHash tables order) where
+  module _ (order : List KeyedToken) (is : IsByHash tables order) where
     same_keys : IsPermutation (token_keys tokens) (keys_by tokens order)
     same_keys =
         let named = numbered 0 tokens (λ i h. (let z : 0 + i ≡ i = omega arith in ap (key_of tokens) z)) in
         let two = IsPermutation-map (key_of tokens) (numbers_of tokens) (map token_number order) is.same in
         subst (λ (ks : List Text). IsPermutation ks (keys_by tokens order)) named (subst (IsPermutation (map (key_of tokens) (numbers_of tokens))) (twice order) two)
       where
-        twice : (entries : List HashedToken) → map (key_of tokens) (map token_number entries) ≡ keys_by tokens entries
+        twice : (entries : List KeyedToken) → map (key_of tokens) (map token_number entries) ≡ keys_by tokens entries
         twice [] = refl
         twice (entry ∷ entries) = ap (λ (ks : List Text). key_of tokens entry.token ∷ ks) (twice entries)
 

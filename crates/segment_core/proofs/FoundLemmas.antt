@@ -22,7 +22,7 @@ use Rattle.lake_model.proofs.SortingLemmas.{in_order-IsPermutation, in_order_mov
 use Rattle.search_model.specs.Segment.{Titled, Token, columns_of, segment, token_cmp, token_of, tokens_in, tokens_of}
 use Rattle.search_model.specs.Arrays.{IsToken, key_of}
 use Rattle.segment_core.specs.Among.{found_by, hit_keys}
-use Rattle.segment_core.specs.declared.segment.Hit.{Hit}
+use Rattle.segment_core.specs.declared.finding.Hit.{Hit}
 use Rattle.search_model.proofs.FilterLemmas.{rising}
 use Rattle.search_model.proofs.OverlapLemmas.{front, tokens_from, tokens_from-cons}
 use Rattle.lake_model.proofs.DistinctLemmas.{distinct_differ}

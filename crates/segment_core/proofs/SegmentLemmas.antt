@@ -41,9 +41,6 @@ module _ (held tables : List Table) (is : held ≡ tables) (owners : List Owner)
   pub owner_at : (set : ℕ) (d : Owner) → set < length (segment tables).sets → get_or owners set d ≡ owner_of (titled_at (segment tables).columns set)
   owner_at set d h = ap (λ (os : List Owner). get_or os set d) owned ∙ get_or-map owner_of (segment tables).columns set no_titled d (omega (arith, length-sets tables))
 
-  pub token_count : length tokens ≡ length (segment tables).tokens
-  token_count = sym (length-map tokens (pointed held)) ∙ ap length arrays.named ∙ length-map (segment held).tokens (λ (t : Token). t.key) ∙ ap (λ (ts : List Table). length (segment ts).tokens) is
-
 -- the arrays that say where the keys of the tokens are
 pub keys_kept : (tables : List Table) (owners : List Owner) (tokens : List TokenAt) (by_key list_starts : List ℕ) (postings : List Posting) (set_starts set_tokens : List ℕ) → AreArrays tables owners tokens by_key list_starts postings set_starts set_tokens → AreKeys tables owners tokens
 keys_kept tables owners tokens by_key list_starts postings set_starts set_tokens arrays = record { owned = arrays.owned; named = arrays.named; within = arrays.within }
@@ -68,7 +65,6 @@ pub record IsRead (tables : List Table) (at : TokenAt) (owner : Owner) : Type 0 
   pub table : owner.table < length tables
   pub low : 0 < owner.place
   pub high : owner.place ≤ length (table_at tables owner.table).columns
-  pub index : at.index < length (keys_at (table_at tables owner.table) owner.place)
   pub key : get_or (keys_at (table_at tables owner.table) owner.place) at.index [] ≡ pointed tables at
 
 module _ (tables : List Table) (owners : List Owner) (owned : owners ≡ map owner_of (segment tables).columns) (at : TokenAt) (there : IsAt tables at) where
@@ -86,10 +82,6 @@ module _ (tables : List Table) (owners : List Owner) (owned : owners ≡ map own
   unfolding segment
   pointed_here = refl
 
-  index_here : at.index < length (titled_at (segment tables).columns at.column).column.keys
-  unfolding segment
-  index_here = there.index
-
   pub is_read : (owner : Owner) → owner ≡ get_or owners at.column owner → IsRead tables at owner
   is_read owner e =
       let here = stands_there tables at.column column_there in
@@ -97,13 +89,9 @@ module _ (tables : List Table) (owners : List Owner) (owned : owners ≡ map own
         table = here.table;
         low = here.low;
         high = here.high;
-        index = omega (arith, index_here, ap length here.keys);
         key = ap (λ (ks : List Text). get_or ks at.index []) here.keys ∙ pointed_here;
       })
 
 -- the key of a token is where the token's entry says
 pub key_pointed : (tables : List Table) (owners : List Owner) (tokens : List TokenAt) → AreKeys tables owners tokens → (token : ℕ) (at : TokenAt) → token < length tokens → at ≡ get_or tokens token at → pointed tables at ≡ key_of (segment tables).tokens token
 key_pointed tables owners tokens keys token at within is = key_here (pointed tables) tokens (segment tables).tokens token at keys.named within is
-
-pub place_there : (tables : List Table) (owners : List Owner) (tokens : List TokenAt) → AreKeys tables owners tokens → (token : ℕ) (at : TokenAt) → token < length tokens → at ≡ get_or tokens token at → IsAt tables at
-place_there tables owners tokens keys token at within is = subst (IsAt tables) (sym is) (keys.within token at within)

@@ -7,8 +7,8 @@ use Rattle.std.specs.Ordering.{nat_cmp}
 use Rattle.lake_model.specs.Texts.{Text}
 use Rattle.lake_model.specs.Tables.{Table}
 use Rattle.column_set.specs.Hashes.{sip_of}
-use Rattle.search_model.specs.Arrays.{AreArrays, IsAt, key_of, numbers_of, owner_of, pointed, table_at, token_keys}
-use Rattle.search_model.specs.Segment.{Token, segment}
+use Rattle.search_model.specs.Arrays.{AreArrays, IsAt, key_of, numbers_of, owner_of, pointed, token_keys}
+use Rattle.search_model.specs.Segment.{segment}
 use Rattle.search_model.specs.declared.Owner.{Owner}
 use Rattle.search_model.specs.declared.Posting.{Posting}
 use Rattle.search_model.specs.declared.TokenAt.{TokenAt}
@@ -19,10 +19,6 @@ use Rattle.segment_core.specs.declared.hashes.HashedToken.{HashedToken}
 -- the low 32 bits of SipHash-1-3
 unfoldable pub hash_of : Text → ℕ
 hash_of key = bit_and (sip_of key) 0xFFFFFFFF
-
--- the hash of the key of a token
-abbrev pub hash_at : List Token → ℕ → ℕ
-hash_at tokens n = hash_of (key_of tokens n)
 
 -- a token of a part with its key, and the hash of the key
 pub record KeyedToken : Type 0 where
@@ -62,11 +58,9 @@ token_number entry = entry.token
 abbrev pub entry_hash : HashedToken → ℕ
 entry_hash entry = entry.hash
 
-abbrev pub entry_number : HashedToken → ℕ
-entry_number entry = entry.token
-
 -- of the first `count` hashes, those before this index are lower than the given one, and the others are not
 pub record IsSplitIn (count : ℕ) (entries : List HashedToken) (hash at : ℕ) : Type 0 where
+  pub within : at ≤ count
   pub lower : (i : ℕ) (d : HashedToken) → i < at → i < count → (get_or entries i d).hash < hash
   pub others : (i : ℕ) (d : HashedToken) → at ≤ i → i < count → hash ≤ (get_or entries i d).hash
 
@@ -83,6 +77,12 @@ pub record AreInOrder (order : List KeyedToken) : Type 0 where
 pub record IsHashed (tables : List Table) (entry : KeyedToken) : Type 0 where
   pub there : entry.token < length (segment tables).tokens
   pub key : entry.key ≡ key_of (segment tables).tokens entry.token
+
+-- all tokens of the segment of these tables in their own order, each with its key and the hash of that
+pub record AreKeyedTokens (tables : List Table) (keyed : List KeyedToken) : Type 0 where
+  pub hashes : All (λ entry. entry.hash ≡ hash_of entry.key) keyed
+  pub hashed : All (IsHashed tables) keyed
+  pub numbers : map token_number keyed ≡ numbers_of (segment tables).tokens
 
 -- all tokens of the segment of these tables, each once
 pub record IsByHash (tables : List Table) (order : List KeyedToken) : Type 0 where

@@ -127,7 +127,7 @@ impl HashOrder {
 
     // Returns the keys of the tokens of these hits.
     fn keys_of_hits(&self, alloc: Global, hits: &[Hit]) -> Result<Vec<&str>, NoMemory>
-        requires { (keys : List Text) × All (IsHit self.now keys) hits.now }
+        requires { All (λ hit. hit.at < length self.now) hits.now }
         ensures { IfOk result (λ keys. map (λ key. key.now) keys.items ≡ map (λ hit. (keyed_at self.now hit.at).key) hits.now) }
     {
         let mut keys = Vec::with_capacity(alloc, hits.len())?;

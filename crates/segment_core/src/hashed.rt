@@ -1,6 +1,7 @@
 //! A query with the hashes of its keys.
-ghost use Rattle.std.specs.Prelude.{◌≡◌, ◌<◌, [], get_or, length, IfOk};
+ghost use Rattle.std.specs.Prelude.{◌≡◌, ◌<◌, [], false, get_or, length, IfOk};
 ghost use Rattle.lake_model.specs.Tables.{has_key};
+ghost use Rattle.lake_model.specs.Texts.{Text};
 ghost use Rattle.segment_core.specs.Hashes.{hash_of};
 
 use crate::hashes::hash_key;
@@ -49,12 +50,11 @@ impl<'q> HashedQuery<'q> {
         })
     }
 
-    /// Returns whether the query has the key, whose hash is given. If it does not, usually no text is read.
-    pub(crate) fn has(&self, hash: u32, key: &str) -> bool
-        requires { hash ≡ hash_of key.now }
-        ensures { result ≡ has_key self.now key.now }
+    /// Returns whether some key of the query may have the hash. No text is read.
+    pub(crate) fn may_have(&self, hash: u32) -> bool
+        ensures { (key : Text) → hash ≡ hash_of key → result ≡ false → has_key self.now key ≡ false }
     {
-        self.filter.may_have(hash) && self.query.has(key)
+        self.filter.may_have(hash)
     }
 
     /// Returns the query.

@@ -2,13 +2,13 @@
 ghost use Rattle.std.specs.Prelude.{◌≡◌, ◌∷◌, ◌<◌, ◌^◌, ℕ, length, map, IfNone, IfOk, IfSome};
 ghost use Rattle.std.specs.Cmp.Lexicographic.{slice_cmp};
 ghost use Rattle.std.specs.List.{All};
-ghost use Rattle.std.specs.List.Sorted.{IsNonDecreasingBy};
+ghost use Rattle.std.specs.List.Sorted.{IsNonDecreasingBy, IsPermutation, IsSortedByKey};
 ghost use Rattle.std.specs.Ordering.{nat_cmp};
-ghost use Rattle.search_model.specs.Arrays.{numbers_of, owner_of, pointed, IsAt};
+ghost use Rattle.search_model.specs.Arrays.{owner_of, pointed, IsAt};
 ghost use Rattle.search_model.specs.Segment.{segment};
 ghost use Rattle.hash_directory.specs.Buckets.{IsNear};
-ghost use Rattle.text_region.specs.Spans.{text_at};
-ghost use Rattle.segment_core.specs.Hashes.{all_keyed, entry_hash, entry_number, hash_of, keyed_at, keyed_from, keyed_in, sorted_by, token_hash, AreKeyed, AreKeys, IsByHash, IsHashed, IsSplit};
+ghost use Rattle.text_region.specs.Spans.{IsSpan, KeepsSpans};
+ghost use Rattle.segment_core.specs.Hashes.{all_keyed, entry_hash, hash_of, keyed_at, keyed_from, keyed_in, sorted_by, token_hash, AreInOrder, AreKeyed, AreKeyedTokens, AreKeys, IsByHash, IsSplit};
 
 use column_set::{SharedTable, sip_hash};
 use hash_directory::{HashDirectory, Near};
@@ -99,7 +99,7 @@ impl HashOrder {
         requires { IsNear (map token_hash self.now) hash near.from near.to }
         ensures there { IfSome result (λ at. at < length self.now) }
         ensures hash { IfSome result (λ at. (keyed_at self.now at).hash ≡ hash) }
-        ensures lacking { IfNone result (All (λ entry. entry.hash ≡ hash → ⊥) self.now) }
+        ensures lacking { IfNone result (All (λ entry. hash_of entry.key ≡ hash → ⊥) self.now) }
     {
         let at = near.from + split_of(&self.entries[near.from..near.to], hash);
         if at >= near.to || self.entries[at].hash != hash {
@@ -111,11 +111,15 @@ impl HashOrder {
     /// Returns the token of this key, which has the hash, or `None`. It takes a binary search, and compares texts
     /// wherever the hashes are equal.
     pub(crate) fn search(&self, hash: u32, key: &str) -> Option<u32>
+        requires { hash ≡ hash_of key.now }
         ensures found { IfSome result (λ token. (at : ℕ) × (at < length self.now) × (keyed_at self.now at ≡ keyed_from hash token key.now)) }
-        ensures lacking { IfNone result (All (λ entry. sorted_by entry ≡ hash ∷ key.now → ⊥) self.now) }
+        ensures lacking { IfNone result (All (λ entry. entry.key ≡ key.now → ⊥) self.now) }
     {
         let keys = &self.keys;
-        match (self.entries).binary_search_by(|entry| hash_order(keys, *entry, hash, key)) {
+        match self
+            .entries
+            .binary_search_by(|entry| hash_order(keys, *entry, hash, key))
+        {
             Ok(at) => Some(self.entries[at].token),
             Err(_) => None,
         }
@@ -181,9 +185,7 @@ pub fn order_by_hash(
     ensures { IfOk result (λ order. IsByHash tables.now order) }
 {
     let mut keys = Region::new(alloc, 0)?;
-    let mut entries = hashed_tokens(alloc, tables, owners, tokens, &mut keys)?;
-    keys.shrink_to_fit();
-    entries.sort_unstable_by(|a, b| hashed_order(&keys, *a, *b));
+    let entries = sorted_tokens(alloc, tables, owners, tokens, &mut keys)?;
     let hashes = hashes_of(alloc, &entries)?;
     let directory = HashDirectory::of(alloc, &hashes)?;
     Ok(HashOrder {
@@ -191,6 +193,26 @@ pub fn order_by_hash(
         keys,
         directory,
     })
+}
+
+// Returns the tokens in that order, and puts their keys into the region.
+fn sorted_tokens(
+    alloc: Global,
+    tables: &[SharedTable],
+    owners: &[Owner],
+    tokens: &[TokenAt],
+    keys: &mut Region,
+) -> Result<Vec<HashedToken>, NoMemory>
+    requires keys { AreKeys tables.now owners.now tokens.now }
+    requires few { length tokens.now < 2 ^ 32 }
+    ensures keyed { IfOk result (λ hashed. AreKeyed keys.new hashed.items) }
+    ensures order { IfOk result (λ hashed. AreInOrder (all_keyed keys.new hashed.items)) }
+    ensures tokens { IfOk result (λ hashed. IsByHash tables.now (all_keyed keys.new hashed.items)) }
+    ensures few { IfOk result (λ hashed. length hashed.items < 2 ^ 32) }
+{
+    let hashed = hashed_tokens(alloc, tables, owners, tokens, keys)?;
+    keys.shrink_to_fit();
+    Ok(sorted_by_hash(hashed, keys))
 }
 
 // Returns the tokens in their own order, each with the hash of its key, and puts the keys into the region.
@@ -204,21 +226,29 @@ fn hashed_tokens(
     requires keys { AreKeys tables.now owners.now tokens.now }
     requires few { length tokens.now < 2 ^ 32 }
     ensures keyed { IfOk result (λ hashed. AreKeyed keys.new hashed.items) }
-    ensures hashes { IfOk result (λ hashed. All (λ entry. entry.hash ≡ hash_of (text_at keys.new entry.key)) hashed.items) }
-    ensures hashed { IfOk result (λ hashed. All (IsHashed tables.now) (all_keyed keys.new hashed.items)) }
-    ensures numbers { IfOk result (λ hashed. map entry_number hashed.items ≡ numbers_of (segment tables.now).tokens) }
+    ensures tokens { IfOk result (λ hashed. AreKeyedTokens tables.now (all_keyed keys.new hashed.items)) }
 {
     let mut hashed = Vec::with_capacity(alloc, tokens.len())?;
     for (token, at) in tokens.iter().enumerate() {
         let key = key_at(tables, owners, *at);
-        keys.reserve(key.len())?;
-        hashed.push(HashedToken {
-            hash: hash_key(key),
-            token: token as u32,
-            key: keys.put(key),
-        })?;
+        let entry = hashed_token(token as u32, key, keys)?;
+        hashed.push(entry)?;
     }
     Ok(hashed)
+}
+
+// Returns a token with the hash of its key, which it puts into the region.
+fn hashed_token(token: u32, key: &str, keys: &mut Region) -> Result<HashedToken, NoMemory>
+    ensures kept { KeepsSpans keys.old keys.new }
+    ensures span { IfOk result (λ entry. IsSpan keys.new entry.key) }
+    ensures key { IfOk result (λ entry. keyed_in keys.new entry ≡ keyed_from (hash_of key.now) token key.now) }
+{
+    keys.reserve(key.len())?;
+    Ok(HashedToken {
+        hash: hash_key(key),
+        token,
+        key: keys.put(key),
+    })
 }
 
 // Returns the key of a token, which is at `at`.
@@ -230,6 +260,15 @@ fn key_at<'a>(tables: &'a [SharedTable], owners: &[Owner], at: TokenAt) -> &'a s
     let owner = owners[at.column as usize];
     let table = tables[owner.table as usize].table();
     table.key(owner.place, at.index)
+}
+
+// Returns the entries sorted by their hashes, and then by the bytes of the keys.
+fn sorted_by_hash(mut entries: Vec<HashedToken>, keys: &Region) -> Vec<HashedToken>
+    ensures same { IsPermutation entries.items result.items }
+    ensures rising { IsSortedByKey (λ entry. sorted_by (keyed_in keys.now entry)) (slice_cmp nat_cmp) result.items }
+{
+    entries.sort_unstable_by(|a, b| hashed_order(keys, *a, *b));
+    entries
 }
 
 // Compares by the hash, then by the key, which is read only if the hashes are equal.

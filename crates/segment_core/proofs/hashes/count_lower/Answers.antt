@@ -11,15 +11,8 @@ loop-entry-preserved c =
     let at = c.loop-entry.lower in
     let i = c.loop-entry.entry-index in
     let within : i < length entries = omega (arith, c.loop-entry-test.true) in
-    let few = c.loop-entry.invariant.few in
-    let split = c.loop-entry.invariant.split in
+    let split = c.loop-entry.invariant in
     elim c.if-entry-hash.branch [
-      | then-entry-hash w ↦ record {
-        split = subst (IsSplitIn (i + 1) entries hash) (sym w.lower-is) (one_lower entries hash at i c.requires within few split w.if-entry-hash.true);
-        few = omega (arith, w.lower-is, few);
-      }
-      | else-entry-hash w ↦ record {
-        split = subst (IsSplitIn (i + 1) entries hash) (sym w.lower-is) (none_lower entries hash at i c.requires within few split w.if-entry-hash.false);
-        few = omega (arith, w.lower-is, few);
-      }
+      | then-entry-hash w ↦ subst (IsSplitIn (i + 1) entries hash) (sym w.lower-is) (one_lower entries hash at i c.requires within split w.if-entry-hash.true)
+      | else-entry-hash w ↦ subst (IsSplitIn (i + 1) entries hash) (sym w.lower-is) (none_lower entries hash at i c.requires within split w.if-entry-hash.false)
     ]

@@ -1,9 +1,5 @@
-use Rattle.std.proofs.Common.{◌≤◌}
 use Rattle.segment_core.specs.Hashes.{IsSplitIn}
 use Rattle.segment_core.proofs.hashes.count_lower.Given as goal
 
 abbrev pub invariant-loop-entry : goal.invariant-loop-entry
-invariant-loop-entry l = record {
-  split : IsSplitIn l.entry-index l.entries l.hash l.lower;
-  few : l.lower ≤ l.entry-index;
-}
+invariant-loop-entry l = IsSplitIn l.entry-index l.entries l.hash l.lower

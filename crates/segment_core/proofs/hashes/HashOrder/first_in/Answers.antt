@@ -1,31 +1,32 @@
-use Rattle.std.proofs.Common.{◌≡◌, ◌∙◌, ap, sym, subst, List, ◌≤◌, length, map, arith}
-use Rattle.std.specs.List.{All}
+use Rattle.std.proofs.Common.{◌≡◌, ◌∙◌, ap, sym, subst, List, ◌+◌, ◌<◌, length, map, arith}
+use Rattle.std.specs.List.{slice_range, All}
 use Rattle.std.specs.List.Sorted.{IsNonDecreasingBy}
-use Rattle.std.proofs.lemmas.List.{length-map}
+use Rattle.std.proofs.lemmas.List.{get_or_default, length-map}
 use Rattle.hash_directory.specs.Buckets.{IsNear}
-use Rattle.segment_core.specs.Hashes.{token_hash, IsOneOf}
+use Rattle.segment_core.specs.Hashes.{KeyedToken, entry_hash, hash_of, token_hash, IsSplit}
 use Rattle.segment_core.specs.declared.hashes.HashedToken.{HashedToken}
-use Rattle.segment_core.proofs.HashLemmas.{none_near, none_then, one_near, rise_in, some_then}
+use Rattle.segment_core.proofs.HashLemmas.{entries_rise, length-keyed, none_at, rise_in}
 use Rattle.segment_core.proofs.hashes.HashOrder.first_in.Goals as goal
+use Rattle.segment_core.proofs.hashes.HashOrder.first_in.Goals.{then-at-near-via-then-at-near, then-at-near-via-else-at-near+then-index-hash}
 
-pub first_of-requires : goal.first_of-requires
-first_of-requires c =
-    rise_in c.deref.result.now c.args.near.from c.args.near.to (subst (IsNonDecreasingBy token_hash) (sym c.deref.ensures.value) c.self.invariant.1)
+pub split_of-requires : goal.split_of-requires
+split_of-requires c =
+    rise_in c.deref.result.now c.args.near.from c.args.near.to (subst (IsNonDecreasingBy entry_hash) (sym c.deref.ensures.value) (entries_rise c.self.inside.keys c.self.inside.entries.items c.self.invariant.1))
 
-pub returns-clause-there : goal.returns-clause-there
-returns-clause-there c =
-    let order = c.deref.result.now in
+pub returns-then-at-near-clause-lacking : goal.returns-then-at-near-clause-lacking
+returns-then-at-near-clause-lacking c =
+    let keys = c.self.inside.keys in
+    let entries = c.self.inside.entries.items in
+    let hash = c.args.hash in
     let from = c.args.near.from in
     let to = c.args.near.to in
-    let same = c.deref.ensures.value ∙ c.self.view_is in
-    let within : to ≤ length order = omega (arith, c.requires.within, length-map c.args.self.now token_hash, ap length same) in
-    some_then c.first_of.result (λ entry one. subst (λ (es : List HashedToken). IsOneOf es entry) same (one_near order from to entry within one)) c.first_of.ensures.there
-
-pub returns-clause-lacking : goal.returns-clause-lacking
-returns-clause-lacking c =
-    let order = c.deref.result.now in
-    let from = c.args.near.from in
-    let to = c.args.near.to in
-    let same = c.deref.ensures.value ∙ c.self.view_is in
-    let near = subst (λ (es : List HashedToken). IsNear (map token_hash es) c.args.hash from to) (sym same) c.requires in
-    none_then c.first_of.result (λ apart. subst (All (λ entry. entry.hash ≡ c.args.hash → ⊥)) same (none_near order c.args.hash from to near apart)) c.first_of.ensures.lacking
+    let at = c.split_of.result in
+    let near = subst (λ (order : List KeyedToken). IsNear (map token_hash order) hash from to) (sym c.self.view_is) c.requires in
+    let split = subst (λ (es : List HashedToken). IsSplit (slice_range es from to) hash at) c.deref.ensures.value c.split_of.ensures in
+    let lacking = none_at keys entries hash from to at c.self.invariant.1 near split (λ d there e. elim c.then-at-near.branch [
+      | then-at-near-via-then-at-near w ↦ absurd (omega (arith, w.if-at-near.true, there))
+      | then-at-near-via-else-at-near+then-index-hash w ↦
+          let h : from + at < length entries = omega (arith, there, c.requires.within, length-map c.args.self.now token_hash, length-keyed keys entries, ap length c.self.view_is) in
+          w.if-index-hash.true (ap entry_hash (w.index.ensures ∙ get_or_default entries (from + at) w.index.result.now d h) ∙ e)
+    ]) in
+    subst (All (λ entry. hash_of entry.key ≡ hash → ⊥)) c.self.view_is lacking
