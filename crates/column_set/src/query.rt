@@ -1,5 +1,5 @@
 //! The keys of a query.
-ghost use Rattle.std.specs.Prelude.{◌≡◌, ◌⊎◌, ◌<◌, ◌≤◌, ◌==◌, ◌∷◌, [], bytes_eq, get_or, length, position, IfErr, IfOk, None, OnOk, Some};
+ghost use Rattle.std.specs.Prelude.{◌≡◌, ◌⊎◌, ◌<◌, ◌≤◌, ◌==◌, ◌↔◌, ◌∷◌, [], bytes_eq, drop, get_or, length, position, take, IfErr, IfOk, IsUtf8, None, OnOk, Some};
 ghost use Rattle.std.specs.List.{IsDistinct};
 ghost use Rattle.lake_model.specs.Queries.{line_fault, query_fault, query_of};
 ghost use Rattle.lake_model.specs.Tables.{has_key, keys_at, overlap};
@@ -11,10 +11,12 @@ use crate::lists::KeyLists;
 use crate::table::TableSets;
 use crate::texts::Texts;
 use lake_model::{Keys, QueryRefused};
+use memchr::memchr_iter;
 use no_memory::NoMemory;
+use simdutf8::basic::from_utf8;
+use simdutf8::is_utf8;
 use std::alloc::Global;
 use std::marker::Model;
-use std::str;
 
 /// The distinct keys of a query, at most 4,194,304. Its model is the list of the keys, in order of first occurrence.
 #[derive(Drop)]
@@ -106,21 +108,27 @@ fn gather_lines(alloc: Global, keys: Keys, body: &[u8]) -> Result<KeyGatherer, Q
     ensures sound { OnOk result (line_fault 1 (all_lines body.now) ≡ None) }
     ensures refused { IfErr result (λ e. (e ≡ QueryRefused.NoMemory) ⊎ (query_fault keys body.now ≡ Some e)) }
 {
-    let mut lists = no_keys(alloc, body)?;
+    let Ok(text) = from_utf8(body) else {
+        let line = faulty_line(body);
+        return Err(QueryRefused::NotUtf8 { line });
+    };
+    Ok(gather_text(alloc, keys, text)?)
+}
+
+// Gathers the distinct keys of the lines of a text as one list. A line of a text is a text, so that no line is checked.
+fn gather_text(alloc: Global, keys: Keys, text: &str) -> Result<KeyGatherer, NoMemory>
+    ensures none { IfOk result (λ lists. lists.finished ≡ []) }
+    ensures keys { IfOk result (λ lists. lists.current ≡ query_of keys text.now) }
+{
+    let mut lists = no_keys(alloc, text.as_bytes())?;
     let mut buffer = String::new(alloc);
-    let mut rest = body;
-    for number in 1..u64::MAX {
-        if rest.is_empty() {
-            return Ok(lists);
-        }
-        let (line, after) = next_line(rest);
-        let Ok(value) = str::from_utf8(line) else {
-            return Err(QueryRefused::NotUtf8 { line: number });
-        };
-        lists.add(alloc, keys, value, &mut buffer)?;
-        rest = after;
+    let mut rest = text;
+    while !rest.is_empty() {
+        let (end, next) = first_line(rest.as_bytes());
+        lists.add(alloc, keys, &rest[..end], &mut buffer)?;
+        rest = &rest[next..];
     }
-    Err(QueryRefused::NoMemory)
+    Ok(lists)
 }
 
 // Returns an empty gatherer with room for the keys of a body whose lines have at least eight bytes. A body of shorter
@@ -132,20 +140,42 @@ fn no_keys(alloc: Global, body: &[u8]) -> Result<KeyGatherer, NoMemory>
     KeyGatherer::with_room(alloc, lines, lines)
 }
 
-// Returns the index of the first line feed.
+// Returns the number of the first line that is not UTF-8, counted from 1. There is one, since texts that are joined by
+// line feeds are a text.
+fn faulty_line(body: &[u8]) -> u64
+    requires { ¬ (IsUtf8 body.now) }
+    ensures { line_fault 1 (all_lines body.now) ≡ Some (QueryRefused.NotUtf8 result) }
+{
+    let mut rest = body;
+    let mut number = 1;
+    loop {
+        let (end, next) = first_line(rest);
+        if !is_utf8(&rest[..end]) {
+            return number;
+        }
+        rest = &rest[next..];
+        number += 1;
+    }
+}
+
+// Returns where the first line of a body of at least one byte ends, without its line feed, and where the next one
+// begins.
+fn first_line(body: &[u8]) -> (usize, usize)
+    requires { 0 < length body.now }
+    ensures lines { all_lines body.now ≡ take result.0 body.now ∷ all_lines (drop result.1 body.now) }
+    ensures within { (result.0 ≤ result.1) × (result.1 ≤ length body.now) }
+    ensures more { 0 < result.1 }
+    ensures texts { IsUtf8 body.now ↔ (IsUtf8 (take result.0 body.now) × IsUtf8 (drop result.1 body.now)) }
+{
+    match line_end(body) {
+        Some(at) => (at, at + 1),
+        None => (body.len(), body.len()),
+    }
+}
+
+// Returns the index of the first line feed. A step of the iterator finds a near one sooner than `memchr` does.
 fn line_end(body: &[u8]) -> Option<usize>
     ensures { result ≡ position (λ byte. byte == 0x0A) body.now }
 {
-    body.iter().position(|byte| *byte == b'\n')
-}
-
-// Splits a body of at least one byte into its first line, without the line feed, and the bytes after it.
-fn next_line(body: &[u8]) -> (&[u8], &[u8])
-    requires { 0 < length body.now }
-    ensures { all_lines body.now ≡ result.0.now ∷ all_lines result.1.now }
-{
-    match line_end(body) {
-        Some(at) => (&body[..at], &body[at + 1..]),
-        None => (body, &body[body.len()..]),
-    }
+    memchr_iter(b'\n', body).next()
 }

@@ -146,6 +146,8 @@ fn lines(rt: HostRuntime) {
     let alloc = rt.alloc();
     for (body, want) in [
         ("", 0),
+        ("\n", 0),
+        ("\n\n\n", 0),
         ("\n \n\t\r\n", 0),
         ("rome\r\n\n ROME \noslo", 2),
         ("a\nb\n", 2),
@@ -156,6 +158,95 @@ fn lines(rt: HostRuntime) {
         read(alloc, b"a\n\n\xFF\n\xFE"),
         Err(QueryRefused::NotUtf8 { line: 3 })
     );
+}
+
+// Expects a body to be refused for this line. The body is these two texts with a byte between them that no text has.
+fn expect_fault(
+    rt: &impl Abort,
+    alloc: Global,
+    before: &str,
+    after: &str,
+    line: u64,
+) -> Result<(), Fail> {
+    let mut body = Vec::new(alloc);
+    body.extend_from_slice(before.as_bytes())?;
+    body.push(0xFF)?;
+    body.extend_from_slice(after.as_bytes())?;
+    let refused = Err(QueryRefused::NotUtf8 { line });
+    assert_eq!(rt; read(alloc, &body), refused, "{before:?}, {after:?}");
+    Ok(())
+}
+
+// A line that is not UTF-8 is found where it is the first, one in the middle, or the last, with a line feed and without.
+#[test]
+fn faulty_lines(rt: HostRuntime) -> Result<(), Fail> {
+    let long = "a line of more than sixty-four bytes, which are two steps of a search";
+    let before = format!(in rt.alloc(); "{long}\n{long}\n")?;
+    for (before, after, line) in [
+        ("", "", 1),
+        ("", "\n", 1),
+        ("", "\nb\nc\n", 1),
+        ("a", "b\nc", 1),
+        ("a\n", "\nc\n", 2),
+        ("a\n\nb", "c\n\nd", 3),
+        ("a\nb\n", "", 3),
+        ("a\nb\n", "\n", 3),
+        (before.as_str(), "", 3),
+        (before.as_str(), long, 3),
+        (long, before.as_str(), 1),
+    ] {
+        expect_fault(&rt, rt.alloc(), before, after, line)?;
+    }
+    Ok(())
+}
+
+// A character that a line feed cuts is a fault of the line that has its first byte.
+#[test]
+fn cut_character(rt: HostRuntime) {
+    assert_eq!(rt;
+        read(rt.alloc(), b"a\n\xC3\n\xA9\n"),
+        Err(QueryRefused::NotUtf8 { line: 2 })
+    );
+}
+
+// Returns a line of each number of letters from 1 to `most`.
+fn rising_lines(alloc: Global, most: u32) -> Result<String, Fail> {
+    let mut line = String::new(alloc);
+    let mut lines = String::new(alloc);
+    for _ in 0..most {
+        line.push('a')?;
+        lines.push_str(line.as_str())?;
+        lines.push('\n')?;
+    }
+    Ok(lines)
+}
+
+// Lines shorter and longer than 32 and 64 bytes are cut at their line feeds.
+#[test]
+fn long_lines(rt: HostRuntime) -> Result<(), Fail> {
+    let lines = rising_lines(rt.alloc(), 130)?;
+    let asked = query(rt.alloc(), lines.as_str())?;
+    assert_eq!(rt; asked.len(), 130);
+    for i in 0..asked.len() {
+        assert_eq!(rt; asked.key(i).len(), i as usize + 1);
+    }
+    Ok(())
+}
+
+// Lines beyond ASCII are cut at their line feeds, also behind the first 64 bytes.
+#[test]
+fn lines_beyond_ascii(rt: HostRuntime) -> Result<(), Fail> {
+    let asked = query(
+        rt.alloc(),
+        "日本\n東京\nМосква\nбезопасность и надёжность в работе\n\n大阪",
+    )?;
+    assert_eq!(rt; asked.len(), 5);
+    expect_has(&rt, &asked, "日本", true);
+    expect_has(&rt, &asked, "東京", true);
+    expect_has(&rt, &asked, "москва", true);
+    expect_has(&rt, &asked, "大阪", true);
+    expect_has(&rt, &asked, "日本東京", false);
+    Ok(())
 }
 
 // A row is kept with a share of its titles, alone and among others.
