@@ -11,7 +11,7 @@ use Rattle.std.proofs.lemmas.List.{get_or-map, map-append, length-map, take_more
 use Rattle.std.proofs.lemmas.List.Concat.{flat_map-append}
 use Rattle.std.proofs.lemmas.List.Elements.{All-from_recursion}
 use Rattle.std.proofs.lemmas.List.Folds.{list_any_none}
-use Rattle.std.proofs.lemmas.List.Sorted.{IsPermutation-refl, IsPermutation-sym, IsPermutation-trans, IsPermutation-cons, IsPermutation-middle, IsPermutation-append, IsPermutation-map, list_any-IsPermutation}
+use Rattle.std.proofs.lemmas.List.Sorted.{IsPermutation-refl, IsPermutation-sym, IsPermutation-trans, IsPermutation-cons, IsPermutation-middle, IsPermutation-append, IsPermutation-map, length_permutation, list_any-IsPermutation}
 use Rattle.std.proofs.lemmas.Map.Keys.{IsDistinct-IsPermutation}
 use Rattle.std.proofs.lemmas.Map.Lookups.{exact_unsigned}
 use Rattle.std.proofs.lemmas.Slice.Eq.{bytes_eq-Decides}
@@ -143,6 +143,21 @@ hit_more tokens keys hits i d found h apart is =
     let key : Hit → Text = λ hit. get_or keys hit.index [] in
     let within : i < length (hit_keys keys hits) = omega (arith, length-map hits key) in
     one_more tokens (hit_keys keys hits) i found within apart (subst (λ (k : Text). IsToken tokens k found) (sym (get_or-map key hits i d [] h)) is)
+
+-- ---- keys of which no token has one
+
+pub none_found : (tokens : List Token) (keys : List Text) → IsDistinct bytes_eq (map (λ t. t.key) tokens) → ((i : ℕ) → i < length keys → IsToken tokens (get_or keys i []) None) → found_by tokens keys ≡ []
+none_found tokens [] apart none = refl
+none_found tokens (key ∷ keys) apart none =
+    let first : tokens_in tokens (key ∷ []) ≡ [] = looked_up tokens key None apart (none 0 (omega arith)) in
+    ap (λ (ns : List ℕ). ns ++ found_by tokens keys) first ∙ none_found tokens keys apart (λ i h. none (suc i) (omega (arith, h)))
+
+empty : (ns : List ℕ) → IsPermutation ns [] → ns ≡ []
+empty [] p = refl
+empty (n ∷ ns) p = absurd (omega (arith, length_permutation (n ∷ ns) [] p))
+
+pub none_in : (tokens : List Token) (keys : List Text) → IsDistinct bytes_eq keys → IsDistinct bytes_eq (map (λ t. t.key) tokens) → ((i : ℕ) → i < length keys → IsToken tokens (get_or keys i []) None) → tokens_in tokens keys ≡ []
+none_in tokens keys distinct apart none = empty (tokens_in tokens keys) (subst (IsPermutation (tokens_in tokens keys)) (none_found tokens keys apart none) (each_key tokens keys distinct))
 
 -- ---- the keys of the tokens are distinct
 

@@ -95,10 +95,15 @@ impl HashOrder {
         query.may_have(self.hash(at)) && query.query().has(self.key(at))
     }
 
-    // Returns the same by looking up each key of the query among the tokens.
+    // Returns the same by looking up each key of the query among the tokens. A small part usually has none of a few
+    // keys: then a filter shows this at once, and no memory is taken.
     fn found_tokens(&self, alloc: Global, query: &HashedQuery<'_>) -> Result<Vec<u32>, NoMemory>
         ensures { (tables : List Table) → IsByHash tables self.now → IfOk result (λ tokens. tokens.items ≡ tokens_in (segment tables).tokens query.now) }
     {
+        let is_short = query.query().len() < LEAST_IN_PASSES;
+        if is_short && !self.may_have_any(query.hashes()) {
+            return Ok(Vec::new(alloc));
+        }
         let hits = self.hits(alloc, query)?;
         let keys = self.keys_of_hits(alloc, &hits)?;
         in_order(alloc, self.tokens_of_hits(alloc, query, &hits, &keys)?)

@@ -1,5 +1,5 @@
 //! A query with the hashes of its keys.
-ghost use Rattle.std.specs.Prelude.{◌≡◌, ◌<◌, [], false, get_or, length, IfOk};
+ghost use Rattle.std.specs.Prelude.{◌≡◌, ◌<◌, [], false, get_or, length, map, IfOk};
 ghost use Rattle.lake_model.specs.Tables.{has_key};
 ghost use Rattle.lake_model.specs.Texts.{Text};
 ghost use Rattle.segment_core.specs.Hashes.{hash_of};
@@ -62,6 +62,13 @@ impl<'q> HashedQuery<'q> {
         ensures { result.now ≡ self.now }
     {
         self.query
+    }
+
+    /// Returns the hashes of the keys.
+    pub(crate) fn hashes(&self) -> &[u32]
+        ensures { result.now ≡ map hash_of self.now }
+    {
+        &self.hashes
     }
 
     /// Returns the hash of the key at an index, from 0.

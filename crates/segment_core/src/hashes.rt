@@ -1,5 +1,5 @@
 //! The tokens of a segment in the order of the hashes of their keys.
-ghost use Rattle.std.specs.Prelude.{◌≡◌, ◌∷◌, ◌<◌, ◌^◌, ℕ, length, map, IfNone, IfOk, IfSome};
+ghost use Rattle.std.specs.Prelude.{◌≡◌, ◌∷◌, ◌<◌, ◌^◌, ℕ, false, length, map, IfNone, IfOk, IfSome};
 ghost use Rattle.std.specs.Cmp.Lexicographic.{slice_cmp};
 ghost use Rattle.std.specs.List.{All};
 ghost use Rattle.std.specs.List.Sorted.{IsNonDecreasingBy, IsPermutation, IsSortedByKey};
@@ -83,6 +83,13 @@ impl HashOrder {
         ensures { result.now ≡ (keyed_at self.now at).key }
     {
         self.keys.text(self.entries[at].key)
+    }
+
+    /// Returns whether any of these hashes may be that of a token's key, as far as a filter shows.
+    pub(crate) fn may_have_any(&self, hashes: &[u32]) -> bool
+        ensures { result ≡ false → All (λ hash. All (λ entry. hash_of entry.key ≡ hash → ⊥) self.now) hashes.now }
+    {
+        self.directory.may_have_any(hashes)
     }
 
     /// Returns the range of the indices of the tokens whose keys may have the hash. It usually is
