@@ -5,7 +5,7 @@ use Rattle.std.specs.BinaryHeap.{lt_by_cmp}
 use Rattle.std.specs.List.{flat_map, IsDistinct, sum_by}
 use Rattle.std.specs.List.Sorted.{IsPermutation, IsSortedBy}
 use Rattle.std.proofs.lemmas.List.{take_all}
-use Rattle.std.proofs.lemmas.List.Sums.{sum_by-drop_more}
+use Rattle.std.proofs.lemmas.List.Sums.{sum_by-drop_more, sum_by_more}
 use Rattle.lake_model.specs.Answer.{Row, row_cmp}
 use Rattle.lake_model.specs.Layout.{Part}
 use Rattle.lake_model.specs.Sorting.{in_order}
@@ -27,6 +27,13 @@ module _ (keys : List Text) (parts : List Part) (part : ℕ) (within : part < le
 
   pub rows_here : (have room : ℕ) → have + sum_by (rows_for keys least) (drop part parts) ≤ room → have + probes_bound (part_at parts part) (first_lists least tokens) + sum_by (rows_for keys least) (drop (part + 1) parts) ≤ room
   rows_here have room holds = omega (arith, holds, sum_by-drop_more (rows_for keys least) parts part (part_with 0 []) within, ap (λ (ts : List ℕ). probes_bound (part_at parts part) (first_lists least ts)) is)
+
+  -- the same for the parts so far
+  pub looks_so_far : (spare more : ℕ) → sum_by (looks_for keys least) (take part parts) ≤ spare → spare + looks_bound (part_at parts part) (first_lists least tokens) ≤ more → sum_by (looks_for keys least) (take (part + 1) parts) ≤ more
+  looks_so_far spare more room bound = omega (arith, room, bound, sum_by_more (looks_for keys least) parts part (part_with 0 []) within, ap (λ (ts : List ℕ). looks_bound (part_at parts part) (first_lists least ts)) is)
+
+  pub rows_so_far : (have more : ℕ) → sum_by (rows_for keys least) (take part parts) ≤ have → have + probes_bound (part_at parts part) (first_lists least tokens) ≤ more → sum_by (rows_for keys least) (take (part + 1) parts) ≤ more
+  rows_so_far have more room bound = omega (arith, room, bound, sum_by_more (rows_for keys least) parts part (part_with 0 []) within, ap (λ (ts : List ℕ). probes_bound (part_at parts part) (first_lists least ts)) is)
 
   pub log_on : (old news : List Look) → old ≡ flat_map (λ part. contain_looks least (searched (of_all_tables keys) part)) (take part parts) → news ≡ old ++ contain_looks least (met (part_at parts part) tokens)
       → news ≡ flat_map (λ part. contain_looks least (searched (of_all_tables keys) part)) (take (part + 1) parts)

@@ -91,17 +91,16 @@ fn ask_parts(
     ensures rows { IfOk result (λ asked. sum_by (rows_for query.now least) looks.old.version.parts ≤ asked.1) }
 {
     let hashed = HashedQuery::new(alloc, query)?;
-    let mut asked = Vec::new(alloc);
+    let asked = looks.tokens_of_parts(alloc, &hashed)?;
     let mut rows = 0;
     for part in 0..looks.parts() {
-        let tokens = looks.query_tokens(alloc, part, &hashed)?;
+        let tokens: &[u32] = &asked[part as usize];
         let read = (tokens.len() + 1).saturating_sub(least as usize);
         let probes = most_probes(looks, part, &tokens[..read]) as usize;
         looks.reserve_log(read + probes)?;
         // There are at most as many rows as looks.
         prove!(probes <= looks.log_spare());
         rows += probes;
-        asked.push(tokens)?;
     }
     Ok((asked, rows))
 }

@@ -12,6 +12,7 @@ pub mod ProbedLemmas
 pub mod GoingLemmas
 pub mod LoopLemmas
 pub mod PartsLemmas
+pub mod EmptyLemmas
 pub mod SureLemmas
 pub mod OfferLemmas
 pub mod RoomLemmas

@@ -102,12 +102,15 @@ fn ask_parts(
     ensures room { IfOk result (λ asked. sum_by (looks_in query.now) looks.old.version.parts ≤ looks.new.spare) }
 {
     let hashed = HashedQuery::new(alloc, query)?;
-    let mut asked = Vec::new(alloc);
+    let asked = looks.tokens_of_parts(alloc, &hashed)?;
     for part in 0..looks.parts() {
-        let tokens = looks.query_tokens(alloc, part, &hashed)?;
-        let probes = most_probes(looks, part, &tokens);
+        let tokens: &[u32] = &asked[part as usize];
+        // Without a token there is no look.
+        if tokens.is_empty() {
+            continue;
+        }
+        let probes = most_probes(looks, part, tokens);
         looks.reserve_log(tokens.len() + probes as usize)?;
-        asked.push(tokens)?;
     }
     Ok(asked)
 }
@@ -139,6 +142,10 @@ impl<'a, 'q> Prepared<'a, 'q> {
         } = self;
         for part in 0..looks.parts() {
             let asked: &[u32] = &tokens[part as usize];
+            // Without a token there is no look and no row: so it is with most parts of a lake that was not merged.
+            if asked.is_empty() {
+                continue;
+            }
             let order = looks.order(part);
             sum_costs(&looks, part, asked, &mut sums);
             fill(&mut set, asked);

@@ -1,5 +1,5 @@
 //! The looks of a search at a version: everything that it may ask, and a log of the lists and the sets that it read.
-ghost use Rattle.std.specs.Prelude.{◌≡◌, ◌<◌, ◌+◌, ◌++◌, ◌∷◌, [], count_by, drop, false, get_or, length, not, IfOk, OnErr, OnOk};
+ghost use Rattle.std.specs.Prelude.{◌≡◌, ◌<◌, ◌+◌, ◌++◌, ◌∷◌, [], count_by, drop, false, get_or, length, map, not, IfOk, OnErr, OnOk};
 ghost use Rattle.search_model.specs.Looks.{is_read};
 
 use crate::hashed::HashedQuery;
@@ -60,7 +60,7 @@ impl<'a> Looks<'a> {
     ghost use Rattle.search_model.specs.Arrays.{table_at, titled_at, IsToken};
     ghost use Rattle.search_model.specs.Ranks.{AreInverse, AreRanks};
     ghost use Rattle.search_model.specs.Segment.{tokens_in};
-    ghost use Rattle.segment_core.specs.Versions.{looks_with, marks_of, part_at, segment_at, tables_of};
+    ghost use Rattle.segment_core.specs.Versions.{looks_with, marks_of, part_at, segment_at, segment_of, tables_of};
 
     // Makes looks at this version, with an empty log.
     pub(crate) fn new(alloc: Global, version: &'a Version) -> Looks<'a>
@@ -136,6 +136,21 @@ impl<'a> Looks<'a> {
         ensures { IfOk result (λ tokens. tokens.items ≡ tokens_in (segment_at self.now.version.parts part).tokens query.now) }
     {
         self.version.part(part).segment().tokens_among(alloc, query)
+    }
+
+    /// Returns, for each part, the tokens whose keys are the query's, as [`Looks::query_tokens`] does for one part.
+    pub fn tokens_of_parts(
+        &self,
+        alloc: Global,
+        query: &HashedQuery<'_>,
+    ) -> Result<Vec<Vec<u32>>, NoMemory>
+        ensures { IfOk result (λ all. map (λ tokens. tokens.items) all.items ≡ map (λ part. tokens_in (segment_of part).tokens query.now) self.now.version.parts) }
+    {
+        let mut all = Vec::with_capacity(alloc, self.parts() as usize)?;
+        for part in 0..self.parts() {
+            all.push(self.query_tokens(alloc, part, query)?)?;
+        }
+        Ok(all)
     }
 
     /// Returns the columns of a part in the order of names, including those of marked tables.

@@ -10,6 +10,7 @@ use Rattle.topk_heap.specs.First.{FirstRows}
 use Rattle.josie_search.specs.Ready.{IsReady}
 use Rattle.part_columns.specs.Room.{asked_in, looks_bound}
 use Rattle.josie_search.specs.Search.{SearchOf}
+use Rattle.josie_search.proofs.EmptyLemmas.{no_tokens, through_nothing}
 use Rattle.josie_search.proofs.PartsLemmas.{rows_kept, through_log, through_more, through_none, through_rows, length-searched, searched_at}
 use Rattle.part_columns.proofs.AskedLemmas.{asked_there, few_tokens, room_here, tokens_within}
 use Rattle.josie_search.proofs.RoomLemmas.{as_many, ready_again, room_kept, room_there}
@@ -116,6 +117,32 @@ search_part-requires-clause-rows g c =
     let some = subst (λ (s : SearchOf). 0 < s.query.k) c.self.view_is c.self.invariant.1.some in
     rows_kept (g.C.Chooser.says c.args.chooser.now) query some (map (searched query) c.args.self.version.parts) c.loop-part.part c.loop-part.looks.log c.loop-part.top.rows kept.through
     ∙ ap (λ (s : SearchOf). best row_cmp s.query.k c.loop-part.top.rows) (sym c.self.view_is)
+
+-- a part without tokens is passed over
+pub loop-part-preserved-then-is_empty : goal.loop-part-preserved-then-is_empty
+loop-part-preserved-then-is_empty g c =
+    let says = g.C.Chooser.says c.args.chooser.now in
+    let kept = c.loop-part.invariant in
+    let query = c.args.self.query in
+    let parts = c.args.self.version.parts in
+    let part = c.loop-part.part in
+    let within : part < length parts = omega (arith, c.loop-part-test.true, kept.end) in
+    let some = subst (λ (s : SearchOf). 0 < s.query.k) c.self.view_is c.self.invariant.1.some in
+    let different = subst (λ (s : SearchOf). IsDistinct bytes_eq s.query.keys) c.self.view_is c.self.invariant.1.different in
+    let lists = subst (λ (s : SearchOf). map (λ v. v.items) c.self.inside.tokens.items ≡ map (asked_in s.query.keys) s.version.parts) c.self.view_is c.self.invariant.1.asked in
+    let asked = asked_there query.keys parts c.self.inside.tokens.items part _ _ lists within c.index.ensures c.deref-asked.ensures.value in
+    let none : asked_in query.keys (part_at parts part) ≡ [] = sym asked ∙ no_tokens c.deref-asked.result.now c.is_empty.result c.is_empty.ensures c.if-is_empty.true in
+    record {
+      end = kept.end;
+      version = kept.version;
+      through = through_nothing says query some parts part c.loop-part.looks.log c.loop-part.top.rows within different none kept.through;
+      k = kept.k;
+      wide = kept.wide;
+      free = kept.free;
+      sums = kept.sums;
+      set = kept.set;
+      room = omega (arith, room_here query.keys parts part _ c.loop-part.looks.spare within asked kept.room);
+    }
 
 pub loop-part-preserved : goal.loop-part-preserved
 loop-part-preserved g c =
