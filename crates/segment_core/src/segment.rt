@@ -1,6 +1,6 @@
 //! The inverted index of a list of tables, in flat arrays.
-ghost use Rattle.std.specs.Prelude.{◌≡◌, ◌⊎◌, ◌+◌, ◌<◌, ◌≤◌, ◌∷◌, ℕ, List, [], drop, get_or, length, map, slice_index, slice_range, IfErr, IfNone, IfOk, IfSome, None, OnOk, Some};
-ghost use Rattle.search_model.specs.Arrays.{key_of, table_at, titled_at, IsToken};
+ghost use Rattle.std.specs.Prelude.{◌≡◌, ◌⊎◌, ◌+◌, ◌<◌, ◌≤◌, [], drop, get_or, length, slice_index, slice_range, IfErr, IfOk, None, OnOk, Some};
+ghost use Rattle.search_model.specs.Arrays.{table_at, titled_at, IsToken};
 ghost use Rattle.search_model.specs.Ranks.{AreInverse, AreRanks};
 ghost use Rattle.search_model.specs.Segment.{segment, tokens_in};
 ghost use Rattle.segment_core.specs.LiveColumn.{fault_in, keys_in};
