@@ -13,7 +13,7 @@ use Rattle.std.proofs.lemmas.Bool.{cases_lt}
 use Rattle.std.proofs.lemmas.Cmp.{nat_list_cmp_total}
 use Rattle.std.proofs.lemmas.List.{get_or_default, get_or-drop, get_or-map, get_or-take, length-drop, length-map, length-take, map-append, take_more}
 use Rattle.std.proofs.lemmas.List.Elements.{All-append, All-from_recursion}
-use Rattle.std.proofs.lemmas.List.Folds.{list_any_none}
+use Rattle.std.proofs.lemmas.List.Folds.{list_any_at, list_any_none}
 use Rattle.std.proofs.lemmas.List.FromFn.{get_or-enumerate_from, length-enumerate_from}
 use Rattle.std.proofs.lemmas.List.Sorted.{length_permutation, ranks_by, searchable_from_sorted, sorted_far, All-permutation, IsNonDecreasingBy-drop, IsNonDecreasingBy-take, IsPermutation-map, IsPermutation-sym}
 use Rattle.std.proofs.lemmas.Map.Lookups.{exact_bytes}
@@ -23,7 +23,7 @@ use Rattle.lake_model.specs.Texts.{Text}
 use Rattle.lake_model.specs.Tables.{Table}
 use Rattle.search_model.specs.Segment.{Token, segment}
 use Rattle.search_model.specs.Arrays.{key_of, numbers_of, token_with, IsToken}
-use Rattle.hash_directory.specs.Buckets.{IsNear}
+use Rattle.hash_directory.specs.Buckets.{FilterOf, may_have, AreIn, IsNear}
 use Rattle.text_region.specs.Spans.{IsSpan, text_at, KeepsSpans}
 use Rattle.text_region.specs.Written.{Written}
 use Rattle.segment_core.specs.Hashes.{KeyedToken, all_keyed, entry_hash, hash_of, keyed_at, keyed_from, keyed_in, sorted_by, token_hash, token_number, AreInOrder, AreKeyed, AreKeyedTokens, IsByHash, IsHashed, IsSplit, IsSplitIn}
@@ -335,3 +335,15 @@ none_at keys entries hash from to at is near split apart =
     (let there = keyed_there keys entries k no_entry h in
     let own = is.hashes k blank (omega (arith, h, length-keyed keys entries)) in
     other k no_entry h (ap token_hash (sym there) ∙ own ∙ ap (λ (t : KeyedToken). hash_of t.key) there ∙ e)))
+
+-- no key has a hash that the filter denies
+pub denied : (keys : Written) (entries : List HashedToken) (filter : FilterOf) (hashes : List ℕ) → AreInOrder (all_keyed keys entries) → AreIn filter (map entry_hash entries) → list_any (may_have filter) hashes ≡ false
+    → All (λ hash. All (λ entry. hash_of entry.key ≡ hash → ⊥) (all_keyed keys entries)) hashes
+denied keys entries filter hashes is are none k d h i e l same =
+    let b : i < length entries = omega (arith, l, length-keyed keys entries) in
+    let entry : get_or (all_keyed keys entries) i e ≡ keyed_in keys (get_or entries i no_entry) = get_or-map (keyed_in keys) entries i no_entry e b in
+    let own : entry_hash (get_or entries i no_entry) ≡ get_or hashes k d = ap token_hash (sym entry) ∙ is.hashes i e l ∙ same in
+    let there : may_have filter (get_or (map entry_hash entries) i 0) ≡ true = All-from_recursion (λ hash. may_have filter hash ≡ true) (map entry_hash entries) are i 0 (omega (arith, b, length-map entries entry_hash)) in
+    let passes : may_have filter (get_or hashes k d) ≡ true = ap (may_have filter) (sym own ∙ sym (get_or-map entry_hash entries i no_entry 0 b)) ∙ there in
+    let wrong : true ≡ false = sym (list_any_at (may_have filter) hashes k d h passes) ∙ none in
+    cc
