@@ -7,6 +7,7 @@ ghost use Rattle.segment_core.specs.Versions.{live_of};
 
 use crate::asked::{KeptSet, clear, fill, set_for, set_of};
 use crate::cost::sum_costs;
+use crate::next::may_hold;
 use crate::part::search_part;
 use crate::query::Asked;
 use crate::room::{SearchRoom, Seats};
@@ -142,8 +143,8 @@ impl<'a, 'q> Prepared<'a, 'q> {
         } = self;
         for part in 0..looks.parts() {
             let asked: &[u32] = &tokens[part as usize];
-            // Without a token there is no look and no row: so it is with most parts of a lake that was not merged.
-            if asked.is_empty() {
+            // With too few tokens there is no look and no row: so it is with most parts of a lake that was not merged.
+            if !may_hold(&top, asked) {
                 continue;
             }
             let order = looks.order(part);
