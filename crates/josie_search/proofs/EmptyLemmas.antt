@@ -1,8 +1,8 @@
--- A part without a token of the query: no look is taken in it, and none of its columns has a row.
-use Rattle.std.proofs.Common.{◌≡◌, refl, ap, sym, ◌∙◌, ℕ, ◌+◌, ◌<◌, ◌≤◌, List, [], ◌∷◌, ◌++◌, Bool, true, false, length, map, take, get_or, arith, append-nil, ltb as nat_lt}
-use Rattle.std.specs.Prelude.{◌==◌, bytes_eq}
+-- A part with too few tokens of the query, or with none: no look is taken in it, and none of its columns has a row.
+use Rattle.std.proofs.Common.{◌≡◌, refl, ap, sym, ◌∙◌, inl, inr, ℕ, ◌+◌, ◌-◌, ◌<◌, ◌≤◌, List, [], ◌∷◌, ◌++◌, Bool, true, false, not, ◌&&◌, length, map, take, get_or, arith, cond, append-nil, Option, Some, None, ltb as nat_lt}
+use Rattle.std.specs.Prelude.{◌==◌, bytes_eq, slice_get}
 use Rattle.std.specs.List.{filter, sum_by, IsDistinct}
-use Rattle.std.proofs.lemmas.Bool.{and_parts, eqb-true}
+use Rattle.std.proofs.lemmas.Bool.{and_parts, cases_lt, eqb-true}
 use Rattle.std.proofs.lemmas.List.{get_or_default}
 use Rattle.std.proofs.lemmas.List.Sums.{sum_by_more}
 use Rattle.lake_model.specs.Answer.{Query, Row, row_cmp}
@@ -15,14 +15,15 @@ use Rattle.search_model.proofs.LooksLemmas.{run-none}
 use Rattle.search_model.specs.Arrays.{no_titled}
 use Rattle.search_model.specs.declared.Look.{Look}
 use Rattle.search_model.specs.declared.Summary.{Summary}
-use Rattle.search_model.specs.Looks.{hits, is_eligible, known_rows, Progress, run, searched, Searched, start}
+use Rattle.search_model.specs.Looks.{beats, choice, hits, is_eligible, is_known, known_rows, left_of, next_look, Progress, read_next, run, searched, Searched, start, threshold, unseen_open, worst}
 use Rattle.search_model.specs.Segment.{Titled}
-use Rattle.search_state.specs.State.{column_at}
+use Rattle.search_state.proofs.CoverLemmas.{none_open}
+use Rattle.search_state.specs.State.{column_at, open_at, seen_at}
 use Rattle.segment_core.specs.Versions.{part_at, part_with}
 use Rattle.part_columns.proofs.AskedLemmas.{hits_overlap}
 use Rattle.part_columns.specs.Room.{asked_in, looks_bound, looks_in}
-use Rattle.josie_search.proofs.GoingLemmas.{nothing_next}
-use Rattle.josie_search.proofs.PartLemmas.{known_all, rows_where}
+use Rattle.josie_search.proofs.NextLemmas.{last_is}
+use Rattle.josie_search.proofs.PartLemmas.{known_all, known_probed, rows_where}
 use Rattle.josie_search.proofs.PartsLemmas.{length-searched, rows_kept, searched_at, Through, through_more}
 
 pub no_tokens : (tokens : List ℕ) (empty : Bool) → empty ≡ (length tokens == 0) → empty ≡ true → tokens ≡ []
@@ -54,22 +55,60 @@ module _ (query : Query) (part : Part) (distinct : IsDistinct bytes_eq query.key
   no_rows : known_rows query here start ≡ []
   no_rows = known_all query here start all_read ∙ sym (rows_where query here (λ x. false) shares_nothing) ∙ ap (map (row_for query)) (none_kept (candidates query here))
 
-  no_look : (says : Summary → Bool) (before : List Row) → run says query before here start ≡ ([], start)
-  no_look says before = run-none says query before here start (nothing_next says query here before [] start all_read)
+-- ---- before the first look no row is known and no column was seen
 
--- such a part can be passed over
-pub through_nothing : (says : Summary → Bool) (query : Query) (some : 0 < query.k) (parts : List Part) (i : ℕ) (log : List Look) (rows : List Row) → i < length parts → IsDistinct bytes_eq query.keys → asked_in query.keys (part_at parts i) ≡ []
-    → Through says query (map (searched query) parts) i log rows → Through says query (map (searched query) parts) (i + 1) log rows
-through_nothing says query some parts i log rows h distinct none through =
+none_asked : (tokens : List ℕ) → length tokens ≤ 0 → tokens ≡ []
+none_asked [] h = refl
+none_asked (token ∷ tokens) h = absurd (omega arith)
+
+none_known : (query : Query) (part : Part) → IsDistinct bytes_eq query.keys → known_rows query (searched query part) start ≡ []
+none_known query part distinct =
+    let here = searched query part in
+    elim (cases_lt 0 (length here.query)) [
+      | inl unread ↦ known_probed query here start unread ∙ ap (map (row_for query)) (none_kept (candidates query here))
+      | inr all ↦ no_rows query part distinct (none_asked (asked_in query.keys part) all)
+    ]
+
+uncounted : (a b d : Bool) → (a && b && false && d) ≡ false
+uncounted true true d = refl
+uncounted true false d = refl
+uncounted false b d = refl
+
+closed_start : (query : Query) (part : Searched) (last : Option Row) (x : ℕ) → open_at query part start last x ≡ false
+closed_start query part last x = uncounted (is_eligible query part (column_at part x)) (not (is_known part start x)) (beats last (seen_at part start x).bound)
+
+module _ (says : Summary → Bool) (query : Query) (some : 0 < query.k) (part : Part) (distinct : IsDistinct bytes_eq query.keys) (rows : List Row) (kept : rows ≡ best row_cmp query.k rows)
+    (few : unseen_open (length (asked_in query.keys part)) (threshold (slice_get rows (query.k - 1))) ≡ false) where
+  abbrev whole : Searched
+  whole = searched query part
+
+  no_next : next_look says query rows whole start ≡ None
+  no_next =
+      let known = known_rows query whole start in
+      let last = worst query (rows ++ known) in
+      let same : rows ≡ best row_cmp query.k (rows ++ known) = kept ∙ ap (best row_cmp query.k) (sym (append-nil rows) ∙ ap (λ us. rows ++ us) (sym (none_known query part distinct))) in
+      let at : slice_get rows (query.k - 1) ≡ last = last_is query (rows ++ known) rows query.k some refl same in
+      let left : left_of whole start ≡ length (asked_in query.keys part) = omega arith in
+      ap (choice says whole start last) (none_open query whole start last (λ x h. closed_start query whole last x))
+      ∙ ap (λ b. cond b (Some (read_next whole start)) None) ((λ i. unseen_open (left i) (threshold (sym at i))) ∙ few)
+
+  no_look : run says query rows whole start ≡ ([], start)
+  no_look = run-none says query rows whole start no_next
+
+-- a part with fewer of the query's tokens than the last row shares keys, or with none, can be passed over
+pub through_few : (says : Summary → Bool) (query : Query) (some : 0 < query.k) (parts : List Part) (i : ℕ) (log : List Look) (rows : List Row) → i < length parts → IsDistinct bytes_eq query.keys
+    → unseen_open (length (asked_in query.keys (part_at parts i))) (threshold (slice_get rows (query.k - 1))) ≡ false → Through says query (map (searched query) parts) i log rows → Through says query (map (searched query) parts) (i + 1) log rows
+through_few says query some parts i log rows h distinct few through =
     let all = map (searched query) parts in
     let d = searched query (part_with 0 []) in
     let same : get_or all i d ≡ searched query (part_at parts i) = searched_at query parts i h in
-    let ran : run says query rows (get_or all i d) start ≡ ([], start) = ap (λ (part : Searched). run says query rows part start) same ∙ no_look query (part_at parts i) distinct none says rows in
+    let kept : rows ≡ best row_cmp query.k rows = rows_kept says query some all i log rows through in
+    let ran : run says query rows (get_or all i d) start ≡ ([], start) = ap (λ (part : Searched). run says query rows part start) same ∙ no_look says query some (part_at parts i) distinct rows kept few in
     let known : known_rows query (get_or all i d) (run says query rows (get_or all i d) start).1 ≡ [] =
-    ap (λ (made : List Look × Progress). known_rows query (get_or all i d) made.1) ran ∙ ap (λ (part : Searched). known_rows query part start) same ∙ no_rows query (part_at parts i) distinct none in
+    ap (λ (made : List Look × Progress). known_rows query (get_or all i d) made.1) ran ∙ ap (λ (part : Searched). known_rows query part start) same ∙ none_known query (part_at parts i) distinct in
     through_more says query some all i d log log rows rows (omega (arith, h, length-searched query parts)) through
     (sym (append-nil log) ∙ ap (λ (made : List Look × Progress). log ++ made.0) (sym ran))
-    (rows_kept says query some all i log rows through ∙ ap (best row_cmp query.k) (sym (append-nil rows) ∙ ap (λ us. rows ++ us) (sym known)))
+    (kept ∙ ap (best row_cmp query.k) (sym (append-nil rows) ∙ ap (λ us. rows ++ us) (sym known)))
 
 -- ---- room for the looks of the parts so far
 

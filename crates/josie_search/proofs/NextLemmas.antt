@@ -29,7 +29,7 @@ position_same : (c : Titled) (set : List ℕ) (left x : ℕ) (found : List ℕ) 
 position_same c set left x [] h = absurd (omega arith)
 position_same c set left x (t ∷ ts) h = refl
 
-threshold_same : (last : Option Row) → threshold last ≡ threshold_of (overlap_of last)
+pub threshold_same : (last : Option Row) → threshold last ≡ threshold_of (overlap_of last)
 threshold_same None = refl
 threshold_same (Some w) = refl
 

@@ -4,7 +4,7 @@ ghost use Rattle.std.specs.Prelude.{true, Some, ◌≡◌, ◌<◌, ◌≤◌, �
 ghost use Rattle.std.specs.List.{All};
 ghost use Rattle.lake_model.specs.Answer.{Row as RowOf, row_cmp};
 ghost use Rattle.search_laws.specs.Select.{best};
-ghost use Rattle.search_model.specs.Looks.{beats, known_rows, next_look, Progress, searched};
+ghost use Rattle.search_model.specs.Looks.{beats, known_rows, next_look, Progress, searched, threshold, unseen_open};
 ghost use Rattle.search_model.specs.Ranks.{AreInverse, AreRanks};
 ghost use Rattle.segment_core.specs.Versions.{part_at, segment_at};
 ghost use Rattle.josie_search.specs.Candidates.{all_of, AreHeld};
@@ -142,6 +142,16 @@ fn column_of(found: &Option<(u32, Row<'_>)>) -> Option<u32> {
         None => None,
         Some((column, _)) => Some(*column),
     }
+}
+
+/// Returns whether a part with these tokens of the query may have a column that comes before the k-th known row. If it
+/// has none of them, or fewer than that row has overlap, a search takes no look in the part.
+pub(crate) fn may_hold(top: &TopK<'_>, tokens: &[u32]) -> bool
+    requires few { length tokens.now ≤ 4194304 }
+    ensures { result ≡ unseen_open (length tokens.now) (threshold (slice_get top.now.rows (top.now.k - 1))) }
+{
+    let left = tokens.len() as u32;
+    unseen_open(left, threshold(worst_overlap(top.worst())))
 }
 
 /// Returns how many keys a column has to share at least, if the k-th known row has overlap `worst`.

@@ -1,7 +1,9 @@
-//! The memory that a search takes for the columns of a part, which the next search uses again.
-ghost use Rattle.std.specs.Prelude.{◌≡◌, ◌≤◌, length, IfOk};
+//! The memory that a search takes for the columns and the tokens of a part, which the next search uses again.
+ghost use Rattle.std.specs.Prelude.{◌≡◌, ◌≤◌, [], length, IfOk, IfSome};
 ghost use Rattle.josie_search.specs.Ready.{IsFree};
+ghost use Rattle.token_set.specs.Bits.{IsSetOf};
 
+use crate::asked::KeptSet;
 use crate::candidates::Candidates;
 use no_memory::NoMemory;
 use part_columns::Columns;
@@ -18,6 +20,21 @@ pub(crate) struct Seats {
 }
 
 impl Seats {
+    /// Returns the kept seats if they serve for parts of up to `most` columns, or else new ones that do; the kept ones are
+    /// let go first. No column of the seats was seen. Returns `Err(NoMemory)` if memory runs out.
+    pub(crate) fn serving(alloc: Global, most: u32, kept: Option<Seats>) -> Result<Seats, NoMemory>
+        requires { IfSome kept (λ seats. IsFree seats.most seats.columns seats.candidates) }
+        ensures free { IfOk result (λ seats. IsFree seats.most seats.columns seats.candidates) }
+        ensures wide { IfOk result (λ seats. most ≤ seats.most) }
+    {
+        if let Some(seats) = kept {
+            if most <= seats.most {
+                return Ok(seats);
+            }
+        }
+        Seats::new(alloc, most)
+    }
+
     // Returns seats for parts of up to `most` columns, none of which was seen.
     fn new(alloc: Global, most: u32) -> Result<Seats, NoMemory>
         ensures most { IfOk result (λ seats. seats.most ≡ most) }
@@ -40,50 +57,53 @@ impl Seats {
         self.columns.clear();
     }
 
-    /// Gives the memory back for the next search.
-    pub(crate) fn into_room(self) -> SearchRoom
-        requires { IsFree self.most self.columns self.candidates }
+    /// Gives the memory back for the next search, with the set that the tokens of a part were looked up in.
+    pub(crate) fn into_room(self, set: Option<KeptSet>) -> SearchRoom
+        requires free { IsFree self.most self.columns self.candidates }
+        requires empty { IfSome set (λ set. IsSetOf set []) }
     {
-        SearchRoom { seats: Some(self) }
+        SearchRoom {
+            seats: Some(self),
+            set,
+        }
     }
 }
 
-/// Memory that a search takes for the columns of a part, and that the next search may use again, over any version of
-/// any lake. What was searched before makes no difference to an answer: no column that it holds was seen. Contracts say
-/// nothing of how much memory it is.
+/// Memory that a search takes for the columns and the tokens of a part, and that the next search may use again, over any
+/// version of any lake. What was searched before makes no difference to an answer: no column that it holds was seen, and
+/// its set has no token. Contracts say nothing of how much memory it is.
 #[derive(Drop)]
 pub struct SearchRoom {
     seats: Option<Seats>,
+    set: Option<KeptSet>,
 }
 
 impl Model for SearchRoom {
-    ghost use Rattle.std.specs.Prelude.{⊤, IfSome};
+    ghost use Rattle.std.specs.Prelude.{⊤, [], IfSome};
     ghost use Rattle.josie_search.specs.Ready.{IsFree};
+    ghost use Rattle.token_set.specs.Bits.{IsSetOf};
 
     ghost Value = { ⊤ };
 
     ghost view = { λ room. tt };
 
-    ghost invariant = { λ room. IfSome room.seats (λ seats. IsFree seats.most seats.columns seats.candidates) };
+    ghost invariant = { λ room. IfSome room.seats (λ seats. IsFree seats.most seats.columns seats.candidates) × IfSome room.set (λ set. IsSetOf set []) };
 }
 
 impl SearchRoom {
-    /// Returns room for no column. It takes no memory.
+    /// Returns room for no column and no token. It takes no memory.
     pub fn new() -> SearchRoom {
-        SearchRoom { seats: None }
+        SearchRoom {
+            seats: None,
+            set: None,
+        }
     }
 
-    /// Returns the seats if they serve for parts of up to `most` columns, or else new ones that do; the old ones are let
-    /// go first. No column of the seats was seen. Returns `Err(NoMemory)` if memory runs out.
-    pub(crate) fn into_seats(self, alloc: Global, most: u32) -> Result<Seats, NoMemory>
-        ensures free { IfOk result (λ seats. IsFree seats.most seats.columns seats.candidates) }
-        ensures wide { IfOk result (λ seats. most ≤ seats.most) }
+    /// Returns what it holds: seats of which no column was seen, and a set without tokens.
+    pub(crate) fn into_parts(self) -> (Option<Seats>, Option<KeptSet>)
+        ensures free { IfSome result.0 (λ seats. IsFree seats.most seats.columns seats.candidates) }
+        ensures empty { IfSome result.1 (λ set. IsSetOf set []) }
     {
-        if let Some(seats) = self.seats {
-            if most <= seats.most {
-                return Ok(seats);
-            }
-        }
-        Seats::new(alloc, most)
+        (self.seats, self.set)
     }
 }

@@ -5,8 +5,9 @@ ghost use Rattle.josie_search.specs.Search.{answer_of, query_with, search_with};
 ghost use Rattle.search_model.specs.Looks.{log};
 ghost use Rattle.segment_core.specs.Versions.{live_of};
 
-use crate::asked::{clear, fill, set_for};
+use crate::asked::{KeptSet, clear, fill, set_for, set_of};
 use crate::cost::sum_costs;
+use crate::next::may_hold;
 use crate::part::search_part;
 use crate::query::Asked;
 use crate::room::{SearchRoom, Seats};
@@ -17,7 +18,6 @@ use part_columns::{Answer, most_columns, most_probes};
 use segment_core::{HashedQuery, Looks};
 use std::alloc::Global;
 use std::marker::Model;
-use token_set::TokenSet;
 use topk_heap::TopK;
 
 /// A search that is ready to run and holds all the memory that it needs. Its model is the version and the query.
@@ -26,7 +26,7 @@ pub struct Prepared<'a, 'q> {
     looks: Looks<'a>,
     query: Asked<'q>,
     tokens: Vec<Vec<u32>>,
-    set: Option<TokenSet>,
+    set: Option<KeptSet>,
     /// Room for what it costs to read the first lists of a part.
     sums: Vec<u64>,
     seats: Seats,
@@ -45,13 +45,13 @@ impl<'a, 'q> Model for Prepared<'a, 'q> {
     ghost invariant = { λ p. (p.looks.log ≡ []) × IsReady p.looks.version.parts p.query p.looks.spare (map (λ tokens. tokens.items) p.tokens.items) p.seats.columns p.top × IsFree p.seats.most p.seats.columns p.seats.candidates × (length p.query.keys < vec_capacity p.sums) × IfSome p.set (λ set. IsReadySet set (map (λ tokens. tokens.items) p.tokens.items)) };
 }
 
-/// Prepares a search, and takes all that it needs. It takes anew: the query's tokens of each part, and a bit for each
-/// token of a part, unless that is much for so few keys; room for a sum for each key of the query; the first k rows; and
-/// room in the log for as many looks as the search can take. In each part these are one for each list of the query's
-/// tokens, plus one for each of their postings or one for each column of the part, whichever are fewer. It uses what
-/// `room` has: a tally, a mark and room for four candidates for each column of the part with the most columns; if the
-/// room has fewer columns, it is let go and these are taken anew. The search leaves out the columns of the table named
-/// `except`, if any.
+/// Prepares a search, and takes all that it needs. It takes anew: the query's tokens of each part; room for a sum for
+/// each key of the query; the first k rows; and room in the log for as many looks as the search can take. In each part
+/// these are one for each list of the query's tokens, plus one for each of their postings or one for each column of the
+/// part, whichever are fewer. It uses what `room` has: a tally, a mark and room for four candidates for each column of
+/// the part with the most columns; and a bit for each token up to the greatest of the query's. If the room has fewer
+/// columns, its columns are let go and taken anew; if it has fewer tokens, its bits are let go, and taken anew unless
+/// they are many for so few keys. The search leaves out the columns of the table named `except`, if any.
 ///
 /// Returns `Err(NoMemory)` only if memory runs out, and the room is then lost; running the search takes no memory.
 pub fn prepare<'a, 'q>(
@@ -68,8 +68,9 @@ pub fn prepare<'a, 'q>(
     ensures { IfOk result (λ prepared. prepared ≡ search_with looks.entry.version (query_with k query.now (option_copied except.entry))) }
 {
     let tokens = ask_parts(alloc, &mut looks, query)?;
-    let set = set_for(alloc, query.len(), &tokens)?;
-    let seats = room.into_seats(alloc, most_columns(&looks))?;
+    let (seats, set) = room.into_parts();
+    let set = set_for(alloc, query.len(), &tokens, set)?;
+    let seats = Seats::serving(alloc, most_columns(&looks), seats)?;
     let top = TopK::new(alloc, k)?;
     // A part has at most as many tokens of the query as the query has keys.
     let sums = Vec::with_capacity(alloc, query.len() as usize + 1)?;
@@ -142,8 +143,8 @@ impl<'a, 'q> Prepared<'a, 'q> {
         } = self;
         for part in 0..looks.parts() {
             let asked: &[u32] = &tokens[part as usize];
-            // Without a token there is no look and no row: so it is with most parts of a lake that was not merged.
-            if asked.is_empty() {
+            // With too few tokens there is no look and no row: so it is with most parts of a lake that was not merged.
+            if !may_hold(&top, asked) {
                 continue;
             }
             let order = looks.order(part);
@@ -154,7 +155,7 @@ impl<'a, 'q> Prepared<'a, 'q> {
                 part,
                 &query,
                 asked,
-                set.as_ref(),
+                set_of(&set),
                 &sums,
                 &mut seats.columns,
                 &mut seats.candidates,
@@ -169,6 +170,6 @@ impl<'a, 'q> Prepared<'a, 'q> {
             rows: top.into_rows(),
             looks,
         };
-        (answer, seats.into_room())
+        (answer, seats.into_room(set))
     }
 }

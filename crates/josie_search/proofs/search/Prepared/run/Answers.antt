@@ -1,16 +1,16 @@
-use Rattle.std.proofs.Common.{◌≡◌, ◌∙◌, sym, ap, subst, ◌<◌, ◌≤◌, ◌++◌, [], length, map, get_or, vec_capacity, arith}
-use Rattle.std.specs.Prelude.{bytes_eq}
+use Rattle.std.proofs.Common.{◌≡◌, ◌∙◌, sym, ap, subst, ◌-◌, ◌<◌, ◌≤◌, ◌++◌, [], false, length, map, get_or, vec_capacity, arith}
+use Rattle.std.specs.Prelude.{bytes_eq, slice_get}
 use Rattle.std.specs.List.{IsDistinct}
 use Rattle.lake_model.specs.Answer.{row_cmp}
 use Rattle.search_laws.proofs.AnswerOfLog.{known_answer}
 use Rattle.search_laws.specs.Select.{best}
-use Rattle.search_model.specs.Looks.{known_rows, log, run, searched, start}
+use Rattle.search_model.specs.Looks.{known_rows, log, run, searched, start, threshold, unseen_open}
 use Rattle.segment_core.specs.Versions.{part_at, part_with, VersionOf}
 use Rattle.topk_heap.specs.First.{FirstRows}
 use Rattle.josie_search.specs.Ready.{IsReady}
 use Rattle.part_columns.specs.Room.{asked_in, looks_bound}
 use Rattle.josie_search.specs.Search.{SearchOf}
-use Rattle.josie_search.proofs.EmptyLemmas.{no_tokens, through_nothing}
+use Rattle.josie_search.proofs.EmptyLemmas.{through_few}
 use Rattle.josie_search.proofs.PartsLemmas.{rows_kept, through_log, through_more, through_none, through_rows, length-searched, searched_at}
 use Rattle.part_columns.proofs.AskedLemmas.{asked_there, few_tokens, room_here, tokens_within}
 use Rattle.josie_search.proofs.RoomLemmas.{as_many, ready_again, room_kept, room_there}
@@ -33,6 +33,16 @@ loop-part-init g c =
       set = c.self.invariant.4;
       room = ready.room;
     }
+
+pub may_hold-requires : goal.may_hold-requires
+may_hold-requires g c =
+    let kept = c.loop-part.invariant in
+    let ready = c.self.invariant.1 in
+    let query = c.self.inside.query in
+    let parts = c.self.inside.looks.version.parts in
+    let same = ap (λ (s : SearchOf). length s.version.parts) c.self.view_is in
+    let asked = asked_there query.keys parts c.self.inside.tokens.items c.loop-part.part _ _ ready.asked (omega (arith, c.loop-part-test.true, kept.end, same)) c.index.ensures c.deref-asked.ensures.value in
+    omega (arith, few_tokens query (part_at parts c.loop-part.part) _ ready.different asked, ready.few)
 
 pub sum_costs-requires-clause-few : goal.sum_costs-requires-clause-few
 sum_costs-requires-clause-few g c =
@@ -118,9 +128,9 @@ search_part-requires-clause-rows g c =
     rows_kept (g.C.Chooser.says c.args.chooser.now) query some (map (searched query) c.args.self.version.parts) c.loop-part.part c.loop-part.looks.log c.loop-part.top.rows kept.through
     ∙ ap (λ (s : SearchOf). best row_cmp s.query.k c.loop-part.top.rows) (sym c.self.view_is)
 
--- a part without tokens is passed over
-pub loop-part-preserved-then-is_empty : goal.loop-part-preserved-then-is_empty
-loop-part-preserved-then-is_empty g c =
+-- a part with too few tokens is passed over
+pub loop-part-preserved-then-not-may_hold : goal.loop-part-preserved-then-not-may_hold
+loop-part-preserved-then-not-may_hold g c =
     let says = g.C.Chooser.says c.args.chooser.now in
     let kept = c.loop-part.invariant in
     let query = c.args.self.query in
@@ -131,11 +141,12 @@ loop-part-preserved-then-is_empty g c =
     let different = subst (λ (s : SearchOf). IsDistinct bytes_eq s.query.keys) c.self.view_is c.self.invariant.1.different in
     let lists = subst (λ (s : SearchOf). map (λ v. v.items) c.self.inside.tokens.items ≡ map (asked_in s.query.keys) s.version.parts) c.self.view_is c.self.invariant.1.asked in
     let asked = asked_there query.keys parts c.self.inside.tokens.items part _ _ lists within c.index.ensures c.deref-asked.ensures.value in
-    let none : asked_in query.keys (part_at parts part) ≡ [] = sym asked ∙ no_tokens c.deref-asked.result.now c.is_empty.result c.is_empty.ensures c.if-is_empty.true in
+    let few : unseen_open (length (asked_in query.keys (part_at parts part))) (threshold (slice_get c.loop-part.top.rows (query.k - 1))) ≡ false =
+    (λ i. unseen_open (length (sym asked i)) (threshold (slice_get c.loop-part.top.rows (sym kept.k i - 1)))) ∙ sym c.may_hold.ensures ∙ c.if-not-may_hold.true in
     record {
       end = kept.end;
       version = kept.version;
-      through = through_nothing says query some parts part c.loop-part.looks.log c.loop-part.top.rows within different none kept.through;
+      through = through_few says query some parts part c.loop-part.looks.log c.loop-part.top.rows within different few kept.through;
       k = kept.k;
       wide = kept.wide;
       free = kept.free;
