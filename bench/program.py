@@ -18,5 +18,5 @@ def given_words(about, times, has_beside=False, has_lake=False):
     given = words.parse_args()
     given.josie = os.path.abspath(given.josie)
     # As `./josie` does; a program that is measured beside it gets the same.
-    os.environ.setdefault("GLIBC_TUNABLES", "glibc.malloc.hugetlb=1")
+    os.environ.setdefault("GLIBC_TUNABLES", "glibc.malloc.hugetlb=1:glibc.malloc.top_pad=67108864")
     return given
