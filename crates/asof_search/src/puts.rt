@@ -5,7 +5,7 @@ ghost use Rattle.asof_search.specs.Puts.{end_index, end_put, put_with, puts_afte
 ghost use Rattle.catalogue.specs.Entries.{what_of};
 
 use crate::put::Put;
-use catalogue::What;
+use catalogue::{KeptName, What};
 use column_set::{Name, SharedTable};
 use no_memory::NoMemory;
 use std::alloc::Global;
@@ -83,7 +83,7 @@ impl Puts {
     }
 
     // Ends the live table of a name at a position, if there is one.
-    fn end(&mut self, position: u64, name: &Name)
+    fn end(&mut self, position: u64, name: &KeptName)
         ensures { self.new ≡ map (end_put name.now position) self.old }
     {
         let index = self.live.remove(name.text());

@@ -10,6 +10,7 @@ ghost use Rattle.catalogue.specs.Kept.{catalogue_with, IsWithin};
 ghost use Rattle.catalogue.specs.Refusals.{drop_refusal, load_refusal, passed_of};
 
 use crate::entry::Entry;
+use crate::kept_name::KeptName;
 use crate::names::{add_name, remove_name};
 use crate::refusal::{DropRefused, LoadRefused, Passed};
 use column_set::{Name, SharedTable, TableSets};
@@ -264,12 +265,13 @@ impl Catalogue {
         ensures err { OnErr result (self.new ≡ self.old) }
     {
         let at = self.journal.len() as u64 + 1;
+        let kept = KeptName::new(self.alloc, name)?;
         let (part, place) = self.place_of(name);
         self.journal.reserve(1)?;
         Version::mark(&mut self.version, at, part, place)?;
         remove_name(&mut self.positions, name);
         self.counts = counts_without(self.counts);
-        self.journal.push_reserved(Entry::dropped(who, name.copy()));
+        self.journal.push_reserved(Entry::dropped(who, kept));
         Ok(at)
     }
 }

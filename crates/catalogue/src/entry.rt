@@ -2,7 +2,8 @@
 ghost use Rattle.std.specs.Prelude.{◌≡◌, IfOk};
 ghost use Rattle.lake_model.specs.Journal.{entry_with, Dropped, Loaded, Replaced, Swapped};
 
-use column_set::{Name, SharedTable};
+use crate::kept_name::KeptName;
+use column_set::SharedTable;
 use lake_model::Who;
 use no_memory::NoMemory;
 use segment_core::Numbers;
@@ -14,7 +15,7 @@ use std::marker::Model;
 #[derive(Drop)]
 pub enum What {
     Loaded(SharedTable),
-    Dropped(Name),
+    Dropped(KeptName),
     Replaced(SharedTable),
     Swapped { from: Numbers, kept: Numbers },
 }
@@ -47,7 +48,7 @@ impl Entry {
     }
 
     /// Returns the entry of a drop.
-    pub fn dropped(who: Who, name: Name) -> Entry
+    pub fn dropped(who: Who, name: KeptName) -> Entry
         ensures { result ≡ entry_with who (Dropped name) }
     {
         Entry {
@@ -76,13 +77,13 @@ impl Entry {
         }
     }
 
-    /// Returns the same entry, with a share of its table. It copies no table.
+    /// Returns the same entry, with a share of its table, or with a copy of its name. It copies no table.
     pub fn share(&self) -> Result<Entry, NoMemory>
         ensures { IfOk result (λ other. other ≡ self.now) }
     {
         match &self.what {
             What::Loaded(table) => Ok(Entry::loaded(self.who, table.share()?)),
-            What::Dropped(name) => Ok(Entry::dropped(self.who, name.copy())),
+            What::Dropped(name) => Ok(Entry::dropped(self.who, name.copy()?)),
             What::Replaced(table) => Ok(Entry::replaced(self.who, table.share()?)),
             What::Swapped { from, kept } => Ok(Entry::swapped(
                 self.who,

@@ -5,6 +5,7 @@
 
 mod catalogue;
 mod entry;
+mod kept_name;
 mod names;
 mod refusal;
 mod replacing;
@@ -12,6 +13,7 @@ mod swapping;
 
 pub use catalogue::Catalogue;
 pub use entry::{Entry, What};
+pub use kept_name::KeptName;
 pub use lake_model::{Counts, Which, Who};
 pub use refusal::{DropRefused, LoadRefused, ReplaceRefused, SwapRefused};
 

@@ -7,7 +7,7 @@ ghost use Rattle.lake_model.specs.Sorting.{in_order, put_in_order};
 ghost use Rattle.column_watch.specs.Held.{rows_left};
 ghost use Rattle.column_watch.specs.Watching.{Tells};
 
-use column_set::{Name, Row, Titles};
+use column_set::{Row, Titles};
 use no_memory::NoMemory;
 use std::alloc::Global;
 use std::marker::Model;
@@ -56,10 +56,10 @@ impl Held {
     }
 
     // Returns whether the row is of a table with another name.
-    fn is_of_other(&self, name: &Name) -> bool
+    fn is_of_other(&self, name: &[u8]) -> bool
         ensures { result ≡ not (bytes_eq self.now.table name.now) }
     {
-        self.titles.table().bytes() != name.bytes()
+        self.titles.table().bytes() != name
     }
 
     // Returns whether the two rows are equal.
@@ -127,7 +127,7 @@ fn all_equal(before: &[Held], after: &[Held]) -> bool
 }
 
 /// Removes the rows of the table of this name, if one is given, from rows that are in order.
-pub(crate) fn take_gone(rows: &mut Vec<Held>, gone: Option<&Name>)
+pub(crate) fn take_gone(rows: &mut Vec<Held>, gone: Option<&[u8]>)
     requires order { rows.old.items ≡ in_order row_cmp rows.old.items }
     ensures rows { rows.new.items ≡ rows_left (option_map (λ name. name.now) gone.entry) rows.old.items }
     ensures order { rows.new.items ≡ in_order row_cmp rows.new.items }
@@ -140,7 +140,7 @@ pub(crate) fn take_gone(rows: &mut Vec<Held>, gone: Option<&Name>)
 }
 
 // Removes the rows of the table of this name.
-fn take_out(rows: &mut Vec<Held>, name: &Name)
+fn take_out(rows: &mut Vec<Held>, name: &[u8])
     ensures rows { rows.new.items ≡ filter (λ row. not (bytes_eq row.table name.now)) rows.old.items }
     ensures len { vec_len rows.new ≤ vec_len rows.old }
     ensures capacity { vec_capacity rows.old ≤ vec_capacity rows.new }

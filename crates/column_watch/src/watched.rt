@@ -5,7 +5,7 @@ ghost use Rattle.column_watch.specs.Held.{HasColumns, IsColumn, IsCounted, Settl
 
 use crate::held::{Held, differ, first_of, put_all, share_all, take_gone};
 use crate::overlaps::table_rows;
-use column_set::{Name, QuerySet, TableSets};
+use column_set::{QuerySet, TableSets};
 use no_memory::NoMemory;
 use std::alloc::Global;
 use std::marker::Model;
@@ -92,7 +92,7 @@ impl Watched {
 
     // Removes the rows of the table that is gone, inserts those that are coming, and finds out whether the first k rows
     // changed. It takes no memory.
-    fn settle(&mut self, gone: Option<&Name>)
+    fn settle(&mut self, gone: Option<&[u8]>)
         ensures { Settles (option_map (λ name. name.now) gone.entry) self.old self.new }
     {
         take_gone(&mut self.rows, gone);
@@ -138,7 +138,7 @@ pub(crate) fn prepare_all(
 
 /// Updates the rows of the queries for the entry that they are prepared for, which takes away the table of this name,
 /// or none.
-pub(crate) fn settle_all(queries: &mut [Watched], gone: Option<&Name>)
+pub(crate) fn settle_all(queries: &mut [Watched], gone: Option<&[u8]>)
     ensures len { length queries.new ≡ length queries.old }
     ensures each { (i : ℕ) (d : StateOf) → i < length queries.old → Settles (option_map (λ name. name.now) gone.entry) (get_or queries.old i d) (get_or queries.new i d) }
 {

@@ -11,7 +11,7 @@ use crate::holders::{Holders, index_queries};
 use crate::overlaps::overlaps;
 use crate::watched::{Watched, prepare_all, settle_all};
 use catalogue::{Entry, What};
-use column_set::{Name, QuerySet, Rows, TableSets};
+use column_set::{QuerySet, Rows, TableSets};
 use no_memory::NoMemory;
 use std::alloc::Global;
 use std::marker::Model;
@@ -178,13 +178,13 @@ fn put_table(what: &What) -> Option<&TableSets>
     }
 }
 
-// Returns the name of the table that an entry takes away, if any.
-fn gone_name(what: &What) -> Option<&Name>
+// Returns the bytes of the name of the table that an entry takes away, if any.
+fn gone_name(what: &What) -> Option<&[u8]>
     ensures { option_map (λ name. name.now) result ≡ gone_by (what_of what.now) }
 {
     match what {
-        What::Dropped(name) => Some(name),
-        What::Replaced(table) => Some(table.table().name()),
+        What::Dropped(name) => Some(name.bytes()),
+        What::Replaced(table) => Some(table.table().name().bytes()),
         What::Loaded(_) | What::Swapped { .. } => None,
     }
 }

@@ -147,7 +147,7 @@ pub fn reply_now(
     match command.task() {
         Task::Load { name, body } => load(alloc, catalogue, keys, who, name, body, out),
         Task::LoadFile { name, file } => load_file(alloc, catalogue, keys, who, name, file, out),
-        Task::Drop { name } => drop_table(catalogue, who, name, out),
+        Task::Drop { name } => drop_table(alloc, catalogue, who, name, out),
         Task::Replace { name, body } => replace(alloc, catalogue, keys, who, name, body, out),
         Task::Tables => list_now(alloc, catalogue, keys),
         Task::AsOf { asked, k, body } => search_past_now(

@@ -11,7 +11,7 @@ ghost use Rattle.run_record.specs.Replies.{reply_of};
 ghost use Rattle.commands.specs.Tasks.{file_of};
 ghost use Rattle.command_replies.specs.Loads.{Adds, IsRefusal, refusal_reply, loaded_by};
 
-use catalogue::{Catalogue, Entry, LoadRefused, Who};
+use catalogue::{Catalogue, Entry, KeptName, LoadRefused, Who};
 use column_set::{Keys, Name, SetRefused, SharedTable, TableSets};
 use commands::{Body, FileBody};
 use csv_table::{CsvRefused, read_table};
@@ -134,7 +134,7 @@ fn reply_to_sets(refused: SetRefused) -> Reply
 }
 
 /// Makes the reply to the load of a table of this name that the catalogue refuses.
-pub fn reply_to_load(refused: LoadRefused, name: Name) -> Reply
+pub fn reply_to_load(refused: LoadRefused, name: KeptName) -> Reply
     ensures { reply_of result ≡ refusal_reply name refused }
 {
     match refused {
@@ -157,6 +157,7 @@ pub fn reply_to_load(refused: LoadRefused, name: Name) -> Reply
 // Loads a table. What the record and the reply keep of the table is made before its entry, so that nothing can fail
 // after the entry.
 fn accept(
+    alloc: Global,
     catalogue: &mut Catalogue,
     who: Who,
     table: SharedTable,
@@ -172,7 +173,9 @@ fn accept(
     let Ok(kept) = table.share() else {
         return Reply::NoMemory;
     };
-    let name = table.table().name().copy();
+    let Ok(name) = KeptName::new(alloc, table.table().name()) else {
+        return Reply::NoMemory;
+    };
     let columns = table.table().columns();
     let members = table.table().members();
     match catalogue.load(who, table, segment) {
@@ -206,7 +209,7 @@ pub(crate) fn load(
     ensures adds { Adds who (adds (rules_with keys catalogue.old.limits) (Load name.now body.now) out.old.made.journal (reply_of result)) catalogue.old catalogue.new out.old out.new }
 {
     match make_table(alloc, keys, name, body) {
-        Ok(Loadable { table, segment }) => accept(catalogue, who, table, segment, out),
+        Ok(Loadable { table, segment }) => accept(alloc, catalogue, who, table, segment, out),
         Err(reply) => reply,
     }
 }
@@ -227,7 +230,7 @@ pub(crate) fn load_file(
     ensures adds { Adds who (adds (rules_with keys catalogue.old.limits) (LoadFile name.now (file_of file.now)) out.old.made.journal (reply_of result)) catalogue.old catalogue.new out.old out.new }
 {
     match make_table_of_file(alloc, keys, name, file) {
-        Ok(Loadable { table, segment }) => accept(catalogue, who, table, segment, out),
+        Ok(Loadable { table, segment }) => accept(alloc, catalogue, who, table, segment, out),
         Err(reply) => reply,
     }
 }

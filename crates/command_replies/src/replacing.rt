@@ -11,7 +11,7 @@ ghost use Rattle.command_replies.specs.Loads.{Adds};
 ghost use Rattle.command_replies.specs.Replaces.{replace_refusal_reply, replaced_by};
 
 use crate::loading::{Loadable, make_table};
-use catalogue::{Catalogue, Entry, ReplaceRefused, Who};
+use catalogue::{Catalogue, Entry, KeptName, ReplaceRefused, Who};
 use column_set::{Keys, Name, SharedTable};
 use commands::Body;
 use run_record::{Reply, RunRecord};
@@ -20,7 +20,7 @@ use std::alloc::Global;
 use std::sync::Arc;
 
 /// Makes the reply to a replace of the table of this name that the catalogue refuses.
-pub fn reply_to_replace(refused: ReplaceRefused, name: Name) -> Reply
+pub fn reply_to_replace(refused: ReplaceRefused, name: KeptName) -> Reply
     ensures { reply_of result ≡ replace_refusal_reply name refused }
 {
     match refused {
@@ -43,6 +43,7 @@ pub fn reply_to_replace(refused: ReplaceRefused, name: Name) -> Reply
 // Replaces the live table of the same name by a table. What the record and the reply keep of the table is made before
 // its entry, so that nothing can fail after the entry.
 fn accept(
+    alloc: Global,
     catalogue: &mut Catalogue,
     who: Who,
     table: SharedTable,
@@ -58,7 +59,9 @@ fn accept(
     let Ok(kept) = table.share() else {
         return Reply::NoMemory;
     };
-    let name = table.table().name().copy();
+    let Ok(name) = KeptName::new(alloc, table.table().name()) else {
+        return Reply::NoMemory;
+    };
     let columns = table.table().columns();
     let members = table.table().members();
     match catalogue.replace(who, table, segment) {
@@ -92,7 +95,7 @@ pub(crate) fn replace(
     ensures adds { Adds who (adds (rules_with keys catalogue.old.limits) (Replace name.now body.now) out.old.made.journal (reply_of result)) catalogue.old catalogue.new out.old out.new }
 {
     match make_table(alloc, keys, name, body) {
-        Ok(Loadable { table, segment }) => accept(catalogue, who, table, segment, out),
+        Ok(Loadable { table, segment }) => accept(alloc, catalogue, who, table, segment, out),
         Err(reply) => reply,
     }
 }

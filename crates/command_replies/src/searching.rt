@@ -14,6 +14,7 @@ ghost use Rattle.command_replies.specs.Searches.{column_reply, contained_at, fou
 ghost use Rattle.batch_work.specs.Works.{merge_policy};
 ghost use Rattle.run_record.specs.Replies.{reply_of};
 
+use catalogue::KeptName;
 use column_set::{Keys, Name, QueryRefused, QuerySet};
 use commands::{Body, Task};
 use contain_search::prepare_contain;
@@ -37,10 +38,9 @@ pub(crate) fn reply_to_query(refused: QueryRefused) -> Reply
 }
 
 // Makes the reply to the name of a table and a place, counted from 1, if there is no such column at this position.
-fn reply_to_column(refused: ColumnRefused, name: &Name, place: u32, at: u64) -> Reply
-    ensures { reply_of result ≡ column_reply name.now place at refused }
+fn reply_to_column(refused: ColumnRefused, name: KeptName, place: u32, at: u64) -> Reply
+    ensures { reply_of result ≡ column_reply name place at refused }
 {
-    let name = name.copy();
     match refused {
         ColumnRefused::UnknownTable => Reply::Unknown { name, at },
         ColumnRefused::UnknownColumn => Reply::NoColumn { name, place, at },
@@ -150,7 +150,12 @@ fn like(alloc: Global, pin: &Pin, k: u32, name: &Name, place: u32, room: &mut Se
 {
     let query = match pin.column(alloc, name, place) {
         Ok(query) => query,
-        Err(refused) => return reply_to_column(refused, name, place, pin.at()),
+        Err(refused) => {
+            let Ok(kept) = KeptName::new(alloc, name) else {
+                return Reply::NoMemory;
+            };
+            return reply_to_column(refused, kept, place, pin.at());
+        }
     };
     match find(alloc, pin, &query, k, Some(name), room) {
         Ok(reply) => reply,

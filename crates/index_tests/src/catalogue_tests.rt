@@ -6,8 +6,8 @@ ghost use Rattle.catalogue.specs.Swaps.{IsMergeOf};
 
 use crate::making::{holds, name, segment, shows, table};
 use catalogue::{
-    Catalogue, Counts, DropRefused, Entry, Limits, LoadRefused, ReplaceRefused, SwapRefused, What,
-    Which, Who,
+    Catalogue, Counts, DropRefused, Entry, KeptName, Limits, LoadRefused, ReplaceRefused,
+    SwapRefused, What, Which, Who,
 };
 use column_set::SharedTable;
 use no_memory::NoMemory;
@@ -407,9 +407,20 @@ fn a_swap_keeps_the_mark_of_a_replace_since_its_plan(rt: HostRuntime) -> Result<
 
 #[test]
 fn a_shared_drop_is_the_drop(rt: HostRuntime) -> Result<(), Fail> {
-    let entry = Entry::dropped(SECOND, name("a")?).share()?;
+    let kept = KeptName::new(rt.alloc(), &name("a")?)?;
+    let entry = Entry::dropped(SECOND, kept).share()?;
     match &entry.what {
         What::Dropped(name) if name.text() == "a" => Ok(()),
         _ => Err(Fail::from("no drop")),
     }
+}
+
+#[test]
+fn a_kept_name_has_the_bytes_of_the_name(rt: HostRuntime) -> Result<(), Fail> {
+    let kept = KeptName::new(rt.alloc(), &name("t-1")?)?;
+    let copy = kept.copy()?;
+    drop(kept);
+    assert!(rt; copy.bytes() == "t-1".as_bytes());
+    assert!(rt; copy.text() == "t-1");
+    Ok(())
 }

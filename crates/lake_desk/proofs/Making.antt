@@ -1,11 +1,12 @@
 -- What a lake accepts or refuses, as a reply.
-use Rattle.std.proofs.Common.{◌≡◌, refl, ap, sym, ◌∙◌, ℕ, ◌+◌, List, [], ◌∷◌, ◌++◌, append-nil, length, length-append, false, map, ◌⊎◌, Option, Some, None, arith}
+use Rattle.std.proofs.Common.{◌≡◌, refl, ap, sym, ◌∙◌, ℕ, ◌+◌, List, [], ◌∷◌, ◌++◌, append-nil, length, length-append, true, false, map, ◌⊎◌, Option, Some, None, arith}
 use Rattle.lake_model.specs.declared.Counts.{Counts}
 use Rattle.lake_model.specs.Texts.{Text}
 use Rattle.lake_model.specs.Tables.{Table, members}
 use Rattle.lake_model.specs.Journal.{Entry, What, Loaded as LoadedWhat, Dropped as DroppedWhat, Replaced as ReplacedWhat, entry_with, who_with}
 use Rattle.turn_lock.specs.History.{Grows}
 use Rattle.turn_lock.specs.Passes.{Known, callers_of}
+use Rattle.turn_lock.proofs.Histories.{grows_self}
 use Rattle.catalogue.specs.declared.refusal.LoadRefused.{LoadRefused}
 use Rattle.catalogue.specs.declared.refusal.LoadRefused.TheVariants as refused
 use Rattle.catalogue.specs.declared.refusal.DropRefused.{DropRefused}
@@ -14,7 +15,7 @@ use Rattle.catalogue.specs.declared.refusal.ReplaceRefused.{ReplaceRefused}
 use Rattle.catalogue.specs.declared.refusal.ReplaceRefused.TheVariants as replacing
 use Rattle.catalogue.specs.Refusals.{load_refusal, drop_refusal, replace_refusal}
 use Rattle.lake.specs.Lawful.{caller_of, IsAccepted}
-use Rattle.record_model.specs.Replies.{Reply, Loaded, Dropped, Replaced, load_reply, drop_reply, replace_reply}
+use Rattle.record_model.specs.Replies.{Reply, NoMemory, Loaded, Dropped, Replaced, load_reply, drop_reply, replace_reply}
 use Rattle.command_replies.specs.Loads.{loaded_by, refusal_reply}
 use Rattle.command_replies.specs.Drops.{drop_refusal_reply}
 use Rattle.command_replies.specs.Replaces.{replace_refusal_reply, replaced_by}
@@ -52,6 +53,11 @@ unmade_by answer adds number before reply said after grows (denied, answers) non
   is = is ∙ answers;
   added = sym (append-nil after) ∙ ap (λ (ws : List What). after ++ map (entry_with (who_with before.caller number)) ws) (sym none ∙ ap adds (sym is));
 }
+
+-- the result of a change for which memory ran out before the lake was asked
+pub denied_unmade : (answer : List Entry → Reply) (adds : Reply → List What) (number : ℕ) (before : Known Entry) → adds NoMemory ≡ [] → IsMade answer adds number before NoMemory before.seen
+denied_unmade answer adds number before none =
+    unmade_by answer adds number before NoMemory NoMemory before.seen (grows_self caller_of (callers_of before) before.seen) (true, refl) none refl
 
 -- ---- loads
 

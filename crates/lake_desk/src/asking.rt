@@ -41,7 +41,7 @@ pub(crate) fn load_block<B: Bounds, R: Wait>(
     ensures answered { IsAnswered (rules_with keys B.limits) (command_with number pass.old.caller (Load name.now body.now)) pass.old (reply_of result) pass.new.seen }
 {
     match make_table(alloc, keys, name, body) {
-        Ok(Loadable { table, segment }) => load(rt, lake, pass, number, table, segment),
+        Ok(Loadable { table, segment }) => load(rt, alloc, lake, pass, number, table, segment),
         Err(reply) => reply,
     }
 }
@@ -63,7 +63,7 @@ pub(crate) fn load_file<B: Bounds, R: Wait>(
     ensures answered { IsAnswered (rules_with keys B.limits) (command_with number pass.old.caller (LoadFile name.now (file_of file.now))) pass.old (reply_of result) pass.new.seen }
 {
     match make_table_of_file(alloc, keys, name, file) {
-        Ok(Loadable { table, segment }) => load(rt, lake, pass, number, table, segment),
+        Ok(Loadable { table, segment }) => load(rt, alloc, lake, pass, number, table, segment),
         Err(reply) => reply,
     }
 }
@@ -85,7 +85,7 @@ pub(crate) fn replace_by_block<B: Bounds, R: Wait>(
     ensures answered { IsAnswered (rules_with keys B.limits) (command_with number pass.old.caller (Replace name.now body.now)) pass.old (reply_of result) pass.new.seen }
 {
     match make_table(alloc, keys, name, body) {
-        Ok(Loadable { table, segment }) => replace(rt, lake, pass, number, table, segment),
+        Ok(Loadable { table, segment }) => replace(rt, alloc, lake, pass, number, table, segment),
         Err(reply) => reply,
     }
 }
@@ -93,6 +93,7 @@ pub(crate) fn replace_by_block<B: Bounds, R: Wait>(
 /// Answers a drop.
 pub(crate) fn drop_named<B: Bounds, R: Wait>(
     rt: &R,
+    alloc: Global,
     lake: &Lake<B>,
     pass: &mut Pass<B>,
     number: u64,
@@ -103,7 +104,7 @@ pub(crate) fn drop_named<B: Bounds, R: Wait>(
     ensures pass { pass.new ≡ after_seeing pass.old pass.new.seen false }
     ensures answered { (keys : Keys) → IsAnswered (rules_with keys B.limits) (command_with number pass.old.caller (DropTable name.now)) pass.old (reply_of result) pass.new.seen }
 {
-    drop_table(rt, lake, pass, number, name)
+    drop_table(rt, alloc, lake, pass, number, name)
 }
 
 /// Answers a search, a like, a contain or a request for the live tables, at a pin of the newest version. The lock is

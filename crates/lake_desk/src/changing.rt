@@ -8,11 +8,13 @@ ghost use Rattle.command_replies.specs.Replaces.{replaced_by};
 ghost use Rattle.command_replies.specs.Drops.{dropped_by};
 ghost use Rattle.lake_desk.specs.Answering.{IsMade};
 
+use catalogue::KeptName;
 use column_set::{Name, SharedTable};
 use command_replies::{reply_to_drop, reply_to_load, reply_to_replace};
 use lake::{Bounds, Lake, Pass};
 use run_record::Reply;
 use segment_core::Segment;
+use std::alloc::Global;
 use std::sync::{Arc, Wait};
 
 /// Loads a table, given with the segment of this table alone, and returns the reply to the command with this number.
@@ -20,6 +22,7 @@ use std::sync::{Arc, Wait};
 /// journal.
 pub(crate) fn load<B: Bounds, R: Wait>(
     rt: &R,
+    alloc: Global,
     lake: &Lake<B>,
     pass: &mut Pass<B>,
     number: u64,
@@ -27,11 +30,14 @@ pub(crate) fn load<B: Bounds, R: Wait>(
     segment: Arc<Segment>,
 ) -> Reply
     requires lock { pass.old.lock ≡ lake.now }
+    requires free { pass.old.holds ≡ false }
     requires segment { segment.value ≡ table ∷ [] }
     ensures pass { pass.new ≡ after_seeing pass.old pass.new.seen false }
     ensures made { IsMade (load_reply B.limits table) (loaded_by table) number pass.old (reply_of result) pass.new.seen }
 {
-    let name = table.table().name().copy();
+    let Ok(name) = KeptName::new(alloc, table.table().name()) else {
+        return Reply::NoMemory;
+    };
     let columns = table.table().columns();
     let members = table.table().members();
     match lake.load(rt, pass, number, table, segment) {
@@ -45,24 +51,27 @@ pub(crate) fn load<B: Bounds, R: Wait>(
     }
 }
 
-/// Drops the live table of a name, and returns the reply to the command with this number.
+/// Drops the live table of a name, and returns the reply to the command with this number. The name that the reply keeps
+/// is made first, so that nothing can fail once the entry is in the journal.
 pub(crate) fn drop_table<B: Bounds, R: Wait>(
     rt: &R,
+    alloc: Global,
     lake: &Lake<B>,
     pass: &mut Pass<B>,
     number: u64,
     name: &Name,
 ) -> Reply
     requires lock { pass.old.lock ≡ lake.now }
+    requires free { pass.old.holds ≡ false }
     ensures pass { pass.new ≡ after_seeing pass.old pass.new.seen false }
     ensures made { IsMade (drop_reply B.limits name.now) (dropped_by name.now) number pass.old (reply_of result) pass.new.seen }
 {
+    let Ok(kept) = KeptName::new(alloc, name) else {
+        return Reply::NoMemory;
+    };
     match lake.drop_table(rt, pass, number, name) {
-        Ok(at) => Reply::Dropped {
-            name: name.copy(),
-            at,
-        },
-        Err(refused) => reply_to_drop(refused, name.copy()),
+        Ok(at) => Reply::Dropped { name: kept, at },
+        Err(refused) => reply_to_drop(refused, kept),
     }
 }
 
@@ -71,6 +80,7 @@ pub(crate) fn drop_table<B: Bounds, R: Wait>(
 /// nothing can fail once the entry is in the journal.
 pub(crate) fn replace<B: Bounds, R: Wait>(
     rt: &R,
+    alloc: Global,
     lake: &Lake<B>,
     pass: &mut Pass<B>,
     number: u64,
@@ -78,11 +88,14 @@ pub(crate) fn replace<B: Bounds, R: Wait>(
     segment: Arc<Segment>,
 ) -> Reply
     requires lock { pass.old.lock ≡ lake.now }
+    requires free { pass.old.holds ≡ false }
     requires segment { segment.value ≡ table ∷ [] }
     ensures pass { pass.new ≡ after_seeing pass.old pass.new.seen false }
     ensures made { IsMade (replace_reply B.limits table) (replaced_by table) number pass.old (reply_of result) pass.new.seen }
 {
-    let name = table.table().name().copy();
+    let Ok(name) = KeptName::new(alloc, table.table().name()) else {
+        return Reply::NoMemory;
+    };
     let columns = table.table().columns();
     let members = table.table().members();
     match lake.replace(rt, pass, number, table, segment) {

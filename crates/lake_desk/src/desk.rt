@@ -174,7 +174,7 @@ impl<'a, B: Bounds> LakeDesk<'a, B> {
                 name,
                 file,
             ),
-            Task::Drop { name } => drop_named(rt, lake, &mut self.pass, number, name),
+            Task::Drop { name } => drop_named(rt, alloc, lake, &mut self.pass, number, name),
             Task::Replace { name, body } => replace_by_block(
                 rt,
                 alloc,

@@ -8,7 +8,6 @@ ghost use Rattle.reply_text.specs.Keeping.{Keeps};
 use crate::words::Word::{Command, Number, Numbers, Text};
 use crate::words::{push_bytes, push_line, push_number};
 use catalogue::{Entry, What};
-use column_set::Name;
 use lake_model::Who;
 use no_memory::NoMemory;
 
@@ -17,7 +16,7 @@ fn push_update<'a>(
     position: u64,
     what: &'a str,
     who: Who,
-    name: &'a Name,
+    name: &'a str,
     into: &mut Vec<u8>,
 ) -> Result<(), NoMemory>
     ensures ok { OnOk result (into.new.items ≡ into.old.items ++ line_text (codes "  " ++ spaced (decimal position ∷ what.now ∷ codes "lane" ∷ decimal who.caller ∷ codes "command" ∷ command_text who ∷ name.now ∷ []))) }
@@ -29,7 +28,7 @@ fn push_update<'a>(
         Number(u64::from(who.caller)),
         Text("command"),
         Command(who),
-        Text(name.text()),
+        Text(name),
     ];
     push_line("  ", position, &words, into)
 }
@@ -65,13 +64,19 @@ fn push_entry(position: u64, entry: &Entry, into: &mut Vec<u8>) -> Result<(), No
     ensures kept { Keeps into.old.items into.new.items }
 {
     match &entry.what {
-        What::Loaded(table) => push_update(position, "load", entry.who, table.table().name(), into),
-        What::Dropped(name) => push_update(position, "drop", entry.who, name, into),
+        What::Loaded(table) => push_update(
+            position,
+            "load",
+            entry.who,
+            table.table().name().text(),
+            into,
+        ),
+        What::Dropped(name) => push_update(position, "drop", entry.who, name.text(), into),
         What::Replaced(table) => push_update(
             position,
             "replace",
             entry.who,
-            table.table().name(),
+            table.table().name().text(),
             into,
         ),
         What::Swapped { from, kept } => push_swap(

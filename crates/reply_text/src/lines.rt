@@ -13,7 +13,8 @@ use crate::refusals::{
 };
 use crate::words::Word::{Number, Text};
 use crate::words::push_line;
-use column_set::{KeptRows, Name};
+use catalogue::KeptName;
+use column_set::KeptRows;
 use no_memory::NoMemory;
 use run_record::Reply;
 use segment_core::{Layout, TableLines};
@@ -22,7 +23,7 @@ use segment_core::{Layout, TableLines};
 fn push_new_table<'a>(
     number: u64,
     what: &'a str,
-    name: &'a Name,
+    name: &'a KeptName,
     columns: u32,
     members: u64,
     at: u64,
@@ -45,7 +46,7 @@ fn push_new_table<'a>(
 }
 
 // `N dropped NAME at P`
-fn push_dropped(number: u64, name: &Name, at: u64, into: &mut Vec<u8>) -> Result<(), NoMemory>
+fn push_dropped(number: u64, name: &KeptName, at: u64, into: &mut Vec<u8>) -> Result<(), NoMemory>
     ensures ok { OnOk result (into.new.items ≡ into.old.items ++ first_line number (model.Dropped name.now at)) }
     ensures kept { Keeps into.old.items into.new.items }
 {

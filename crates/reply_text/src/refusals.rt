@@ -9,7 +9,7 @@ ghost use Rattle.reply_text.specs.Words.{word_text};
 
 use crate::words::Word::{self, Number, Text};
 use crate::words::{push_bytes, push_number, push_words};
-use column_set::Name;
+use catalogue::KeptName;
 use lake_model::Which;
 use no_memory::NoMemory;
 use segment_core::Layout;
@@ -73,7 +73,12 @@ pub fn push_not_utf8(number: u64, row: u64, field: u64, into: &mut Vec<u8>) -> R
 }
 
 /// Appends `N refused repeated NAME at P`.
-pub fn push_repeated(number: u64, name: &Name, at: u64, into: &mut Vec<u8>) -> Result<(), NoMemory>
+pub fn push_repeated(
+    number: u64,
+    name: &KeptName,
+    at: u64,
+    into: &mut Vec<u8>,
+) -> Result<(), NoMemory>
     ensures ok { OnOk result (into.new.items ≡ into.old.items ++ first_line number (model.Repeated name.now at)) }
     ensures kept { Keeps into.old.items into.new.items }
 {
@@ -82,7 +87,12 @@ pub fn push_repeated(number: u64, name: &Name, at: u64, into: &mut Vec<u8>) -> R
 }
 
 /// Appends `N refused unknown NAME at P`.
-pub fn push_unknown(number: u64, name: &Name, at: u64, into: &mut Vec<u8>) -> Result<(), NoMemory>
+pub fn push_unknown(
+    number: u64,
+    name: &KeptName,
+    at: u64,
+    into: &mut Vec<u8>,
+) -> Result<(), NoMemory>
     ensures ok { OnOk result (into.new.items ≡ into.old.items ++ first_line number (model.Unknown name.now at)) }
     ensures kept { Keeps into.old.items into.new.items }
 {
@@ -93,7 +103,7 @@ pub fn push_unknown(number: u64, name: &Name, at: u64, into: &mut Vec<u8>) -> Re
 /// Appends `N refused column NAME PLACE at P`.
 pub fn push_no_column(
     number: u64,
-    name: &Name,
+    name: &KeptName,
     place: u32,
     at: u64,
     into: &mut Vec<u8>,

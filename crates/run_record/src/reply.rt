@@ -1,6 +1,7 @@
 //! The reply to a command.
 
-use column_set::{KeptRows, Name};
+use catalogue::KeptName;
+use column_set::KeptRows;
 use lake_model::Which;
 use segment_core::{Layout, TableLines};
 
@@ -9,19 +10,19 @@ use segment_core::{Layout, TableLines};
 pub enum Reply {
     /// The table was loaded, as entry `at` of the journal.
     Loaded {
-        name: Name,
+        name: KeptName,
         columns: u32,
         members: u64,
         at: u64,
     },
     /// The table was dropped, by entry `at` of the journal.
     Dropped {
-        name: Name,
+        name: KeptName,
         at: u64,
     },
     /// The table replaced the live table of its name, as entry `at` of the journal.
     Replaced {
-        name: Name,
+        name: KeptName,
         columns: u32,
         members: u64,
         at: u64,
@@ -85,17 +86,17 @@ pub enum Reply {
     FileTooLong,
     /// A table of this name is live.
     Repeated {
-        name: Name,
+        name: KeptName,
         at: u64,
     },
     /// No table of this name is live.
     Unknown {
-        name: Name,
+        name: KeptName,
         at: u64,
     },
     /// The live table of this name has no column at this place, which counts from 1.
     NoColumn {
-        name: Name,
+        name: KeptName,
         place: u32,
         at: u64,
     },

@@ -1,5 +1,5 @@
 //! The text of each reply, byte for byte.
-use catalogue::Entry;
+use catalogue::{Entry, KeptName};
 use column_set::{KeptRow, KeptRows, Keys, Name, Row, SharedTable, TableSets, Titles};
 use commands::{Options, Order};
 use csv_table::read_table;
@@ -8,6 +8,7 @@ use no_memory::NoMemory;
 use reply_text::{Answered, By, Reply, RunRecord, write_replies};
 use segment_core::{Layout, Numbers, Places, TableLines};
 use std::alloc::Global;
+use std::mem::size_of;
 use std::process::Abort;
 use std::sync::Arc;
 use std::test::Fail;
@@ -28,6 +29,11 @@ fn writes(
 // Reads a text as a name.
 fn name(text: &str) -> Result<Name, Fail> {
     Ok(Name::read(text.as_bytes()).ok_or("no name")?)
+}
+
+// Reads a text as a name that is kept.
+fn kept(alloc: Global, text: &str) -> Result<KeptName, Fail> {
+    Ok(KeptName::new(alloc, &name(text)?)?)
 }
 
 // Returns the record of this one reply.
@@ -133,10 +139,17 @@ fn city(alloc: Global) -> Result<KeptRows, Fail> {
     Ok(KeptRows::new(vec![in alloc; row]?))
 }
 
+// A record keeps every answer to its end.
+#[test]
+fn an_answer_takes_at_most_104_bytes(rt: HostRuntime) -> Result<(), Fail> {
+    assert!(rt; size_of::<Answered>() <= 104);
+    Ok(())
+}
+
 #[test]
 fn a_replace_shows_the_new_table(rt: HostRuntime) -> Result<(), Fail> {
     let replaced = Reply::Replaced {
-        name: name("t1")?,
+        name: kept(rt.alloc(), "t1")?,
         columns: 3,
         members: 0,
         at: 2,
@@ -148,7 +161,7 @@ fn a_replace_shows_the_new_table(rt: HostRuntime) -> Result<(), Fail> {
 #[test]
 fn a_load_shows_what_was_loaded(rt: HostRuntime) -> Result<(), Fail> {
     let loaded = Reply::Loaded {
-        name: name("t1")?,
+        name: kept(rt.alloc(), "t1")?,
         columns: 2,
         members: 4,
         at: 1,
@@ -194,7 +207,7 @@ fn a_search_of_the_past_shows_the_position_that_it_asked_for(rt: HostRuntime) ->
 #[test]
 fn a_drop_shows_its_name_and_a_list_its_tables(rt: HostRuntime) -> Result<(), Fail> {
     let dropped = Reply::Dropped {
-        name: name("t1")?,
+        name: kept(rt.alloc(), "t1")?,
         at: 3,
     };
     shows(&rt, dropped, "7 dropped t1 at 3\n")?;
@@ -232,7 +245,7 @@ fn refused_files_and_columns(rt: HostRuntime) -> Result<(), Fail> {
     shows(&rt, Reply::FileMissing, "7 refused file missing\n")?;
     shows(&rt, Reply::FileTooLong, "7 refused file longer\n")?;
     let column = Reply::NoColumn {
-        name: name("t")?,
+        name: kept(rt.alloc(), "t")?,
         place: 3,
         at: 1,
     };
@@ -243,12 +256,12 @@ fn refused_files_and_columns(rt: HostRuntime) -> Result<(), Fail> {
 #[test]
 fn refused_loads_and_queries(rt: HostRuntime) -> Result<(), Fail> {
     let repeated = Reply::Repeated {
-        name: name("t1")?,
+        name: kept(rt.alloc(), "t1")?,
         at: 4,
     };
     shows(&rt, repeated, "7 refused repeated t1 at 4\n")?;
     let unknown = Reply::Unknown {
-        name: name("t9")?,
+        name: kept(rt.alloc(), "t9")?,
         at: 0,
     };
     shows(&rt, unknown, "7 refused unknown t9 at 0\n")?;
@@ -408,7 +421,7 @@ enum Update {
 fn entry(alloc: Global, who: Who, update: &Update, title: &str) -> Result<Entry, Fail> {
     match update {
         Update::Load => Ok(Entry::loaded(who, table(alloc, title)?)),
-        Update::Drop => Ok(Entry::dropped(who, name(title)?)),
+        Update::Drop => Ok(Entry::dropped(who, kept(alloc, title)?)),
         Update::Replace => Ok(Entry::replaced(who, table(alloc, title)?)),
     }
 }

@@ -1,5 +1,5 @@
 //! The text of worked runs, byte for byte. All columns are named c.
-use catalogue::{Entry, Who};
+use catalogue::{Entry, KeptName, Who};
 use column_set::{Keys, Name, QuerySet, SharedTable, TableSets};
 use column_watch::Watches;
 use csv_table::read_table;
@@ -51,7 +51,7 @@ fn entries(alloc: Global, told: &[Told]) -> Result<Vec<Entry>, Fail> {
 fn entry(alloc: Global, told: &Told) -> Result<Entry, Fail> {
     match told {
         Told::Load(title, text) => load(alloc, title, text),
-        Told::Drop(title) => Ok(Entry::dropped(WHO, name(title)?)),
+        Told::Drop(title) => Ok(Entry::dropped(WHO, KeptName::new(alloc, &name(title)?)?)),
         Told::Merge => merge(alloc),
     }
 }

@@ -1,7 +1,7 @@
 //! Entries of a journal, and queries to watch.
 
 use crate::making::{Change, WHO, name, table};
-use catalogue::Entry;
+use catalogue::{Entry, KeptName};
 use column_set::{Keys, QuerySet};
 use column_watch::Watches;
 use segment_core::Numbers;
@@ -19,7 +19,7 @@ fn entry(alloc: Global, change: Change<'_>) -> Result<Entry, Fail> {
     match change {
         Change::Load(title, text) => Ok(Entry::loaded(WHO, table(alloc, title, text)?)),
         Change::Replace(title, text) => Ok(Entry::replaced(WHO, table(alloc, title, text)?)),
-        Change::Drop(title) => Ok(Entry::dropped(WHO, name(title)?)),
+        Change::Drop(title) => Ok(Entry::dropped(WHO, KeptName::new(alloc, &name(title)?)?)),
         Change::Merge => merge(alloc),
     }
 }

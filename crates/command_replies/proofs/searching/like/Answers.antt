@@ -1,13 +1,15 @@
-use Rattle.std.proofs.Common.{Some, false, sym, subst, ◌∙◌}
+use Rattle.std.proofs.Common.{Some, ap, false, sym, subst, ◌∙◌}
 use Rattle.josie_search.specs.Search.{query_with}
 use Rattle.record_model.specs.Replies.{like_reply}
+use Rattle.command_replies.specs.Searches.{column_reply}
 use Rattle.command_replies.proofs.LoadLemmas.{Answers}
 use Rattle.command_replies.proofs.SearchLemmas.{found_now, like_found, like_refused}
 use Rattle.command_replies.proofs.searching.like.Goals as goal
 
 pub returns-in-Err : goal.returns-in-Err
 returns-in-Err c journal is =
-    subst (λ reply. Answers reply (like_reply c.args.k c.args.name.now c.args.place journal)) (sym c.reply_to_column.ensures)
+    let said = c.reply_to_column.ensures ∙ ap (λ name. column_reply name c.args.place c.at.result c.in-Err.refused) c.in-Ok-new.ensures in
+    subst (λ reply. Answers reply (like_reply c.args.k c.args.name.now c.args.place journal)) (sym said)
     (like_refused c.args.pin.now journal c.args.k c.args.name.now c.args.place c.at.result c.in-Err.refused is c.requires.place c.at.ensures c.in-Err.ensures.refused)
 
 pub returns-in-Ok-find : goal.returns-in-Ok-find

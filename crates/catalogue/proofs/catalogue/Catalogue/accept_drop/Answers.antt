@@ -43,7 +43,7 @@ invariant_of-self-2 c =
     let removed : (q : Text) → get_by_text c.remove_name.new.positions q ≡ cond (bytes_eq c.args.name.now q) None (get_by_text c.self.inside.positions q) = λ q. c.remove_name.ensures q in
     let more = kept_drop s.limits s.journal.items s.version.value s.counts (λ q. get_by_text s.positions q) c.self.invariant c.args.name.now accepted c.args.who (λ q. get_by_text c.remove_name.new.positions q) removed in
     let journal : c.push_reserved.new.self.items ≡ c.self.inside.journal.items ++ entry_with c.args.who (Dropped c.args.name.now) ∷ [] =
-    c.push_reserved.ensures.items ∙ (λ i. c.in_ok-reserve.ensures.items i ++ (c.dropped.ensures ∙ ap (λ (t : Text). entry_with c.args.who (Dropped t)) c.copy.ensures) i ∷ []) in
+    c.push_reserved.ensures.items ∙ (λ i. c.in_ok-reserve.ensures.items i ++ (c.dropped.ensures ∙ ap (λ (t : Text). entry_with c.args.who (Dropped t)) c.in_ok-kept.ensures) i ∷ []) in
     let version : c.mark.new.version.value ≡ version_with (n + 1) (map (mark c.args.name.now) (layout c.self.inside.journal.items)) = c.in_ok-mark.ensures.ok ∙ (λ i. version_with (at i) (same i)) in
     let live : c.counts_without-self-inside.result.live ≡ c.self.inside.counts.live - 1 = omega (arith, c.counts_without-self-inside.ensures.live) in
     let counts : c.counts_without-self-inside.result ≡ counts_with (c.self.inside.counts.live - 1) (c.self.inside.counts.updates + 1) c.self.inside.counts.members c.self.inside.counts.key_bytes =
