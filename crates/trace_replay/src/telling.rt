@@ -85,10 +85,23 @@ pub(crate) fn is_told(
     ensures sound { IfOk result (λ yes. yes ≡ true → IsAnswered (who_by by) (hint_as hint) (reply_of reply) text.now) }
     ensures complete { IfOk result (λ yes. IsAnswered (who_by by) (hint_as hint) (reply_of reply) text.now → yes ≡ true) }
 {
-    if !is_same(hint_of(&reply), hint) {
+    is_told_by(&Answered { by, reply }, hint, text, scratch)
+}
+
+// Returns the same for an answer.
+fn is_told_by(
+    answered: &Answered,
+    hint: Hint,
+    text: &[u8],
+    scratch: &mut Vec<u8>,
+) -> Result<bool, NoMemory>
+    ensures sound { IfOk result (λ yes. yes ≡ true → IsAnswered answered.now.who (hint_as hint) answered.now.reply text.now) }
+    ensures complete { IfOk result (λ yes. IsAnswered answered.now.who (hint_as hint) answered.now.reply text.now → yes ≡ true) }
+{
+    if !is_same(hint_of(&answered.reply), hint) {
         return Ok(false);
     }
     scratch.clear();
-    push_traced_answer(&Answered { by, reply }, scratch)?;
+    push_traced_answer(answered, scratch)?;
     Ok(scratch.as_slice() == text)
 }
