@@ -51,18 +51,19 @@ impl HashOrder {
     }
 
     /// Returns the tokens whose keys are the query's, in increasing order. It walks over the smaller of the two: the
-    /// tokens or the keys of the query.
+    /// tokens or the keys of the query. If `is_likely`, it does not first ask whether there may be any.
     pub(crate) fn tokens_among(
         &self,
         alloc: Global,
         query: &HashedQuery<'_>,
+        is_likely: bool,
     ) -> Result<Vec<u32>, NoMemory>
         ensures { (tables : List Table) → IsByHash tables self.now → IfOk result (λ tokens. tokens.items ≡ tokens_in (segment tables).tokens query.now) }
     {
         if self.len() < query.query().len() as usize {
             self.asked_tokens(alloc, query)
         } else {
-            self.found_tokens(alloc, query)
+            self.found_tokens(alloc, query, is_likely)
         }
     }
 
@@ -97,11 +98,16 @@ impl HashOrder {
 
     // Returns the same by looking up each key of the query among the tokens. A small part usually has none of a few
     // keys: then a filter shows this at once, and no memory is taken.
-    fn found_tokens(&self, alloc: Global, query: &HashedQuery<'_>) -> Result<Vec<u32>, NoMemory>
+    fn found_tokens(
+        &self,
+        alloc: Global,
+        query: &HashedQuery<'_>,
+        is_likely: bool,
+    ) -> Result<Vec<u32>, NoMemory>
         ensures { (tables : List Table) → IsByHash tables self.now → IfOk result (λ tokens. tokens.items ≡ tokens_in (segment tables).tokens query.now) }
     {
         let is_short = query.query().len() < LEAST_IN_PASSES;
-        if is_short && !self.may_have_any(query.hashes()) {
+        if is_short && !is_likely && !self.may_have_any(query.hashes()) {
             return Ok(Vec::new(alloc));
         }
         let hits = self.hits(alloc, query)?;

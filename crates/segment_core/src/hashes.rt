@@ -85,6 +85,13 @@ impl HashOrder {
         self.keys.text(self.entries[at].key)
     }
 
+    /// Returns whether the hash may be that of a token's key, as far as a filter shows.
+    pub(crate) fn may_have(&self, hash: u32) -> bool
+        ensures { result ≡ false → All (λ entry. hash_of entry.key ≡ hash → ⊥) self.now }
+    {
+        self.may_have_any([hash].as_slice())
+    }
+
     /// Returns whether any of these hashes may be that of a token's key, as far as a filter shows.
     pub(crate) fn may_have_any(&self, hashes: &[u32]) -> bool
         ensures { result ≡ false → All (λ hash. All (λ entry. hash_of entry.key ≡ hash → ⊥) self.now) hashes.now }

@@ -1,5 +1,5 @@
 //! The looks of a search at a version: everything that it may ask, and a log of the lists and the sets that it read.
-ghost use Rattle.std.specs.Prelude.{◌≡◌, ◌<◌, ◌+◌, ◌++◌, ◌∷◌, [], count_by, drop, false, get_or, length, map, not, IfOk, OnErr, OnOk};
+ghost use Rattle.std.specs.Prelude.{◌≡◌, ◌<◌, ◌≤◌, ◌+◌, ◌++◌, ◌∷◌, [], count_by, drop, false, get_or, length, map, not, IfOk, OnErr, OnOk};
 ghost use Rattle.search_model.specs.Looks.{is_read};
 
 use crate::hashed::HashedQuery;
@@ -12,6 +12,9 @@ use search_model::{Look, Posting};
 use std::alloc::Global;
 use std::marker::Model;
 use std::sync::Arc;
+
+/// How many parts are asked for a key ahead of the look-ups in them. Each has a bit in a number of 64 bits.
+const ASKED_AHEAD: u32 = 64;
 
 /// Everything that a search gets from a version. It borrows the version's pin, and what it lends lives as long as that
 /// borrow. Each posting list and each set that is read is logged. Its model is the version, the log, and the number of
@@ -135,7 +138,23 @@ impl<'a> Looks<'a> {
         requires { part < length self.now.version.parts }
         ensures { IfOk result (λ tokens. tokens.items ≡ tokens_in (segment_at self.now.version.parts part).tokens query.now) }
     {
-        self.version.part(part).segment().tokens_among(alloc, query)
+        self.tokens_of_part(alloc, part, query, false)
+    }
+
+    // Returns the same. `is_likely` may be true if a filter of the part was asked for a key of the query before, and may
+    // have it.
+    fn tokens_of_part(
+        &self,
+        alloc: Global,
+        part: u32,
+        query: &HashedQuery<'_>,
+        is_likely: bool,
+    ) -> Result<Vec<u32>, NoMemory>
+        requires { part < length self.now.version.parts }
+        ensures { IfOk result (λ tokens. tokens.items ≡ tokens_in (segment_at self.now.version.parts part).tokens query.now) }
+    {
+        let segment = self.version.part(part).segment();
+        segment.tokens_among(alloc, query, is_likely)
     }
 
     /// Returns, for each part, the tokens whose keys are the query's, as [`Looks::query_tokens`] does for one part.
@@ -147,10 +166,34 @@ impl<'a> Looks<'a> {
         ensures { IfOk result (λ all. map (λ tokens. tokens.items) all.items ≡ map (λ part. tokens_in (segment_of part).tokens query.now) self.now.version.parts) }
     {
         let mut all = Vec::with_capacity(alloc, self.parts() as usize)?;
+        let mut likely = 0;
         for part in 0..self.parts() {
-            all.push(self.query_tokens(alloc, part, query)?)?;
+            if part % ASKED_AHEAD == 0 {
+                likely = self.ask_ahead(part, query.hashes());
+            }
+            let is_likely = has_bit(likely, part);
+            all.push(self.tokens_of_part(alloc, part, query, is_likely)?)?;
         }
         Ok(all)
+    }
+
+    // Asks the filters of the 64 parts from `first` on for the first of the hashes. Bit n of the result shows whether part
+    // `first + n` may have it; no contract says so, since a look-up is right with and without it. A filter is a cache miss
+    // or two, which overlap here; between look-ups they would not.
+    fn ask_ahead(&self, first: u32, hashes: &[u32]) -> u64
+        requires { first ≤ length self.now.version.parts }
+    {
+        let [hash, ..] = hashes else {
+            return 0;
+        };
+        let mut likely = 0;
+        let parts = &self.version.parts()[first as usize..];
+        for (i, part) in parts.iter().take(ASKED_AHEAD as usize).enumerate() {
+            if part.segment().may_have(*hash) {
+                likely |= 1 << (i % 64);
+            }
+        }
+        likely
     }
 
     /// Returns the columns of a part in the order of names, including those of marked tables.
@@ -313,6 +356,11 @@ fn raise_meter(version: &Version, part: u32, looks: u64) {
     if let Some(part) = version.parts().get(part as usize) {
         part.segment().raise_meter(looks);
     }
+}
+
+// Returns whether the bit is set whose number is the remainder of `part` by 64.
+fn has_bit(bits: u64, part: u32) -> bool {
+    (bits >> (part % 64)) & 1 == 1
 }
 
 // Returns whether the look read a posting list.

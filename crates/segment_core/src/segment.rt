@@ -1,8 +1,10 @@
 //! The inverted index of a list of tables, in flat arrays.
-ghost use Rattle.std.specs.Prelude.{◌≡◌, ◌⊎◌, ◌+◌, ◌<◌, ◌≤◌, [], drop, get_or, length, slice_index, slice_range, IfErr, IfOk, None, OnOk, Some};
+ghost use Rattle.std.specs.Prelude.{◌≡◌, ◌⊎◌, ◌+◌, ◌<◌, ◌≤◌, [], drop, false, get_or, length, slice_index, slice_range, IfErr, IfOk, None, OnOk, Some};
+ghost use Rattle.lake_model.specs.Texts.{Text};
 ghost use Rattle.search_model.specs.Arrays.{table_at, titled_at, IsToken};
 ghost use Rattle.search_model.specs.Ranks.{AreInverse, AreRanks};
 ghost use Rattle.search_model.specs.Segment.{segment, tokens_in};
+ghost use Rattle.segment_core.specs.Hashes.{hash_of};
 ghost use Rattle.segment_core.specs.LiveColumn.{fault_in, keys_in};
 
 use crate::column::ColumnRefused;
@@ -197,16 +199,24 @@ impl Segment {
         self.meter.load(Ordering::SeqCst)
     }
 
+    /// Returns whether some column may have a key with this hash, as far as a filter shows.
+    pub(crate) fn may_have(&self, hash: u32) -> bool
+        ensures { (key : Text) → hash ≡ hash_of key → result ≡ false → IsToken (segment self.now).tokens key None }
+    {
+        self.by_hash.may_have(hash)
+    }
+
     /// Returns the tokens whose keys are the query's, in increasing order. It walks over the smaller of the two: the
-    /// tokens or the keys of the query.
+    /// tokens or the keys of the query. If `is_likely`, it does not first ask whether there may be any.
     pub(crate) fn tokens_among(
         &self,
         alloc: Global,
         query: &HashedQuery<'_>,
+        is_likely: bool,
     ) -> Result<Vec<u32>, NoMemory>
         ensures { IfOk result (λ tokens. tokens.items ≡ tokens_in (segment self.now).tokens query.now) }
     {
-        self.by_hash.tokens_among(alloc, query)
+        self.by_hash.tokens_among(alloc, query, is_likely)
     }
 }
 
