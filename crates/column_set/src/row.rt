@@ -81,8 +81,8 @@ impl<'a> Row<'a> {
         ensures { IfOk result (λ kept. kept ≡ self.now) }
     {
         Ok(KeptRow {
-            overlap: self.overlap,
             titles: Arc::try_clone(self.titles)?,
+            overlap: self.overlap,
             place: self.place,
         })
     }
@@ -127,11 +127,12 @@ impl<'a> Ord for Row<'a> {
     }
 }
 
-/// A row of an answer that owns a share of its titles.
+/// A row of an answer that owns a share of its titles. The fields lie in memory in this order, so a row takes 16 bytes;
+/// with the titles between the two numbers it would take 24.
 #[derive(Drop)]
 pub struct KeptRow {
-    overlap: u32,
     titles: Arc<Titles>,
+    overlap: u32,
     place: u32,
 }
 
