@@ -7,7 +7,7 @@ use lake_io::{FileShelf, NoGate, StdSink, StdSource};
 use std::env::Env;
 use std::io::ErrorKind;
 use std::process::ExitCode;
-use std::{env, io};
+use std::{env, io, mem};
 
 /// How the program is called.
 const USAGE: &str = "josie run [--lanes N] [--order LIST] [--merge] [--trace] [--profile P] \
@@ -170,7 +170,7 @@ fn main(rt: HostRuntime) -> ExitCode {
                 let mut sink = StdSink::new(rt.stdout());
                 let mut shelf = FileShelf::new(&rt);
                 let mut record = RunRecord::new(rt.alloc());
-                run(
+                let status = run(
                     &rt,
                     rt.alloc(),
                     words.as_slice(),
@@ -179,7 +179,10 @@ fn main(rt: HostRuntime) -> ExitCode {
                     &mut shelf,
                     &NoGate,
                     &mut record,
-                )
+                );
+                // The process ends next, which gives back the memory of all replies at once.
+                mem::forget(record);
+                status
             }
         },
     };
