@@ -105,7 +105,8 @@ pub(crate) fn clear(set: &mut Option<KeptSet>, tokens: &[u32])
 
 /// Returns the set to look tokens up in, if there is one.
 pub(crate) fn set_of(kept: &Option<KeptSet>) -> Option<&TokenSet>
-    ensures { (tokens : List ℕ) → IfSome kept.now (λ set. IsSetOf set tokens) → IfSome result (λ set. IsSetOf set.now tokens) }
+    ensures same { option_map (λ set. set.now) result ≡ kept.now }
+    ensures tokens { (tokens : List ℕ) → IfSome kept.now (λ set. IsSetOf set tokens) → IfSome result (λ set. IsSetOf set.now tokens) }
 {
     match kept {
         None => None,
