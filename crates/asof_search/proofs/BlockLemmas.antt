@@ -1,6 +1,6 @@
 -- Blocks of puts, and the parts over them.
-use Rattle.std.proofs.Common.{◌≡◌, ◌≢◌, nat_eq, refl, ap, sym, ◌∙◌, subst, ℕ, zero, suc, ◌+◌, ◌-◌, ◌*◌, ◌<◌, ◌≤◌, List, [], ◌∷◌, ◌++◌, Bool, true, false, not, ◌&&◌, length, get_or, arith, drop, take, map, min, append_assoc, append-nil, Result, Ok, Err, inl, inr}
-use Rattle.std.specs.Prelude.{slice_set, sum_by, ◌⊎◌, IfOk}
+use Rattle.std.proofs.Common.{◌≡◌, ◌≢◌, nat_eq, refl, ap, sym, ◌∙◌, subst, ℕ, zero, suc, ◌+◌, ◌-◌, ◌*◌, ◌<◌, ◌≤◌, List, [], ◌∷◌, ◌++◌, Bool, true, false, not, ◌&&◌, length, get_or, arith, drop, take, map, min, append_assoc, append-nil, inl, inr}
+use Rattle.std.specs.Prelude.{slice_set, sum_by, ◌⊎◌}
 use Rattle.std.specs.List.{AllByRecursion, filter}
 use Rattle.std.proofs.lemmas.List.{drop-drop, drop-map, drop_min, get_or-set_other, get_or-set_same, length-append, length-drop, length-set, length-take, map-append, take-append-le, take-append-drop, take-map, take_min, take_more}
 use Rattle.std.proofs.Math.ListN.{drop_of_length-le}
@@ -192,10 +192,9 @@ wider most n puts put is narrow within so_far =
 
 -- ---- a part
 
-pub part_ok : {F : Type 0} (made : Result Part F) (number asked : ℕ) (puts : List PutOf) (positions : List ℕ) (tables : List Table) (marks : List Bool) → positions ≡ positions_put puts → tables ≡ tables_put puts → marks ≡ map (λ (put : PutOf). not (was_live asked put)) puts
-    → IfOk made (λ part. part ≡ part_with number (places_with positions tables marks)) → IfOk made (λ part. part.places ≡ map (place_of asked) puts)
-part_ok (Ok part) number asked puts positions tables marks e f g is = ap (λ (p : Part). p.places) is ∙ (λ i. places_with (e i) (f i) (g i)) ∙ places_are asked puts
-part_ok (Err e) number asked puts positions tables marks f g h is = tt
+pub part_is : (part : Part) (number asked : ℕ) (puts : List PutOf) (positions : List ℕ) (tables : List Table) (marks : List Bool) → positions ≡ positions_put puts → tables ≡ tables_put puts → marks ≡ map (λ (put : PutOf). not (was_live asked put)) puts
+    → part ≡ part_with number (places_with positions tables marks) → part.places ≡ map (place_of asked) puts
+part_is part number asked puts positions tables marks e f g is = ap (λ (p : Part). p.places) is ∙ (λ i. places_with (e i) (f i) (g i)) ∙ places_are asked puts
 
 -- ---- one more block
 

@@ -133,7 +133,7 @@ fn past_part(
 {
     let positions = Numbers::new(put_positions(alloc, puts)?);
     let marks = Marks::new(put_marks(alloc, puts, asked)?);
-    Part::new(alloc, number, segment, positions, marks)
+    Ok(Part::new(number, segment, positions, marks))
 }
 
 // Returns the position of each put.

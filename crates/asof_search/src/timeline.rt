@@ -166,7 +166,7 @@ impl Timeline {
         ensures live { IfOk result (λ pin. live_of pin.parts ≡ live (take asked self.old)) }
     {
         let parts = past_parts(self.alloc, BLOCK, &mut self.blocks, self.puts.list(), asked)?;
-        let version = Arc::new(self.alloc, Version::new(asked, parts))?;
+        let version = Arc::new(self.alloc, Version::new(self.alloc, asked, parts)?)?;
         self.last = Some(Arc::try_clone(&version)?);
         Ok(Pin::new(version))
     }

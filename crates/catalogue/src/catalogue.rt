@@ -58,7 +58,7 @@ impl Catalogue {
             alloc,
             limits,
             journal: Vec::new(alloc),
-            version: Arc::new(alloc, Version::empty(alloc))?,
+            version: Arc::new(alloc, Version::empty(alloc)?)?,
             positions: BTreeMap::new(alloc),
             counts: Counts {
                 live: 0,
@@ -283,7 +283,7 @@ pub(crate) fn loaded_part(alloc: Global, at: u64, segment: Arc<Segment>) -> Resu
 {
     let positions = Numbers::new(vec![in alloc; at]?);
     let marked = Marks::new(vec![in alloc; false]?);
-    Part::new(alloc, at, segment, positions, marked)
+    Ok(Part::new(at, segment, positions, marked))
 }
 
 // Returns the counts after a load of this table.

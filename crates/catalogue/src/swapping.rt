@@ -176,8 +176,7 @@ fn merged_part(
     let carried = carried_marks(alloc, run, kept.list())?;
     let marked = Marks::new(carried);
     let positions = kept.copy()?;
-    let part = Part::new(alloc, at, segment, positions, marked)?;
-    Ok(Some(part))
+    Ok(Some(Part::new(at, segment, positions, marked)))
 }
 
 // Returns the marks of the kept positions, which these parts have in this order. It takes one walk over the positions

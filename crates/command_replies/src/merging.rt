@@ -66,7 +66,7 @@ pub fn plan_pinned(alloc: Global, pin: &Pin, policy: Policy) -> Result<Planned, 
     ensures layout { IfOk result (λ planned. planned.layout ≡ shown_with pin.now.at (shown pin.now.parts)) }
     ensures merged { IfOk result (λ planned. planned.merged ≡ option_map merge_of (plan_at policy pin.now)) }
 {
-    let layout = pin.layout(alloc)?;
+    let layout = pin.layout()?;
     let Some(plan) = plan(alloc, pin, policy)? else {
         return Ok(Planned {
             layout,

@@ -80,7 +80,7 @@ fn find(
     requires high { k ≤ 10000 }
     ensures { IfOk result (λ reply. reply_of reply ≡ found_at pin.now (query_with k query.now (option_copied except.entry))) }
 {
-    let layout = pin.layout(alloc)?;
+    let layout = pin.layout()?;
     let taken = mem::replace(room, SearchRoom::new());
     let prepared = prepare(alloc, pin.looks(alloc), query, k, except, taken)?;
     let (answer, used) = prepared.run(&Profile);
@@ -101,7 +101,7 @@ fn find_holding(
     requires high { b ≤ 10000 }
     ensures { IfOk result (λ reply. reply_of reply ≡ contained_at pin.now query.now a b) }
 {
-    let layout = pin.layout(alloc)?;
+    let layout = pin.layout()?;
     let prepared = prepare_contain(alloc, pin.looks(alloc), query, a, b)?;
     found(alloc, query, &prepared.run(), layout)
 }

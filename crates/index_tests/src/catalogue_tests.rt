@@ -9,9 +9,9 @@ use catalogue::{
     Catalogue, Counts, DropRefused, Entry, KeptName, Limits, LoadRefused, ReplaceRefused,
     SwapRefused, What, Which, Who,
 };
-use column_set::SharedTable;
+use column_set::{Keys, QuerySet, SharedTable};
 use no_memory::NoMemory;
-use segment_core::{Merged, Numbers, Plan, Segment};
+use segment_core::{HashedQuery, Merged, Numbers, Plan, Segment};
 use std::alloc::Global;
 use std::process::Abort;
 use std::sync::Arc;
@@ -102,7 +102,7 @@ fn shows_now(
     parts: &[(u64, u64, bool)],
 ) -> Result<bool, NoMemory> {
     let pin = lake.pin()?;
-    let layout = pin.layout(alloc)?;
+    let layout = pin.layout()?;
     Ok(holds(alloc, &pin, lake.at(), tables)? && shows(&layout, lake.at(), parts))
 }
 
@@ -350,7 +350,7 @@ fn a_pin_keeps_what_comes_later(rt: HostRuntime) -> Result<(), Fail> {
 #[test]
 fn a_layout_keeps_what_comes_later(rt: HostRuntime) -> Result<(), Fail> {
     let mut lake = played(&rt, rt.alloc(), &LOAD)?;
-    let layout = lake.pin()?.layout(rt.alloc())?;
+    let layout = lake.pin()?.layout()?;
     plays(&rt, &mut lake, rt.alloc(), &REPLACE_DROP)?;
     assert!(rt; shows(&layout, 1, &[(1, 1, false)]));
     assert!(rt; shows_now(&lake, rt.alloc(), 0, &[(1, 1, true), (2, 2, true)])?);
@@ -362,6 +362,59 @@ const TWO_LOADS_AND_A_DROP: [Step; 3] = [
     Step::Load("b", Ok(2)),
     Step::Drop("a", Ok(3)),
 ];
+
+#[test]
+fn a_layout_keeps_what_a_swap_replaces(rt: HostRuntime) -> Result<(), Fail> {
+    let mut lake = played(&rt, rt.alloc(), &TWO_LOADS_AND_A_DROP)?;
+    let layout = lake.pin()?.layout()?;
+    assert!(rt; swaps(&mut lake, rt.alloc(), 4)?);
+    assert!(rt; shows(&layout, 3, &[(1, 1, true), (2, 2, false)]));
+    assert!(rt; shows_now(&lake, rt.alloc(), 1, &[(4, 2, false)])?);
+    Ok(())
+}
+
+// The last parts of the first two blocks of 64 parts, the first parts of the next ones, and a part within a block.
+const ASKED: [usize; 5] = [3, 63, 64, 127, 128];
+
+// Returns a lake of 130 parts. Part n has one table, whose one column has the keys `x` and n + 100.
+fn many_parts(alloc: Global) -> Result<Catalogue, Fail> {
+    let mut lake = Catalogue::new(alloc, Limits::standard())?;
+    for number in 100..230 {
+        let title = format!(in alloc; "t{number}")?;
+        let text = format!(in alloc; "v\nx\n{number}\n")?;
+        let table = table(alloc, title.as_str(), text.as_str())?;
+        let segment = segment(alloc, &table)?;
+        let Ok(_) = lake.load(FIRST, table, segment) else {
+            return Err(Fail::from("a refused load"));
+        };
+    }
+    Ok(lake)
+}
+
+// Returns the tokens that a query has in each part of the lake.
+fn asked_of_parts(lake: &Catalogue, alloc: Global, body: &str) -> Result<Vec<Vec<u32>>, Fail> {
+    let query = QuerySet::read(alloc, Keys::Canonical, body.as_bytes())?;
+    let hashed = HashedQuery::new(alloc, &query)?;
+    let pin = lake.pin()?;
+    Ok(pin.looks(alloc).tokens_of_parts(alloc, &hashed)?)
+}
+
+#[test]
+fn each_of_many_parts_is_asked(rt: HostRuntime) -> Result<(), Fail> {
+    let lake = many_parts(rt.alloc())?;
+    let some = asked_of_parts(&lake, rt.alloc(), "none\n103\n163\n164\n227\n228\n")?;
+    assert!(rt; some.len() == 130);
+    for (part, tokens) in some.iter().enumerate() {
+        let wanted: &[u32] = if ASKED.contains(&part) { &[0] } else { &[] };
+        assert!(rt; tokens.as_slice() == wanted, "part {part}");
+    }
+    let all = asked_of_parts(&lake, rt.alloc(), "x\n")?;
+    assert!(rt; all.len() == 130);
+    for (part, tokens) in all.iter().enumerate() {
+        assert!(rt; tokens.as_slice() == [1].as_slice(), "part {part}");
+    }
+    Ok(())
+}
 
 const SWAPPED: [Step; 2] = [
     Step::Entries(4),

@@ -170,8 +170,8 @@ fn version(alloc: Global) -> Result<Arc<Version>, Fail>
     let segment = Arc::new(alloc, segment(alloc)?)?;
     let positions = Numbers::new(vec![in alloc; 7]?);
     let marked = Marks::new(vec![in alloc; false]?);
-    let part = Part::new(alloc, 7, segment, positions, marked)?;
-    let mut version = Arc::new(alloc, Version::empty(alloc))?;
+    let part = Part::new(7, segment, positions, marked);
+    let mut version = Arc::new(alloc, Version::empty(alloc)?)?;
     Version::add(&mut version, 7, part)?;
     Ok(version)
 }
@@ -350,7 +350,7 @@ fn pins(alloc: Global, pin: &Pin, at: u64, tables: usize, marked: bool) -> Resul
             return Ok(false);
         }
     }
-    Ok(holds(alloc, pin, at, tables)? && shows(&pin.layout(alloc)?, at, &[(7, 7, marked)]))
+    Ok(holds(alloc, pin, at, tables)? && shows(&pin.layout()?, at, &[(7, 7, marked)]))
 }
 
 // Returns a pin of the worked version, and one after the mark of its table.

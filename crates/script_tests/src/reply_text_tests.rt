@@ -75,7 +75,7 @@ fn layout(alloc: Global, at: u64, parts: &[(u64, &[(u64, bool)])]) -> Result<Lay
         let places = Arc::new(alloc, Vec::from_slice(alloc, places)?)?;
         held.push((*number, Places::new(places)))?;
     }
-    Ok(Layout::new(at, held))
+    Layout::new(alloc, at, held)
 }
 
 // Returns a reply without rows to a query of one key, which was searched in this layout with two lists read.
@@ -181,7 +181,7 @@ fn rows_are_lines_and_column_names_are_quoted(rt: HostRuntime) -> Result<(), Fai
         rows: KeptRows::new(rows),
         reads: 1,
         probes: 1,
-        layout: Layout::new(18446744073709551615, Vec::new(alloc)),
+        layout: Layout::new(alloc, 18446744073709551615, Vec::new(alloc))?,
     };
     let wanted =
         "7 answer 2 of 3 at 18446744073709551615\n  2 t1 2 \"city\"\n  1 zz 2 \"\\\"\\\\\\n\\r\\t\\x01\\x7fé\"\n";

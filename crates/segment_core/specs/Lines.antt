@@ -12,6 +12,14 @@ shown_places places = map (λ place. (place.position, place.marked)) places
 abbrev pub mark_pair : ℕ → List (ℕ × Bool) → List (ℕ × Bool)
 mark_pair n pairs = slice_set pairs n ((get_or pairs n (0, false)).0, true)
 
+-- a part as a layout shows it
+abbrev pub shown_at : List (ℕ × List (ℕ × Bool)) → ℕ → ℕ × List (ℕ × Bool)
+shown_at parts i = get_or parts i (0, [])
+
+-- the parts as a layout shows them, with the place at an index of a part marked
+abbrev pub mark_shown : ℕ → ℕ → List (ℕ × List (ℕ × Bool)) → List (ℕ × List (ℕ × Bool))
+mark_shown part place parts = slice_set parts part ((shown_at parts part).0, mark_pair place (shown_at parts part).1)
+
 -- a line from its components: the name, the number of columns, the number of members
 abbrev pub line_from : Text × ℕ × ℕ → Line
 line_from line = line_with line.0 line.1 line.2

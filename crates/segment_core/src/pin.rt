@@ -6,7 +6,7 @@ ghost use Rattle.segment_core.specs.LiveColumn.{column_fault, column_keys};
 ghost use Rattle.segment_core.specs.Plans.{plan_run};
 
 use crate::column::{ColumnRefused, live_column};
-use crate::layout::{Layout, Places, TableLines};
+use crate::layout::{Layout, TableLines};
 use crate::looks::Looks;
 use crate::plan::{Plan, plan_parts};
 use crate::version::{Part, Version};
@@ -107,12 +107,11 @@ impl Pin {
         Looks::new(alloc, &self.version)
     }
 
-    /// Returns the layout of the version. It takes one entry for each part, and shares the places of each.
-    pub fn layout(&self, alloc: Global) -> Result<Layout, NoMemory>
+    /// Returns the layout of the version, which it shares.
+    pub fn layout(&self) -> Result<Layout, NoMemory>
         ensures { IfOk result (λ layout. layout ≡ shown_with self.now.at (shown self.now.parts)) }
     {
-        let parts = shown_parts(alloc, self.version.parts())?;
-        Ok(Layout::new(self.version.at(), parts))
+        self.version.layout()
     }
 
     /// Returns the name, the number of columns and the number of members of each live table, in the order of their
@@ -135,17 +134,6 @@ impl Pin {
     {
         live_column(alloc, self.version.parts(), table, place)
     }
-}
-
-// Returns the number and the places of each part.
-fn shown_parts(alloc: Global, parts: &[Part]) -> Result<Vec<(u64, Places)>, NoMemory>
-    ensures { IfOk result (λ all. all.items ≡ shown parts.now) }
-{
-    let mut all = Vec::with_capacity(alloc, parts.len())?;
-    for part in parts {
-        all.push((part.number, part.places()?))?;
-    }
-    Ok(all)
 }
 
 // Returns the lines of the unmarked tables of the parts.

@@ -1,7 +1,8 @@
 //! Versions: the parts in which the tables of a lake are searched at a position of its journal.
 ghost use Rattle.std.specs.Prelude.{◌≡◌, ◌<◌, ◌≤◌, ◌+◌, ◌^◌, ◌++◌, ◌∷◌, [], length, map, slice_set, IfOk, OnErr, OnOk};
 ghost use Rattle.std.specs.List.{zip};
-ghost use Rattle.lake_model.specs.Layout.{positions_of};
+ghost use Rattle.std.specs.Option.{option_to_list};
+ghost use Rattle.lake_model.specs.Layout.{positions_of, shown, shown_with};
 ghost use Rattle.segment_core.specs.Distinct.{unmarked_names};
 ghost use Rattle.list_laws.specs.Distinct.{AreDistinct};
 ghost use Rattle.segment_core.specs.Lines.{line_from, lines_without, shown_places, unmarked_lines};
@@ -9,7 +10,7 @@ ghost use Rattle.segment_core.specs.Plans.{replaced};
 ghost use Rattle.segment_core.specs.Positions.{loads_of};
 ghost use Rattle.segment_core.specs.Versions.{marked_and_added, marked_at, marks_of, part_at, part_with, places_with, tables_of, version_with};
 
-use crate::layout::Places;
+use crate::layout::{Layout, Places};
 use crate::numbers::{Marks, Numbers};
 use crate::segment::Segment;
 use column_set::{Name, SharedTable};
@@ -20,20 +21,17 @@ use std::sync::Arc;
 
 /// A part of a version: its number, which is the position of the journal's entry that made it; its segment; and, for
 /// each table of the segment in order, the position of the table's load in the journal, and whether the table has been
-/// dropped since. There are as many positions and as many marks as tables. Both are also kept as pairs, in a list that
-/// layouts share. Its model is a part of a layout.
+/// dropped since. There are as many positions and as many marks as tables. Its model is a part of a layout.
 #[derive(Drop)]
 pub struct Part {
     pub(crate) number: u64,
     pub(crate) segment: Arc<Segment>,
     pub(crate) positions: Numbers,
     pub(crate) marked: Marks,
-    pairs: Places,
 }
 
 impl Model for Part {
     ghost use Rattle.std.specs.Prelude.{◌≡◌, length};
-    ghost use Rattle.std.specs.List.{zip};
     ghost use Rattle.lake_model.specs.Layout.{Part as PartOf};
     ghost use Rattle.segment_core.specs.Versions.{places_with, part_with};
 
@@ -41,30 +39,23 @@ impl Model for Part {
 
     ghost view = { λ p. part_with p.number (places_with p.positions p.segment.value p.marked) };
 
-    ghost invariant = { λ p. (length p.positions ≡ length p.segment.value) × (length p.marked ≡ length p.segment.value) × (p.pairs ≡ zip p.positions p.marked) };
+    ghost invariant = { λ p. (length p.positions ≡ length p.segment.value) × (length p.marked ≡ length p.segment.value) };
 }
 
 impl Part {
-    /// Makes the part with this number over a segment, with the position of the load of each table, and its mark.
-    pub fn new(
-        alloc: Global,
-        number: u64,
-        segment: Arc<Segment>,
-        positions: Numbers,
-        marked: Marks,
-    ) -> Result<Part, NoMemory>
+    /// Makes the part with this number over a segment, with the position of the load of each table, and its mark. It
+    /// allocates nothing.
+    pub fn new(number: u64, segment: Arc<Segment>, positions: Numbers, marked: Marks) -> Part
         requires positions { length positions ≡ length segment.value }
         requires marks { length marked ≡ length segment.value }
-        ensures { IfOk result (λ part. part ≡ part_with number (places_with positions segment.value marked)) }
+        ensures { result ≡ part_with number (places_with positions segment.value marked) }
     {
-        let pairs = paired(alloc, positions.list(), marked.list())?;
-        Ok(Part {
+        Part {
             number,
             segment,
             positions,
             marked,
-            pairs: Places::new(Arc::new(alloc, pairs)?),
-        })
+        }
     }
 
     /// Returns the part's number.
@@ -96,12 +87,12 @@ impl Part {
         self.marked.list()
     }
 
-    /// Returns the position of the load of each of the part's tables, and whether the table is marked. The list is
-    /// shared, and later marks do not change it.
-    pub(crate) fn places(&self) -> Result<Places, NoMemory>
+    // Returns the position of the load of each of the part's tables, and whether the table is marked, in a new list.
+    fn places(&self, alloc: Global) -> Result<Places, NoMemory>
         ensures { IfOk result (λ places. places ≡ shown_places self.now.places) }
     {
-        self.pairs.share()
+        let pairs = paired(alloc, self.positions.list(), self.marked.list())?;
+        Ok(Places::new(Arc::new(alloc, pairs)?))
     }
 
     /// Appends the lines of the part's unmarked tables.
@@ -111,15 +102,12 @@ impl Part {
         add_unmarked(self.segment.tables(), self.marked.list(), lines)
     }
 
-    // Marks the table at an index, from 0. If memory runs out, the part is unchanged.
-    fn mark(&mut self, place: u32) -> Result<(), NoMemory>
+    // Marks the table at an index, from 0.
+    fn mark(&mut self, place: u32)
         requires { place < length self.old.places }
-        ensures ok { OnOk result (self.new ≡ marked_at place self.old) }
-        ensures err { OnErr result (self.new ≡ self.old) }
+        ensures { self.new ≡ marked_at place self.old }
     {
-        self.pairs.mark_dropped(place)?;
         self.marked.mark(place);
-        Ok(())
     }
 
     // Returns the same part, sharing the segment.
@@ -131,60 +119,67 @@ impl Part {
             segment: Arc::try_clone(&self.segment)?,
             positions: self.positions.copy()?,
             marked: self.marked.copy()?,
-            pairs: self.pairs.share()?,
         })
     }
 }
 
 /// A position of the journal, and the parts that are searched there, in the order of the layout. There are fewer than
-/// 2^32 parts. The positions of all loads are distinct, and so are the names of all unmarked tables. Its model is the
-/// position and the parts.
+/// 2^32 parts. The positions of all loads are distinct, and so are the names of all unmarked tables. It keeps its layout
+/// at hand for the replies that show it. Its model is the position and the parts.
 #[derive(Drop)]
 pub struct Version {
-    at: u64,
+    layout: Layout,
     parts: Vec<Part>,
 }
 
 impl Model for Version {
-    ghost use Rattle.std.specs.Prelude.{◌<◌, ◌^◌, length};
-    ghost use Rattle.lake_model.specs.Layout.{positions_of};
+    ghost use Rattle.std.specs.Prelude.{◌≡◌, ◌<◌, ◌^◌, length};
+    ghost use Rattle.lake_model.specs.Layout.{positions_of, shown};
     ghost use Rattle.list_laws.specs.Distinct.{AreDistinct};
     ghost use Rattle.segment_core.specs.Distinct.{unmarked_names};
     ghost use Rattle.segment_core.specs.Versions.{version_with, VersionOf};
 
     ghost Value = { VersionOf };
 
-    ghost view = { λ v. version_with v.at v.parts.items };
+    ghost view = { λ v. version_with v.layout.at v.parts.items };
 
-    ghost invariant = { λ v. (length v.parts.items < 2 ^ 32) × AreDistinct (positions_of v.parts.items) × AreDistinct (unmarked_names v.parts.items) };
+    ghost invariant = { λ v. (length v.parts.items < 2 ^ 32) × AreDistinct (positions_of v.parts.items) × AreDistinct (unmarked_names v.parts.items) × (v.layout.parts ≡ shown v.parts.items) };
 }
 
 impl Version {
-    /// Makes the version of these parts at a position. It allocates nothing.
-    pub fn new(at: u64, parts: Vec<Part>) -> Version
+    /// Makes the version of these parts at a position.
+    pub fn new(alloc: Global, at: u64, parts: Vec<Part>) -> Result<Version, NoMemory>
         requires few { length parts.items < 2 ^ 32 }
         requires positions { AreDistinct (positions_of parts.items) }
         requires names { AreDistinct (unmarked_names parts.items) }
-        ensures { result ≡ version_with at parts.items }
+        ensures { IfOk result (λ version. version ≡ version_with at parts.items) }
     {
-        Version { at, parts }
+        let shown = shown_parts(alloc, &parts)?;
+        Ok(Version {
+            layout: Layout::new(alloc, at, shown)?,
+            parts,
+        })
     }
 
-    /// Returns the version of an empty journal, which has no parts. It allocates nothing.
-    pub fn empty(alloc: Global) -> Version
-        ensures { result ≡ version_with 0 [] }
+    /// Returns the version of an empty journal, which has no parts.
+    pub fn empty(alloc: Global) -> Result<Version, NoMemory>
+        ensures { IfOk result (λ version. version ≡ version_with 0 []) }
     {
-        Version {
-            at: 0,
-            parts: Vec::new(alloc),
-        }
+        Version::new(alloc, 0, Vec::new(alloc))
     }
 
     /// Returns the version's position: the number of entries of the journal there.
     pub fn at(&self) -> u64
         ensures { result ≡ self.now.at }
     {
-        self.at
+        self.layout.at()
+    }
+
+    /// Returns the version's layout, which it shares.
+    pub(crate) fn layout(&self) -> Result<Layout, NoMemory>
+        ensures { IfOk result (λ layout. layout ≡ shown_with self.now.at (shown self.now.parts)) }
+    {
+        self.layout.share()
     }
 
     /// Returns the version's parts, in the order of the layout.
@@ -208,7 +203,8 @@ impl Version {
 
 impl Version {
     /// Moves the version to position `at` and appends a part. The list of the parts is copied only if the version has
-    /// another owner, such as a pin; the segments never are. If memory runs out, the version is unchanged.
+    /// another owner, such as a pin, and the layout only if a reply or another version shares it; the segments never
+    /// are. If memory runs out, the version is unchanged.
     pub fn add(version: &mut Arc<Version>, at: u64, part: Part) -> Result<(), NoMemory>
         requires few { length version.old.value.parts + 1 < 2 ^ 32 }
         requires positions { AreDistinct (positions_of (version.old.value.parts ++ part ∷ [])) }
@@ -221,8 +217,8 @@ impl Version {
     }
 
     /// Moves the version to position `at` and marks the table at an index of a part, both from 0. The list of the parts
-    /// is copied only if the version has another owner, and the places of the part only if a layout or another version
-    /// shares them. If memory runs out, the version is unchanged.
+    /// is copied only if the version has another owner, and the layout, with the places of the part, only if a reply or
+    /// another version shares it. If memory runs out, the version is unchanged.
     pub fn mark(version: &mut Arc<Version>, at: u64, part: u32, place: u32) -> Result<(), NoMemory>
         requires part { part < length version.old.value.parts }
         requires place { place < length (part_at version.old.value.parts part).places }
@@ -257,6 +253,7 @@ impl Version {
     }
 
     // Appends a part to a version with no other owner.
+    #[tactic(auto, using(crate::proofs::ShownLemmas::shown_more))]
     fn push(&mut self, at: u64, part: Part) -> Result<(), NoMemory>
         requires few { length self.old.parts + 1 < 2 ^ 32 }
         requires positions { AreDistinct (positions_of (self.old.parts ++ part ∷ [])) }
@@ -264,12 +261,15 @@ impl Version {
         ensures ok { OnOk result (self.new ≡ version_with at (self.old.parts ++ part ∷ [])) }
         ensures err { OnErr result (self.new ≡ self.old) }
     {
-        self.parts.push(part)?;
-        self.at = at;
+        self.parts.reserve(1)?;
+        let places = part.places(*self.parts.allocator())?;
+        self.layout.push(at, part.number, places)?;
+        self.parts.push_reserved(part);
         Ok(())
     }
 
     // Marks a table in a version with no other owner.
+    #[tactic(auto, using(crate::proofs::ShownLemmas::shown_set))]
     fn mark_here(&mut self, at: u64, part: u32, place: u32) -> Result<(), NoMemory>
         requires part { part < length self.old.parts }
         requires place { place < length (part_at self.old.parts part).places }
@@ -278,13 +278,14 @@ impl Version {
         ensures ok { OnOk result (self.new ≡ version_with at (slice_set self.old.parts part (marked_at place (part_at self.old.parts part)))) }
         ensures err { OnErr result (self.new ≡ self.old) }
     {
-        self.parts[part as usize].mark(place)?;
-        self.at = at;
+        self.layout.mark(at, part, place)?;
+        self.parts[part as usize].mark(place);
         Ok(())
     }
 
     // Marks a table and appends a part, in a version with no other owner. The room for the part is made first, so that
     // nothing is marked if there is none.
+    #[tactic(auto, using(crate::proofs::ShownLemmas::shown_set, crate::proofs::ShownLemmas::shown_more))]
     fn mark_and_push(&mut self, at: u64, part: u32, place: u32, more: Part) -> Result<(), NoMemory>
         requires few { length self.old.parts + 1 < 2 ^ 32 }
         requires part { part < length self.old.parts }
@@ -295,13 +296,16 @@ impl Version {
         ensures err { OnErr result (self.new ≡ self.old) }
     {
         self.parts.reserve(1)?;
-        self.parts[part as usize].mark(place)?;
+        let places = more.places(*self.parts.allocator())?;
+        self.layout
+            .mark_and_push(at, part, place, more.number, places)?;
+        self.parts[part as usize].mark(place);
         self.parts.push_reserved(more);
-        self.at = at;
         Ok(())
     }
 
-    // Replaces parts by one part or by none, in a version with no other owner.
+    // Replaces parts by one part or by none, in a version with no other owner. The layout is changed in a copy, so that
+    // it is as it was if there is no memory for the parts.
     pub(crate) fn replace(
         &mut self,
         at: u64,
@@ -316,9 +320,12 @@ impl Version {
         ensures ok { OnOk result (self.new ≡ version_with at (replaced first count part self.old.parts)) }
         ensures err { OnErr result (self.new ≡ self.old) }
     {
+        let places = places_of(*self.parts.allocator(), &part)?;
+        let mut layout = self.layout.share()?;
+        layout.exchange(at, first, count, places)?;
         let first = first as usize;
         self.parts.splice(first..first + count as usize, part)?;
-        self.at = at;
+        self.layout = layout;
         Ok(())
     }
 }
@@ -333,7 +340,31 @@ impl Clone for Version {
         let Ok(parts) = share_all(&self.parts) else {
             return Err(AllocError);
         };
-        Ok(Version { at: self.at, parts })
+        let Ok(layout) = self.layout.share() else {
+            return Err(AllocError);
+        };
+        Ok(Version { layout, parts })
+    }
+}
+
+// Returns the number and the places of each part.
+fn shown_parts(alloc: Global, parts: &[Part]) -> Result<Vec<(u64, Places)>, NoMemory>
+    ensures { IfOk result (λ all. all.items ≡ shown parts.now) }
+{
+    let mut all = Vec::with_capacity(alloc, parts.len())?;
+    for part in parts {
+        all.push((part.number, part.places(alloc)?))?;
+    }
+    Ok(all)
+}
+
+// Returns the number and the places of a part, if there is one.
+fn places_of(alloc: Global, part: &Option<Part>) -> Result<Option<(u64, Places)>, NoMemory>
+    ensures { IfOk result (λ places. option_to_list places ≡ shown (option_to_list part.now)) }
+{
+    match part {
+        Some(part) => Ok(Some((part.number, part.places(alloc)?))),
+        None => Ok(None),
     }
 }
 

@@ -56,14 +56,9 @@ fn part(
     ensures { IfOk result (λ part. part ≡ part_with number (places_with positions.items tables.items marked.items)) }
 {
     let segment = segment_of(alloc, tables)?;
-    let part = Part::new(
-        alloc,
-        number,
-        segment,
-        Numbers::new(positions),
-        Marks::new(marked),
-    )?;
-    Ok(part)
+    let positions = Numbers::new(positions);
+    let marked = Marks::new(marked);
+    Ok(Part::new(number, segment, positions, marked))
 }
 
 // Returns a part of one table.
@@ -149,7 +144,7 @@ impl Tables {
         }
         let marked = self.marked;
         let all = four(alloc, self, (marked[0], marked[1], marked[2], marked[3]))?;
-        Ok(Arc::new(alloc, Version::new(5, vec![in alloc; all]?))?)
+        Ok(Arc::new(alloc, Version::new(alloc, 5, vec![in alloc; all]?)?)?)
     }
 
     // Returns the version with two parts of two tables each.
@@ -174,7 +169,7 @@ impl Tables {
             &self.fourth,
             (marked[2], marked[3]),
         )?;
-        Ok(Arc::new(alloc, Version::new(6, vec![in alloc; front, back]?))?)
+        Ok(Arc::new(alloc, Version::new(alloc, 6, vec![in alloc; front, back]?)?)?)
     }
 
     // Returns the version with three parts, of which the second has two tables.
@@ -193,6 +188,9 @@ impl Tables {
             (marked[1], marked[2]),
         )?;
         let back = single(alloc, 7, 4, &self.fourth, marked[3])?;
-        Ok(Arc::new(alloc, Version::new(7, vec![in alloc; front, middle, back]?))?)
+        Ok(Arc::new(
+            alloc,
+            Version::new(alloc, 7, vec![in alloc; front, middle, back]?)?,
+        )?)
     }
 }

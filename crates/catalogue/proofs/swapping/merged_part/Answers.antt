@@ -21,5 +21,5 @@ returns c =
     let are = rw c.in-Some.is at c.requires.tables in
     let some = rw c.in-Some.is at c.requires.some in
     let marked : c.new-marked.result ≡ kept_marks c.args.kept.now c.args.run.now = c.new-marked.ensures ∙ c.in_ok-carried.ensures ∙ ap (λ (ns : List ℕ). kept_marks ns c.args.run.now) c.list.ensures in
-    let is = c.in_ok-part.ensures ∙ ap (λ (ns : List ℕ). part_with c.args.at (places_with ns c.in-Some.segment.value c.new-marked.result)) c.in_ok-positions.ensures in
+    let is = c.new.ensures ∙ ap (λ (ns : List ℕ). part_with c.args.at (places_with ns c.in-Some.segment.value c.new-marked.result)) c.in_ok-positions.ensures in
     ap (λ (part : Part). part ∷ []) is ∙ one_part_is c.args.at kept run c.in-Some.segment.value c.new-marked.result c.requires.taken are marked some
