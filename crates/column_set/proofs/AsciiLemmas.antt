@@ -9,10 +9,10 @@ use Rattle.std.proofs.lemmas.Bool.{and_parts}
 use Rattle.lake_model.specs.Texts.{Text}
 use Rattle.lake_model.specs.Tables.{is_name}
 
-abbrev is_printable : ℕ → Bool
+abbrev pub is_printable : ℕ → Bool
 is_printable byte = nat_le 0x21 byte && nat_le byte 0x7E
 
-printable_ascii : (byte : ℕ) → is_printable byte ≡ true → byte < 128
+pub printable_ascii : (byte : ℕ) → is_printable byte ≡ true → byte < 128
 printable_ascii byte h = let e = (and_parts (nat_le 0x21 byte) (nat_le byte 0x7E) h).1 in grind (arith, nat_tests)
 
 all_ascii : (bytes : List ℕ) → list_all is_printable bytes ≡ true → IsAscii bytes

@@ -4,6 +4,7 @@ pub mod GatherLemmas
 pub mod HasLemmas
 pub mod SlotLemmas
 pub mod LineLemmas
+pub mod NameLemmas
 pub mod ListsLemmas
 pub mod OverlapLemmas
 pub mod ReadLemmas

@@ -145,7 +145,7 @@ impl KeyGatherer {
         keys
     }
 
-    /// Returns the keys of the current list, with no spare capacity, and an index that finds them. No list may be
+    /// Returns the keys of the current list, with the room made for them, and an index that finds them. No list may be
     /// finished.
     pub fn into_indexed(self, alloc: Global) -> Result<(Texts, KeyIndex), NoMemory>
         requires { self.finished ≡ [] }
@@ -158,11 +158,9 @@ impl KeyGatherer {
             ..
         } = self;
         if let Some(slots) = slots {
-            keys.shrink_to_fit();
             return Ok((keys, KeyIndex::Slots(slots)));
         }
         let order = sorted_distinct(alloc, &mut keys)?;
-        keys.shrink_to_fit();
         Ok((keys, KeyIndex::Sorted(order)))
     }
 }

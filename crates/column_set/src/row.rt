@@ -20,8 +20,8 @@ use std::sync::Arc;
 /// the column's place in it, counted from 1. It borrows the titles.
 #[derive(Drop)]
 pub struct Row<'a> {
-    pub overlap: u32,
     pub titles: &'a Arc<Titles>,
+    pub overlap: u32,
     pub place: u32,
 }
 
@@ -53,7 +53,7 @@ impl<'a> Row<'a> {
     fn order_by_name(&self, other: &Row<'_>) -> Ordering
         ensures { result ≡ ordering_then (slice_cmp nat_cmp self.now.table other.now.table) (ordering_then (slice_cmp nat_cmp self.now.column other.now.column) (nat_cmp self.now.place other.now.place)) }
     {
-        match self.table().bytes().cmp(other.table().bytes()) {
+        match self.table().order(other.table()) {
             Ordering::Equal => {
                 let by_column = self.column().cmp(other.column());
                 by_column.then(self.place.cmp(&other.place))
@@ -219,7 +219,7 @@ impl<'a> Rows<'a> {
 fn keep_rows(alloc: Global, rows: &[Row<'_>]) -> Result<Vec<KeptRow>, NoMemory>
     ensures { IfOk result (λ kept. kept.items ≡ rows.now) }
 {
-    let mut kept = Vec::new(alloc);
+    let mut kept = Vec::with_capacity(alloc, rows.len())?;
     for row in rows {
         kept.push(row.keep()?)?;
     }

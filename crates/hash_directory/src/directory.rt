@@ -59,6 +59,13 @@ impl HashDirectory {
         })
     }
 
+    /// Returns whether the hash may be in the list, as far as the filter shows.
+    pub fn may_have(&self, hash: u32) -> bool
+        ensures { result ≡ may_have self.now.filter hash }
+    {
+        self.filter.may_have(hash)
+    }
+
     /// Returns whether any of these hashes may be in the list, as far as the filter shows.
     pub fn may_have_any(&self, hashes: &[u32]) -> bool
         ensures { result ≡ list_any (may_have self.now.filter) hashes.now }
@@ -73,6 +80,14 @@ impl HashDirectory {
         if !self.filter.may_have(hash) {
             return Near { from: 0, to: 0 };
         }
+        self.bucket(hash)
+    }
+
+    /// Returns the same without asking the filter, which takes one read less if the hash is in the list, and then gives
+    /// the same range.
+    pub fn bucket(&self, hash: u32) -> Near
+        ensures { (hashes : List ℕ) → IsDirectoryOf hashes self.now → IsNear hashes hash result.from result.to }
+    {
         let bucket = (hash >> self.shift) as usize;
         let from = start_at(&self.starts, bucket, 0);
         let to = start_at(&self.starts, bucket + 1, self.count);

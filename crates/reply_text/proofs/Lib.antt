@@ -2,3 +2,4 @@ pub mod KeepingLemmas
 mod LayoutLemmas
 mod NumberedLemmas
 mod ListedLemmas
+mod QuotedLemmas

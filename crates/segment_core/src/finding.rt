@@ -32,8 +32,15 @@ impl HashOrder {
     pub(crate) fn lookup(&self, key: &str) -> Option<u32>
         ensures { (tables : List Table) → IsByHash tables self.now → IsToken (segment tables).tokens key.now result }
     {
-        let hash = hash_key(key);
-        let first = self.first_in(self.near(hash), hash)?;
+        self.find(hash_key(key), key)
+    }
+
+    // Returns the token of this key, which has the hash, or `None` if no token has the key.
+    fn find(&self, hash: u32, key: &str) -> Option<u32>
+        requires { hash ≡ hash_of key.now }
+        ensures { (tables : List Table) → IsByHash tables self.now → IsToken (segment tables).tokens key.now result }
+    {
+        let first = self.first_in(self.near(hash, false), hash)?;
         self.token_of(first, self.key(first), hash, key)
     }
 
@@ -106,20 +113,44 @@ impl HashOrder {
     ) -> Result<Vec<u32>, NoMemory>
         ensures { (tables : List Table) → IsByHash tables self.now → IfOk result (λ tokens. tokens.items ≡ tokens_in (segment tables).tokens query.now) }
     {
-        let is_short = query.query().len() < LEAST_IN_PASSES;
-        if is_short && !is_likely && !self.may_have_any(query.hashes()) {
+        let count = query.query().len();
+        if count >= LEAST_IN_PASSES {
+            return self.found_in_passes(alloc, query);
+        }
+        if !is_likely && !self.may_have_any(query.hashes()) {
             return Ok(Vec::new(alloc));
         }
+        in_order(alloc, self.tokens_of_few(alloc, query)?)
+    }
+
+    // Returns the same for many keys.
+    fn found_in_passes(&self, alloc: Global, query: &HashedQuery<'_>) -> Result<Vec<u32>, NoMemory>
+        ensures { (tables : List Table) → IsByHash tables self.now → IfOk result (λ tokens. tokens.items ≡ tokens_in (segment tables).tokens query.now) }
+    {
         let hits = self.hits(alloc, query)?;
         let keys = self.keys_of_hits(alloc, &hits)?;
         in_order(alloc, self.tokens_of_hits(alloc, query, &hits, &keys)?)
     }
 
+    // Returns the tokens whose keys the query has, in the order of the query's keys.
+    fn tokens_of_few(&self, alloc: Global, query: &HashedQuery<'_>) -> Result<Vec<u32>, NoMemory>
+        ensures { (tables : List Table) → IsByHash tables self.now → IfOk result (λ tokens. IsPermutation (tokens_in (segment tables).tokens query.now) tokens.items) }
+    {
+        let keys = query.query();
+        let mut tokens = Vec::with_capacity(alloc, keys.len() as usize)?;
+        for index in 0..keys.len() {
+            if let Some(token) = self.find(query.hash(index), keys.key(index)) {
+                tokens.push(token)?;
+            }
+        }
+        Ok(tokens)
+    }
+
     // Returns, for each key of the query whose hash some token has, the first such token.
     //
-    // Unless there are few keys, the ranges near all hashes are read first, and then the tokens in these ranges. No key
-    // of a token is read yet: where a key is, is read in a third pass, and the key itself in a fourth. These reads are
-    // cache misses, which overlap as long as nothing else comes between them.
+    // The ranges near all hashes are read first, and then the tokens in these ranges. No key of a token is read yet:
+    // where a key is, is read in a third pass, and the key itself in a fourth. These reads are cache misses, which
+    // overlap as long as nothing else comes between them.
     fn hits(&self, alloc: Global, query: &HashedQuery<'_>) -> Result<Vec<Hit>, NoMemory>
         ensures hits { IfOk result (λ hits. All (IsHit self.now query.now) hits.items) }
         ensures all { (tables : List Table) → IsByHash tables self.now → IfOk result (λ hits. IsPermutation (tokens_in (segment tables).tokens query.now) (found_by (segment tables).tokens (hit_keys query.now hits.items))) }
@@ -171,8 +202,8 @@ impl HashOrder {
     }
 }
 
-// Returns, for each key of the query, the range of the tokens whose keys may have its hash. If the keys are few, it
-// returns no ranges, and takes no memory: a small part usually has none of them.
+// Returns, for each key of the query, the range of the tokens whose keys may have its hash. If a filter shows that most
+// keys may be there, it is not asked for the others.
 fn near_each(
     alloc: Global,
     order: &HashOrder,
@@ -180,13 +211,11 @@ fn near_each(
 ) -> Result<Vec<Near>, NoMemory>
     ensures { IfOk result (λ ranges. AreNear order.now query.now ranges.items) }
 {
+    let is_likely = order.may_have_most(query.hashes());
     let keys = query.query();
-    if keys.len() < LEAST_IN_PASSES {
-        return Ok(Vec::new(alloc));
-    }
     let mut ranges = Vec::with_capacity(alloc, keys.len() as usize)?;
     for index in 0..keys.len() {
-        ranges.push(order.near(query.hash(index)))?;
+        ranges.push(order.near(query.hash(index), is_likely))?;
     }
     Ok(ranges)
 }
@@ -197,6 +226,6 @@ fn near_of(order: &HashOrder, ranges: &[Near], index: u32, hash: u32) -> Near
 {
     match ranges.get(index as usize) {
         Some(near) => *near,
-        None => order.near(hash),
+        None => order.near(hash, false),
     }
 }

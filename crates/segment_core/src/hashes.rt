@@ -22,6 +22,9 @@ use text_region::{Region, Span};
 /// The most entries of a bucket of which the lower ones are counted to find a hash. Few buckets have more than ten.
 const MOST_COUNTED: usize = 16;
 
+/// How many hashes a filter is asked for to tell whether most keys of a query are there.
+const MOST_ASKED: usize = 32;
+
 /// A token of a part, with the hash of its key and where the key is in the region of the keys.
 #[derive(Clone, Copy)]
 struct HashedToken {
@@ -100,11 +103,23 @@ impl HashOrder {
     }
 
     /// Returns the range of the indices of the tokens whose keys may have the hash. It usually is
-    /// empty if no key has it.
-    pub(crate) fn near(&self, hash: u32) -> Near
+    /// empty if no key has it, unless `is_likely`, which spares the look at a filter.
+    pub(crate) fn near(&self, hash: u32, is_likely: bool) -> Near
         ensures { IsNear (map token_hash self.now) hash result.from result.to }
     {
-        self.directory.near(hash)
+        if is_likely {
+            self.directory.bucket(hash)
+        } else {
+            self.directory.near(hash)
+        }
+    }
+
+    /// Returns whether a filter shows of at most a quarter of the first of these hashes that no key has them. No contract
+    /// says so.
+    pub(crate) fn may_have_most(&self, hashes: &[u32]) -> bool {
+        let asked = &hashes[..hashes.len().min(MOST_ASKED)];
+        let may_be = asked.iter().filter(|hash| self.directory.may_have(**hash));
+        4 * may_be.count() >= 3 * asked.len()
     }
 
     /// Returns the index of the first token whose key has the hash, or `None`, given the range near the hash. It reads

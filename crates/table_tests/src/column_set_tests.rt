@@ -2,6 +2,7 @@
 use column_set::{Keys, Name, QueryRefused, QuerySet, Row, Rows, SharedTable, TableSets};
 use csv_table::read_table;
 use std::alloc::Global;
+use std::cmp::Ordering;
 use std::hash::{FoldHasher, Hasher};
 use std::process::Abort;
 use std::test::Fail;
@@ -54,6 +55,41 @@ fn names(rt: HostRuntime) {
         assert!(rt; Name::read(other.as_bytes()).is_none(), "{other:?}");
     }
     assert!(rt; Name::read(b"t1").is_some());
+}
+
+// Names compare by their bytes, whether they differ among the first nine bytes, which are compared as one number, or only
+// behind them.
+#[test]
+fn names_in_order(rt: HostRuntime) -> Result<(), Fail> {
+    let rising = [
+        "!",
+        "A",
+        "a",
+        "aa",
+        "ab",
+        "abcdefgh",
+        "abcdefghi",
+        "abcdefghi!",
+        "abcdefghij",
+        "abcdefghj",
+        "b",
+        "~",
+        "~~~~~~~~~",
+        "~~~~~~~~~~",
+    ];
+    for i in 1..rising.len() {
+        let lower = Name::read(rising[i - 1].as_bytes()).ok_or("no name")?;
+        let higher = Name::read(rising[i].as_bytes()).ok_or("no name")?;
+        assert_eq!(rt; lower.order(&higher), Ordering::Less, "{}", rising[i]);
+        assert_eq!(rt; higher.order(&lower), Ordering::Greater, "{}", rising[i]);
+        assert_eq!(rt;
+            higher.order(&higher.copy()),
+            Ordering::Equal,
+            "{}",
+            rising[i]
+        );
+    }
+    Ok(())
 }
 
 // Returns the query of a body.

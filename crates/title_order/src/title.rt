@@ -22,7 +22,7 @@ impl<'a> Title<'a> {
     pub fn order(&self, other: &Title<'_>) -> Ordering
         ensures { result ≡ by_title self.now other.now }
     {
-        match self.row.table().bytes().cmp(other.row.table().bytes()) {
+        match self.row.table().order(other.row.table()) {
             Ordering::Equal => self.order_in_table(other),
             unequal => unequal,
         }

@@ -2,7 +2,8 @@
 //! comparing two numbers.
 ghost use Rattle.std.specs.Prelude.{◌≡◌, ◌<◌, ◌^◌};
 ghost use Rattle.std.specs.List.{All};
-ghost use Rattle.token_order.specs.Fronts.{digit_at, digits, front_of};
+ghost use Rattle.list_laws.specs.Digits.{digit_at, digits};
+ghost use Rattle.token_order.specs.Fronts.{front_of};
 
 /// How many bytes of a key are in its front.
 const FRONT_BYTES: usize = 15;
@@ -25,7 +26,7 @@ pub fn front_of(key: &str) -> u128
 // Returns the first 15 bytes as a number of 15 digits in base 257. Each digit is one more than its byte, and 0 past the
 // last byte.
 fn first_digits(bytes: &[u8]) -> u128
-    ensures value { result ≡ digits 15 bytes.now }
+    ensures value { result ≡ digits 257 15 bytes.now }
     ensures small { result < 2 ^ 125 }
 {
     let mut digits = 0u128;

@@ -17,15 +17,14 @@ pub returns : goal.returns
 returns c tables is =
     let tokens = (segment tables).tokens in
     let keys = c.args.query.now in
-    let found = c.in_ok-tokens_of_hits.ensures tables is ∙ ap (λ (hits : List Hit). found_by tokens (hit_keys keys hits)) c.deref-2.ensures.value in
-    c.in_order.ensures (tokens_in tokens keys) (rising tokens keys) (subst (IsPermutation (tokens_in tokens keys)) (sym found) (c.in_ok-hits.ensures.all tables is))
+    c.in_order.ensures (tokens_in tokens keys) (rising tokens keys) (c.in_ok-tokens_of_few.ensures tables is)
 
 pub returns-then-not-may_have_any : goal.returns-then-not-may_have_any
 returns-then-not-may_have_any c tables is =
     let tokens = (segment tables).tokens in
     let keys = c.args.query.now in
     let hashes = c.hashes.result.now in
-    let distinct = subst (IsDistinct bytes_eq) c.query.ensures c.len-is_short.ensures.different in
+    let distinct = subst (IsDistinct bytes_eq) c.query.ensures c.len-count.ensures.different in
     let denied = c.may_have_any.ensures c.if-not-may_have_any.true in
     let none : (i : ℕ) → i < length keys → IsToken tokens (get_or keys i []) None =
     λ i h. lacks_hash tables c.args.self.now is (get_or hashes i 0) (get_or keys i []) (ap (λ (hs : List ℕ). get_or hs i 0) c.hashes.ensures ∙ get_or-map hash_of keys i [] 0 h) (denied i 0 (omega (arith, h, ap length c.hashes.ensures, length-map keys hash_of))) in

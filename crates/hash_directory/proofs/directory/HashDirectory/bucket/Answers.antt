@@ -1,7 +1,7 @@
 use Rattle.std.proofs.Common.{◌≡◌, ◌∙◌, ◌+◌, ℕ, List, ap, sym, subst, get_or, length}
 use Rattle.hash_directory.specs.Buckets.{IsDirectoryOf, bucket_of}
 use Rattle.hash_directory.proofs.StartLemmas.{near_is}
-use Rattle.hash_directory.proofs.directory.HashDirectory.near.Goals as goal
+use Rattle.hash_directory.proofs.directory.HashDirectory.bucket.Goals as goal
 
 pub returns : goal.returns
 returns c = λ hashes is.
