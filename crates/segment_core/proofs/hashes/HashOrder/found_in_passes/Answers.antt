@@ -1,15 +1,8 @@
-use Rattle.std.proofs.Common.{◌∙◌, ap, sym, subst, ℕ, ◌<◌, List, [], None, get_or, length, arith}
-use Rattle.std.specs.Prelude.{bytes_eq}
-use Rattle.std.specs.List.{IsDistinct}
+use Rattle.std.proofs.Common.{◌∙◌, ap, sym, subst, List}
 use Rattle.std.specs.List.Sorted.{IsPermutation}
 use Rattle.search_model.specs.Segment.{segment, tokens_in}
 use Rattle.search_model.proofs.FilterLemmas.{rising}
-use Rattle.std.proofs.lemmas.List.{get_or-map, length-map}
-use Rattle.search_model.specs.Arrays.{IsToken}
 use Rattle.segment_core.specs.Among.{found_by, hit_keys}
-use Rattle.segment_core.specs.Hashes.{hash_of}
-use Rattle.segment_core.proofs.FoundLemmas.{none_in, tokens_differ}
-use Rattle.segment_core.proofs.HashLemmas.{lacks_hash}
 use Rattle.segment_core.specs.declared.finding.Hit.{Hit}
 use Rattle.segment_core.proofs.hashes.HashOrder.found_in_passes.Goals as goal
 
