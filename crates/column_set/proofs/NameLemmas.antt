@@ -1,14 +1,13 @@
 -- Names compare as their fronts, where these differ.
 use Rattle.std.proofs.Common.{◌≡◌, refl, ap, ap₂, ◌∙◌, ℕ, ◌<◌, ◌≤◌, ◌^◌, List, [], ◌∷◌, true, ◌&&◌, length, lit<, arith}
 use Rattle.std.specs.Prelude.{nat_le}
-use Rattle.std.specs.List.{All, AllByRecursion, list_all}
+use Rattle.std.specs.List.{AllByRecursion, list_all}
 use Rattle.std.specs.Cmp.Lexicographic.{slice_cmp}
 use Rattle.std.specs.Ordering.{nat_cmp, ordering_then}
 use Rattle.std.specs.declared.cmp.Ordering.{Ordering}
 use Rattle.std.specs.declared.cmp.Ordering.TheVariants.{Less, Equal, Greater}
 use Rattle.std.proofs.Math.Nat.{pow-le-pow_right}
 use Rattle.std.proofs.lemmas.Bool.{and_parts}
-use Rattle.std.proofs.lemmas.List.Elements.{All-from_recursion}
 use Rattle.lake_model.specs.Tables.{is_name}
 use Rattle.list_laws.specs.Digits.{digits}
 use Rattle.list_laws.proofs.DigitLemmas.{by_digits}
@@ -28,9 +27,6 @@ small_each (byte ∷ bytes) h =
     (printable_ascii byte parts.0, small_each bytes parts.1)
 
 -- the bytes of a name are small
-pub small_bytes : (bytes : List ℕ) → list_all is_printable bytes ≡ true → All (λ byte. byte < 128) bytes
-small_bytes bytes h = All-from_recursion (λ byte. byte < 128) bytes (small_each bytes h)
-
 named : (name : List ℕ) → is_name name ≡ true → AllByRecursion (λ byte. byte < 128) name
 named name h = small_each name (and_parts (nat_le 1 (length name) && nat_le (length name) 255) (list_all is_printable name) h).1
 

@@ -59,13 +59,6 @@ impl HashDirectory {
         })
     }
 
-    /// Returns whether the hash may be in the list, as far as the filter shows.
-    pub fn may_have(&self, hash: u32) -> bool
-        ensures { result ≡ may_have self.now.filter hash }
-    {
-        self.filter.may_have(hash)
-    }
-
     /// Returns whether any of these hashes may be in the list, as far as the filter shows.
     pub fn may_have_any(&self, hashes: &[u32]) -> bool
         ensures { result ≡ list_any (may_have self.now.filter) hashes.now }

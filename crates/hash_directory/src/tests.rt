@@ -105,7 +105,6 @@ fn each_hash_is_found(rt: HostRuntime) -> Result<(), Fail> {
     for hashes in lists {
         let directory = directory_of(rt.alloc(), hashes)?;
         for hash in hashes {
-            assert!(rt; directory.may_have(*hash));
             assert!(rt; is_only_there(hashes, directory.near(*hash), *hash));
             assert_eq!(rt; directory.bucket(*hash), directory.near(*hash));
         }

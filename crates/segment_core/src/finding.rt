@@ -20,6 +20,9 @@ use std::alloc::Global;
 /// The least number of keys of a query whose ranges are all read before the tokens in them.
 const LEAST_IN_PASSES: u32 = 64;
 
+/// How many hashes a filter is asked for to tell whether most keys of a query are there.
+const MOST_ASKED: usize = 32;
+
 /// The index of the first token whose key has the hash of a query's key, and the index of the latter, both from 0.
 #[derive(Clone, Copy)]
 struct Hit {
@@ -202,6 +205,14 @@ impl HashOrder {
     }
 }
 
+// Returns whether a filter passes three quarters of the first of these hashes. No contract says so: a key is found
+// whether its hash is asked for or not.
+fn passes_most(order: &HashOrder, hashes: &[u32]) -> bool {
+    let asked = &hashes[..hashes.len().min(MOST_ASKED)];
+    let passed = asked.iter().filter(|hash| order.may_have(**hash));
+    4 * passed.count() >= 3 * asked.len()
+}
+
 // Returns, for each key of the query, the range of the tokens whose keys may have its hash. If a filter shows that most
 // keys may be there, it is not asked for the others.
 fn near_each(
@@ -211,7 +222,7 @@ fn near_each(
 ) -> Result<Vec<Near>, NoMemory>
     ensures { IfOk result (λ ranges. AreNear order.now query.now ranges.items) }
 {
-    let is_likely = order.may_have_most(query.hashes());
+    let is_likely = passes_most(order, query.hashes());
     let keys = query.query();
     let mut ranges = Vec::with_capacity(alloc, keys.len() as usize)?;
     for index in 0..keys.len() {

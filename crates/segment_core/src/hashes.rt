@@ -22,9 +22,6 @@ use text_region::{Region, Span};
 /// The most entries of a bucket of which the lower ones are counted to find a hash. Few buckets have more than ten.
 const MOST_COUNTED: usize = 16;
 
-/// How many hashes a filter is asked for to tell whether most keys of a query are there.
-const MOST_ASKED: usize = 32;
-
 /// A token of a part, with the hash of its key and where the key is in the region of the keys.
 #[derive(Clone, Copy)]
 struct HashedToken {
@@ -112,14 +109,6 @@ impl HashOrder {
         } else {
             self.directory.near(hash)
         }
-    }
-
-    /// Returns whether a filter shows of at most a quarter of the first of these hashes that no key has them. No contract
-    /// says so.
-    pub(crate) fn may_have_most(&self, hashes: &[u32]) -> bool {
-        let asked = &hashes[..hashes.len().min(MOST_ASKED)];
-        let may_be = asked.iter().filter(|hash| self.directory.may_have(**hash));
-        4 * may_be.count() >= 3 * asked.len()
     }
 
     /// Returns the index of the first token whose key has the hash, or `None`, given the range near the hash. It reads
