@@ -1,6 +1,7 @@
 -- What comes next in a part, given the first column that is open.
 use Rattle.std.proofs.Common.{◌≡◌, refl, ap, sym, ◌∙◌, subst, ℕ, ◌-◌, ◌<◌, List, [], ◌∷◌, ◌++◌, Bool, true, false, length, map, take, get_or, arith, cond, Option, Some, None}
-use Rattle.std.specs.Prelude.{slice_get}
+use Rattle.std.specs.Prelude.{slice_get, IfSome}
+use Rattle.std.specs.Option.{option_map}
 use Rattle.std.proofs.lemmas.List.{length-map}
 use Rattle.lake_model.specs.Answer.{Query, Row, row_cmp}
 use Rattle.search_model.specs.declared.Look.TheVariants.{Probe, Read}
@@ -13,9 +14,10 @@ use Rattle.search_state.proofs.OfferLemmas.{worst_is}
 use Rattle.part_columns.specs.declared.tally.Tally.{Tally}
 use Rattle.josie_search.specs.Costs.{lengths_of, summary_of, threshold_of}
 use Rattle.josie_search.specs.Open.{chosen, IsHead, overlap_of, taken}
-use Rattle.josie_search.specs.Rows.{FoundFrom, FoundTo, leads}
+use Rattle.josie_search.specs.Rows.{FoundFrom, FoundTo, leads, MayLead}
 use Rattle.josie_search.specs.State.{IsAt}
 use Rattle.part_columns.specs.Tallies.{tally_at, tally_of}
+use Rattle.josie_search.proofs.LoopLemmas.{lead_parts}
 use Rattle.josie_search.proofs.OpenLemmas.{first_beaten, first_open, none_high, none_opens}
 
 -- the code and the definition give the chooser the same summary
@@ -156,3 +158,12 @@ taken_leads query part tallies known kept (Some (y, row)) left n low x h e = by 
     by : (b : Bool) → Some x ≡ cond b (Some y) None → (x < n) × (leads query part tallies known x ≡ true)
     by true f = let same : y ≡ x = cc in subst (λ (z : ℕ). (z < n) × (leads query part tallies known z ≡ true)) same (h.within, h.does)
     by false f = absurd (let g : Some x ≡ None = f in cc)
+
+-- the column that was found may lead
+pub found_may_lead : (query : Query) (part : Searched) (tallies : List Tally) (known : List Bool) (found : Option (ℕ × Row)) (left n low : ℕ) (column : Option ℕ) → n ≡ length part.segment.columns → FoundFrom query part tallies known left n low found
+    → column ≡ option_map (λ f. f.0) found → IfSome column (MayLead query part)
+found_may_lead query part tallies known None left n low column m h e = subst (λ (c : Option ℕ). IfSome c (MayLead query part)) (sym e) tt
+found_may_lead query part tallies known (Some found) left n low column m h e = subst (λ (c : Option ℕ). IfSome c (MayLead query part)) (sym e) (record {
+  within = omega (arith, h.within, m);
+  eligible = (lead_parts query part tallies known found.0 h.does).0;
+})

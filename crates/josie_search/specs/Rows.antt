@@ -1,5 +1,5 @@
 -- The columns that may be open, and the rows of their bounds, computed from what the code keeps.
-use Rattle.std.specs.Prelude.{◌≡◌, ℕ, ◌<◌, Bool, true, false, ◌&&◌, not, List, [], ◌∷◌, get_or, nat_lt, if◌then◌else◌, Option, Some, None}
+use Rattle.std.specs.Prelude.{◌≡◌, ℕ, ◌<◌, Bool, true, false, ◌&&◌, not, List, [], ◌∷◌, get_or, length, nat_lt, if◌then◌else◌, Option, Some, None}
 use Rattle.std.specs.Option.{MatchOption}
 use Rattle.std.specs.Ordering.{is_lt, nat_cmp, ordering_then}
 use Rattle.lake_model.specs.Answer.{Query, Row, row_cmp}
@@ -12,6 +12,11 @@ use Rattle.part_columns.specs.Tallies.{most_of, tally_at}
 -- column x was seen, is not known, and may be in the answer
 abbrev pub leads : Query → Searched → List Tally → List Bool → ℕ → Bool
 leads query part tallies known x = is_eligible query part (column_at part x) && not (get_or known x false) && nat_lt 0 (tally_at tallies x).count
+
+-- column x of the part may be in the answer, once it is seen
+pub record MayLead (query : Query) (part : Searched) (x : ℕ) : Type 0 where
+  pub within : x < length part.segment.columns
+  pub eligible : is_eligible query part (column_at part x) ≡ true
 
 abbrev pub bound_row : Searched → List Tally → ℕ → ℕ → Row
 bound_row part tallies left x = row_with (most_of left (tally_at tallies x)) (column_at part x)

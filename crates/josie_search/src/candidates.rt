@@ -15,6 +15,9 @@ use std::marker::Model;
 // The number of ranks that a `u32` can hold.
 const RANKS: u64 = 1 << 32;
 
+/// How many candidates cost so little that none need be left out.
+pub(crate) const FEW: usize = 32;
+
 /// A column that may be open, by its rank, and an upper limit on its bound: `number` itself, or, if `by_count` is set,
 /// `number` plus the number of lists that are left.
 #[derive(Clone, Copy)]
@@ -27,7 +30,7 @@ pub(crate) struct Candidate {
 /// The candidates of a part, and the lowest bound for which they are kept. A column may be among them more than once,
 /// or with a number above its bound. A column with at least as many tokens left as there are lists left is held by its
 /// count, so that its number stays valid while lists are read; the others are held by their bounds. The struct also
-/// keeps account of what the last filling cost. Its model is the two heaps, the lowest bound, the number of candidates,
+/// keeps account of what the last filling cost, and of how many were added since. Its model is the two heaps, the lowest bound, the number of candidates,
 /// and the room.
 #[derive(Drop)]
 pub(crate) struct Candidates {
@@ -36,6 +39,7 @@ pub(crate) struct Candidates {
     low: u32,
     room: usize,
     debt: usize,
+    added: usize,
 }
 
 impl Model for Candidates {
@@ -63,6 +67,7 @@ impl Candidates {
             low: u32::MAX,
             room,
             debt: 0,
+            added: 0,
         })
     }
 
@@ -71,6 +76,15 @@ impl Candidates {
         ensures { result ≡ self.now.low }
     {
         self.low
+    }
+
+    /// Returns the lowest bound for which candidates are kept; `None` if they are kept for no bound.
+    pub(crate) fn least(&self) -> Option<u32> {
+        if self.low == u32::MAX {
+            None
+        } else {
+            Some(self.low)
+        }
     }
 
     /// Returns whether there is room for `more` more candidates.
@@ -103,11 +117,27 @@ impl Candidates {
         self.debt = 0;
     }
 
+    /// Keeps the candidates for greater bounds only, half the way up to `bound`, if many were added since this was done
+    /// or the candidates were filled in: more than a few, and more than a small part of the columns seen. Until a
+    /// lower bound is asked for, fewer columns have to be added.
+    pub(crate) fn rise(&mut self, bound: u32, seen: usize)
+        ensures all { all_of self.new ≡ all_of self.old }
+        ensures low { self.old.low ≤ self.new.low }
+        ensures many { self.new.many ≡ self.old.many }
+        ensures room { self.new.room ≡ self.old.room }
+    {
+        if self.added > FEW + seen / 64 && self.low < bound {
+            self.low += (bound - self.low) / 2 + 1;
+            self.added = 0;
+        }
+    }
+
     /// Records the number of candidates as the cost of a filling, to be paid off by as many postings.
     pub(crate) fn owe(&mut self)
         ensures { self.new ≡ self.old }
     {
         self.debt = self.sized.len() + self.asked.len();
+        self.added = 0;
     }
 
     /// Pays off the given number of postings.
@@ -130,6 +160,7 @@ impl Candidates {
         ensures many { self.new.many ≡ self.old.many + 1 }
         ensures room { self.new.room ≡ self.old.room }
     {
+        self.added = self.added.saturating_add(1);
         if candidate.by_count {
             put(&mut self.asked, candidate);
         } else {

@@ -8,8 +8,8 @@ ghost use Rattle.josie_search.specs.Candidates.{all_of, AreApart, AreHeld, Found
 ghost use Rattle.josie_search.specs.Rows.{FoundFrom, leads};
 ghost use Rattle.part_columns.specs.Tallies.{most_of, tally_at};
 
-use crate::candidates::{Candidate, Candidates, candidate_of, most_now};
-use crate::hold::{goes_in, reach};
+use crate::candidates::{Candidate, Candidates, FEW, candidate_of, most_now};
+use crate::hold::{goes_in, reach, reached};
 use crate::query::Asked;
 use crate::row::lead_of;
 use column_set::Row;
@@ -17,9 +17,48 @@ use part_columns::{Columns, most_of};
 use segment_core::{ColumnOrder, Looks};
 
 /// Returns the first column, by the rows of their bounds, of those that were seen, are not known and may be in the
-/// answer, with the row of its bound; `None` if no such column has a bound of `low` or more. It takes out the
-/// candidates that come before it, and puts back those whose bounds have fallen.
+/// answer, with the row of its bound; `None` if no such column has a bound of `low` or more. It looks among the columns
+/// of great bounds first, so that few have to be held while one of these is the first.
 pub(crate) fn first_lead<'a>(
+    looks: &Looks<'a>,
+    part: u32,
+    query: &Asked<'_>,
+    columns: &Columns,
+    candidates: &mut Candidates,
+    order: ColumnOrder<'_>,
+    left: u32,
+    low: u32,
+) -> Option<(u32, Row<'a>)>
+    requires part { part < length looks.now.version.parts }
+    requires ranks { AreRanks (segment_at looks.now.version.parts part).columns order.ranks.now }
+    requires inverse { AreInverse order.ranks.now order.by_rank.now }
+    requires wide { length (segment_at looks.now.version.parts part).sets ≤ length columns.now.tallies }
+    requires seen { (column : ℕ) → 0 < (tally_at columns.now.tallies column).count → column < length (segment_at looks.now.version.parts part).sets }
+    requires small { (column : ℕ) → (tally_at columns.now.tallies column).count + left < 2 ^ 32 }
+    requires room { length columns.now.tallies ≤ candidates.old.room }
+    requires held { AreHeld query.now (searched query.now (part_at looks.now.version.parts part)) order.ranks.now columns.now.tallies columns.now.known left candidates.old.low (all_of candidates.old) }
+    ensures found { FoundFrom query.now (searched query.now (part_at looks.now.version.parts part)) columns.now.tallies columns.now.known left (length (segment_at looks.now.version.parts part).sets) low result }
+    ensures held { AreHeld query.now (searched query.now (part_at looks.now.version.parts part)) order.entry.ranks.now columns.now.tallies columns.now.known left candidates.new.low (all_of candidates.new) }
+    ensures room { candidates.new.room ≡ candidates.old.room }
+{
+    let enough = FEW + query.k as usize;
+    let mut least = match candidates.least() {
+        Some(least) => least.max(low),
+        None => reached(columns, left, low, left, enough),
+    };
+    while low < least {
+        let found = lead_from(looks, part, query, columns, candidates, order, left, least);
+        if found.is_some() {
+            return found;
+        }
+        least = reached(columns, left, low, least / 2, enough);
+    }
+    lead_from(looks, part, query, columns, candidates, order, left, low)
+}
+
+// Returns the first column as `first_lead` does. It takes out the candidates that come before it, and puts back those
+// whose bounds have fallen.
+fn lead_from<'a>(
     looks: &Looks<'a>,
     part: u32,
     query: &Asked<'_>,
@@ -48,7 +87,10 @@ pub(crate) fn first_lead<'a>(
         }
         let column = ranked(order, top.rank);
         match exact_lead(looks, part, query, columns, left, top, column) {
-            Some(lead) => return Some(lead),
+            Some(lead) => {
+                candidates.rise(lead.1.overlap, columns.touched().len());
+                return Some(lead);
+            }
             None => mend(candidates, columns, left, top, column),
         }
     }

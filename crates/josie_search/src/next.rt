@@ -1,6 +1,6 @@
 //! Decides what a search does next in a part.
 ghost use Rattle.search_model.specs.declared.Look.TheVariants.{Probe, Read};
-ghost use Rattle.std.specs.Prelude.{true, Some, ◌≡◌, ◌<◌, ◌≤◌, ◌+◌, ◌++◌, ◌^◌, ℕ, get_or, length, List, option_map, slice_get, ◌-◌};
+ghost use Rattle.std.specs.Prelude.{true, Some, ◌≡◌, ◌<◌, ◌≤◌, ◌+◌, ◌++◌, ◌^◌, ℕ, get_or, length, List, option_map, slice_get, ◌-◌, IfSome};
 ghost use Rattle.std.specs.List.{All};
 ghost use Rattle.lake_model.specs.Answer.{Row as RowOf, row_cmp};
 ghost use Rattle.search_laws.specs.Select.{best};
@@ -10,7 +10,7 @@ ghost use Rattle.segment_core.specs.Versions.{part_at, segment_at};
 ghost use Rattle.josie_search.specs.Candidates.{all_of, AreHeld};
 ghost use Rattle.josie_search.specs.Costs.{lengths_of, threshold_of, AreSums};
 ghost use Rattle.josie_search.specs.Open.{chosen, overlap_of, taken};
-ghost use Rattle.josie_search.specs.Rows.{leads};
+ghost use Rattle.josie_search.specs.Rows.{leads, MayLead};
 ghost use Rattle.josie_search.specs.State.{IsAt};
 ghost use Rattle.part_columns.specs.Tallies.{tally_at};
 
@@ -58,12 +58,14 @@ pub(crate) fn next_look<C: Chooser>(
     requires seen { (column : ℕ) → 0 < (tally_at columns.now.tallies column).count → column < length (segment_at looks.now.version.parts part).sets }
     requires small { (column : ℕ) → (tally_at columns.now.tallies column).count ≤ read }
     requires k { top.now.k ≡ query.now.k }
+    requires witness { IfSome witness.old (MayLead query.now (searched query.now (part_at looks.now.version.parts part))) }
     requires held { AreHeld query.now (searched query.now (part_at looks.now.version.parts part)) order.ranks.now columns.now.tallies columns.now.known (length tokens.now - read) candidates.old.low (all_of candidates.old) }
     ensures next { (before : List RowOf) (progress : Progress) → IsAt (searched query.now (part_at looks.now.version.parts part)) progress columns.now.tallies columns.now.known → progress.read ≡ read → top.now.rows ≡ best row_cmp query.now.k (before ++ known_rows query.now (searched query.now (part_at looks.now.version.parts part)) progress) → result ≡ next_look (C.says chooser.now) query.now before (searched query.now (part_at looks.now.version.parts part)) progress }
     ensures probed { (n x after : ℕ) → result ≡ Some (Probe n x after) → (n ≡ (part_at looks.now.version.parts part).number) × (x < length (segment_at looks.now.version.parts part).sets) × (leads query.now (searched query.now (part_at looks.now.version.parts part)) columns.now.tallies columns.now.known x ≡ true) × (after ≡ (tally_at columns.now.tallies x).position) }
     ensures listed { (n t : ℕ) → result ≡ Some (Read n t) → (n ≡ (part_at looks.now.version.parts part).number) × (t ≡ get_or tokens.now read 0) }
     ensures held { AreHeld query.now (searched query.now (part_at looks.now.version.parts part)) order.entry.ranks.now columns.now.tallies columns.now.known (length tokens.now - read) candidates.new.low (all_of candidates.new) }
     ensures room { candidates.new.room ≡ candidates.old.room }
+    ensures witness { IfSome witness.new (MayLead query.now (searched query.now (part_at looks.now.version.parts part))) }
 {
     if surely_reads(
         looks, part, query, tokens, read, columns, top, chooser, *witness, most,
@@ -137,7 +139,9 @@ fn choose<C: Chooser>(
 }
 
 // Returns the column that was found, if any.
-fn column_of(found: &Option<(u32, Row<'_>)>) -> Option<u32> {
+fn column_of(found: &Option<(u32, Row<'_>)>) -> Option<u32>
+    ensures { result ≡ option_map (λ found. found.0) found.now }
+{
     match found {
         None => None,
         Some((column, _)) => Some(*column),

@@ -1,17 +1,17 @@
 //! Decides whether the next list is surely read, whichever column is the best.
-ghost use Rattle.std.specs.Prelude.{true, Some, ◌≡◌, ◌<◌, ◌≤◌, ◌+◌, ◌++◌, ◌^◌, ℕ, length, List};
+ghost use Rattle.std.specs.Prelude.{true, Some, ◌≡◌, ◌<◌, ◌≤◌, ◌+◌, ◌++◌, ◌^◌, ℕ, length, List, IfSome};
 ghost use Rattle.lake_model.specs.Answer.{Row as RowOf, row_cmp};
 ghost use Rattle.search_laws.specs.Select.{best};
 ghost use Rattle.search_model.specs.Looks.{known_rows, next_look, Progress, read_next, searched};
 ghost use Rattle.segment_core.specs.Versions.{part_at, segment_at};
+ghost use Rattle.josie_search.specs.Rows.{MayLead};
 ghost use Rattle.josie_search.specs.State.{IsAt};
 ghost use Rattle.part_columns.specs.Tallies.{tally_at};
 
 use crate::cost::length_of;
 use crate::query::Asked;
-use crate::row::lead_of;
 use cost_model::Chooser;
-use part_columns::Columns;
+use part_columns::{Columns, most_of};
 use segment_core::Looks;
 use topk_heap::TopK;
 
@@ -41,20 +41,19 @@ pub(crate) fn surely_reads<C: Chooser>(
     requires small { (column : ℕ) → (tally_at columns.now.tallies column).count ≤ read }
     requires most { (column : ℕ) → (tally_at columns.now.tallies column).count ≤ most }
     requires k { top.now.k ≡ query.now.k }
+    requires witness { IfSome witness (MayLead query.now (searched query.now (part_at looks.now.version.parts part))) }
     ensures { (before : List RowOf) (progress : Progress) → IsAt (searched query.now (part_at looks.now.version.parts part)) progress columns.now.tallies columns.now.known → progress.read ≡ read → top.now.rows ≡ best row_cmp query.now.k (before ++ known_rows query.now (searched query.now (part_at looks.now.version.parts part)) progress) → result ≡ true → next_look (C.says chooser.now) query.now before (searched query.now (part_at looks.now.version.parts part)) progress ≡ Some (read_next (searched query.now (part_at looks.now.version.parts part)) progress) }
 {
     let Some(column) = witness else {
         return false;
     };
-    if top.full() || column >= looks.sets(part) {
+    let tally = columns.tally(column);
+    if top.full() || tally.count == 0 || columns.is_known(column) {
         return false;
     }
     let left = tokens.len() as u32 - read;
-    let Some(lead) = lead_of(looks, part, query, columns, left, column) else {
-        return false;
-    };
     match chooser.reads_beyond(length_of(looks, part, tokens[read as usize])) {
         None => false,
-        Some(rest) => rest < u64::from(lead.overlap.saturating_sub(most)),
+        Some(rest) => rest < u64::from(most_of(tally, left).saturating_sub(most)),
     }
 }

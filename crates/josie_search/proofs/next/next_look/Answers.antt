@@ -6,7 +6,7 @@ use Rattle.segment_core.specs.Versions.{part_at, segment_at, tables_of}
 use Rattle.josie_search.specs.Costs.{lengths_of, threshold_of}
 use Rattle.josie_search.specs.Open.{chosen, overlap_of}
 use Rattle.josie_search.proofs.LoopLemmas.{lead_parts}
-use Rattle.josie_search.proofs.NextLemmas.{chosen_probe, head_now, last_is, next_chosen, taken_leads}
+use Rattle.josie_search.proofs.NextLemmas.{chosen_probe, found_may_lead, head_now, last_is, next_chosen, taken_leads}
 use Rattle.josie_search.proofs.OpenLemmas.{seen_count}
 use Rattle.part_columns.proofs.SegmentLists.{token_within}
 use Rattle.josie_search.proofs.next.next_look.Goals as goal
@@ -62,3 +62,9 @@ returns-then-surely_reads-clause-held g c =
     let columns = c.args.columns.now in
     c.rest.ensures.held c.args.query.now (searched c.args.query.now (part_at c.args.looks.now.version.parts c.args.part)) c.args.order.ranks.now columns.tallies columns.known (length c.args.tokens.now - c.args.read)
     (λ x. omega (arith, c.requires.small x, c.requires.read, c.requires.few)) c.requires.held
+
+pub returns-clause-witness : goal.returns-clause-witness
+returns-clause-witness g c =
+    let query = c.args.query.now in
+    let whole = part_at c.args.looks.now.version.parts c.args.part in
+    found_may_lead query (searched query whole) c.args.columns.now.tallies c.args.columns.now.known c.first_lead-found.result _ _ _ c.column_of.result (length-sets (tables_of whole)) c.first_lead-found.ensures.found c.column_of.ensures

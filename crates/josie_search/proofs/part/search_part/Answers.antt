@@ -1,4 +1,5 @@
 use Rattle.std.proofs.Common.{◌≡◌, ◌∙◌, refl, sym, ap, subst, map, ℕ, ◌+◌, ◌-◌, ◌<◌, ◌≤◌, ◌++◌, ◌∷◌, [], List, Bool, true, length, get_or, take, arith, Some}
+use Rattle.std.specs.Prelude.{IfSome}
 use Rattle.std.specs.List.{filter}
 use Rattle.lake_model.specs.Answer.{row_cmp}
 use Rattle.search_model.specs.declared.Look.TheVariants.{Probe, Read}
@@ -13,7 +14,7 @@ use Rattle.std.proofs.lemmas.List.{take_all}
 use Rattle.josie_search.specs.Candidates.{all_of, AreHeld}
 use Rattle.josie_search.specs.Offers.{offers, shared_row}
 use Rattle.part_columns.specs.Room.{unprobed}
-use Rattle.josie_search.specs.Rows.{lead_row}
+use Rattle.josie_search.specs.Rows.{lead_row, MayLead}
 use Rattle.part_columns.specs.declared.tally.Tally.{Tally}
 use Rattle.part_columns.specs.Tallies.{AreTallies, of_column, tally_at}
 use Rattle.part_columns.proofs.TallyLemmas.{counted_in, tallies_small, columns_within, picked_few, tallies_more}
@@ -35,6 +36,7 @@ loop-read-init g c = record {
   wide = refl;
   within = omega arith;
   held = held_unseen c.args.query.now (searched c.args.query.now (part_at c.args.looks.now.version.parts c.args.part)) c.args.order.ranks.now c.args.columns.now.tallies c.args.columns.now.known (length c.args.tokens.now - 0) c.clear.new.self.low [] (all_of c.clear.new.self) (λ x out. ap (λ (t : Tally). t.count) (c.requires.clean.clean x));
+  witness = tt;
   kept = c.clear.ensures.room;
   room = omega (arith, c.requires.room, few_asked (part_at c.args.looks.now.version.parts c.args.part) c.args.query.now.keys c.args.tokens.now c.args.columns.now.known c.requires.tokens);
   spent = omega (arith, few_asked (part_at c.args.looks.now.version.parts c.args.part) c.args.query.now.keys c.args.tokens.now c.args.columns.now.known c.requires.tokens);
@@ -166,6 +168,7 @@ loop-read-preserved-in-Some-Read g c =
       held = c.follow.ensures.held query part (held_read query part c.args.order.ranks.now c.loop-read.columns.tallies c.count-most.new.self.tallies c.count-most.new.self.known (length c.args.tokens.now - read) (length c.args.tokens.now - (read + 1)) c.next_look.new.candidates.low (map (λ (p : Posting). p.column) c.list-list.result.now) (all_of c.next_look.new.candidates) (omega arith)
           (λ x out. c.count-most.ensures.tallies x ∙ uncounted x c.list-list.result.now (tally_at c.loop-read.columns.tallies x) out)
           (subst (λ (ks : List Bool). AreHeld query part c.args.order.ranks.now c.loop-read.columns.tallies ks (length c.args.tokens.now - read) c.next_look.new.candidates.low (all_of c.next_look.new.candidates)) (sym c.count-most.ensures.known) was));
+      witness = subst (λ (v : VersionOf). IfSome c.next_look.new.witness (MayLead query (searched query (part_at v.parts c.args.part)))) kept.version c.next_look.ensures.witness;
       kept = c.follow.ensures.room ∙ c.next_look.ensures.room ∙ kept.kept;
       room = omega (arith, kept.room, c.list-list.ensures.spare, c.loop-read-test.true, known);
       spent = omega (arith, kept.spent, c.list-list.ensures.spare, c.loop-read-test.true, known);
@@ -290,7 +293,11 @@ loop-read-preserved g c =
       held = subst (λ (ts : List Tally). AreHeld query part c.args.order.ranks.now ts c.probe_column.new.columns.known (length c.args.tokens.now - read) c.next_look.new.candidates.low (all_of c.next_look.new.candidates)) (sym c.probe_column.ensures.tallies)
           (subst (λ (ks : List Bool). AreHeld query part c.args.order.ranks.now c.loop-read.columns.tallies ks (length c.args.tokens.now - read) c.next_look.new.candidates.low (all_of c.next_look.new.candidates)) (sym c.probe_column.ensures.known)
           (held_known query part c.args.order.ranks.now c.loop-read.columns.tallies c.loop-read.columns.known (length c.args.tokens.now - read) c.next_look.new.candidates.low x (all_of c.next_look.new.candidates) was));
+      witness = subst (λ (v : VersionOf). IfSome c.next_look.new.witness (MayLead query (searched query (part_at v.parts c.args.part)))) kept.version c.next_look.ensures.witness;
       kept = c.next_look.ensures.room ∙ kept.kept;
       room = omega (arith, kept.room, c.probe_column.ensures.spare, less, ap (unprobed sets c.args.tokens.now) c.probe_column.ensures.known);
       spent = omega (arith, kept.spent, c.probe_column.ensures.spare, less, ap (unprobed sets c.args.tokens.now) c.probe_column.ensures.known);
     }
+
+pub next_look-requires-clause-witness : goal.next_look-requires-clause-witness
+next_look-requires-clause-witness g c = subst (λ (v : VersionOf). IfSome c.loop-read.witness (MayLead c.args.query.now (searched c.args.query.now (part_at v.parts c.args.part)))) (sym c.loop-read.invariant.version) c.loop-read.invariant.witness

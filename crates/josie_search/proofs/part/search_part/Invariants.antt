@@ -1,7 +1,9 @@
 use Rattle.std.proofs.Common.{◌≡◌, ◌≤◌, ◌+◌, ◌-◌, ℕ, length}
+use Rattle.std.specs.Prelude.{IfSome}
 use Rattle.search_model.specs.Looks.{searched}
 use Rattle.segment_core.specs.Versions.{part_at, segment_at}
 use Rattle.josie_search.specs.Candidates.{all_of, AreHeld}
+use Rattle.josie_search.specs.Rows.{MayLead}
 use Rattle.part_columns.specs.Room.{looks_bound, unprobed}
 use Rattle.part_columns.specs.Tallies.{tally_at}
 use Rattle.josie_search.proofs.GoingLemmas.{Going}
@@ -17,6 +19,7 @@ invariant-loop-read g l = record {
   wide : length l.columns.tallies ≡ length l.fn.columns.tallies;
   within : l.read ≤ length l.tokens;
   held : AreHeld l.query (searched l.query (part_at l.fn.looks.version.parts l.part)) l.order.ranks.now l.columns.tallies l.columns.known (length l.tokens - l.read) l.candidates.low (all_of l.candidates);
+  witness : IfSome l.witness (MayLead l.query (searched l.query (part_at l.fn.looks.version.parts l.part)));
   kept : l.candidates.room ≡ l.fn.candidates.room;
   room : (length l.tokens - l.read) + unprobed (segment_at l.fn.looks.version.parts l.part).sets l.tokens l.columns.known ≤ l.looks.spare;
   spent : l.fn.looks.spare + ((length l.tokens - l.read) + unprobed (segment_at l.fn.looks.version.parts l.part).sets l.tokens l.columns.known) ≤ l.looks.spare + looks_bound (part_at l.fn.looks.version.parts l.part) l.tokens;

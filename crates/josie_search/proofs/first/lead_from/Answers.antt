@@ -6,7 +6,7 @@ use Rattle.josie_search.specs.Candidates.{all_of, IsOfRank}
 use Rattle.josie_search.proofs.HeldLemmas.{held_from}
 use Rattle.josie_search.proofs.LeadLemmas.{first_exact, none_so_high}
 use Rattle.josie_search.proofs.LoopLemmas.{lead_parts}
-use Rattle.josie_search.proofs.first.first_lead.Goals as goal
+use Rattle.josie_search.proofs.first.lead_from.Goals as goal
 
 pub reach-requires-clause-ranked : goal.reach-requires-clause-ranked
 reach-requires-clause-ranked c = λ x some. omega (arith, c.requires.seen x some, length-sets (tables_of (part_at c.args.looks.now.version.parts c.args.part)), c.requires.ranks.size)
