@@ -16,7 +16,7 @@ use Rattle.search_model.specs.Looks.{hits}
 use Rattle.search_model.specs.Segment.{rank}
 use Rattle.segment_core.proofs.PositionLemmas.{rise_far}
 use Rattle.part_columns.specs.declared.tally.Tally.{Tally}
-use Rattle.part_columns.specs.Tallies.{most_of, tally_of}
+use Rattle.part_columns.specs.Tallies.{most_of, position_in, tally_of}
 use Rattle.search_state.proofs.FallLemmas.{rank_within}
 use Rattle.search_model.proofs.FilterLemmas.{after_all, all_hits, hits-append, IsHit, distinct_rising}
 use Rattle.list_laws.proofs.TestLemmas.{count-cons, once}
@@ -135,14 +135,18 @@ found_among xs x r is up = by r (searched xs x r is (λ i j h l. rise_far xs i j
 
 -- ---- what a probe finds of a column with this tally
 
-pub last_of : (set found : List ℕ) (tally : Tally) → 0 < tally.count → tally ≡ tally_of set found → (tally.count ≡ length found) × (tally.position ≡ rank set (get_or found (length found - 1) 0)) × (0 < length found)
+pub last_of : (set found : List ℕ) (tally : Tally) → 0 < tally.count → tally ≡ tally_of set found → (tally.count ≡ length found) × (tally.rest ≡ length set - 1 - rank set (get_or found (length found - 1) 0)) × (0 < length found)
 last_of set [] tally some e = let n = ap (λ (t : Tally). t.count) e in absurd (omega (arith, n, some))
-last_of set (t ∷ ts) tally some e = (ap (λ (t : Tally). t.count) e, ap (λ (t : Tally). t.position) e, omega arith)
+last_of set (t ∷ ts) tally some e = (ap (λ (t : Tally). t.count) e, ap (λ (t : Tally). t.rest) e, omega arith)
 
-pub position_is : (set qs : List ℕ) (i : ℕ) (tally : Tally) → 0 < tally.count → tally ≡ tally_of set (hits set (take i qs)) → tally.position ≡ rank set (get_or (hits set (take i qs)) (length (hits set (take i qs)) - 1) 0)
-position_is set qs i tally some e = (last_of set (hits set (take i qs)) tally some e).1
+pub position_is : (set qs : List ℕ) (i : ℕ) (tally : Tally) → 0 < tally.count → tally ≡ tally_of set (hits set (take i qs)) → position_in set tally ≡ rank set (get_or (hits set (take i qs)) (length (hits set (take i qs)) - 1) 0)
+position_is set qs i tally some e =
+    let found = hits set (take i qs) in
+    let is = last_of set found tally some e in
+    let hit = last_hit set qs i is.2 in
+    omega (arith, is.1, rank_within set (get_or found (length found - 1) 0) hit.0)
 
-pub position_within : (set qs : List ℕ) (i : ℕ) (tally : Tally) → 0 < tally.count → tally ≡ tally_of set (hits set (take i qs)) → tally.position < length set
+pub position_within : (set qs : List ℕ) (i : ℕ) (tally : Tally) → 0 < tally.count → tally ≡ tally_of set (hits set (take i qs)) → position_in set tally < length set
 position_within set qs i tally some e =
     let found = hits set (take i qs) in
     let is = last_of set found tally some e in
@@ -150,17 +154,13 @@ position_within set qs i tally some e =
     omega (arith, is.1, rank_within set (get_or found (length found - 1) 0) hit.0)
 
 pub probe_counts : (set qs : List ℕ) (i count : ℕ) (left tail : List ℕ) (tally : Tally) → Rises set → Rises qs → 0 < tally.count → tally ≡ tally_of set (hits set (take i qs))
-    → left ≡ drop i qs → tail ≡ drop (tally.position + 1) set → count ≡ count_by (is_among left) tail → tally.count + count ≡ length (hits set qs)
+    → left ≡ drop i qs → tail ≡ drop (position_in set tally + 1) set → count ≡ count_by (is_among left) tail → tally.count + count ≡ length (hits set qs)
 probe_counts set qs i count left tail tally over up some e l t n =
     let found = hits set (take i qs) in
     let is = last_of set found tally some e in
     let last = get_or found (length found - 1) 0 in
-    let counted : count ≡ count_by (is_among (drop i qs)) (drop (rank set last + 1) set) = n ∙ (λ j. count_by (is_among (l j)) (t j)) ∙ ap (λ (m : ℕ). count_by (is_among (drop i qs)) (drop (m + 1) set)) is.1 in
+    let counted : count ≡ count_by (is_among (drop i qs)) (drop (rank set last + 1) set) = n ∙ (λ j. count_by (is_among (l j)) (t j)) ∙ ap (λ (m : ℕ). count_by (is_among (drop i qs)) (drop (m + 1) set)) (position_is set qs i tally some e) in
     omega (arith, is.0, counted, probed_overlap set qs i over up is.2)
-
-size_of : (set found : List ℕ) (tally : Tally) → 0 < tally.count → tally ≡ tally_of set found → tally.size ≡ length set
-size_of set [] tally some e = let n = ap (λ (t : Tally). t.count) e in absurd (omega (arith, n, some))
-size_of set (t ∷ ts) tally some e = ap (λ (t : Tally). t.size) e
 
 -- if the tally of a column counts as many tokens as its bound, the column has exactly these
 pub hits_settled : (set qs : List ℕ) (i : ℕ) (tally : Tally) → Rises set → Rises qs → 0 < tally.count → tally ≡ tally_of set (hits set (take i qs)) → most_of (length qs - i) tally ≤ tally.count → tally.count ≡ length (hits set qs)
@@ -174,7 +174,7 @@ hits_settled set qs i tally over up some e low =
     let by_tail = count_by-le-length (is_among left) tail in
     let by_left = count_by-le-length (is_among tail) left in
     let same = both_ways tail left (rising_drop (rank set last + 1) set over) (rising_drop i qs up) in
-    omega (arith, is.0, is.1, size_of set found tally some e, behind, by_tail, by_left, same, length-drop (rank set last + 1) set, length-drop i qs, low)
+    omega (arith, is.0, is.1, behind, by_tail, by_left, same, length-drop (rank set last + 1) set, length-drop i qs, low)
 
 pub rest_is : (i : ℕ) (qs : List ℕ) → take (length qs - i) (drop i qs) ≡ drop i qs
 rest_is i qs = take_all (length qs - i) (drop i qs) (omega (arith, length-drop i qs))

@@ -75,7 +75,7 @@ hit_more : (set found : List ℕ) (token column : ℕ) → tally_of set (found +
 hit_more set [] token column = refl
 hit_more set (t ∷ ts) token column =
     let n : length ((t ∷ ts) ++ token ∷ []) ≡ length (t ∷ ts) + 1 = length-append (t ∷ ts) (token ∷ []) in
-    (λ i. tally_with (n i) (rank set (get_or_end (t ∷ ts) token i)) (length set))
+    (λ i. tally_with (n i) (length set - 1 - rank set (get_or_end (t ∷ ts) token i)))
 
 -- After one more list, each tally is that of the lists read.
 pub tallies_more : (sets : List (List ℕ)) (tokens : List ℕ) (i d : ℕ) (tallies news : List Tally) (list : List Posting) → i < length tokens → AreTallies sets (take i tokens) tallies → list ≡ postings_of sets (get_or tokens i d)
@@ -153,11 +153,6 @@ tally_count set (t ∷ ts) = refl
 pub bound_same : (set found : List ℕ) (left : ℕ) → 0 < length found → most_of left (tally_of set found) ≡ length found + min left (length set - 1 - rank set (get_or found (length found - 1) 0))
 bound_same set [] left h = absurd (omega arith)
 bound_same set (t ∷ ts) left h = refl
-
--- the position, given its hits
-pub position_same : (set found : List ℕ) → 0 < length found → (tally_of set found).position ≡ rank set (get_or found (length found - 1) 0)
-position_same set [] h = absurd (omega arith)
-position_same set (t ∷ ts) h = refl
 
 -- no tally counts more than the number of lists read
 pub tallies_small : (sets : List (List ℕ)) (tokens : List ℕ) (read : ℕ) (tallies : List Tally) → AreTallies sets (take read tokens) tallies → (x : ℕ) → (get_or tallies x no_tally).count ≤ read

@@ -1,16 +1,16 @@
 -- The touched columns: one more, and none after a clearing.
-use Rattle.std.proofs.Common.{◌≡◌, refl, ap, sym, ◌∙◌, subst, inl, inr, ℕ, zero, suc, ◌+◌, ◌-◌, ◌^◌, ◌<◌, ◌≤◌, List, [], ◌∷◌, ◌++◌, Bool, true, false, ◌||◌, length, replicate, set, get_or, drop, take, arith, append-nil, length-append, eqb as nat_eq}
+use Rattle.std.proofs.Common.{◌≡◌, refl, ap, sym, ◌∙◌, subst, inl, inr, ℕ, zero, suc, ◌+◌, ◌<◌, ◌≤◌, List, [], ◌∷◌, ◌++◌, Bool, true, false, ◌||◌, length, replicate, set, get_or, drop, take, arith, append-nil, length-append, eqb as nat_eq}
 use Rattle.std.specs.List.{AllByRecursion, count_by}
 use Rattle.std.proofs.Math.ListN.{length-set}
 use Rattle.std.proofs.Math.Seq.{drop-cons}
 use Rattle.std.proofs.lemmas.Bool.{cases_eq, cases_lt, ne_eqb}
 use Rattle.std.proofs.lemmas.Bool.Decides.{nat_tests}
-use Rattle.std.proofs.lemmas.List.{drop_all, ext_get_or, get_or-map, get_or-replicate, get_or-set_other, get_or-set_same, get_or_append_left, get_or_past, get_or_push, length-map, length-replicate, map-set, take_all}
+use Rattle.std.proofs.lemmas.List.{drop_all, get_or-replicate, get_or-set_other, get_or-set_same, get_or_past, length-replicate, take_all}
 use Rattle.std.proofs.lemmas.List.Sums.{count_by-le-length, sum_by-append, sum_by-cons, sum_by-set, sum_by_push}
 use Rattle.lake_model.specs.Layout.{is_among}
 use Rattle.search_model.proofs.BoundLemmas.{among_counts}
 use Rattle.part_columns.specs.declared.tally.Tally.{Tally}
-use Rattle.part_columns.specs.Columns.{AreTouched, columns_with, is_touched, IsClean, IsKept, IsListed, tallies_in}
+use Rattle.part_columns.specs.Columns.{AreTouched, columns_with, is_touched, IsClean, IsKept, IsListed}
 use Rattle.part_columns.specs.Tallies.{no_tally, tally_at, tally_with}
 use Rattle.list_laws.proofs.TestLemmas.{once}
 
@@ -185,138 +185,46 @@ pub lent_whole : {X : Type 0} (n : ℕ) (news olds : List X) → length news ≡
 lent_whole n news olds e f =
     ap (λ xs. take n (news ++ xs)) (drop_all (length news) olds (omega (arith, e, f))) ∙ ap (take n) (append-nil news) ∙ take_all n news (omega (arith, e))
 
--- ---- the tallies of the touched columns only
+-- ---- what is kept
 
--- one more tally at the end, given to a column that had none of its own
-module _ (held : List Tally) (slots : List ℕ) (within : (x : ℕ) → get_or slots x 0 < length held) (tally : Tally) where
-  same_tallies : (xs : List ℕ) → ((x : ℕ) → get_or xs x 0 < length held) → tallies_in (held ++ tally ∷ []) xs ≡ tallies_in held xs
-  same_tallies [] h = refl
-  same_tallies (x ∷ xs) h = (λ i. get_or_append_left held (tally ∷ []) no_tally x (h 0) i ∷ same_tallies xs (λ y. h (suc y)) i)
+module _ (tallies : List Tally) (known : List Bool) (touched : List ℕ) (touched_room : ℕ) (kept : IsKept tallies known touched touched_room) where
+  pub first_fits : (x : ℕ) → x < length tallies → (tally_at tallies x).count ≡ 0 → length touched < length tallies
+  first_fits x h none = room_for_first tallies touched x (tally_with 1 0) kept.are_touched h (omega arith) none
 
-  pub one_held : (x : ℕ) → tallies_in (held ++ tally ∷ []) (set slots x (length held)) ≡ set (tallies_in held slots) x tally
-  one_held x =
-      map-set (λ (slot : ℕ). get_or (held ++ tally ∷ []) slot no_tally) slots x (length held)
-      ∙ (λ i. set (same_tallies slots within i) x (get_or_push held tally no_tally (length held) refl i))
-
-pub tally_there : (held : List Tally) (slots : List ℕ) (x : ℕ) → x < length slots → tally_at (tallies_in held slots) x ≡ get_or held (get_or slots x 0) no_tally
-tally_there held slots x h = get_or-map (λ (slot : ℕ). get_or held slot no_tally) slots x 0 no_tally h
-
--- another tally for a column that has its own
-pub held_again : (held : List Tally) (slots touched : List ℕ) (x slot : ℕ) (tally : Tally) → ((y : ℕ) → 0 < get_or slots y 0 → get_or touched (get_or slots y 0 - 1) 0 ≡ y) → x < length slots → slot ≡ get_or slots x 0 → 0 < slot → slot < length held
-    → tallies_in (set held slot tally) slots ≡ set (tallies_in held slots) x tally
-held_again held slots touched x slot tally placed within at some inside =
-    let news = set held slot tally in
-    let made : length (tallies_in news slots) ≡ length slots = length-map slots (λ (s : ℕ). get_or news s no_tally) in
-    let was : length (tallies_in held slots) ≡ length slots = length-map slots (λ (s : ℕ). get_or held s no_tally) in
-    ext_get_or no_tally _ _ (omega (arith, made, was, length-set (tallies_in held slots) x tally)) (λ i h.
-    let b : i < length slots = omega (arith, h, made) in
-    tally_there news slots i b ∙ elim (cases_eq i x) [
-      | inl e ↦
-          ap (λ (y : ℕ). get_or news (get_or slots y 0) no_tally) e ∙ ap (λ (s : ℕ). get_or news s no_tally) (sym at) ∙ get_or-set_same held slot tally no_tally inside
-          ∙ sym (ap (λ (y : ℕ). get_or (set (tallies_in held slots) x tally) y no_tally) e ∙ get_or-set_same (tallies_in held slots) x tally no_tally (omega (arith, was, within)))
-      | inr apart ↦
-          get_or-set_other held slot (get_or slots i 0) tally no_tally (λ e. apart (sym (placed i (omega (arith, e, some))) ∙ ap (λ (s : ℕ). get_or touched (s - 1) 0) (e ∙ at) ∙ placed x (omega (arith, at, some))))
-          ∙ sym (get_or-set_other (tallies_in held slots) x i tally no_tally apart ∙ tally_there held slots i b)
-    ])
-
-module _ (slots : List ℕ) (held : List Tally) (known : List Bool) (touched : List ℕ) (tallies_room touched_room : ℕ) (kept : IsKept slots held known touched tallies_room touched_room) where
-  pub slot_within : (x : ℕ) → get_or slots x 0 < length held
-  slot_within x = elim (cases_lt 0 (get_or slots x 0)) [
-    | inl some ↦ omega (arith, (kept.placed x some).0, kept.long)
-    | inr none ↦ omega (arith, none, kept.long)
-  ]
-
-  pub wide : length (tallies_in held slots) ≡ length slots
-  wide = length-map slots (λ (s : ℕ). get_or held s no_tally)
-
-  -- a column without a tally of its own was not touched, and one with such a tally was
-  pub unseen_there : (x : ℕ) → x < length slots → get_or slots x 0 ≡ 0 → (tally_at (tallies_in held slots) x).count ≡ 0
-  unseen_there x h e = ap (λ (t : Tally). t.count) (tally_there held slots x h ∙ ap (λ (s : ℕ). get_or held s no_tally) e ∙ kept.others)
-
-  pub seen_there : (x : ℕ) → 0 < get_or slots x 0 → 0 < (tally_at (tallies_in held slots) x).count
-  seen_there x some =
-      let at = kept.placed x some in
-      subst (λ (y : ℕ). 0 < (tally_at (tallies_in held slots) y).count) at.1 (item_seen (tallies_in held slots) touched kept.are_touched.listed (get_or slots x 0 - 1) 0 (omega (arith, at.0, some)))
-
-  pub unseen_slot : (x : ℕ) → (tally_at (tallies_in held slots) x).count ≡ 0 → get_or slots x 0 ≡ 0
-  unseen_slot x none = elim (cases_lt 0 (get_or slots x 0)) [
-    | inl some ↦ absurd (omega (arith, seen_there x some, none))
-    | inr least ↦ omega (arith, least)
-  ]
-
-  pub first_fits : (x : ℕ) → x < length slots → (tally_at (tallies_in held slots) x).count ≡ 0 → length touched < length slots
-  first_fits x h none = omega (arith, wide, room_for_first (tallies_in held slots) touched x (tally_with 1 0 0) kept.are_touched (omega (arith, wide, h)) (omega arith) none)
-
-  module _ (x : ℕ) (tally : Tally) (within : x < length slots) (some : 0 < tally.count) (more_room more_listed : ℕ) (grown : tallies_room ≤ more_room) (listed_grown : touched_room ≤ more_listed) where
-    still_unknown : (tallies : List Tally) → tallies ≡ set (tallies_in held slots) x tally → (y : ℕ) → (tally_at tallies y).count ≡ 0 → get_or known y false ≡ false
-    still_unknown tallies is y none = elim (cases_eq y x) [
+  module _ (x : ℕ) (tally : Tally) (within : x < length tallies) (some : 0 < tally.count) (more_room : ℕ) (grown : touched_room ≤ more_room) where
+    still_unknown : (y : ℕ) → (tally_at (set tallies x tally) y).count ≡ 0 → get_or known y false ≡ false
+    still_unknown y none = elim (cases_eq y x) [
       | inl e ↦ absurd (
-          let at : (tally_at tallies y).count ≡ tally.count = ap (λ (ts : List Tally). (tally_at ts y).count) is ∙ ap (λ (z : ℕ). (tally_at (set (tallies_in held slots) x tally) z).count) e
-          ∙ ap (λ (t : Tally). t.count) (get_or-set_same (tallies_in held slots) x tally no_tally (omega (arith, wide, within))) in
+          let at : (tally_at (set tallies x tally) y).count ≡ tally.count = ap (λ (z : ℕ). (tally_at (set tallies x tally) z).count) e ∙ ap (λ (t : Tally). t.count) (get_or-set_same tallies x tally no_tally within) in
           omega (arith, at, none, some))
-      | inr apart ↦ kept.unknown y (sym (ap (λ (ts : List Tally). (tally_at ts y).count) is ∙ ap (λ (t : Tally). t.count) (get_or-set_other (tallies_in held slots) x y tally no_tally apart)) ∙ none)
+      | inr apart ↦ kept.unknown y (sym (ap (λ (t : Tally). t.count) (get_or-set_other tallies x y tally no_tally apart)) ∙ none)
     ]
 
-    pub kept_first : get_or slots x 0 ≡ 0 → IsKept (set slots x (length held)) (held ++ tally ∷ []) known (touched ++ x ∷ []) more_room more_listed
-    kept_first none =
-        let is = one_held held slots slot_within tally x in
-        record {
-          are_touched = subst (λ (ts : List Tally). AreTouched ts (touched ++ x ∷ [])) (sym is) (touched_first (tallies_in held slots) touched x tally kept.are_touched (omega (arith, wide, within)) some (unseen_there x within none));
-          others = get_or_append_left held (tally ∷ []) no_tally 0 (omega (arith, kept.long)) ∙ kept.others;
-          long = omega (arith, length-append held (tally ∷ []), length-append touched (x ∷ []), kept.long);
-          placed = λ y h. elim (cases_eq y x) [
-            | inl e ↦
-                let at : get_or (set slots x (length held)) y 0 ≡ length held = ap (λ (z : ℕ). get_or (set slots x (length held)) z 0) e ∙ get_or-set_same slots x (length held) 0 within in
-                let last : length touched ≡ get_or (set slots x (length held)) y 0 - 1 = omega (arith, at, kept.long) in
-                (omega (arith, at, kept.long, length-append touched (x ∷ [])), get_or_push touched x 0 _ last ∙ sym e)
-            | inr apart ↦
-                let at : get_or (set slots x (length held)) y 0 ≡ get_or slots y 0 = get_or-set_other slots x y (length held) 0 apart in
-                let was = kept.placed y (omega (arith, at, h)) in (
-                  omega (arith, at, was.0, length-append touched (x ∷ [])),
-                  ap (λ (s : ℕ). get_or (touched ++ x ∷ []) (s - 1) 0) at ∙ get_or_append_left touched (x ∷ []) 0 (get_or slots y 0 - 1) (omega (arith, at, h, was.0)) ∙ was.1,
-                )
-          ];
-          few = omega (arith, length-set slots x (length held), kept.few);
-          room = omega (arith, length-set slots x (length held), kept.room, grown);
-          listed_room = omega (arith, length-set slots x (length held), kept.listed_room, listed_grown);
-          marks = omega (arith, length-set slots x (length held), kept.marks);
-          unknown = still_unknown _ is;
-        }
+    kept_with : (list : List ℕ) → AreTouched (set tallies x tally) list → IsKept (set tallies x tally) known list more_room
+    kept_with list are = record {
+      are_touched = are;
+      listed_room = omega (arith, length-set tallies x tally, kept.listed_room, grown);
+      marks = omega (arith, length-set tallies x tally, kept.marks);
+      unknown = still_unknown;
+    }
 
-    pub kept_touched : (n : ℕ) (news : List Tally) (list : List ℕ) → n ≡ length held → news ≡ held ++ tally ∷ [] → list ≡ touched ++ x ∷ [] → get_or slots x 0 ≡ 0 → IsKept (set slots x n) news known list more_room more_listed
-    kept_touched n news list e f g none =
-        subst (λ (m : ℕ). IsKept (set slots x m) news known list more_room more_listed) (sym e) (subst (λ (ts : List Tally). IsKept (set slots x (length held)) ts known list more_room more_listed) (sym f)
-        (subst (λ (xs : List ℕ). IsKept (set slots x (length held)) (held ++ tally ∷ []) known xs more_room more_listed) (sym g) (kept_first none)))
+    -- a column that is counted for the first time is listed
+    pub kept_first : (list : List ℕ) → list ≡ touched ++ x ∷ [] → (tally_at tallies x).count ≡ 0 → IsKept (set tallies x tally) known list more_room
+    kept_first list is none = kept_with list (subst (AreTouched (set tallies x tally)) (sym is) (touched_first tallies touched x tally kept.are_touched within some none))
 
-    pub touched_view : (n : ℕ) (news : List Tally) → n ≡ length held → news ≡ held ++ tally ∷ [] → tallies_in news (set slots x n) ≡ set (tallies_in held slots) x tally
-    touched_view n news e f = (λ i. tallies_in (f i) (set slots x (e i))) ∙ one_held held slots slot_within tally x
-
-    pub kept_again : 0 < get_or slots x 0 → IsKept slots (set held (get_or slots x 0) tally) known touched more_room more_listed
-    kept_again has =
-        let slot = get_or slots x 0 in
-        let is = held_again held slots touched x slot tally (λ y h. (kept.placed y h).1) within refl has (slot_within x) in
-        record {
-          are_touched = subst (λ (ts : List Tally). AreTouched ts touched) (sym is) (touched_again (tallies_in held slots) touched x tally kept.are_touched (omega (arith, wide, within)) some (seen_there x has));
-          others = get_or-set_other held slot 0 tally no_tally (λ e. absurd (omega (arith, e, has))) ∙ kept.others;
-          long = omega (arith, length-set held slot tally, kept.long);
-          placed = kept.placed;
-          few = kept.few;
-          room = omega (arith, kept.room, grown);
-          listed_room = omega (arith, kept.listed_room, listed_grown);
-          marks = kept.marks;
-          unknown = still_unknown _ is;
-        }
+    pub kept_again : 0 < (tally_at tallies x).count → IsKept (set tallies x tally) known touched more_room
+    kept_again seen = kept_with touched (touched_again tallies touched x tally kept.are_touched within some seen)
 
 -- ---- none after a clearing
 
-abbrev pub ForgottenFrom : List ℕ → ℕ → List ℕ → List Bool → Type 0
-ForgottenFrom touched i slots known = (x : ℕ) → is_among (drop i touched) x ≡ false → (get_or slots x 0 ≡ 0) × (get_or known x false ≡ false)
+abbrev pub ForgottenFrom : List ℕ → ℕ → List Tally → List Bool → Type 0
+ForgottenFrom touched i tallies known = (x : ℕ) → is_among (drop i touched) x ≡ false → (tally_at tallies x ≡ no_tally) × (get_or known x false ≡ false)
 
-pub forgotten_more : (slots touched : List ℕ) (known : List Bool) (i d x : ℕ) → ForgottenFrom touched i slots known → i < length touched → x ≡ get_or touched i d → x < length slots → x < length known
-    → ForgottenFrom touched (i + 1) (set slots x 0) (set known x false)
-forgotten_more slots touched known i d x so_far h at wide marks y none = elim (cases_eq y x) [
+pub forgotten_more : (tallies : List Tally) (touched : List ℕ) (known : List Bool) (i d x : ℕ) → ForgottenFrom touched i tallies known → i < length touched → x ≡ get_or touched i d → x < length tallies → x < length known
+    → ForgottenFrom touched (i + 1) (set tallies x no_tally) (set known x false)
+forgotten_more tallies touched known i d x so_far h at wide marks y none = elim (cases_eq y x) [
   | inl e ↦ (
-    ap (λ (z : ℕ). get_or (set slots x 0) z 0) e ∙ get_or-set_same slots x 0 0 wide,
+    ap (λ (z : ℕ). tally_at (set tallies x no_tally) z) e ∙ get_or-set_same tallies x no_tally no_tally wide,
     ap (λ (z : ℕ). get_or (set known x false) z false) e ∙ get_or-set_same known x false false marks,
   )
   | inr apart ↦
@@ -324,64 +232,37 @@ forgotten_more slots touched known i d x so_far h at wide marks y none = elim (c
       let front : drop i touched ≡ x ∷ drop (i + 1) touched = drop-cons touched i d h ∙ (λ j. sym at j ∷ drop (sym one j) touched) in
       let before : is_among (drop i touched) y ≡ false = ap (λ (xs : List ℕ). is_among xs y) front ∙ ap (λ b. b || is_among (drop (i + 1) touched) y) (ne_eqb y x apart) ∙ none in
       let was = so_far y before in
-      (get_or-set_other slots x y 0 0 apart ∙ was.0, get_or-set_other known x y false false apart ∙ was.1)
+      (get_or-set_other tallies x y no_tally no_tally apart ∙ was.0, get_or-set_other known x y false false apart ∙ was.1)
 ]
 
--- a column that is not listed has no tally of its own, and is not known
-pub unlisted_there : (slots : List ℕ) (held : List Tally) (known : List Bool) (touched : List ℕ) (tallies_room touched_room : ℕ) → IsKept slots held known touched tallies_room touched_room
-    → (x : ℕ) → is_among touched x ≡ false → (get_or slots x 0 ≡ 0) × (get_or known x false ≡ false)
-unlisted_there slots held known touched tallies_room touched_room kept x none =
-    let unseen = unlisted_none (tallies_in held slots) touched x kept.are_touched.listed none in (
-      elim (cases_lt 0 (get_or slots x 0)) [
-        | inl some ↦ absurd (omega (arith, seen_there slots held known touched tallies_room touched_room kept x some, unseen))
-        | inr least ↦ omega (arith, least)
-      ],
-      kept.unknown x unseen,
-    )
+-- a column that is not listed has no tally, and is not known
+pub unlisted_there : (tallies : List Tally) (known : List Bool) (touched : List ℕ) (touched_room : ℕ) → IsKept tallies known touched touched_room → (x : ℕ) → is_among touched x ≡ false
+    → (tally_at tallies x ≡ no_tally) × (get_or known x false ≡ false)
+unlisted_there tallies known touched touched_room kept x none =
+    let unseen = unlisted_none tallies touched x kept.are_touched.listed none in (kept.are_touched.unseen x unseen, kept.unknown x unseen)
 
--- if no column has a tally of its own, all have the shared one
-pub clean_there : (slots : List ℕ) (held : List Tally) → ((x : ℕ) → get_or slots x 0 ≡ 0) → get_or held 0 no_tally ≡ no_tally → (x : ℕ) → tally_at (tallies_in held slots) x ≡ no_tally
-clean_there slots held unset none x = elim (cases_lt x (length slots)) [
-  | inl h ↦ tally_there held slots x h ∙ ap (λ (s : ℕ). get_or held s no_tally) (unset x) ∙ none
-  | inr past ↦ get_or_past (tallies_in held slots) x no_tally (omega (arith, past, length-map slots (λ (s : ℕ). get_or held s no_tally)))
-]
+none_touched : (tallies : List Tally) → ((x : ℕ) → tally_at tallies x ≡ no_tally) → count_by is_touched tallies ≡ 0
+none_touched [] clean = refl
+none_touched (t ∷ ts) clean = omega (arith, sum_by-cons (λ u. once (is_touched u)) t ts, ap (λ (u : Tally). once (is_touched u)) (clean 0), none_touched ts (λ x. clean (suc x)))
 
--- so it is after a clearing, and at the start
-pub kept_clean : (slots : List ℕ) (held : List Tally) (known : List Bool) (tallies_room touched_room : ℕ) → ((x : ℕ) → get_or slots x 0 ≡ 0) → ((x : ℕ) → get_or known x false ≡ false) → get_or held 0 no_tally ≡ no_tally → length held ≡ 1
-    → length slots < 2 ^ 32 → length slots < tallies_room → length slots ≤ touched_room → length known ≡ length slots → IsKept slots held known [] tallies_room touched_room
-kept_clean slots held known tallies_room touched_room unset fresh none one few room listed_room marks =
-    let clean = clean_there slots held unset none in
-    record {
+-- so it is after a clearing, and at the start; the lists may have been lent whole
+pub kept_cleared : (tallies lent : List Tally) (known marks : List Bool) (touched : List ℕ) (touched_room : ℕ) → lent ≡ tallies → marks ≡ known → touched ≡ [] → ((x : ℕ) → tally_at tallies x ≡ no_tally) → ((x : ℕ) → get_or known x false ≡ false)
+    → length tallies ≤ touched_room → length known ≡ length tallies → IsKept lent marks touched touched_room
+kept_cleared tallies lent known marks touched touched_room e f g clean fresh listed_room long =
+    subst (λ (ts : List Tally). IsKept ts marks touched touched_room) (sym e) (subst (λ (ms : List Bool). IsKept tallies ms touched touched_room) (sym f) (subst (λ (us : List ℕ). IsKept tallies known us touched_room) (sym g) (record {
       are_touched = record {
         listed = λ x. sym (ap (λ (t : Tally). once (is_touched t)) (clean x));
-        many = sym (none_touched (tallies_in held slots) clean);
+        many = sym (none_touched tallies clean);
         unseen = λ x h. clean x;
       };
-      others = none;
-      long = one;
-      placed = λ x some. absurd (omega (arith, unset x, some));
-      few = few;
-      room = room;
       listed_room = listed_room;
-      marks = marks;
+      marks = long;
       unknown = λ x h. fresh x;
-    }
-  where
-    none_touched : (tallies : List Tally) → ((x : ℕ) → tally_at tallies x ≡ no_tally) → count_by is_touched tallies ≡ 0
-    none_touched [] clean = refl
-    none_touched (t ∷ ts) clean = omega (arith, sum_by-cons (λ u. once (is_touched u)) t ts, ap (λ (u : Tally). once (is_touched u)) (clean 0), none_touched ts (λ x. clean (suc x)))
+    })))
 
--- after a clearing, in which the lists were lent whole
-pub kept_cleared : (slots lent : List ℕ) (held : List Tally) (known marks : List Bool) (touched : List ℕ) (tallies_room touched_room : ℕ) → lent ≡ slots → marks ≡ known → touched ≡ [] → ((x : ℕ) → get_or slots x 0 ≡ 0) → ((x : ℕ) → get_or known x false ≡ false)
-    → get_or held 0 no_tally ≡ no_tally → length held ≡ 1 → length slots < 2 ^ 32 → length slots < tallies_room → length slots ≤ touched_room → length known ≡ length slots → IsKept lent held marks touched tallies_room touched_room
-kept_cleared slots lent held known marks touched tallies_room touched_room e f g unset fresh none one few room listed_room long =
-    subst (λ (ss : List ℕ). IsKept ss held marks touched tallies_room touched_room) (sym e) (subst (λ (ms : List Bool). IsKept slots held ms touched tallies_room touched_room) (sym f)
-    (subst (λ (us : List ℕ). IsKept slots held known us tallies_room touched_room) (sym g) (kept_clean slots held known tallies_room touched_room unset fresh none one few room listed_room long)))
-
-pub view_cleared : (slots lent : List ℕ) (held : List Tally) (known marks : List Bool) (touched : List ℕ) → lent ≡ slots → marks ≡ known → ((x : ℕ) → get_or slots x 0 ≡ 0) → ((x : ℕ) → get_or known x false ≡ false)
-    → get_or held 0 no_tally ≡ no_tally → IsClean (columns_with (tallies_in held lent) marks touched)
-view_cleared slots lent held known marks touched e f unset fresh none = record {
-  clean = clean_there lent held (λ x. ap (λ (ss : List ℕ). get_or ss x 0) e ∙ unset x) none;
+pub view_cleared : (tallies lent : List Tally) (known marks : List Bool) (touched : List ℕ) → lent ≡ tallies → marks ≡ known → ((x : ℕ) → tally_at tallies x ≡ no_tally) → ((x : ℕ) → get_or known x false ≡ false) → IsClean (columns_with lent marks touched)
+view_cleared tallies lent known marks touched e f clean fresh = record {
+  clean = λ x. ap (λ (ts : List Tally). tally_at ts x) e ∙ clean x;
   fresh = λ x. ap (λ (ms : List Bool). get_or ms x false) f ∙ fresh x;
 }
 

@@ -15,7 +15,7 @@ use Rattle.list_laws.proofs.TestLemmas.{count-cons, once}
 use Rattle.search_model.specs.Looks.{hits}
 use Rattle.search_model.proofs.FilterLemmas.{after_all, IsHit}
 use Rattle.part_columns.specs.declared.tally.Tally.{Tally}
-use Rattle.part_columns.specs.Tallies.{tally_of}
+use Rattle.part_columns.specs.Tallies.{position_in, tally_of}
 use Rattle.token_set.specs.Bits.{has, IsSetOf}
 use Rattle.part_columns.proofs.ProbeLemmas.{front_has, last_hit, later_above, last_of, position_is}
 use Rattle.part_columns.proofs.TouchedLemmas.{all_among}
@@ -73,7 +73,7 @@ module _ (set qs : List ℕ) (i : ℕ) (tally : Tally) (over : Rises set) (up : 
   last = get_or found (length found - 1) 0
 
   abbrev n : ℕ
-  n = tally.position + 1
+  n = position_in set tally + 1
 
   hit : IsHit (is_among set) (take i qs) last
   hit = last_hit set qs i (last_of set found tally some is).2

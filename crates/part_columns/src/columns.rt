@@ -1,9 +1,9 @@
 //! What a search has seen of the columns of a part.
-ghost use Rattle.std.specs.Prelude.{◌≡◌, ◌<◌, ◌≤◌, ◌+◌, ◌^◌, ℕ, false, true, filter, get_or, length, slice_set, IfOk};
+ghost use Rattle.std.specs.Prelude.{◌≡◌, ◌<◌, ◌≤◌, ◌+◌, ◌-◌, ◌^◌, ◌++◌, ◌∷◌, ℕ, [], false, true, filter, get_or, length, slice_set, vec_capacity, IfOk};
 ghost use Rattle.std.specs.List.{All};
 ghost use Rattle.lake_model.specs.Layout.{is_among};
 ghost use Rattle.part_columns.specs.Columns.{IsClean, IsListed};
-ghost use Rattle.part_columns.specs.Tallies.{counted, of_column, raised, tally_at};
+ghost use Rattle.part_columns.specs.Tallies.{counted, no_tally, of_column, raised, tally_at};
 
 use crate::tally::Tally;
 use no_memory::NoMemory;
@@ -12,13 +12,10 @@ use std::alloc::Global;
 use std::marker::Model;
 
 /// A tally of each column, and whether its row is known. It lists the touched columns, which are those in one of the
-/// lists read, so that they are found again without a walk over the others. Tallies are kept only for the touched
-/// columns, in the order of that list, after one tally that all other columns share; each column has the index of its
-/// tally, so that little has to be set up before a search. Its model is the tallies of all columns, the marks of the
-/// known ones, and the list.
+/// lists read, so that they are found again without a walk over the others. Its model is the tallies of all columns, the
+/// marks of the known ones, and the list.
 #[derive(Drop)]
 pub struct Columns {
-    slots: Vec<u32>,
     tallies: Vec<Tally>,
     known: Vec<bool>,
     touched: Vec<u32>,
@@ -26,13 +23,13 @@ pub struct Columns {
 
 impl Model for Columns {
     ghost use Rattle.std.specs.Prelude.{vec_capacity};
-    ghost use Rattle.part_columns.specs.Columns.{columns_with, ColumnsOf, IsKept, tallies_in};
+    ghost use Rattle.part_columns.specs.Columns.{columns_with, ColumnsOf, IsKept};
 
     ghost Value = { ColumnsOf };
 
-    ghost view = { λ c. columns_with (tallies_in c.tallies.items c.slots.items) c.known.items c.touched.items };
+    ghost view = { λ c. columns_with c.tallies.items c.known.items c.touched.items };
 
-    ghost invariant = { λ c. IsKept c.slots.items c.tallies.items c.known.items c.touched.items (vec_capacity c.tallies) (vec_capacity c.touched) };
+    ghost invariant = { λ c. IsKept c.tallies.items c.known.items c.touched.items (vec_capacity c.touched) };
 }
 
 impl Columns {
@@ -41,11 +38,8 @@ impl Columns {
         ensures wide { IfOk result (λ made. length made.tallies ≡ columns) }
         ensures clean { IfOk result (λ made. IsClean made) }
     {
-        let mut tallies = Vec::with_capacity(alloc, columns as usize + 1)?;
-        tallies.push(Tally::NONE)?;
         Ok(Columns {
-            slots: vec![in alloc; 0u32; columns as usize]?,
-            tallies,
+            tallies: vec![in alloc; Tally::NONE; columns as usize]?,
             known: vec![in alloc; false; columns as usize]?,
             touched: Vec::with_capacity(alloc, columns as usize)?,
         })
@@ -56,8 +50,7 @@ impl Columns {
         requires { column < length self.now.tallies }
         ensures { result ≡ tally_at self.now.tallies column }
     {
-        let slot = self.slots[column as usize];
-        self.tallies[slot as usize]
+        self.tallies[column as usize]
     }
 
     /// Returns whether the row of a column is known.
@@ -103,35 +96,14 @@ impl Columns {
         ensures count { result ≡ (tally_at self.old.tallies posting.now.column).count + 1 }
         ensures known { self.new.known ≡ self.old.known }
     {
-        let slot = self.slots[posting.column as usize];
-        if slot == 0 {
-            self.touch(posting);
-            return 1;
-        }
-        let count = self.tallies[slot as usize].count + 1;
-        self.tallies[slot as usize] = Tally {
+        let tally = self.tallies[posting.column as usize];
+        list_first(&mut self.touched, tally.count, posting.column);
+        let count = tally.count + 1;
+        self.tallies[posting.column as usize] = Tally {
             count,
-            position: posting.position,
-            size: posting.size,
+            rest: rest_behind(posting),
         };
         count
-    }
-
-    // Counts the first posting of a column.
-    fn touch(&mut self, posting: &Posting)
-        requires within { posting.now.column < length self.old.tallies }
-        requires unseen { (tally_at self.old.tallies posting.now.column).count ≡ 0 }
-        ensures tallies { self.new.tallies ≡ slice_set self.old.tallies posting.now.column (raised (tally_at self.old.tallies posting.now.column) posting.now) }
-        ensures known { self.new.known ≡ self.old.known }
-    {
-        let tally = Tally {
-            count: 1,
-            position: posting.position,
-            size: posting.size,
-        };
-        self.slots[posting.column as usize] = self.tallies.len() as u32;
-        self.tallies.push_reserved(tally);
-        self.touched.push_reserved(posting.column);
     }
 
     /// Marks the row of a column as known.
@@ -151,23 +123,41 @@ impl Columns {
         ensures wide { length self.new.tallies ≡ length self.old.tallies }
         ensures clean { IsClean self.new }
     {
-        forget(&self.touched, &mut self.slots, &mut self.known);
+        forget(&self.touched, &mut self.tallies, &mut self.known);
         self.touched.clear();
-        self.tallies.truncate(1);
     }
 }
 
-// Resets the slots and the marks of the touched columns.
-fn forget(touched: &[u32], slots: &mut [u32], known: &mut [bool])
-    requires within { All (λ column. column < length slots.old) touched.now }
-    requires marks { length known.old ≡ length slots.old }
-    requires others { (column : ℕ) → is_among touched.now column ≡ false → get_or slots.old column 0 ≡ 0 }
+// Lists a column that was in `count` lists before, if these are none.
+fn list_first(touched: &mut Vec<u32>, count: u32, column: u32)
+    requires room { count ≡ 0 → length touched.old.items < vec_capacity touched.old }
+    ensures capacity { vec_capacity touched.old ≤ vec_capacity touched.new }
+    ensures first { count ≡ 0 → touched.new.items ≡ touched.old.items ++ column ∷ [] }
+    ensures again { 0 < count → touched.new.items ≡ touched.old.items }
+{
+    if count == 0 {
+        touched.push_reserved(column);
+    }
+}
+
+// Returns how many tokens of the posting's column come after the posting's own.
+fn rest_behind(posting: &Posting) -> u32
+    ensures { result ≡ posting.now.size - 1 - posting.now.position }
+{
+    posting.size.saturating_sub(1).saturating_sub(posting.position)
+}
+
+// Resets the tallies and the marks of the touched columns.
+fn forget(touched: &[u32], tallies: &mut [Tally], known: &mut [bool])
+    requires within { All (λ column. column < length tallies.old) touched.now }
+    requires marks { length known.old ≡ length tallies.old }
+    requires others { (column : ℕ) → is_among touched.now column ≡ false → tally_at tallies.old column ≡ no_tally }
     requires unknown { (column : ℕ) → is_among touched.now column ≡ false → get_or known.old column false ≡ false }
-    ensures slots { (column : ℕ) → get_or slots.new column 0 ≡ 0 }
+    ensures tallies { (column : ℕ) → tally_at tallies.new column ≡ no_tally }
     ensures known { (column : ℕ) → get_or known.new column false ≡ false }
 {
     for column in touched {
-        slots[*column as usize] = 0;
+        tallies[*column as usize] = Tally::NONE;
         known[*column as usize] = false;
     }
 }

@@ -12,7 +12,7 @@ mod seeking;
 mod tally;
 
 pub use answer::Answer;
-pub use bounds::{most_of, rest_of};
+pub use bounds::{most_of, position_of};
 pub use columns::Columns;
 pub use probing::probe;
 pub use room::{most_columns, most_probes};

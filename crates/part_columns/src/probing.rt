@@ -8,9 +8,10 @@ ghost use Rattle.search_model.specs.Looks.{hits};
 ghost use Rattle.search_model.specs.Segment.{tokens_in};
 ghost use Rattle.search_model.specs.declared.Look.TheVariants.{Probe};
 ghost use Rattle.segment_core.specs.Versions.{part_at, segment_at};
-ghost use Rattle.part_columns.specs.Tallies.{tally_of};
+ghost use Rattle.part_columns.specs.Tallies.{position_in, tally_of};
 ghost use Rattle.token_set.specs.Bits.{has, IsSetOf};
 
+use crate::bounds::position_of;
 use crate::seeking::{Sought, seek};
 use crate::tally::Tally;
 use segment_core::Looks;
@@ -42,10 +43,11 @@ pub fn probe(
     requires tokens { (keys : List Text) × (tokens.now ≡ tokens_in (segment_at looks.old.version.parts part).tokens keys) }
     ensures overlap { result ≡ length (hits (get_or (segment_at looks.old.version.parts part).sets column []) tokens.now) }
     ensures version { looks.new.version ≡ looks.old.version }
-    ensures log { looks.new.log ≡ looks.old.log ++ Probe (part_at looks.old.version.parts part).number column tally.position ∷ [] }
+    ensures log { looks.new.log ≡ looks.old.log ++ Probe (part_at looks.old.version.parts part).number column (position_in (get_or (segment_at looks.old.version.parts part).sets column []) tally) ∷ [] }
     ensures spare { looks.new.spare + 1 ≡ looks.old.spare }
 {
-    let tail = looks.tail(part, column, tally.position);
+    let position = position_of(looks, part, column, tally);
+    let tail = looks.tail(part, column, position);
     let unread = &tokens[read as usize..];
     tally.count + count_asked(set, unread, tail) as u32
 }
