@@ -16,24 +16,24 @@ use Rattle.josie_search.specs.declared.candidates.Candidate.{Candidate}
 use Rattle.part_columns.specs.declared.tally.Tally.{Tally}
 use Rattle.josie_search.specs.Candidates.{AreApart, AreHeld, AreHeldBut, candidate, candidate_of, covers, goes_in, is_over, IsAhead, IsOfRank, most_now, NoneExact, weight}
 use Rattle.josie_search.specs.Rows.{leads}
-use Rattle.part_columns.specs.Tallies.{most_of, rest_of, counted, of_column, raised, tally_at}
+use Rattle.part_columns.specs.Tallies.{most_of, counted, of_column, raised, tally_at}
 use Rattle.josie_search.proofs.LoopLemmas.{lead_parts}
 
 -- ---- one candidate
 
 -- a column's own candidate is over it, and its number is its bound
 own_over : (left rank : ℕ) (tally : Tally) → is_over left tally rank (candidate_of left tally rank) ≡ true
-own_over left rank tally = by (nat_le left (rest_of tally))
+own_over left rank tally = by (nat_le left tally.rest)
   where
     by : (b : Bool) → is_over left tally rank (cond b (candidate true tally.count rank) (candidate false (most_of left tally) rank)) ≡ true
     by true = grind (arith, nat_tests)
     by false = grind (arith, nat_tests)
 
 pub own_most : (left rank : ℕ) (tally : Tally) → most_now left (candidate_of left tally rank) ≡ most_of left tally
-own_most left rank tally = by (nat_le left (rest_of tally)) refl
+own_most left rank tally = by (nat_le left tally.rest) refl
   where
-    by : (b : Bool) → nat_le left (rest_of tally) ≡ b → most_now left (cond b (candidate true tally.count rank) (candidate false (most_of left tally) rank)) ≡ most_of left tally
-    by true e = let l : left ≤ rest_of tally = grind (arith, nat_tests) in omega (arith, l)
+    by : (b : Bool) → nat_le left tally.rest ≡ b → most_now left (cond b (candidate true tally.count rank) (candidate false (most_of left tally) rank)) ≡ most_of left tally
+    by true e = let l : left ≤ tally.rest = grind (arith, nat_tests) in omega (arith, l)
     by false e = refl
 
 over_rank : (left rank : ℕ) (tally : Tally) (c : Candidate) → is_over left tally rank c ≡ true → c.rank ≡ rank

@@ -7,7 +7,7 @@ use Rattle.lake_model.specs.Answer.{Query, Row, row_cmp}
 use Rattle.search_model.specs.declared.Look.TheVariants.{Probe, Read}
 use Rattle.search_model.specs.declared.Summary.{Summary}
 use Rattle.search_model.specs.Looks.{beats, choice, hits, known_rows, left_of, list_lengths, next_look, Progress, read_next, Searched, seen_by, summary_with, threshold, unseen_open, worst}
-use Rattle.search_model.specs.Segment.{Titled}
+use Rattle.search_model.specs.Segment.{rank, Titled}
 use Rattle.search_laws.specs.Select.{best}
 use Rattle.search_state.specs.State.{column_at, seen_at}
 use Rattle.search_state.proofs.OfferLemmas.{worst_is}
@@ -16,7 +16,9 @@ use Rattle.josie_search.specs.Costs.{lengths_of, summary_of, threshold_of}
 use Rattle.josie_search.specs.Open.{chosen, IsHead, overlap_of, taken}
 use Rattle.josie_search.specs.Rows.{FoundFrom, FoundTo, leads, MayLead}
 use Rattle.josie_search.specs.State.{IsAt}
-use Rattle.part_columns.specs.Tallies.{tally_at, tally_of}
+use Rattle.part_columns.proofs.ProbeLemmas.{position_is}
+use Rattle.part_columns.proofs.TallyLemmas.{tally_count}
+use Rattle.part_columns.specs.Tallies.{position_in, tally_at, tally_of}
 use Rattle.josie_search.proofs.LoopLemmas.{lead_parts}
 use Rattle.josie_search.proofs.OpenLemmas.{first_beaten, first_open, none_high, none_opens}
 
@@ -27,9 +29,10 @@ sum_same last progress lengths c set x [] h = absurd (omega arith)
 sum_same None progress lengths c set x (t ∷ ts) h = refl
 sum_same (Some w) progress lengths c set x (t ∷ ts) h = refl
 
-position_same : (c : Titled) (set : List ℕ) (left x : ℕ) (found : List ℕ) → 0 < length found → (seen_by c set left x found).position ≡ (tally_of set found).position
-position_same c set left x [] h = absurd (omega arith)
-position_same c set left x (t ∷ ts) h = refl
+-- what was seen of a column has the position of its last token in the lists read
+seen_position : (c : Titled) (set : List ℕ) (left x : ℕ) (found : List ℕ) → 0 < length found → (seen_by c set left x found).position ≡ rank set (get_or found (length found - 1) 0)
+seen_position c set left x [] h = absurd (omega arith)
+seen_position c set left x (t ∷ ts) h = refl
 
 pub threshold_same : (last : Option Row) → threshold last ≡ threshold_of (overlap_of last)
 threshold_same None = refl
@@ -57,10 +60,13 @@ module _ (says : Summary → Bool) (query : Query) (before : List Row) (part : S
       ∙ ap (λ (t : Tally). summary_of lengths progress.read t (overlap_of last)) (sym (is.tallies_are x))
 
   pub next_probes : (x : ℕ) → IsHead query part progress last (Some x) → 0 < (seen_at part progress x).count → says (summary_of lengths progress.read (tally_at tallies x) (overlap_of last)) ≡ true
-      → next_look says query before part progress ≡ Some (Probe part.number x (tally_at tallies x).position)
+      → next_look says query before part progress ≡ Some (Probe part.number x (position_in (get_or part.segment.sets x []) (tally_at tallies x)))
   next_probes x head some said =
-      let position : (seen_at part progress x).position ≡ (tally_at tallies x).position =
-      position_same (column_at part x) (get_or part.segment.sets x []) (left_of part progress) x (found_at x) some ∙ ap (λ (t : Tally). t.position) (sym (is.tallies_are x)) in
+      let set = get_or part.segment.sets x [] in
+      let tally = tally_at tallies x in
+      let counted : 0 < tally.count = omega (arith, ap (λ (t : Tally). t.count) (is.tallies_are x) ∙ tally_count set (found_at x), some) in
+      let position : (seen_at part progress x).position ≡ position_in set tally =
+      seen_position (column_at part x) set (left_of part progress) x (found_at x) some ∙ sym (position_is set part.query progress.read tally counted (is.tallies_are x)) in
       ap (choice says part progress last) head.1
       ∙ ap (λ b. cond b (Some (Probe part.number x (seen_at part progress x).position)) (Some (read_next part progress))) (ap says (summary_same x some) ∙ said)
       ∙ ap (λ (p : ℕ). Some (Probe part.number x p)) position
@@ -77,7 +83,7 @@ module _ (says : Summary → Bool) (query : Query) (before : List Row) (part : S
       ∙ ap (λ c. cond c (Some (read_next part progress)) None) (ap (unseen_open (left_of part progress)) (threshold_same last) ∙ e)
 
   -- the look that follows from the first open column and the chooser is the next look
-  pub next_chosen : (column : Option ℕ) → IsHead query part progress last column → ((x : ℕ) → column ≡ Some x → 0 < (seen_at part progress x).count) → chosen says part.number lengths part.query progress.read tallies (overlap_of last) column ≡ next_look says query before part progress
+  pub next_chosen : (column : Option ℕ) → IsHead query part progress last column → ((x : ℕ) → column ≡ Some x → 0 < (seen_at part progress x).count) → chosen says part.number lengths part.query progress.read part.segment.sets tallies (overlap_of last) column ≡ next_look says query before part progress
   next_chosen None head some = by (unseen_open (length part.query - progress.read) (threshold_of (overlap_of last))) refl
     where
       by : (b : Bool) → unseen_open (length part.query - progress.read) (threshold_of (overlap_of last)) ≡ b → cond b (Some (Read part.number (get_or part.query progress.read 0))) None ≡ next_look says query before part progress
@@ -85,29 +91,29 @@ module _ (says : Summary → Bool) (query : Query) (before : List Row) (part : S
       by false e = sym (next_unseen false head e)
   next_chosen (Some x) head some = by (says (summary_of lengths progress.read (tally_at tallies x) (overlap_of last))) refl
     where
-      by : (b : Bool) → says (summary_of lengths progress.read (tally_at tallies x) (overlap_of last)) ≡ b → cond b (Some (Probe part.number x (tally_at tallies x).position)) (Some (Read part.number (get_or part.query progress.read 0))) ≡ next_look says query before part progress
+      by : (b : Bool) → says (summary_of lengths progress.read (tally_at tallies x) (overlap_of last)) ≡ b → cond b (Some (Probe part.number x (position_in (get_or part.segment.sets x []) (tally_at tallies x)))) (Some (Read part.number (get_or part.query progress.read 0))) ≡ next_look says query before part progress
       by true e = sym (next_probes x head (some x refl) e)
       by false e = sym (next_reads x head (some x refl) e)
 
 -- what follows from a look that was chosen
-module _ (says : Summary → Bool) (number : ℕ) (lengths tokens : List ℕ) (read : ℕ) (tallies : List Tally) (worst : Option ℕ) where
-  pub chosen_probe : (column : Option ℕ) (n x after : ℕ) → chosen says number lengths tokens read tallies worst column ≡ Some (Probe n x after) → (n ≡ number) × (column ≡ Some x) × (after ≡ (tally_at tallies x).position)
+module _ (says : Summary → Bool) (number : ℕ) (lengths tokens : List ℕ) (read : ℕ) (sets : List (List ℕ)) (tallies : List Tally) (worst : Option ℕ) where
+  pub chosen_probe : (column : Option ℕ) (n x after : ℕ) → chosen says number lengths tokens read sets tallies worst column ≡ Some (Probe n x after) → (n ≡ number) × (column ≡ Some x) × (after ≡ position_in (get_or sets x []) (tally_at tallies x))
   chosen_probe None n x after e = by (unseen_open (length tokens - read) (threshold_of worst)) e
     where
-      by : (b : Bool) → cond b (Some (Read number (get_or tokens read 0))) None ≡ Some (Probe n x after) → (n ≡ number) × (None ≡ Some x) × (after ≡ (tally_at tallies x).position)
+      by : (b : Bool) → cond b (Some (Read number (get_or tokens read 0))) None ≡ Some (Probe n x after) → (n ≡ number) × (None ≡ Some x) × (after ≡ position_in (get_or sets x []) (tally_at tallies x))
       by true e = absurd (let f : Some (Read number (get_or tokens read 0)) ≡ Some (Probe n x after) = e in cc)
       by false e = absurd (let f : None ≡ Some (Probe n x after) = e in cc)
   chosen_probe (Some y) n x after e = by (says (summary_of lengths read (tally_at tallies y) worst)) e
     where
-      by : (b : Bool) → cond b (Some (Probe number y (tally_at tallies y).position)) (Some (Read number (get_or tokens read 0))) ≡ Some (Probe n x after) → (n ≡ number) × (Some y ≡ Some x) × (after ≡ (tally_at tallies x).position)
+      by : (b : Bool) → cond b (Some (Probe number y (position_in (get_or sets y []) (tally_at tallies y)))) (Some (Read number (get_or tokens read 0))) ≡ Some (Probe n x after) → (n ≡ number) × (Some y ≡ Some x) × (after ≡ position_in (get_or sets x []) (tally_at tallies x))
       by true f =
           let same_n : n ≡ number = cc in
           let same : y ≡ x = cc in
-          let at : after ≡ (tally_at tallies y).position = cc in
-          (same_n, ap Some same, at ∙ ap (λ (z : ℕ). (tally_at tallies z).position) same)
+          let at : after ≡ position_in (get_or sets y []) (tally_at tallies y) = cc in
+          (same_n, ap Some same, at ∙ ap (λ (z : ℕ). position_in (get_or sets z []) (tally_at tallies z)) same)
       by false f = absurd (let g : Some (Read number (get_or tokens read 0)) ≡ Some (Probe n x after) = f in cc)
 
-  pub chosen_read : (column : Option ℕ) (n t : ℕ) → chosen says number lengths tokens read tallies worst column ≡ Some (Read n t) → (n ≡ number) × (t ≡ get_or tokens read 0)
+  pub chosen_read : (column : Option ℕ) (n t : ℕ) → chosen says number lengths tokens read sets tallies worst column ≡ Some (Read n t) → (n ≡ number) × (t ≡ get_or tokens read 0)
   chosen_read None n t e = by (unseen_open (length tokens - read) (threshold_of worst)) e
     where
       by : (b : Bool) → cond b (Some (Read number (get_or tokens read 0))) None ≡ Some (Read n t) → (n ≡ number) × (t ≡ get_or tokens read 0)
@@ -115,8 +121,8 @@ module _ (says : Summary → Bool) (number : ℕ) (lengths tokens : List ℕ) (r
       by false f = absurd (let g : None ≡ Some (Read n t) = f in cc)
   chosen_read (Some y) n t e = by (says (summary_of lengths read (tally_at tallies y) worst)) e
     where
-      by : (b : Bool) → cond b (Some (Probe number y (tally_at tallies y).position)) (Some (Read number (get_or tokens read 0))) ≡ Some (Read n t) → (n ≡ number) × (t ≡ get_or tokens read 0)
-      by true f = absurd (let g : Some (Probe number y (tally_at tallies y).position) ≡ Some (Read n t) = f in cc)
+      by : (b : Bool) → cond b (Some (Probe number y (position_in (get_or sets y []) (tally_at tallies y)))) (Some (Read number (get_or tokens read 0))) ≡ Some (Read n t) → (n ≡ number) × (t ≡ get_or tokens read 0)
+      by true f = absurd (let g : Some (Probe number y (position_in (get_or sets y []) (tally_at tallies y))) ≡ Some (Read n t) = f in cc)
       by false f = (let g : n ≡ number = cc in g, let g : t ≡ get_or tokens read 0 = cc in g)
 
 -- the k-th known row is the k-th of the first k that are kept

@@ -12,7 +12,7 @@ use Rattle.part_columns.specs.declared.tally.Tally.{Tally}
 use Rattle.josie_search.specs.Costs.{lengths_of, summary_of}
 use Rattle.josie_search.specs.Open.{overlap_of, taken}
 use Rattle.josie_search.specs.Rows.{bound_row, first_of, FoundAmong, FoundTo, leads}
-use Rattle.part_columns.specs.Tallies.{most_of, rest_of, tally_at}
+use Rattle.part_columns.specs.Tallies.{most_of, tally_at}
 use Rattle.josie_search.specs.State.{IsAt}
 use Rattle.josie_search.proofs.FirstLemmas.{first_of_all, found_more, no_sooner, no_sooner_there}
 use Rattle.josie_search.proofs.LoopLemmas.{lead_parts}
@@ -85,7 +85,7 @@ module _ (says : Summary → Bool) (query : Query) (before : List Row) (part : S
           let high : (bound_row part tallies left w).overlap ≤ row.overlap = no_sooner (bound_row part tallies left w) row (no_sooner_there query part tallies known left (length part.segment.columns) x w row h within lead) in
           let bound : row.overlap ≡ most_of left (tally_at tallies x) = ap (λ (r : Row). r.overlap) h.same in
           let count = counts x in
-          let long : rest < rest_of (tally_at tallies x) = omega (arith, high, bound, count, more) in
+          let long : rest < (tally_at tallies x).rest = omega (arith, high, bound, count, more) in
           let said : says (summary_of (lengths_of part.segment part.query) progress.read (tally_at tallies x) (overlap_of last)) ≡ false =
           ap (λ (l : Option Row). says (summary_of (lengths_of part.segment part.query) progress.read (tally_at tallies x) (overlap_of l))) none
           ∙ reads (summary_of (lengths_of part.segment part.query) progress.read (tally_at tallies x) None) refl refl long in

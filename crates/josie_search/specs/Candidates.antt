@@ -9,7 +9,7 @@ use Rattle.search_model.specs.Looks.{Searched}
 use Rattle.josie_search.specs.declared.candidates.Candidate.{Candidate}
 use Rattle.part_columns.specs.declared.tally.Tally.{Tally}
 use Rattle.josie_search.specs.Rows.{bound_row, leads}
-use Rattle.part_columns.specs.Tallies.{most_of, rest_of, tally_at}
+use Rattle.part_columns.specs.Tallies.{most_of, tally_at}
 
 -- ---- ranks
 
@@ -86,7 +86,7 @@ pub record IsTop (left : ℕ) (c : CandidatesOf) (t : Candidate) : Type 0 where
 -- the candidate of a column of this tally and rank: by its count if at most as many lists are left as it has tokens
 -- left
 abbrev pub candidate_of : ℕ → Tally → ℕ → Candidate
-candidate_of left tally rank = if nat_le left (rest_of tally) then candidate true tally.count rank else candidate false (most_of left tally) rank
+candidate_of left tally rank = if nat_le left tally.rest then candidate true tally.count rank else candidate false (most_of left tally) rank
 
 -- the candidate has this rank, and its number is at least the bound of a column of this tally
 abbrev pub is_over : ℕ → Tally → ℕ → Candidate → Bool

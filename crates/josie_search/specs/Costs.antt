@@ -5,7 +5,7 @@ use Rattle.search_model.specs.Choosers.{read_cost}
 use Rattle.search_model.specs.Looks.{estimate, spared}
 use Rattle.search_model.specs.Segment.{Segment}
 use Rattle.part_columns.specs.declared.tally.Tally.{Tally}
-use Rattle.part_columns.specs.Tallies.{most_of, rest_of}
+use Rattle.part_columns.specs.Tallies.{most_of}
 
 -- the lengths of the lists of these tokens
 abbrev pub lengths_of : Segment → List ℕ → List ℕ
@@ -32,7 +32,7 @@ summary_of lengths read tally worst =
       left = left;
       c = tally.count;
       u = most_of left tally;
-      rest = rest_of tally;
+      rest = tally.rest;
       t = threshold_of worst;
       gain = gain_of worst lengths read (estimate tally.count (most_of left tally) (length lengths) read);
     }

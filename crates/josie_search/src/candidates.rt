@@ -7,7 +7,7 @@ ghost use Rattle.std.specs.Ordering.{nat_cmp};
 ghost use Rattle.josie_search.specs.Candidates.{all_of, better, candidate_of, entry_of, IsFirstIn, IsTop, most_now, of_entry, StandsFirst};
 
 use no_memory::NoMemory;
-use part_columns::{Tally, most_of, rest_of};
+use part_columns::{Tally, most_of};
 use std::alloc::Global;
 use std::collections::BinaryHeap;
 use std::marker::Model;
@@ -210,7 +210,7 @@ pub(crate) fn candidate_of(tally: Tally, left: u32, rank: u32) -> Candidate
     requires { tally.count + left < 2 ^ 32 }
     ensures { result ≡ candidate_of left tally rank }
 {
-    if left <= rest_of(tally) {
+    if left <= tally.rest {
         Candidate {
             by_count: true,
             number: tally.count,

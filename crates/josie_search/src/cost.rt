@@ -110,15 +110,14 @@ pub(crate) fn summarize(
 {
     let lists = tokens.len() as u32;
     let left = lists - read;
-    let rest = tally.size.saturating_sub(1).saturating_sub(tally.position);
-    let most = bound(tally.count, left, rest);
+    let most = bound(tally.count, left, tally.rest);
     let estimate = estimate(tally.count, most, lists, read);
     Summary {
         next_len: length_of(looks, part, tokens[read as usize]),
         left,
         c: tally.count,
         u: most,
-        rest,
+        rest: tally.rest,
         t: worst.unwrap_or(1),
         gain: gain(sums, read, worst, estimate),
     }

@@ -1,6 +1,6 @@
 //! Decides what a search does next in a part.
 ghost use Rattle.search_model.specs.declared.Look.TheVariants.{Probe, Read};
-ghost use Rattle.std.specs.Prelude.{true, Some, ◌≡◌, ◌<◌, ◌≤◌, ◌+◌, ◌++◌, ◌^◌, ℕ, get_or, length, List, option_map, slice_get, ◌-◌, IfSome};
+ghost use Rattle.std.specs.Prelude.{true, Some, ◌≡◌, ◌<◌, ◌≤◌, ◌+◌, ◌++◌, ◌^◌, ℕ, [], get_or, length, List, option_map, slice_get, ◌-◌, IfSome};
 ghost use Rattle.std.specs.List.{All};
 ghost use Rattle.lake_model.specs.Answer.{Row as RowOf, row_cmp};
 ghost use Rattle.search_laws.specs.Select.{best};
@@ -12,7 +12,7 @@ ghost use Rattle.josie_search.specs.Costs.{lengths_of, threshold_of, AreSums};
 ghost use Rattle.josie_search.specs.Open.{chosen, overlap_of, taken};
 ghost use Rattle.josie_search.specs.Rows.{leads, MayLead};
 ghost use Rattle.josie_search.specs.State.{IsAt};
-ghost use Rattle.part_columns.specs.Tallies.{tally_at};
+ghost use Rattle.part_columns.specs.Tallies.{position_in, tally_at};
 
 use crate::candidates::Candidates;
 use crate::cost::summarize;
@@ -22,7 +22,7 @@ use crate::query::Asked;
 use crate::sure::surely_reads;
 use column_set::Row;
 use cost_model::Chooser;
-use part_columns::Columns;
+use part_columns::{Columns, position_of};
 use search_bounds::unseen_open;
 use segment_core::{ColumnOrder, Look, Looks};
 use topk_heap::TopK;
@@ -61,7 +61,7 @@ pub(crate) fn next_look<C: Chooser>(
     requires witness { IfSome witness.old (MayLead query.now (searched query.now (part_at looks.now.version.parts part))) }
     requires held { AreHeld query.now (searched query.now (part_at looks.now.version.parts part)) order.ranks.now columns.now.tallies columns.now.known (length tokens.now - read) candidates.old.low (all_of candidates.old) }
     ensures next { (before : List RowOf) (progress : Progress) → IsAt (searched query.now (part_at looks.now.version.parts part)) progress columns.now.tallies columns.now.known → progress.read ≡ read → top.now.rows ≡ best row_cmp query.now.k (before ++ known_rows query.now (searched query.now (part_at looks.now.version.parts part)) progress) → result ≡ next_look (C.says chooser.now) query.now before (searched query.now (part_at looks.now.version.parts part)) progress }
-    ensures probed { (n x after : ℕ) → result ≡ Some (Probe n x after) → (n ≡ (part_at looks.now.version.parts part).number) × (x < length (segment_at looks.now.version.parts part).sets) × (leads query.now (searched query.now (part_at looks.now.version.parts part)) columns.now.tallies columns.now.known x ≡ true) × (after ≡ (tally_at columns.now.tallies x).position) }
+    ensures probed { (n x after : ℕ) → result ≡ Some (Probe n x after) → (n ≡ (part_at looks.now.version.parts part).number) × (x < length (segment_at looks.now.version.parts part).sets) × (leads query.now (searched query.now (part_at looks.now.version.parts part)) columns.now.tallies columns.now.known x ≡ true) × (after ≡ position_in (get_or (segment_at looks.now.version.parts part).sets x []) (tally_at columns.now.tallies x)) }
     ensures listed { (n t : ℕ) → result ≡ Some (Read n t) → (n ≡ (part_at looks.now.version.parts part).number) × (t ≡ get_or tokens.now read 0) }
     ensures held { AreHeld query.now (searched query.now (part_at looks.now.version.parts part)) order.entry.ranks.now columns.now.tallies columns.now.known (length tokens.now - read) candidates.new.low (all_of candidates.new) }
     ensures room { candidates.new.room ≡ candidates.old.room }
@@ -106,8 +106,8 @@ fn choose<C: Chooser>(
     requires sums { AreSums (lengths_of (segment_at looks.now.version.parts part) tokens.now) sums.now }
     requires read { read < length tokens.now }
     requires small { (column : ℕ) → (tally_at columns.now.tallies column).count ≤ read }
-    requires seen { (x : ℕ) → column ≡ Some x → (x < length columns.now.tallies) × (0 < (tally_at columns.now.tallies x).count) }
-    ensures { result ≡ chosen (C.says chooser.now) (part_at looks.now.version.parts part).number (lengths_of (segment_at looks.now.version.parts part) tokens.now) tokens.now read columns.now.tallies worst column }
+    requires seen { (x : ℕ) → column ≡ Some x → (x < length columns.now.tallies) × (x < length (segment_at looks.now.version.parts part).sets) × (0 < (tally_at columns.now.tallies x).count) }
+    ensures { result ≡ chosen (C.says chooser.now) (part_at looks.now.version.parts part).number (lengths_of (segment_at looks.now.version.parts part) tokens.now) tokens.now read (segment_at looks.now.version.parts part).sets columns.now.tallies worst column }
 {
     let number = looks.number(part);
     let token = tokens[read as usize];
@@ -128,7 +128,7 @@ fn choose<C: Chooser>(
         Some(Look::Probe {
             part: number,
             set: column,
-            after: tally.position,
+            after: position_of(looks, part, column, tally),
         })
     } else {
         Some(Look::Read {

@@ -13,7 +13,7 @@ ghost use Rattle.part_columns.specs.Columns.{IsClean};
 ghost use Rattle.josie_search.specs.Costs.{lengths_of, AreSums};
 ghost use Rattle.josie_search.specs.Offers.{shared_row};
 ghost use Rattle.part_columns.specs.Room.{looks_bound};
-ghost use Rattle.part_columns.specs.Tallies.{no_tally, tally_at, tally_of};
+ghost use Rattle.part_columns.specs.Tallies.{no_tally, position_in, tally_at, tally_of};
 ghost use Rattle.token_set.specs.Bits.{IsSetOf};
 
 use crate::candidates::Candidates;
@@ -53,7 +53,7 @@ pub(crate) fn probe_column<'a>(
     requires live { is_eligible query.now (searched query.now (part_at looks.old.version.parts part)) (column_at (searched query.now (part_at looks.old.version.parts part)) column) ≡ true }
     requires distinct { IsDistinct bytes_eq query.now.keys }
     ensures version { looks.new.version ≡ looks.old.version }
-    ensures log { looks.new.log ≡ looks.old.log ++ Probe (part_at looks.old.version.parts part).number column (tally_at columns.old.tallies column).position ∷ [] }
+    ensures log { looks.new.log ≡ looks.old.log ++ Probe (part_at looks.old.version.parts part).number column (position_in (get_or (segment_at looks.old.version.parts part).sets column []) (tally_at columns.old.tallies column)) ∷ [] }
     ensures spare { looks.new.spare + 1 ≡ looks.old.spare }
     ensures tallies { columns.new.tallies ≡ columns.old.tallies }
     ensures known { columns.new.known ≡ slice_set columns.old.known column true }

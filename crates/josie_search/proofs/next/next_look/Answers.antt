@@ -23,7 +23,7 @@ choose-requires-clause-seen g c = λ x e.
     let part = searched query (part_at c.args.looks.now.version.parts c.args.part) in
     let columns = c.args.columns.now in
     let lead = taken_leads query part columns.tallies columns.known _ c.first_lead-found.result _ _ _ x c.first_lead-found.ensures.found (sym e ∙ c.take_better-column.ensures) in
-    (omega (arith, lead.0, c.requires.wide), (lead_parts query part columns.tallies columns.known x lead.1).2)
+    (omega (arith, lead.0, c.requires.wide), lead.0, (lead_parts query part columns.tallies columns.known x lead.1).2)
 
 pub returns-then-surely_reads-clause-next : goal.returns-then-surely_reads-clause-next
 returns-then-surely_reads-clause-next g c = λ before progress is at same.
@@ -44,7 +44,7 @@ returns-clause-next g c = λ before progress is at same.
     let low = c.threshold-low.ensures ∙ ap threshold_of (c.worst_overlap-worst.ensures ∙ ap overlap_of (c.worst.ensures.row ∙ sym c.worst-2.ensures.row)) in
     let head = head_now query part progress columns.tallies columns.known last _ c.first_lead-found.result _ _ _ c.take_better-column.result is (c.worst-2.ensures.row ∙ kth) left (length-sets (tables_of whole)) low c.first_lead-found.ensures.found c.take_better-column.ensures in
     c.choose.ensures
-    ∙ (λ i. chosen says part.number (lengths_of part.segment (c.requires.tokens i)) (c.requires.tokens i) (sym at i) columns.tallies (told i) c.take_better-column.result)
+    ∙ (λ i. chosen says part.number (lengths_of part.segment (c.requires.tokens i)) (c.requires.tokens i) (sym at i) part.segment.sets columns.tallies (told i) c.take_better-column.result)
     ∙ next_chosen says query before part progress columns.tallies columns.known is c.take_better-column.result head
     (λ x e. seen_count query part progress columns.tallies columns.known is x (taken_leads query part columns.tallies columns.known _ c.first_lead-found.result _ _ _ x c.first_lead-found.ensures.found (sym e ∙ c.take_better-column.ensures)).1)
 
@@ -53,7 +53,7 @@ returns-clause-probed g c = λ n x after e.
     let query = c.args.query.now in
     let part = searched query (part_at c.args.looks.now.version.parts c.args.part) in
     let columns = c.args.columns.now in
-    let told = chosen_probe (g.C.Chooser.says c.args.chooser.now) part.number _ c.args.tokens.now c.args.read columns.tallies c.worst_overlap-worst.result c.take_better-column.result n x after (sym c.choose.ensures ∙ e) in
+    let told = chosen_probe (g.C.Chooser.says c.args.chooser.now) part.number _ c.args.tokens.now c.args.read part.segment.sets columns.tallies c.worst_overlap-worst.result c.take_better-column.result n x after (sym c.choose.ensures ∙ e) in
     let lead = taken_leads query part columns.tallies columns.known _ c.first_lead-found.result _ _ _ x c.first_lead-found.ensures.found (sym told.1 ∙ c.take_better-column.ensures) in
     (told.0, lead.0, lead.1, told.2)
 
