@@ -7,7 +7,7 @@ use Rattle.contain_search.specs.Enough.{IsExactFrom}
 use Rattle.lake_model.specs.Layout.{is_among}
 use Rattle.part_columns.proofs.ProbeLemmas.{probe_counts}
 use Rattle.part_columns.specs.declared.tally.Tally.{Tally}
-use Rattle.part_columns.specs.Tallies.{tally_of}
+use Rattle.part_columns.specs.Tallies.{position_in, tally_of}
 use Rattle.search_model.specs.Looks.{hits}
 use Rattle.list_laws.specs.Distinct.{Rises}
 
@@ -34,7 +34,7 @@ counted_on least before count told is = record {
 
 -- the number for the tokens after the last hit, plus the count of the tally, is exact from `least` on for all tokens
 pub probed_from : (set qs : List ℕ) (i least wanted told : ℕ) (left tail : List ℕ) (tally : Tally) → Rises set → Rises qs → 0 < tally.count → tally ≡ tally_of set (hits set (take i qs))
-    → left ≡ drop i qs → tail ≡ drop (tally.position + 1) set → wanted ≡ least - tally.count → IsExactFrom wanted (count_by (is_among left) tail) told → IsExactFrom least (length (hits set qs)) (tally.count + told)
+    → left ≡ drop i qs → tail ≡ drop (position_in set tally + 1) set → wanted ≡ least - tally.count → IsExactFrom wanted (count_by (is_among left) tail) told → IsExactFrom least (length (hits set qs)) (tally.count + told)
 probed_from set qs i least wanted told left tail tally over up some e l t w is =
     let count = count_by (is_among left) tail in
     subst (λ (n : ℕ). IsExactFrom least n (tally.count + told)) (probe_counts set qs i count left tail tally over up some e l t refl)

@@ -14,11 +14,12 @@ use Rattle.list_laws.specs.Distinct.{Rises}
 use Rattle.lake_model.proofs.SortingLemmas.{less_order, Ordered, ordered_in_order, sorted_is}
 use Rattle.lake_model.specs.Layout.{is_among}
 use Rattle.contain_search.specs.Met.{may_columns, may_still}
-use Rattle.part_columns.proofs.TallyLemmas.{bound_same, counted_in, position_same, tally_count}
+use Rattle.part_columns.proofs.ProbeLemmas.{position_is}
+use Rattle.part_columns.proofs.TallyLemmas.{bound_same, counted_in, tally_count}
 use Rattle.part_columns.proofs.TouchedLemmas.{listed_once, listed_seen, touched_listed}
 use Rattle.part_columns.specs.Columns.{IsListed}
 use Rattle.part_columns.specs.declared.tally.Tally.{Tally}
-use Rattle.part_columns.specs.Tallies.{AreTallies, most_of, tally_at}
+use Rattle.part_columns.specs.Tallies.{AreTallies, most_of, position_in, tally_at}
 use Rattle.search_model.specs.Arrays.{no_titled, titled_at}
 use Rattle.search_model.specs.Contain.{is_unmarked, lists_needed, may_hold, seen_behind}
 use Rattle.search_model.specs.Looks.{hits, Searched}
@@ -164,8 +165,8 @@ module _ (least : ℕ) (part : Searched) (long : length part.segment.sets ≡ le
   pub bound_is : (x : ℕ) (c : Titled) → 0 < (tally_at tallies x).count → most_of left (tally_at tallies x) ≡ (seen_behind least part x c).bound.overlap
   bound_is x c some = ap (most_of left) (are x) ∙ bound_same (get_or part.segment.sets x []) (found_at x) left (omega (arith, some, count_is x c))
 
-  pub position_is : (x : ℕ) (c : Titled) → 0 < (tally_at tallies x).count → (tally_at tallies x).position ≡ (seen_behind least part x c).position
-  position_is x c some = ap (λ (t : Tally). t.position) (are x) ∙ position_same (get_or part.segment.sets x []) (found_at x) (omega (arith, some, count_is x c))
+  pub seen_position : (x : ℕ) (c : Titled) → 0 < (tally_at tallies x).count → position_in (get_or part.segment.sets x []) (tally_at tallies x) ≡ (seen_behind least part x c).position
+  seen_position x c some = position_is (get_or part.segment.sets x []) part.query (lists_needed least part) (tally_at tallies x) some (are x)
 
   abbrev still : ℕ → Bool
   still x = may_still least part tallies left x

@@ -50,10 +50,10 @@ module _ (least : ℕ) (part : Searched) (long : length part.segment.sets ≡ le
       let some = All-from_recursion (λ x. 0 < (tally_at tallies x).count) (may_columns least part) each k d (omega (arith, h, ap length holds)) in
       omega (arith, some, ap (λ (xs : List ℕ). (tally_at tallies (get_or xs k d)).count) holds)
 
-  pub looks_made : (number : ℕ) (old mid news : List Look) → number ≡ part.number → mid ≡ old ++ map (λ token. Read part.number token) (take read part.query) → news ≡ mid ++ flat_map (probes_of number tallies (length part.query - read)) found
+  pub looks_made : (number : ℕ) (sets : List (List ℕ)) (old mid news : List Look) → number ≡ part.number → sets ≡ part.segment.sets → mid ≡ old ++ map (λ token. Read part.number token) (take read part.query) → news ≡ mid ++ flat_map (probes_of number sets tallies (length part.query - read)) found
       → news ≡ old ++ contain_looks least part
-  looks_made number old mid news same reads probes =
-      probes ∙ (λ i. reads i ++ flat_map (probes_of (same i) tallies (length part.query - is i)) (holds i))
+  looks_made number sets old mid news same there reads probes =
+      probes ∙ (λ i. reads i ++ flat_map (probes_of (same i) (there i) tallies (length part.query - is i)) (holds i))
       ∙ (λ i. (old ++ map (λ token. Read part.number token) (take (is i) part.query)) ++ probes_are_needed least part long tallies are i)
       ∙ append_assoc old (reads_needed least part) (probes_needed least part)
 

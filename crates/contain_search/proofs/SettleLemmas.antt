@@ -5,7 +5,7 @@ use Rattle.std.specs.List.{AllByRecursion, count_by, enumerate_from, filter, fla
 use Rattle.std.proofs.lemmas.List.{get_or_past}
 use Rattle.std.proofs.lemmas.List.Sums.{sum_by-cons}
 use Rattle.lake_model.specs.Answer.{Row}
-use Rattle.contain_search.proofs.HoldLemmas.{bound_is, count_is, may_seen, position_is}
+use Rattle.contain_search.proofs.HoldLemmas.{bound_is, count_is, may_seen, seen_position}
 use Rattle.contain_search.specs.Met.{may_columns, probes_of, rows_of}
 use Rattle.part_columns.specs.declared.tally.Tally.{Tally}
 use Rattle.part_columns.specs.Room.{unprobed}
@@ -64,22 +64,22 @@ module _ (least : ℕ) (part : Searched) where
     abbrev one_probe : Bool → Look → List Look
     one_probe b look = cond b (look ∷ []) []
 
-    probes_here : (x : ℕ) (c : Titled) → may_hold least part x c ≡ true → probes_of part.number tallies left x ≡ one_probe (more (x, c)) (probe (x, c))
+    probes_here : (x : ℕ) (c : Titled) → may_hold least part x c ≡ true → probes_of part.number part.segment.sets tallies left x ≡ one_probe (more (x, c)) (probe (x, c))
     probes_here x c e =
         let some = may_seen least part long tallies are x c e in
-        (λ i. cond (nat_lt (count_is least part long tallies are x c i) (bound_is least part long tallies are x c some i)) (Probe part.number x (position_is least part long tallies are x c some i) ∷ []) [])
+        (λ i. cond (nat_lt (count_is least part long tallies are x c i) (bound_is least part long tallies are x c some i)) (Probe part.number x (seen_position least part long tallies are x c some i) ∷ []) [])
 
-    probes_from : (cs : List Numbered) → flat_map (probes_of part.number tallies left) (map (λ c. c.0) (filter may cs)) ≡ map probe (filter (λ c. is_probed least part c.0 c.1) cs)
+    probes_from : (cs : List Numbered) → flat_map (probes_of part.number part.segment.sets tallies left) (map (λ c. c.0) (filter may cs)) ≡ map probe (filter (λ c. is_probed least part c.0 c.1) cs)
     probes_from [] = refl
     probes_from (c ∷ cs) = by (may c) (more c) refl (probes_here c.0 c.1) (probes_from cs)
       where
-        by : (b m : Bool) → may c ≡ b → (may c ≡ true → probes_of part.number tallies left c.0 ≡ one_probe m (probe c)) → flat_map (probes_of part.number tallies left) (map (λ (c : Numbered). c.0) (filter may cs)) ≡ map probe (filter (λ (c : Numbered). is_probed least part c.0 c.1) cs)
-            → flat_map (probes_of part.number tallies left) (map (λ (c : Numbered). c.0) (cond b (c ∷ filter may cs) (filter may cs))) ≡ map probe (cond (b && m) (c ∷ filter (λ (c : Numbered). is_probed least part c.0 c.1) cs) (filter (λ (c : Numbered). is_probed least part c.0 c.1) cs))
+        by : (b m : Bool) → may c ≡ b → (may c ≡ true → probes_of part.number part.segment.sets tallies left c.0 ≡ one_probe m (probe c)) → flat_map (probes_of part.number part.segment.sets tallies left) (map (λ (c : Numbered). c.0) (filter may cs)) ≡ map probe (filter (λ (c : Numbered). is_probed least part c.0 c.1) cs)
+            → flat_map (probes_of part.number part.segment.sets tallies left) (map (λ (c : Numbered). c.0) (cond b (c ∷ filter may cs) (filter may cs))) ≡ map probe (cond (b && m) (c ∷ filter (λ (c : Numbered). is_probed least part c.0 c.1) cs) (filter (λ (c : Numbered). is_probed least part c.0 c.1) cs))
         by false m e here ih = ih
         by true true e here ih = (λ i. here e i ++ ih i)
         by true false e here ih = (λ i. here e i ++ ih i)
 
-    pub probes_are_needed : flat_map (probes_of part.number tallies left) (may_columns least part) ≡ probes_needed least part
+    pub probes_are_needed : flat_map (probes_of part.number part.segment.sets tallies left) (may_columns least part) ≡ probes_needed least part
     probes_are_needed = probes_from (enumerate_from 0 part.segment.columns)
 
 -- ---- how many columns may hold enough

@@ -6,7 +6,7 @@ use Rattle.lake_model.specs.Layout.{Part}
 use Rattle.lake_model.specs.Texts.{Text}
 use Rattle.part_columns.specs.declared.tally.Tally.{Tally}
 use Rattle.part_columns.specs.Room.{asked_in, looks_bound, probes_bound}
-use Rattle.part_columns.specs.Tallies.{most_of, tally_at}
+use Rattle.part_columns.specs.Tallies.{most_of, position_in, tally_at}
 use Rattle.search_laws.specs.Found.{found_row, tokens_shared}
 use Rattle.search_model.specs.Arrays.{titled_at}
 use Rattle.search_model.specs.Contain.{may_hold}
@@ -31,11 +31,11 @@ abbrev pub may_still : ℕ → Searched → List Tally → ℕ → ℕ → Bool
 may_still least part tallies left x = nat_le least (most_of left (tally_at tallies x)) && not (get_or part.marks (titled_at part.segment.columns x).from false)
 
 -- the probe of a column of this tally, if it may hold more of the tokens than the tally counts
-abbrev pub probes_with : ℕ → Tally → ℕ → ℕ → List Look
-probes_with number tally left x = if nat_lt tally.count (most_of left tally) then Probe number x tally.position ∷ [] else []
+abbrev pub probes_with : ℕ → List ℕ → Tally → ℕ → ℕ → List Look
+probes_with number set tally left x = if nat_lt tally.count (most_of left tally) then Probe number x (position_in set tally) ∷ [] else []
 
-abbrev pub probes_of : ℕ → List Tally → ℕ → ℕ → List Look
-probes_of number tallies left x = probes_with number (tally_at tallies x) left x
+abbrev pub probes_of : ℕ → List (List ℕ) → List Tally → ℕ → ℕ → List Look
+probes_of number sets tallies left x = probes_with number (get_or sets x []) (tally_at tallies x) left x
 
 -- the column's row, if it holds enough
 abbrev pub rows_of : ℕ → Searched → ℕ → List Row

@@ -130,7 +130,7 @@ fn overlap_from(
     requires tokens { (keys : List Text) × (tokens.now ≡ asked_in keys (part_at looks.old.version.parts part)) }
     ensures overlap { IsExactFrom least (length (hits (get_or (segment_at looks.old.version.parts part).sets column []) tokens.now)) result }
     ensures version { looks.new.version ≡ looks.old.version }
-    ensures log { looks.new.log ≡ looks.old.log ++ probes_with (part_at looks.old.version.parts part).number tally (length tokens.now - read) column }
+    ensures log { looks.new.log ≡ looks.old.log ++ probes_with (part_at looks.old.version.parts part).number (get_or (segment_at looks.old.version.parts part).sets column []) tally (length tokens.now - read) column }
     ensures spare { looks.old.spare ≤ looks.new.spare + 1 }
 {
     let left = tokens.len() as u32 - read;
@@ -163,7 +163,7 @@ fn settle<'a>(
     requires tokens { (keys : List Text) × (tokens.now ≡ asked_in keys (part_at looks.old.version.parts part)) }
     requires rows_room { vec_len rows.old < vec_capacity rows.old }
     ensures version { looks.new.version ≡ looks.old.version }
-    ensures log { looks.new.log ≡ looks.old.log ++ probes_of (part_at looks.old.version.parts part).number columns.now.tallies (length tokens.now - read) column }
+    ensures log { looks.new.log ≡ looks.old.log ++ probes_of (part_at looks.old.version.parts part).number (segment_at looks.old.version.parts part).sets columns.now.tallies (length tokens.now - read) column }
     ensures spare { looks.old.spare ≤ looks.new.spare + 1 }
     ensures rows { rows.new.items ≡ rows.old.items ++ rows_of least (met (part_at looks.old.version.parts part) tokens.now) column }
     ensures len { vec_len rows.new ≤ vec_len rows.old + 1 }
@@ -197,7 +197,7 @@ pub(crate) fn settle_all<'a>(
     requires room { length found.now ≤ looks.old.spare }
     requires rows_room { vec_len rows.old + length found.now ≤ vec_capacity rows.old }
     ensures version { looks.new.version ≡ looks.old.version }
-    ensures log { looks.new.log ≡ looks.old.log ++ flat_map (probes_of (part_at looks.old.version.parts part).number columns.now.tallies (length tokens.now - read)) found.now }
+    ensures log { looks.new.log ≡ looks.old.log ++ flat_map (probes_of (part_at looks.old.version.parts part).number (segment_at looks.old.version.parts part).sets columns.now.tallies (length tokens.now - read)) found.now }
     ensures spare { looks.old.spare ≤ looks.new.spare + length found.now }
     ensures rows { rows.new.items ≡ rows.old.items ++ flat_map (rows_of least (met (part_at looks.old.version.parts part) tokens.now)) found.now }
     ensures len { vec_len rows.new ≤ vec_len rows.old + length found.now }

@@ -4,13 +4,13 @@ ghost use Rattle.std.specs.List.Sorted.{IsStrictlyIncreasing};
 ghost use Rattle.lake_model.specs.Layout.{is_among};
 ghost use Rattle.lake_model.specs.Texts.{Text};
 ghost use Rattle.part_columns.specs.Room.{asked_in};
-ghost use Rattle.part_columns.specs.Tallies.{tally_of};
+ghost use Rattle.part_columns.specs.Tallies.{position_in, tally_of};
 ghost use Rattle.search_model.specs.Looks.{hits};
 ghost use Rattle.search_model.specs.declared.Look.TheVariants.{Probe};
 ghost use Rattle.segment_core.specs.Versions.{part_at, segment_at};
 ghost use Rattle.contain_search.specs.Enough.{IsExactFrom};
 
-use part_columns::{Sought, Tally, seek};
+use part_columns::{Sought, Tally, position_of, seek};
 use segment_core::Looks;
 
 /// Returns how many of the query's tokens a column has whose tally after the first `read` lists is `tally`, if these
@@ -35,10 +35,11 @@ pub(crate) fn probe_from(
     requires tokens { (keys : List Text) × (tokens.now ≡ asked_in keys (part_at looks.old.version.parts part)) }
     ensures overlap { IsExactFrom least (length (hits (get_or (segment_at looks.old.version.parts part).sets column []) tokens.now)) result }
     ensures version { looks.new.version ≡ looks.old.version }
-    ensures log { looks.new.log ≡ looks.old.log ++ Probe (part_at looks.old.version.parts part).number column tally.position ∷ [] }
+    ensures log { looks.new.log ≡ looks.old.log ++ Probe (part_at looks.old.version.parts part).number column (position_in (get_or (segment_at looks.old.version.parts part).sets column []) tally) ∷ [] }
     ensures spare { looks.new.spare + 1 ≡ looks.old.spare }
 {
-    let tail = looks.tail(part, column, tally.position);
+    let position = position_of(looks, part, column, tally);
+    let tail = looks.tail(part, column, position);
     let wanted = least.saturating_sub(tally.count) as usize;
     tally.count + shared_from(&tokens[read as usize..], tail, wanted) as u32
 }

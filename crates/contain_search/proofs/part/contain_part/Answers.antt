@@ -3,7 +3,7 @@ use Rattle.contain_search.proofs.PartLemmas.{all_seen, few_found, first_within, 
 use Rattle.contain_search.specs.Met.{may_columns, met}
 use Rattle.search_model.specs.Contain.{lists_needed}
 use Rattle.segment_core.proofs.SegmentLemmas.{length-sets}
-use Rattle.segment_core.specs.Versions.{part_at, tables_of, VersionOf}
+use Rattle.segment_core.specs.Versions.{part_at, segment_at, tables_of, VersionOf}
 use Rattle.contain_search.proofs.part.contain_part.Goals as goal
 
 pub read_lists-requires-clause-lists : goal.read_lists-requires-clause-lists
@@ -36,8 +36,8 @@ returns-clause-log c =
     let part = met whole c.args.tokens.now in
     let read : c.saturating_sub-read.result ≡ lists_needed c.args.least part = omega (arith, c.saturating_sub-read.ensures) in
     let found = c.deref.ensures.value ∙ c.find_columns.ensures.found ∙ ap (λ (v : VersionOf). may_columns c.args.least (met (part_at v.parts c.args.part) c.args.tokens.now)) c.read_lists.ensures.version in
-    looks_made c.args.least part (length-sets (tables_of whole)) c.read_lists.new.columns.tallies c.saturating_sub-read.result read c.read_lists.ensures.tallies c.deref.result.now found _ c.args.looks.now.log c.read_lists.new.looks.log _
-    (ap (λ (v : VersionOf). (part_at v.parts c.args.part).number) c.read_lists.ensures.version) c.read_lists.ensures.log c.settle_all.ensures.log
+    looks_made c.args.least part (length-sets (tables_of whole)) c.read_lists.new.columns.tallies c.saturating_sub-read.result read c.read_lists.ensures.tallies c.deref.result.now found _ _ c.args.looks.now.log c.read_lists.new.looks.log _
+    (ap (λ (v : VersionOf). (part_at v.parts c.args.part).number) c.read_lists.ensures.version) (ap (λ (v : VersionOf). (segment_at v.parts c.args.part).sets) c.read_lists.ensures.version) c.read_lists.ensures.log c.settle_all.ensures.log
 
 pub returns-clause-spare : goal.returns-clause-spare
 returns-clause-spare c =
