@@ -1,6 +1,6 @@
 -- One table, worked out by hand: its column p has the keys z and a, and its column q has a. So token 0 is z, which one
 -- column holds, and token 1 is a, which both hold.
-use Rattle.std.specs.Prelude.{ℕ, List, [], ◌∷◌, codes, false}
+use Rattle.std.specs.Prelude.{◌-◌, ℕ, List, [], ◌∷◌, codes, false}
 use Rattle.lake_model.specs.Tables.{Table, column_with, table_with}
 use Rattle.search_model.specs.declared.Owner.{Owner}
 use Rattle.search_model.specs.declared.Posting.{Posting}
@@ -17,7 +17,7 @@ abbrev pub token_at : ℕ → ℕ → TokenAt
 token_at column index = record { column = column; index = index }
 
 abbrev pub posting : ℕ → ℕ → ℕ → Posting
-posting column position size = record { column = column; position = position; size = size }
+posting column position size = record { column = column; rest = size - 1 - position }
 
 -- where the columns are, where the tokens' keys are, and which column holds which token
 abbrev pub worked_owners : List Owner

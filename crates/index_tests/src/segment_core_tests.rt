@@ -119,18 +119,15 @@ fn postings(alloc: Global) -> Result<Vec<Posting>, NoMemory>
     let held = [
         Posting {
             column: 0,
-            position: 0,
-            size: 2,
+            rest: 1,
         },
         Posting {
             column: 0,
-            position: 1,
-            size: 2,
+            rest: 0,
         },
         Posting {
             column: 1,
-            position: 0,
-            size: 1,
+            rest: 0,
         },
     ];
     Ok(Vec::from_array(alloc, held)?)
@@ -275,13 +272,11 @@ fn queries(rt: HostRuntime) -> Result<(), Fail> {
 const HELD: [Posting; 2] = [
     Posting {
         column: 0,
-        position: 1,
-        size: 2,
+        rest: 0,
     },
     Posting {
         column: 1,
-        position: 0,
-        size: 1,
+        rest: 0,
     },
 ];
 

@@ -9,7 +9,7 @@ ghost use Rattle.josie_search.specs.Rows.{FoundFrom, leads};
 ghost use Rattle.part_columns.specs.Tallies.{most_of, tally_at};
 
 use crate::candidates::{Candidate, Candidates, FEW, candidate_of, most_now};
-use crate::hold::{goes_in, reach, reached};
+use crate::hold::{goes_in, reach};
 use crate::query::Asked;
 use crate::row::lead_of;
 use column_set::Row;
@@ -41,17 +41,17 @@ pub(crate) fn first_lead<'a>(
     ensures held { AreHeld query.now (searched query.now (part_at looks.now.version.parts part)) order.entry.ranks.now columns.now.tallies columns.now.known left candidates.new.low (all_of candidates.new) }
     ensures room { candidates.new.room ≡ candidates.old.room }
 {
-    let enough = FEW + query.k as usize;
-    let mut least = match candidates.least() {
-        Some(least) => least.max(low),
-        None => reached(columns, left, low, left, enough),
-    };
+    let mut least = candidates.least().unwrap_or(left);
     while low < least {
         let found = lead_from(looks, part, query, columns, candidates, order, left, least);
         if found.is_some() {
             return found;
         }
-        least = reached(columns, left, low, least / 2, enough);
+        least = if columns.touched().len() > FEW {
+            least / 2
+        } else {
+            low
+        };
     }
     lead_from(looks, part, query, columns, candidates, order, left, low)
 }

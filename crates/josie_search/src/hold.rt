@@ -1,5 +1,5 @@
 //! Decides which columns are held as candidates.
-ghost use Rattle.std.specs.Prelude.{◌≡◌, ◌<◌, ◌≤◌, ◌+◌, ◌^◌, ◌∷◌, ℕ, Bool, List, false, true, get_or, length, map, max};
+ghost use Rattle.std.specs.Prelude.{◌≡◌, ◌<◌, ◌≤◌, ◌+◌, ◌^◌, ◌∷◌, ℕ, Bool, List, false, true, get_or, length, map};
 ghost use Rattle.std.specs.List.{All};
 ghost use Rattle.std.specs.List.Sorted.{IsPermutation};
 ghost use Rattle.lake_model.specs.Answer.{Query};
@@ -53,36 +53,6 @@ fn fill(candidates: &mut Candidates, columns: &Columns, ranks: &[u32], left: u32
         enter(candidates, columns, ranks, left, *column);
     }
     candidates.owe();
-}
-
-/// Returns a bound between `low` and the greater of `low` and `high` that `enough` of the columns that were seen reach,
-/// if so many do: the first of `high`, its half, half of that and so on. It is `low` if few columns were seen.
-pub(crate) fn reached(columns: &Columns, left: u32, low: u32, high: u32, enough: usize) -> u32
-    requires small { (column : ℕ) → (tally_at columns.now.tallies column).count + left < 2 ^ 32 }
-    ensures low { low ≤ result }
-    ensures high { result ≤ max low high }
-{
-    if columns.touched().len() / 2 <= enough {
-        return low;
-    }
-    let mut least = high.max(low);
-    while low < least && count_reaching(columns, left, least) < enough {
-        least = low.max(least / 2);
-    }
-    least
-}
-
-// Returns how many of the columns that were seen, and are not known, have a bound of `least` or more.
-fn count_reaching(columns: &Columns, left: u32, least: u32) -> usize
-    requires small { (column : ℕ) → (tally_at columns.now.tallies column).count + left < 2 ^ 32 }
-{
-    let mut reaching = 0;
-    for column in columns.touched() {
-        if goes_in(columns, left, least, *column) {
-            reaching += 1;
-        }
-    }
-    reaching
 }
 
 /// Holds the columns for bounds of `low` or more. If they were held only for greater bounds, it walks the columns that

@@ -17,7 +17,7 @@ tally_at tallies x = get_or tallies x no_tally
 
 -- one more posting
 abbrev pub raised : Tally → Posting → Tally
-raised tally posting = tally_with (tally.count + 1) (posting.size - 1 - posting.position)
+raised tally posting = tally_with (tally.count + 1) posting.rest
 
 abbrev pub of_column : ℕ → Posting → Bool
 of_column column posting = nat_eq posting.column column

@@ -1,5 +1,5 @@
 //! What a search has seen of the columns of a part.
-ghost use Rattle.std.specs.Prelude.{◌≡◌, ◌<◌, ◌≤◌, ◌+◌, ◌-◌, ◌^◌, ◌++◌, ◌∷◌, ℕ, [], false, true, filter, get_or, length, slice_set, vec_capacity, IfOk};
+ghost use Rattle.std.specs.Prelude.{◌≡◌, ◌<◌, ◌≤◌, ◌+◌, ◌^◌, ◌++◌, ◌∷◌, ℕ, [], false, true, filter, get_or, length, slice_set, vec_capacity, IfOk};
 ghost use Rattle.std.specs.List.{All};
 ghost use Rattle.lake_model.specs.Layout.{is_among};
 ghost use Rattle.part_columns.specs.Columns.{IsClean, IsListed};
@@ -101,7 +101,7 @@ impl Columns {
         let count = tally.count + 1;
         self.tallies[posting.column as usize] = Tally {
             count,
-            rest: rest_behind(posting),
+            rest: posting.rest,
         };
         count
     }
@@ -138,13 +138,6 @@ fn list_first(touched: &mut Vec<u32>, count: u32, column: u32)
     if count == 0 {
         touched.push_reserved(column);
     }
-}
-
-// Returns how many tokens of the posting's column come after the posting's own.
-fn rest_behind(posting: &Posting) -> u32
-    ensures { result ≡ posting.now.size - 1 - posting.now.position }
-{
-    posting.size.saturating_sub(1).saturating_sub(posting.position)
 }
 
 // Resets the tallies and the marks of the touched columns.

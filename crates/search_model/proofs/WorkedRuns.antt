@@ -1,5 +1,5 @@
 -- The definitions computed on small lakes, each with the value that the rules give by hand.
-use Rattle.std.proofs.Common.{◌≡◌, refl, ℕ, List, [], ◌∷◌, map, None, false, filter, length, not}
+use Rattle.std.proofs.Common.{◌-◌, ◌≡◌, refl, ℕ, List, [], ◌∷◌, map, None, false, filter, length, not}
 use Rattle.std.specs.Prelude.{codes}
 use Rattle.lake_model.specs.Texts.{Text}
 use Rattle.lake_model.specs.Tables.{column_with, Table, table_with}
@@ -35,7 +35,7 @@ unfolding in_order put_in_order tokens_of segment
 sets = refl
 
 abbrev posting : ℕ → ℕ → ℕ → Posting
-posting column position size = record { column = column; position = position; size = size }
+posting column position size = record { column = column; rest = size - 1 - position }
 
 lists : (segment pq).lists ≡ (posting 0 0 2 ∷ []) ∷ (posting 0 1 2 ∷ posting 1 0 1 ∷ []) ∷ []
 unfolding in_order put_in_order tokens_of segment

@@ -57,7 +57,7 @@ abbrev pub rank : List ℕ → ℕ → ℕ
 rank set token = count_by (λ other. nat_lt other token) set
 
 abbrev pub posting : ℕ → ℕ → List ℕ → Posting
-posting token column set = record { column = column; position = rank set token; size = length set }
+posting token column set = record { column = column; rest = length set - 1 - rank set token }
 
 -- the columns that hold the token, by increasing number
 abbrev pub postings_of : List (List ℕ) → ℕ → List Posting

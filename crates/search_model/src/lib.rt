@@ -5,13 +5,11 @@
 //! Similarity Search for Finding Joinable Tables in Data Lakes", SIGMOD 2019.
 #![tactic(auto)]
 
-/// A column that holds a token, with the token's position in the column's list of tokens, from 0, and the length of
-/// that list.
+/// A column that holds a token, and how many of the column's tokens come after this one in its list of tokens.
 #[derive(Clone, Copy, Debug, PartialEq, Eq)]
 pub struct Posting {
     pub column: u32,
-    pub position: u32,
-    pub size: u32,
+    pub rest: u32,
 }
 
 /// A look of a search: it reads the posting list of a token, or probes the tokens of a set after a position. A part is

@@ -1,4 +1,4 @@
-use Rattle.std.proofs.Common.{◌≡◌, ◌≤◌}
+use Rattle.std.proofs.Common.{◌≡◌}
 use Rattle.search_model.specs.Looks.{searched}
 use Rattle.segment_core.specs.Versions.{part_at}
 use Rattle.josie_search.specs.Candidates.{all_of, AreHeld}
@@ -8,7 +8,6 @@ abbrev pub invariant-loop-least : goal.invariant-loop-least
 invariant-loop-least l = record {
   held : AreHeld l.query (searched l.query (part_at l.looks.version.parts l.part)) l.order.ranks.now l.columns.tallies l.columns.known l.left l.candidates.low (all_of l.candidates);
   room : l.candidates.room ≡ l.fn.candidates.room;
-  low : l.low ≤ l.least;
 }
 
 abbrev pub decreases-loop-least : goal.decreases-loop-least

@@ -9,7 +9,7 @@ use Rattle.part_columns.proofs.columns.Columns.count.Goals as goal
 pub raise-count-requires-clause-small : goal.raise-count-requires-clause-small
 raise-count-requires-clause-small c =
     let i = c.loop-posting.posting-index in
-    let none : Posting = record { column = 0; position = 0; size = 0 } in
+    let none : Posting = record { column = 0; rest = 0 } in
     let posting = get_or c.args.list.now i none in
     let so_far = ap (λ (t : Tally). t.count) (c.loop-posting.invariant.tallies posting.column) in
     let few = count_fits c.args.list.now i none posting (tally_at c.args.self.now.tallies posting.column) (2 ^ 32) c.loop-posting-test.true refl (c.requires.small posting.column) in
@@ -19,7 +19,7 @@ pub loop-posting-preserved : goal.loop-posting-preserved
 loop-posting-preserved c =
     let kept = c.loop-posting.invariant in
     let i = c.loop-posting.posting-index in
-    let none : Posting = record { column = 0; position = 0; size = 0 } in
+    let none : Posting = record { column = 0; rest = 0 } in
     let posting = get_or c.args.list.now i none in
     let tallies = c.loop-posting.self.tallies in
     let more = raised (tally_at tallies posting.column) posting in

@@ -25,7 +25,7 @@ invariant_of-self c =
     let within : x < length tallies = omega (arith, c.requires.within, ap (λ (v : ColumnsOf). length v.tallies) c.self.view_is) in
     let is : c.index-tally.result.now ≡ tally_at tallies x = c.index-tally.ensures ∙ get_or_default tallies x c.index-tally.result.now no_tally within in
     let count = ap (λ (t : Tally). t.count) is in
-    let tally = tally_with (c.index-tally.result.now.count + 1) c.rest_behind.result in
+    let tally = tally_with (c.index-tally.result.now.count + 1) c.args.posting.now.rest in
     elim (cases_lt 0 c.index-tally.result.now.count) [
       | inl some ↦ subst (λ (list : List ℕ). IsKept (set tallies x tally) c.self.inside.known.items list (vec_capacity c.list_first.new.touched)) (sym (c.list_first.ensures.again some))
           (kept_again _ _ _ _ kept x tally within (omega arith) _ c.list_first.ensures.capacity (omega (arith, count, some)))
