@@ -117,18 +117,9 @@ fn postings(alloc: Global) -> Result<Vec<Posting>, NoMemory>
     ensures { IfOk result (λ postings. postings.items ≡ worked_postings) }
 {
     let held = [
-        Posting {
-            column: 0,
-            rest: 1,
-        },
-        Posting {
-            column: 0,
-            rest: 0,
-        },
-        Posting {
-            column: 1,
-            rest: 0,
-        },
+        Posting { column: 0, rest: 1 },
+        Posting { column: 0, rest: 0 },
+        Posting { column: 1, rest: 0 },
     ];
     Ok(Vec::from_array(alloc, held)?)
 }
@@ -270,14 +261,8 @@ fn queries(rt: HostRuntime) -> Result<(), Fail> {
 
 // The postings of a.
 const HELD: [Posting; 2] = [
-    Posting {
-        column: 0,
-        rest: 0,
-    },
-    Posting {
-        column: 1,
-        rest: 0,
-    },
+    Posting { column: 0, rest: 0 },
+    Posting { column: 1, rest: 0 },
 ];
 
 // A read of that list, and a probe of the first column after its first token.

@@ -1,5 +1,5 @@
 //! The columns of a part that may be open, kept so that the first of them is found without a walk over all.
-ghost use Rattle.std.specs.Prelude.{◌≡◌, ◌<◌, ◌≤◌, ◌+◌, ◌*◌, ◌^◌, ◌∷◌, [], ℕ, true, length, slice_get, IfOk, Some};
+ghost use Rattle.std.specs.Prelude.{◌≡◌, ◌<◌, ◌≤◌, ◌+◌, ◌*◌, ◌^◌, ◌∷◌, [], ℕ, true, length, slice_get, IfOk, IfSome, Some};
 ghost use Rattle.std.specs.BinaryHeap.{heap_capacity, heap_items, heap_len, IsHeap};
 ghost use Rattle.std.specs.List.Sorted.{IsPermutation};
 ghost use Rattle.std.specs.Option.{MatchOption};
@@ -79,7 +79,9 @@ impl Candidates {
     }
 
     /// Returns the lowest bound for which candidates are kept; `None` if they are kept for no bound.
-    pub(crate) fn least(&self) -> Option<u32> {
+    pub(crate) fn least(&self) -> Option<u32>
+        ensures { IfSome result (λ least. least ≡ self.now.low) }
+    {
         if self.low == u32::MAX {
             None
         } else {

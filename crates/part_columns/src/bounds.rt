@@ -21,5 +21,8 @@ pub fn position_of(looks: &Looks<'_>, part: u32, column: u32, tally: Tally) -> u
     requires column { column < length (segment_at looks.now.version.parts part).sets }
     ensures { result ≡ position_in (get_or (segment_at looks.now.version.parts part).sets column []) tally }
 {
-    looks.size(part, column).saturating_sub(1).saturating_sub(tally.rest)
+    looks
+        .size(part, column)
+        .saturating_sub(1)
+        .saturating_sub(tally.rest)
 }

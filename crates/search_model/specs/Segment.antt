@@ -56,6 +56,7 @@ tokens_in tokens keys = map (λ t. t.0) (filter (λ t. has_key keys t.1.key) (en
 abbrev pub rank : List ℕ → ℕ → ℕ
 rank set token = count_by (λ other. nat_lt other token) set
 
+-- the posting of a token in a column: how many tokens of the column's set come after it
 abbrev pub posting : ℕ → ℕ → List ℕ → Posting
 posting token column set = record { column = column; rest = length set - 1 - rank set token }
 

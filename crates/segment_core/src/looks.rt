@@ -258,8 +258,8 @@ impl<'a> Looks<'a> {
         self.spare
     }
 
-    /// Returns the posting list of a token: the columns that hold it, by increasing number, each with the token's
-    /// position among the column's tokens, from 0, and the number of these. The look is logged. It allocates nothing.
+    /// Returns the posting list of a token: the columns that hold it, by increasing number, each with the number of the
+    /// column's tokens that come after this one. The look is logged. It allocates nothing.
     pub fn list(&mut self, part: u32, token: u32) -> &'a [Posting]
         requires part { part < length self.old.version.parts }
         requires token { token < length (segment_at self.old.version.parts part).tokens }

@@ -149,8 +149,8 @@ impl Segment {
         }
     }
 
-    /// Returns the posting list of the token: the columns that hold it, by increasing number, each with the token's
-    /// position among the column's tokens and the number of these. The meter does not count it.
+    /// Returns the posting list of the token: the columns that hold it, by increasing number, each with the number of the
+    /// column's tokens that come after this one. The meter does not count it.
     pub(crate) fn list(&self, token: u32) -> &[Posting]
         requires { token < length (segment self.now).tokens }
         ensures { result.now ≡ get_or (segment self.now).lists token [] }
