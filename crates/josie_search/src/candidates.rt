@@ -30,8 +30,8 @@ pub(crate) struct Candidate {
 /// The candidates of a part, and the lowest bound for which they are kept. A column may be among them more than once,
 /// or with a number above its bound. A column with at least as many tokens left as there are lists left is held by its
 /// count, so that its number stays valid while lists are read; the others are held by their bounds. The struct also
-/// keeps account of what the last filling cost, and of how many were added since. Its model is the two heaps, the lowest bound, the number of candidates,
-/// and the room.
+/// keeps account of what the last filling cost, and of how many were added since. Its model is the two heaps, the lowest
+/// bound, the number of candidates, and the room.
 #[derive(Drop)]
 pub(crate) struct Candidates {
     sized: BinaryHeap<u64>,

@@ -1,17 +1,17 @@
 -- The touched columns: one more, and none after a clearing.
-use Rattle.std.proofs.Common.{◌≡◌, refl, ap, sym, ◌∙◌, subst, inl, inr, ℕ, zero, suc, ◌+◌, ◌<◌, ◌≤◌, List, [], ◌∷◌, ◌++◌, Bool, true, false, ◌||◌, length, replicate, set, get_or, drop, take, arith, append-nil, length-append, eqb as nat_eq}
+use Rattle.std.proofs.Common.{◌≡◌, refl, ap, sym, ◌∙◌, subst, inl, inr, ℕ, zero, suc, ◌+◌, ◌^◌, ◌<◌, ◌≤◌, List, [], ◌∷◌, ◌++◌, Bool, true, false, ◌||◌, length, replicate, set, get_or, drop, take, arith, append-nil, length-append, eqb as nat_eq}
 use Rattle.std.specs.List.{AllByRecursion, count_by}
 use Rattle.std.proofs.Math.ListN.{length-set}
 use Rattle.std.proofs.Math.Seq.{drop-cons}
 use Rattle.std.proofs.lemmas.Bool.{cases_eq, cases_lt, ne_eqb}
 use Rattle.std.proofs.lemmas.Bool.Decides.{nat_tests}
-use Rattle.std.proofs.lemmas.List.{drop_all, get_or-replicate, get_or-set_other, get_or-set_same, get_or_past, length-replicate, take_all}
+use Rattle.std.proofs.lemmas.List.{drop_all, get_or-replicate, get_or-set_other, get_or-set_same, get_or_past, length-take, take-set, take_more_set, length-replicate, take_all}
 use Rattle.std.proofs.lemmas.List.Sums.{count_by-le-length, sum_by-append, sum_by-cons, sum_by-set, sum_by_push}
 use Rattle.lake_model.specs.Layout.{is_among}
 use Rattle.search_model.proofs.BoundLemmas.{among_counts}
 use Rattle.part_columns.specs.declared.tally.Tally.{Tally}
 use Rattle.part_columns.specs.Columns.{AreTouched, columns_with, is_touched, IsClean, IsKept, IsListed}
-use Rattle.part_columns.specs.Tallies.{no_tally, tally_at, tally_with}
+use Rattle.part_columns.specs.Tallies.{no_tally, tally_at}
 use Rattle.list_laws.proofs.TestLemmas.{once}
 
 at_most_one : (b : Bool) → once b ≤ 1
@@ -149,18 +149,6 @@ module _ (tallies : List Tally) (touched : List ℕ) (x : ℕ) (tally : Tally) (
     unseen = still_unseen;
   }
 
-  -- so there was room for it
-  pub room_for_first : (tally_at tallies x).count ≡ 0 → length touched < length tallies
-  room_for_first none = omega (
-    arith,
-    are.many,
-    sum_by-set (λ t. once (is_touched t)) tallies x tally no_tally within,
-    ap once (is_unseen (tally_at tallies x) none),
-    ap once (is_seen tally some),
-    count_by-le-length is_touched (set tallies x tally),
-    length-set tallies x tally,
-  )
-
 stands : (xs : List ℕ) (i d : ℕ) → i < length xs → 1 ≤ count_by (nat_eq (get_or xs i d)) xs
 stands [] i d h = absurd (omega arith)
 stands (y ∷ ys) zero d h = omega (arith, sum_by-cons (λ z. once (nat_eq y z)) y ys, ap once (same y y refl))
@@ -187,11 +175,15 @@ lent_whole n news olds e f =
 
 -- ---- what is kept
 
-module _ (tallies : List Tally) (known : List Bool) (touched : List ℕ) (touched_room : ℕ) (kept : IsKept tallies known touched touched_room) where
-  pub first_fits : (x : ℕ) → x < length tallies → (tally_at tallies x).count ≡ 0 → length touched < length tallies
-  first_fits x h none = room_for_first tallies touched x (tally_with 1 0) kept.are_touched h (omega arith) none
+module _ (tallies : List Tally) (known : List Bool) (list : List ℕ) (n : ℕ) (kept : IsKept tallies known list n) where
+  pub many : n ≡ count_by is_touched tallies
+  many = omega (arith, kept.are_touched.many, length-take n list, kept.within)
 
-  module _ (x : ℕ) (tally : Tally) (within : x < length tallies) (some : 0 < tally.count) (more_room : ℕ) (grown : touched_room ≤ more_room) where
+  -- there is always room for one more
+  pub room_there : n < length list
+  room_there = omega (arith, many, count_by-le-length is_touched tallies, kept.listed_room)
+
+  module _ (x : ℕ) (tally : Tally) (within : x < length tallies) (some : 0 < tally.count) where
     still_unknown : (y : ℕ) → (tally_at (set tallies x tally) y).count ≡ 0 → get_or known y false ≡ false
     still_unknown y none = elim (cases_eq y x) [
       | inl e ↦ absurd (
@@ -200,20 +192,26 @@ module _ (tallies : List Tally) (known : List Bool) (touched : List ℕ) (touche
       | inr apart ↦ kept.unknown y (sym (ap (λ (t : Tally). t.count) (get_or-set_other tallies x y tally no_tally apart)) ∙ none)
     ]
 
-    kept_with : (list : List ℕ) → AreTouched (set tallies x tally) list → IsKept (set tallies x tally) known list more_room
-    kept_with list are = record {
+    kept_with : (m : ℕ) → m ≤ length list → AreTouched (set tallies x tally) (take m (set list n x)) → IsKept (set tallies x tally) known (set list n x) m
+    kept_with m fits are = record {
       are_touched = are;
-      listed_room = omega (arith, length-set tallies x tally, kept.listed_room, grown);
+      within = omega (arith, fits, length-set list n x);
+      listed_room = omega (arith, length-set tallies x tally, length-set list n x, kept.listed_room);
+      few = omega (arith, length-set tallies x tally, kept.few);
       marks = omega (arith, length-set tallies x tally, kept.marks);
       unknown = still_unknown;
     }
 
     -- a column that is counted for the first time is listed
-    pub kept_first : (list : List ℕ) → list ≡ touched ++ x ∷ [] → (tally_at tallies x).count ≡ 0 → IsKept (set tallies x tally) known list more_room
-    kept_first list is none = kept_with list (subst (AreTouched (set tallies x tally)) (sym is) (touched_first tallies touched x tally kept.are_touched within some none))
+    pub kept_first : (m : ℕ) → m ≡ n + 1 → (tally_at tallies x).count ≡ 0 → IsKept (set tallies x tally) known (set list n x) m
+    kept_first m is none =
+        let listed : take m (set list n x) ≡ take n list ++ x ∷ [] = ap (λ (k : ℕ). take k (set list n x)) is ∙ take_more_set list n x room_there in
+        kept_with m (omega (arith, is, room_there)) (subst (AreTouched (set tallies x tally)) (sym listed) (touched_first tallies (take n list) x tally kept.are_touched within some none))
 
-    pub kept_again : 0 < (tally_at tallies x).count → IsKept (set tallies x tally) known touched more_room
-    kept_again seen = kept_with touched (touched_again tallies touched x tally kept.are_touched within some seen)
+    pub kept_again : (m : ℕ) → m ≡ n → 0 < (tally_at tallies x).count → IsKept (set tallies x tally) known (set list n x) m
+    kept_again m is seen =
+        let listed : take m (set list n x) ≡ take n list = ap (λ (k : ℕ). take k (set list n x)) is ∙ take-set list n x in
+        kept_with m (omega (arith, is, kept.within)) (subst (AreTouched (set tallies x tally)) (sym listed) (touched_again tallies (take n list) x tally kept.are_touched within some seen))
 
 -- ---- none after a clearing
 
@@ -236,29 +234,30 @@ forgotten_more tallies touched known i d x so_far h at wide marks y none = elim 
 ]
 
 -- a column that is not listed has no tally, and is not known
-pub unlisted_there : (tallies : List Tally) (known : List Bool) (touched : List ℕ) (touched_room : ℕ) → IsKept tallies known touched touched_room → (x : ℕ) → is_among touched x ≡ false
-    → (tally_at tallies x ≡ no_tally) × (get_or known x false ≡ false)
-unlisted_there tallies known touched touched_room kept x none =
-    let unseen = unlisted_none tallies touched x kept.are_touched.listed none in (kept.are_touched.unseen x unseen, kept.unknown x unseen)
+pub unlisted_there : (tallies : List Tally) (known : List Bool) (list : List ℕ) (n : ℕ) → IsKept tallies known list n → (x : ℕ) → is_among (take n list) x ≡ false → (tally_at tallies x ≡ no_tally) × (get_or known x false ≡ false)
+unlisted_there tallies known list n kept x none =
+    let unseen = unlisted_none tallies (take n list) x kept.are_touched.listed none in (kept.are_touched.unseen x unseen, kept.unknown x unseen)
 
 none_touched : (tallies : List Tally) → ((x : ℕ) → tally_at tallies x ≡ no_tally) → count_by is_touched tallies ≡ 0
 none_touched [] clean = refl
 none_touched (t ∷ ts) clean = omega (arith, sum_by-cons (λ u. once (is_touched u)) t ts, ap (λ (u : Tally). once (is_touched u)) (clean 0), none_touched ts (λ x. clean (suc x)))
 
 -- so it is after a clearing, and at the start; the lists may have been lent whole
-pub kept_cleared : (tallies lent : List Tally) (known marks : List Bool) (touched : List ℕ) (touched_room : ℕ) → lent ≡ tallies → marks ≡ known → touched ≡ [] → ((x : ℕ) → tally_at tallies x ≡ no_tally) → ((x : ℕ) → get_or known x false ≡ false)
-    → length tallies ≤ touched_room → length known ≡ length tallies → IsKept lent marks touched touched_room
-kept_cleared tallies lent known marks touched touched_room e f g clean fresh listed_room long =
-    subst (λ (ts : List Tally). IsKept ts marks touched touched_room) (sym e) (subst (λ (ms : List Bool). IsKept tallies ms touched touched_room) (sym f) (subst (λ (us : List ℕ). IsKept tallies known us touched_room) (sym g) (record {
+pub kept_cleared : (tallies lent : List Tally) (known marks : List Bool) (list : List ℕ) → lent ≡ tallies → marks ≡ known → ((x : ℕ) → tally_at tallies x ≡ no_tally) → ((x : ℕ) → get_or known x false ≡ false)
+    → length tallies < length list → length tallies < 2 ^ 32 → length known ≡ length tallies → IsKept lent marks list 0
+kept_cleared tallies lent known marks list e f clean fresh listed_room few long =
+    subst (λ (ts : List Tally). IsKept ts marks list 0) (sym e) (subst (λ (ms : List Bool). IsKept tallies ms list 0) (sym f) (record {
       are_touched = record {
         listed = λ x. sym (ap (λ (t : Tally). once (is_touched t)) (clean x));
         many = sym (none_touched tallies clean);
         unseen = λ x h. clean x;
       };
+      within = omega arith;
       listed_room = listed_room;
+      few = few;
       marks = long;
       unknown = λ x h. fresh x;
-    })))
+    }))
 
 pub view_cleared : (tallies lent : List Tally) (known marks : List Bool) (touched : List ℕ) → lent ≡ tallies → marks ≡ known → ((x : ℕ) → tally_at tallies x ≡ no_tally) → ((x : ℕ) → get_or known x false ≡ false) → IsClean (columns_with lent marks touched)
 view_cleared tallies lent known marks touched e f clean fresh = record {

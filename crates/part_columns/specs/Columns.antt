@@ -1,5 +1,5 @@
 -- What a search has seen of the columns of a part: a tally and a mark for each, and which of them were touched.
-use Rattle.std.specs.Prelude.{◌≡◌, ℕ, ◌≤◌, Bool, false, List, count_by, get_or, length, nat_eq, nat_lt, if◌then◌else◌}
+use Rattle.std.specs.Prelude.{◌≡◌, ℕ, ◌^◌, ◌<◌, ◌≤◌, Bool, false, List, count_by, get_or, length, nat_eq, nat_lt, take, if◌then◌else◌}
 use Rattle.part_columns.specs.declared.tally.Tally.{Tally}
 use Rattle.part_columns.specs.Tallies.{no_tally, tally_at}
 
@@ -23,10 +23,13 @@ pub record AreTouched (tallies : List Tally) (touched : List ℕ) : Type 0 where
   pub many : length touched ≡ count_by is_touched tallies
   pub unseen : (x : ℕ) → (tally_at tallies x).count ≡ 0 → tally_at tallies x ≡ no_tally
 
--- There is room to list all columns, and only touched ones are known.
-pub record IsKept (tallies : List Tally) (known : List Bool) (touched : List ℕ) (touched_room : ℕ) : Type 0 where
-  pub are_touched : AreTouched tallies touched
-  pub listed_room : length tallies ≤ touched_room
+-- The first n numbers of the list are the touched columns, and it has room for one more than all columns. Only touched
+-- columns are known.
+pub record IsKept (tallies : List Tally) (known : List Bool) (list : List ℕ) (n : ℕ) : Type 0 where
+  pub are_touched : AreTouched tallies (take n list)
+  pub within : n ≤ length list
+  pub listed_room : length tallies < length list
+  pub few : length tallies < 2 ^ 32
   pub marks : length known ≡ length tallies
   pub unknown : (x : ℕ) → (tally_at tallies x).count ≡ 0 → get_or known x false ≡ false
 

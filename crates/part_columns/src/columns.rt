@@ -1,5 +1,5 @@
 //! What a search has seen of the columns of a part.
-ghost use Rattle.std.specs.Prelude.{◌≡◌, ◌<◌, ◌≤◌, ◌+◌, ◌^◌, ◌++◌, ◌∷◌, ℕ, [], false, true, filter, get_or, length, slice_set, vec_capacity, IfOk};
+ghost use Rattle.std.specs.Prelude.{◌≡◌, ◌<◌, ◌≤◌, ◌+◌, ◌^◌, ℕ, false, true, filter, get_or, length, slice_set, IfOk};
 ghost use Rattle.std.specs.List.{All};
 ghost use Rattle.lake_model.specs.Layout.{is_among};
 ghost use Rattle.part_columns.specs.Columns.{IsClean, IsListed};
@@ -12,24 +12,26 @@ use std::alloc::Global;
 use std::marker::Model;
 
 /// A tally of each column, and whether its row is known. It lists the touched columns, which are those in one of the
-/// lists read, so that they are found again without a walk over the others. Its model is the tallies of all columns, the
-/// marks of the known ones, and the list.
+/// lists read, so that they are found again without a walk over the others: the first `touched` numbers of `list`, which
+/// has room for one more than there are columns. Its model is the tallies of all columns, the marks of the known ones,
+/// and the touched columns.
 #[derive(Drop)]
 pub struct Columns {
     tallies: Vec<Tally>,
     known: Vec<bool>,
-    touched: Vec<u32>,
+    list: Vec<u32>,
+    touched: usize,
 }
 
 impl Model for Columns {
-    ghost use Rattle.std.specs.Prelude.{vec_capacity};
+    ghost use Rattle.std.specs.Prelude.{take};
     ghost use Rattle.part_columns.specs.Columns.{columns_with, ColumnsOf, IsKept};
 
     ghost Value = { ColumnsOf };
 
-    ghost view = { λ c. columns_with c.tallies.items c.known.items c.touched.items };
+    ghost view = { λ c. columns_with c.tallies.items c.known.items (take c.touched c.list.items) };
 
-    ghost invariant = { λ c. IsKept c.tallies.items c.known.items c.touched.items (vec_capacity c.touched) };
+    ghost invariant = { λ c. IsKept c.tallies.items c.known.items c.list.items c.touched };
 }
 
 impl Columns {
@@ -41,7 +43,8 @@ impl Columns {
         Ok(Columns {
             tallies: vec![in alloc; Tally::NONE; columns as usize]?,
             known: vec![in alloc; false; columns as usize]?,
-            touched: Vec::with_capacity(alloc, columns as usize)?,
+            list: vec![in alloc; 0u32; columns as usize + 1]?,
+            touched: 0,
         })
     }
 
@@ -67,7 +70,7 @@ impl Columns {
         ensures listed { IsListed self.now.tallies self.now.touched }
         ensures few { length result.now ≤ length self.now.tallies }
     {
-        &self.touched
+        &self.list[..self.touched]
     }
 
     /// Counts each posting of a list. No column may have had a count above `most`; none has one above the result now.
@@ -97,7 +100,9 @@ impl Columns {
         ensures known { self.new.known ≡ self.old.known }
     {
         let tally = self.tallies[posting.column as usize];
-        list_first(&mut self.touched, tally.count, posting.column);
+        // Whether a column is new is hard to predict, so it is written behind the others in any case.
+        self.list[self.touched] = posting.column;
+        self.touched = more_touched(self.touched, tally.count);
         let count = tally.count + 1;
         self.tallies[posting.column as usize] = Tally {
             count,
@@ -123,21 +128,22 @@ impl Columns {
         ensures wide { length self.new.tallies ≡ length self.old.tallies }
         ensures clean { IsClean self.new }
     {
-        forget(&self.touched, &mut self.tallies, &mut self.known);
-        self.touched.clear();
+        forget(
+            &self.list[..self.touched],
+            &mut self.tallies,
+            &mut self.known,
+        );
+        self.touched = 0;
     }
 }
 
-// Lists a column that was in `count` lists before, if these are none.
-fn list_first(touched: &mut Vec<u32>, count: u32, column: u32)
-    requires room { count ≡ 0 → length touched.old.items < vec_capacity touched.old }
-    ensures capacity { vec_capacity touched.old ≤ vec_capacity touched.new }
-    ensures first { count ≡ 0 → touched.new.items ≡ touched.old.items ++ column ∷ [] }
-    ensures again { 0 < count → touched.new.items ≡ touched.old.items }
+// Returns how many columns are touched once one of them is in a list more than `count`.
+fn more_touched(touched: usize, count: u32) -> usize
+    requires { touched < 2 ^ 32 }
+    ensures first { count ≡ 0 → result ≡ touched + 1 }
+    ensures again { 0 < count → result ≡ touched }
 {
-    if count == 0 {
-        touched.push_reserved(column);
-    }
+    touched + usize::from(count == 0)
 }
 
 // Resets the tallies and the marks of the touched columns.
