@@ -134,11 +134,11 @@ impl Candidates {
         }
     }
 
-    /// Records the number of candidates as the cost of a filling, to be paid off by as many postings.
-    pub(crate) fn owe(&mut self)
+    /// Records the number of columns that a filling walked, to be paid off by as many postings.
+    pub(crate) fn owe(&mut self, walked: usize)
         ensures { self.new ≡ self.old }
     {
-        self.debt = self.sized.len() + self.asked.len();
+        self.debt = walked;
         self.added = 0;
     }
 

@@ -52,7 +52,7 @@ fn fill(candidates: &mut Candidates, columns: &Columns, ranks: &[u32], left: u32
     for column in columns.touched() {
         enter(candidates, columns, ranks, left, *column);
     }
-    candidates.owe();
+    candidates.owe(columns.touched().len());
 }
 
 /// Holds the columns for bounds of `low` or more. If they were held only for greater bounds, it walks the columns that
