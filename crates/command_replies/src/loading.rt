@@ -17,7 +17,6 @@ use commands::{Body, FileBody};
 use csv_table::{CsvRefused, read_table};
 use no_memory::NoMemory;
 use run_record::{Reply, RunRecord};
-use segment_build::build;
 use segment_core::Segment;
 use std::alloc::Global;
 use std::sync::Arc;
@@ -40,7 +39,7 @@ pub fn make_table(alloc: Global, keys: Keys, name: &Name, body: &Body) -> Result
         Ok(table) => table,
         Err(reply) => return Err(reply),
     };
-    match index_table(alloc, &table) {
+    match segment_of(alloc, &table) {
         Ok(segment) => Ok(Loadable { table, segment }),
         Err(NoMemory) => Err(Reply::NoMemory),
     }
@@ -98,16 +97,15 @@ fn read_sets(alloc: Global, keys: Keys, name: &Name, body: &Body) -> Result<Shar
     }
 }
 
-// Builds the segment of one table.
-fn index_table(alloc: Global, table: &SharedTable) -> Result<Arc<Segment>, NoMemory>
+// Makes the segment of one table. Its index is built when it is first searched.
+fn segment_of(alloc: Global, table: &SharedTable) -> Result<Arc<Segment>, NoMemory>
     requires { members table.now ≤ 67108864 }
     ensures { IfOk result (λ segment. segment.value ≡ table.now ∷ []) }
 {
     let mut tables = Vec::new(alloc);
     tables.push(table.share()?)?;
     prove!(table.table().columns() <= 4_096);
-    let segment = build(alloc, tables)?;
-    Ok(Arc::new(alloc, segment)?)
+    Ok(Arc::new(alloc, Segment::new(tables))?)
 }
 
 // Makes the reply to bytes that are not a table.

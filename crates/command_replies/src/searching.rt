@@ -22,6 +22,7 @@ use cost_model::Profile;
 use josie_search::{Answer, SearchRoom, prepare};
 use no_memory::NoMemory;
 use run_record::Reply;
+use segment_build::looks_at;
 use segment_core::{ColumnRefused, Layout, Pin};
 use std::alloc::Global;
 use std::mem;
@@ -81,8 +82,9 @@ fn find(
     ensures { IfOk result (λ reply. reply_of reply ≡ found_at pin.now (query_with k query.now (option_copied except.entry))) }
 {
     let layout = pin.layout()?;
+    let looks = looks_at(alloc, pin)?;
     let taken = mem::replace(room, SearchRoom::new());
-    let prepared = prepare(alloc, pin.looks(alloc), query, k, except, taken)?;
+    let prepared = prepare(alloc, looks, query, k, except, taken)?;
     let (answer, used) = prepared.run(&Profile);
     *room = used;
     found(alloc, query, &answer, layout)
@@ -102,7 +104,7 @@ fn find_holding(
     ensures { IfOk result (λ reply. reply_of reply ≡ contained_at pin.now query.now a b) }
 {
     let layout = pin.layout()?;
-    let prepared = prepare_contain(alloc, pin.looks(alloc), query, a, b)?;
+    let prepared = prepare_contain(alloc, looks_at(alloc, pin)?, query, a, b)?;
     found(alloc, query, &prepared.run(), layout)
 }
 

@@ -40,8 +40,19 @@ fn numbered_tables(alloc: Global) -> Result<Vec<SharedTable>, Fail>
 
 // Returns whether a key has this token, and so many columns hold it.
 fn holds(segment: &Segment, key: &str, token: u32, held: u32) -> bool {
-    match segment.lookup(key) {
-        Some(found) => found == token && segment.list_len(found) == held,
+    let Some(index) = segment.index() else {
+        return false;
+    };
+    match index.lookup(key) {
+        Some(found) => found == token && index.list_len(found) == held,
+        None => false,
+    }
+}
+
+// Returns whether the index of the segment shows that no column has the key.
+fn lacks(segment: &Segment, key: &str) -> bool {
+    match segment.index() {
+        Some(index) => index.lookup(key).is_none(),
         None => false,
     }
 }
@@ -51,7 +62,7 @@ fn holds(segment: &Segment, key: &str, token: u32, held: u32) -> bool {
 fn tokens(rt: HostRuntime) -> Result<(), Fail> {
     let worked = table(rt.alloc(), "t", "p,q\nz,a\na,\n")?;
     let segment = segment(rt.alloc(), &worked)?;
-    assert!(rt; segment.sets() == 2 && segment.lookup("b").is_none());
+    assert!(rt; segment.sets() == 2 && lacks(&segment, "b"));
     assert!(rt; holds(&segment, "z", 0, 1));
     assert!(rt; holds(&segment, "a", 1, 2));
     Ok(())
@@ -66,7 +77,7 @@ fn colliding_keys(rt: HostRuntime) -> Result<(), Fail> {
     assert!(rt; holds(&segment, "aifkedci", 0, 1));
     assert!(rt; holds(&segment, "arwenplj", 2, 1));
     assert!(rt; holds(&segment, "amuailfi", 1, 1));
-    assert!(rt; segment.lookup("azqqhdww").is_none());
+    assert!(rt; lacks(&segment, "azqqhdww"));
     Ok(())
 }
 

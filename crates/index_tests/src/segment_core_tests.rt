@@ -9,7 +9,7 @@ use column_set::{Keys, QuerySet, SharedTable, TableSets};
 use no_memory::NoMemory;
 use segment_core::{
     ColumnRefused, HashedQuery, Look, Looks, Marks, Numbers, Owner, Part, Pin, Posting, Segment,
-    TokenAt, Version, order_by_hash,
+    SegmentIndex, TokenAt, Version, order_by_hash,
 };
 use std::alloc::Global;
 use std::sync::Arc;
@@ -124,9 +124,9 @@ fn postings(alloc: Global) -> Result<Vec<Posting>, NoMemory>
     Ok(Vec::from_array(alloc, held)?)
 }
 
-// Returns the segment of the worked table.
-fn segment(alloc: Global) -> Result<Segment, Fail>
-    ensures { IfOk result (λ segment. segment ≡ worked_table ∷ []) }
+// Returns the index of the worked table.
+fn index(alloc: Global) -> Result<SegmentIndex, Fail>
+    ensures { IfOk result (λ index. index ≡ worked_table ∷ []) }
 {
     let tables = vec![in alloc; table(alloc)?]?;
     let owners = owners(alloc)?;
@@ -138,7 +138,7 @@ fn segment(alloc: Global) -> Result<Segment, Fail>
     let set_tokens = vec![in alloc; 0, 1, 1]?;
     let ranks = vec![in alloc; 0, 1]?;
     let by_rank = vec![in alloc; 0, 1]?;
-    Ok(Segment::new(
+    Ok(SegmentIndex::new(
         tables,
         owners,
         by_hash,
@@ -151,11 +151,20 @@ fn segment(alloc: Global) -> Result<Segment, Fail>
     ))
 }
 
+// Returns the segment of the worked table, without an index.
+fn segment(alloc: Global) -> Result<Segment, Fail>
+    ensures { IfOk result (λ segment. segment ≡ worked_table ∷ []) }
+{
+    Ok(Segment::new(vec![in alloc; table(alloc)?]?))
+}
+
 // Returns the version after the load of the worked table at position 7.
 fn version(alloc: Global) -> Result<Arc<Version>, Fail>
     ensures { IfOk result (λ version. version.value ≡ worked_version) }
 {
-    let segment = Arc::new(alloc, segment(alloc)?)?;
+    let segment = segment(alloc)?;
+    segment.keep_index(Box::new(alloc, index(alloc)?)?);
+    let segment = Arc::new(alloc, segment)?;
     let positions = Numbers::new(vec![in alloc; 7]?);
     let marked = Marks::new(vec![in alloc; false]?);
     let part = Part::new(7, segment, positions, marked);
@@ -223,11 +232,26 @@ fn has_tail(looks: &mut Looks<'_>, set: u32, after: u32, wanted: &[u32]) -> bool
     after < looks.size(0, set) && looks.tail(0, set, after) == wanted
 }
 
+// A segment has no index before it is given one, and then keeps it: there are no looks before, and the second index that
+// it is given makes no difference.
+#[test]
+fn indexes(rt: HostRuntime) -> Result<(), Fail> {
+    let alloc = rt.alloc();
+    let segment = segment(alloc)?;
+    assert!(rt; segment.index().is_none() && segment.sets() == 2);
+    assert!(rt; segment.begins_index() && !segment.begins_index());
+    segment.keep_index(Box::new(alloc, index(alloc)?)?);
+    segment.keep_index(Box::new(alloc, index(alloc)?)?);
+    let index = segment.index().ok_or("no index")?;
+    assert!(rt; index.sets() == 2 && index.list_len(1) == 2);
+    Ok(())
+}
+
 // The number of the part, and its columns: their sizes, their table and their places.
 #[test]
 fn columns(rt: HostRuntime) -> Result<(), Fail> {
     let pin = pin(rt.alloc())?;
-    let looks = pin.looks(rt.alloc());
+    let looks = pin.looks(rt.alloc())?.ok_or("no index")?;
     assert!(rt; looks.parts() == 1 && looks.number(0) == 7 && looks.sets(0) == 2);
     assert!(rt; has_column(&looks, 0, 2, 1));
     assert!(rt; has_column(&looks, 1, 1, 2));
@@ -240,7 +264,7 @@ fn columns(rt: HostRuntime) -> Result<(), Fail> {
 #[test]
 fn keys(rt: HostRuntime) -> Result<(), Fail> {
     let pin = pin(rt.alloc())?;
-    let looks = pin.looks(rt.alloc());
+    let looks = pin.looks(rt.alloc())?.ok_or("no index")?;
     assert!(rt; holds_key(&looks, "z", 0, 1));
     assert!(rt; holds_key(&looks, "a", 1, 2));
     assert!(rt; looks.lookup(0, "b").is_none());
@@ -252,7 +276,7 @@ fn keys(rt: HostRuntime) -> Result<(), Fail> {
 #[test]
 fn queries(rt: HostRuntime) -> Result<(), Fail> {
     let pin = pin(rt.alloc())?;
-    let looks = pin.looks(rt.alloc());
+    let looks = pin.looks(rt.alloc())?.ok_or("no index")?;
     assert!(rt; asks(rt.alloc(), &looks, "a\n", &[1])?);
     assert!(rt; asks(rt.alloc(), &looks, "a\nz\n", &[0, 1])?);
     assert!(rt; asks(rt.alloc(), &looks, "b\na\nz\n", &[0, 1])?);
@@ -297,7 +321,7 @@ fn reads_and_probes(looks: &mut Looks<'_>) -> Result<bool, NoMemory> {
 #[test]
 fn logged(rt: HostRuntime) -> Result<(), Fail> {
     let pin = pin(rt.alloc())?;
-    let mut looks = pin.looks(rt.alloc());
+    let mut looks = pin.looks(rt.alloc())?.ok_or("no index")?;
     assert!(rt; reads_and_probes(&mut looks)?);
     drop(looks);
     assert_eq!(rt; pin.meter(0), 2);

@@ -25,6 +25,7 @@ use Rattle.segment_build.specs.Inverse.{lists_from, sets_in, sums_from, AreFlat,
 use Rattle.segment_build.proofs.HoldLemmas.{starts_ends}
 use Rattle.segment_build.proofs.InverseLemmas.{length-lists_from, length-postings, sets_in_is}
 use Rattle.segment_core.proofs.ListsLemmas.{length-starts_of}
+use Rattle.segment_core.proofs.SegmentLemmas.{columns_counted}
 use Rattle.std.proofs.lemmas.Bool.{eq-eqb}
 
 -- ---- sums
@@ -151,18 +152,6 @@ lists_enumerated : (sets : List (List ℕ)) (n : ℕ) (tokens : List Token) → 
 lists_enumerated sets n [] = refl
 lists_enumerated sets n (t ∷ tokens) = ap (λ (ls : List (List Posting)). postings_of sets n ∷ ls) (lists_enumerated sets (n + 1) tokens)
 
-length-columns_from : (n : ℕ) (tables : List Table) → length (flat_map (λ t. columns_in t.0 t.1) (enumerate_from n tables)) ≡ sum_by (λ t. length t.columns) tables
-length-columns_from n [] = refl
-length-columns_from n (t ∷ tables) =
-    omega (
-      arith,
-      length-append (columns_in n t) (flat_map (λ t. columns_in t.0 t.1) (enumerate_from (n + 1) tables)),
-      length-map (enumerate_from 1 t.columns) (λ (c : ℕ × Column). titled n t.name c.0 c.1),
-      length-enumerate_from 1 t.columns,
-      length-columns_from (n + 1) tables,
-      sum_by-cons (λ (t : Table). length t.columns) t tables,
-    )
-
 -- what the columns, the tokens and the starts of the lists are, if all belong to the tables
 pub record IsMade (tables : List Table) (owners : List Owner) (tokens : List TokenAt) (list_starts set_starts set_tokens : List ℕ) : Type 0 where
   pub more : HasMore (all_tokens tables) (held_with [] (0 ∷ []) []) (held_with owners set_starts set_tokens) (columns_of tables)
@@ -214,7 +203,7 @@ module _ (tables : List Table) (owners : List Owner) (tokens : List TokenAt) (li
       subst (λ (n : ℕ). AreSets n (sets_in set_starts set_tokens) set_starts set_tokens) counted (subst (λ (ls : List (List ℕ)). AreSets (length (all_tokens tables)) ls set_starts set_tokens) (sym sets_are) are)
 
   pub length-sets : length (sets_in set_starts set_tokens) ≡ sum_by (λ t. length t.columns) tables
-  length-sets = ap length sets_are ∙ length-map (columns_of tables) (λ (c : Titled). tokens_in (all_tokens tables) c.column.keys) ∙ length-columns_from 0 tables
+  length-sets = ap length sets_are ∙ length-map (columns_of tables) (λ (c : Titled). tokens_in (all_tokens tables) c.column.keys) ∙ columns_counted tables
 
   pub keys_made : All (IsAt tables) tokens → AreKeys tables owners tokens
   unfolding segment
@@ -234,6 +223,6 @@ module _ (tables : List Table) (owners : List Owner) (tokens : List TokenAt) (li
         posted = posted ∙ (λ i. all_of (lists_from (sets_are i) 0 (sym counted i))) ∙ ap all_of lists_are;
         set_bounds = set_bounds;
         held = made.more.held;
-        small = omega (arith, length-columns_from 0 tables, small);
+        small = omega (arith, columns_counted tables, small);
         few = few;
       }

@@ -1,10 +1,11 @@
-//! The segment of a list of tables: the inverted index, built from the tables by one sort of their keys and one
-//! counting pass.
+//! The inverted index of a list of tables, built from the tables by one sort of their keys and one counting pass: for a
+//! segment at once, or when it is first searched.
 #![tactic(auto)]
 
 mod columns;
+mod index;
 mod lists;
 mod segment;
 
-pub use segment::build;
+pub use segment::{build, looks_at};
 pub use segment_core::Segment;

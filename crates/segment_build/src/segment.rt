@@ -1,60 +1,88 @@
-//! The segment of a list of tables.
-ghost use Rattle.std.specs.Prelude.{◌≡◌, ◌<◌, ◌^◌, length, sum_by, IfOk};
+//! Segments with their indexes, and looks at pins whose segments get theirs.
+ghost use Rattle.std.specs.Prelude.{◌≡◌, ◌<◌, ◌^◌, [], length, sum_by, IfOk};
 ghost use Rattle.lake_model.specs.Tables.{members};
+ghost use Rattle.segment_core.specs.Versions.{looks_with};
 
-use crate::columns::column_sets;
-use crate::lists::{PostingLists, list_starts, posting_lists};
+use crate::index::build_index;
 use column_set::SharedTable;
 use no_memory::NoMemory;
-use segment_core::{Segment, order_by_hash};
+use segment_core::{Looks, Pin, Segment};
 use std::alloc::Global;
-use title_order::{TitleOrder, order_columns};
-use token_order::{TokenLists, Vocab};
+use std::boxed::Box;
 
-/// Builds the segment of these tables. Its index is that of Zhu, Deng, Nargesian and Miller, "JOSIE: Overlap Set
-/// Similarity Search for Finding Joinable Tables in Data Lakes", SIGMOD 2019.
-///
-/// It sorts all keys of all columns by their bytes, once, which gives the token of each key of each column. The
-/// distinct keys and the sets are then sorted as numbers, and the posting lists are written in one pass. Keys are
-/// compared again only if their hashes are equal, while the tokens are sorted by these. The columns are also sorted
-/// once, by their names. The segment keeps 16 bytes for each key of each column, 22 to 24 for each distinct key, and 20
-/// for each column. The most memory is taken while the keys are sorted and counted: 28 bytes for each key of each
-/// column, and at most 32 for each distinct key. It fails only if memory runs out.
+/// How often a pin whose segments have been given their indexes is asked for looks. Only another thread that is keeping
+/// an index at the very moment may make a second time necessary.
+const MOST_TRIES: u32 = 1 << 30;
+
+/// Builds the segment of these tables, with its index. It costs what [`build_index`] does, and fails only if memory runs
+/// out.
 pub fn build(alloc: Global, tables: Vec<SharedTable>) -> Result<Segment, NoMemory>
     requires columns { sum_by (λ t. length t.columns) tables.items < 2 ^ 32 }
     requires members { sum_by members tables.items < 2 ^ 32 }
     ensures { IfOk result (λ segment. segment ≡ tables.items) }
 {
-    let TitleOrder { ranks, by_rank } = order_columns(alloc, &tables)?;
-    let vocab = Vocab::build(alloc, &tables)?;
-    let sets = column_sets(alloc, &tables, &vocab)?;
-    let TokenLists {
-        tokens,
-        frequencies,
-        ..
-    } = vocab.into_lists();
-    let list_starts = list_starts(alloc, &frequencies)?;
-    // The starts hold the same information, so the frequencies are freed before the steps that follow take their
-    // memory.
-    drop(frequencies);
-    let by_hash = order_by_hash(alloc, &tables, &sets.owners, &tokens)?;
-    // The order has its own note of where each token's key is.
-    drop(tokens);
-    let PostingLists { starts, postings } = posting_lists(
-        alloc,
-        &sets.starts,
-        &sets.tokens,
-        list_starts,
-    )?;
-    Ok(Segment::new(
-        tables,
-        sets.owners,
-        by_hash,
-        starts,
-        postings,
-        sets.starts,
-        sets.tokens,
-        ranks,
-        by_rank,
-    ))
+    let segment = Segment::new(tables);
+    add_index(alloc, &segment)?;
+    Ok(segment)
+}
+
+/// Returns everything that a search may ask of a pin, with an empty log that has no room. Segments of the pin that have
+/// no index yet get it first: it is built once, when the segment is first searched, and stays for later searches.
+///
+/// Several callers may need the indexes of the same segments at the same time. Each first builds those that nobody has
+/// begun, and then those that are still missing, so an index is seldom built twice. It fails only if memory runs out.
+pub fn looks_at(alloc: Global, pin: &Pin) -> Result<Looks<'_>, NoMemory>
+    ensures { IfOk result (λ looks. looks ≡ looks_with pin.now [] 0) }
+{
+    if let Some(looks) = pin.looks(alloc)? {
+        return Ok(looks);
+    }
+    add_begun(alloc, pin)?;
+    add_missing(alloc, pin)?;
+    for _try in 0..MOST_TRIES {
+        if let Some(looks) = pin.looks(alloc)? {
+            return Ok(looks);
+        }
+    }
+    Err(NoMemory)
+}
+
+// Builds the indexes that are missing and that nobody has begun.
+fn add_begun(alloc: Global, pin: &Pin) -> Result<(), NoMemory> {
+    for part in 0..pin.parts() {
+        if let Some(segment) = pin.unindexed(part) {
+            if segment.begins_index() {
+                add_index(alloc, segment)?;
+            }
+        }
+    }
+    Ok(())
+}
+
+// Builds the indexes that are missing.
+fn add_missing(alloc: Global, pin: &Pin) -> Result<(), NoMemory> {
+    for part in 0..pin.parts() {
+        if let Some(segment) = pin.unindexed(part) {
+            add_index(alloc, segment)?;
+        }
+    }
+    Ok(())
+}
+
+// Builds the index of a segment.
+fn add_index(alloc: Global, segment: &Segment) -> Result<(), NoMemory> {
+    let index = build_index(alloc, shares(alloc, segment.tables())?)?;
+    segment.keep_index(Box::new(alloc, index)?);
+    Ok(())
+}
+
+// Returns shares of these tables.
+fn shares(alloc: Global, tables: &[SharedTable]) -> Result<Vec<SharedTable>, NoMemory>
+    ensures { IfOk result (λ shared. shared.items ≡ tables.now) }
+{
+    let mut shared = Vec::with_capacity(alloc, tables.len())?;
+    for table in tables {
+        shared.push(table.share()?)?;
+    }
+    Ok(shared)
 }

@@ -3,6 +3,7 @@ pub mod SegmentLemmas
 pub mod PartLemmas
 pub mod AskedLemmas
 pub mod FoundLemmas
+pub mod CodeLemmas
 pub mod HashLemmas
 pub mod ShownLemmas
 pub mod PositionLemmas

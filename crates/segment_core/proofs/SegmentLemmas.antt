@@ -1,13 +1,16 @@
 -- What the arrays of a segment say about the lists and the sets of its tables.
-use Rattle.std.proofs.Common.{◌≡◌, refl, ◌∙◌, sym, ap, subst, ℕ, ◌<◌, ◌≤◌, List, [], get_or, length, map, arith}
-use Rattle.std.proofs.lemmas.List.{length-map, get_or-map}
+use Rattle.std.proofs.Common.{◌≡◌, refl, ◌∙◌, sym, ap, subst, ℕ, ◌+◌, ◌<◌, ◌≤◌, List, [], ◌∷◌, get_or, length, map, arith}
+use Rattle.std.specs.Prelude.{sum_by}
+use Rattle.std.specs.List.{flat_map, enumerate_from}
+use Rattle.std.proofs.lemmas.List.{length-append, length-map, get_or-map}
 use Rattle.std.proofs.lemmas.List.FromFn.{length-enumerate_from}
+use Rattle.std.proofs.lemmas.List.Sums.{sum_by-cons}
 use Rattle.lake_model.specs.Texts.{Text}
-use Rattle.lake_model.specs.Tables.{Table, keys_at}
+use Rattle.lake_model.specs.Tables.{Column, Table, keys_at}
 use Rattle.search_model.specs.declared.Posting.{Posting}
 use Rattle.search_model.specs.declared.TokenAt.{TokenAt}
 use Rattle.search_model.specs.declared.Owner.{Owner}
-use Rattle.search_model.specs.Segment.{Token, segment}
+use Rattle.search_model.specs.Segment.{Token, columns_in, columns_of, segment, titled}
 use Rattle.search_model.proofs.ColumnLemmas.{stands, Stands}
 use Rattle.search_model.proofs.KeyLemmas.{key_here}
 use Rattle.search_model.specs.Arrays.{AreArrays, IsAt, all_of, key_of, no_titled, owner_of, pointed, starts_of, table_at, titled_at}
@@ -17,6 +20,26 @@ use Rattle.segment_core.proofs.ListsLemmas.{Bounds, bounds}
 pub length-sets : (tables : List Table) → length (segment tables).sets ≡ length (segment tables).columns
 unfolding segment
 length-sets tables = length-map _ _
+
+columns_from : (n : ℕ) (tables : List Table) → length (flat_map (λ t. columns_in t.0 t.1) (enumerate_from n tables)) ≡ sum_by (λ t. length t.columns) tables
+columns_from n [] = refl
+columns_from n (t ∷ tables) =
+    omega (
+      arith,
+      length-append (columns_in n t) (flat_map (λ t. columns_in t.0 t.1) (enumerate_from (n + 1) tables)),
+      length-map (enumerate_from 1 t.columns) (λ (c : ℕ × Column). titled n t.name c.0 c.1),
+      length-enumerate_from 1 t.columns,
+      columns_from (n + 1) tables,
+      sum_by-cons (λ (t : Table). length t.columns) t tables,
+    )
+
+-- as many columns, and sets, as the tables have together
+pub columns_counted : (tables : List Table) → length (columns_of tables) ≡ sum_by (λ t. length t.columns) tables
+columns_counted tables = columns_from 0 tables
+
+pub sets_counted : (tables : List Table) → length (segment tables).sets ≡ sum_by (λ t. length t.columns) tables
+unfolding segment
+sets_counted tables = length-sets tables ∙ columns_counted tables
 
 pub length-lists : (tables : List Table) → length (segment tables).lists ≡ length (segment tables).tokens
 unfolding segment

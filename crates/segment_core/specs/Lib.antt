@@ -4,5 +4,6 @@ pub mod Lines
 pub mod Positions
 pub mod LiveColumn
 pub mod Plans
+pub mod Codes
 pub mod Hashes
 pub mod Among

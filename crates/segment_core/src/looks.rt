@@ -1,10 +1,11 @@
 //! The looks of a search at a version: everything that it may ask, and a log of the lists and the sets that it read.
-ghost use Rattle.std.specs.Prelude.{◌≡◌, ◌<◌, ◌≤◌, ◌+◌, ◌++◌, ◌∷◌, [], count_by, drop, false, get_or, length, map, not, IfOk, OnErr, OnOk};
+ghost use Rattle.std.specs.Prelude.{◌≡◌, ◌<◌, ◌≤◌, ◌+◌, ◌++◌, ◌∷◌, [], count_by, drop, false, get_or, length, map, not, IfOk, IfSome, OnErr, OnOk};
 ghost use Rattle.search_model.specs.Looks.{is_read};
+ghost use Rattle.segment_core.specs.Versions.{tables_of};
 
 use crate::hashed::HashedQuery;
+use crate::index::SegmentIndex;
 use crate::order::ColumnOrder;
-use crate::segment::Segment;
 use crate::version::{Part, Version};
 use column_set::Titles;
 use no_memory::NoMemory;
@@ -27,6 +28,8 @@ const ASKED_AHEAD: u32 = 64;
 /// segment, all from 0. It lends no keys.
 pub struct Looks<'a> {
     version: &'a Version,
+    /// The index of each part's segment.
+    indexes: Vec<&'a SegmentIndex>,
     log: Vec<Look>,
     spare: usize,
     /// The part that was looked at last, and how many looks at it are not in its meter yet.
@@ -39,6 +42,7 @@ impl<'a> Drop for Looks<'a> {
         raise_meter(self.version, self.last, self.unmetered);
         let Looks {
             version: _,
+            indexes: _,
             log: _,
             spare: _,
             last: _,
@@ -48,14 +52,14 @@ impl<'a> Drop for Looks<'a> {
 }
 
 impl<'a> Model for Looks<'a> {
-    ghost use Rattle.std.specs.Prelude.{◌≤◌, ◌+◌, vec_capacity, vec_len};
-    ghost use Rattle.segment_core.specs.Versions.{looks_with, LooksOf};
+    ghost use Rattle.std.specs.Prelude.{◌≡◌, ◌≤◌, ◌+◌, map, vec_capacity, vec_len};
+    ghost use Rattle.segment_core.specs.Versions.{looks_with, tables_of, LooksOf};
 
     ghost Value = { LooksOf };
 
     ghost view = { λ l. looks_with l.version.now l.log.items l.spare };
 
-    ghost invariant = { λ l. vec_len l.log + l.spare ≤ vec_capacity l.log };
+    ghost invariant = { λ l. (vec_len l.log + l.spare ≤ vec_capacity l.log) × (map (λ index. index.now) l.indexes.items ≡ map tables_of l.version.now.parts) };
 }
 
 impl<'a> Looks<'a> {
@@ -65,17 +69,29 @@ impl<'a> Looks<'a> {
     ghost use Rattle.search_model.specs.Segment.{tokens_in};
     ghost use Rattle.segment_core.specs.Versions.{looks_with, marks_of, part_at, segment_at, segment_of, tables_of};
 
-    // Makes looks at this version, with an empty log.
-    pub(crate) fn new(alloc: Global, version: &'a Version) -> Looks<'a>
-        ensures { result ≡ looks_with version.now [] 0 }
+    // Makes looks at this version, with an empty log, if the segment of each part has its index.
+    pub(crate) fn new(alloc: Global, version: &'a Version) -> Result<Option<Looks<'a>>, NoMemory>
+        ensures { IfOk result (λ found. IfSome found (λ looks. looks ≡ looks_with version.now [] 0)) }
     {
-        Looks {
+        let Some(indexes) = indexes_of(alloc, version.parts())? else {
+            return Ok(None);
+        };
+        Ok(Some(Looks {
             version,
+            indexes,
             log: Vec::new(alloc),
             spare: 0,
             last: 0,
             unmetered: 0,
-        }
+        }))
+    }
+
+    // Returns the index of a part's segment.
+    fn index(&self, part: u32) -> &'a SegmentIndex
+        requires { part < length self.now.version.parts }
+        ensures { result.now ≡ tables_of (part_at self.now.version.parts part) }
+    {
+        self.indexes[part as usize]
     }
 
     /// Returns the number of parts.
@@ -98,7 +114,7 @@ impl<'a> Looks<'a> {
         requires { part < length self.now.version.parts }
         ensures { result ≡ length (segment_at self.now.version.parts part).sets }
     {
-        self.version.part(part).segment().sets()
+        self.index(part).sets()
     }
 
     /// Returns how many tokens a column has.
@@ -107,7 +123,7 @@ impl<'a> Looks<'a> {
         requires set { set < length (segment_at self.now.version.parts part).sets }
         ensures { result ≡ length (get_or (segment_at self.now.version.parts part).sets set []) }
     {
-        self.version.part(part).segment().size(set)
+        self.index(part).size(set)
     }
 
     /// Returns the key's token in a part, or `None` if no column of the part has the key.
@@ -115,7 +131,7 @@ impl<'a> Looks<'a> {
         requires { part < length self.now.version.parts }
         ensures { IsToken (segment_at self.now.version.parts part).tokens key.now result }
     {
-        self.version.part(part).segment().lookup(key)
+        self.index(part).lookup(key)
     }
 
     /// Returns how many columns hold a token.
@@ -124,7 +140,7 @@ impl<'a> Looks<'a> {
         requires token { token < length (segment_at self.now.version.parts part).tokens }
         ensures { result ≡ length (get_or (segment_at self.now.version.parts part).lists token []) }
     {
-        self.version.part(part).segment().list_len(token)
+        self.index(part).list_len(token)
     }
 
     /// Returns the tokens of a part whose keys are the query's, in increasing order, so that the rarest come first. It
@@ -153,8 +169,7 @@ impl<'a> Looks<'a> {
         requires { part < length self.now.version.parts }
         ensures { IfOk result (λ tokens. tokens.items ≡ tokens_in (segment_at self.now.version.parts part).tokens query.now) }
     {
-        let segment = self.version.part(part).segment();
-        segment.tokens_among(alloc, query, is_likely)
+        self.index(part).tokens_among(alloc, query, is_likely)
     }
 
     /// Returns, for each part, the tokens whose keys are the query's, as [`Looks::query_tokens`] does for one part.
@@ -187,9 +202,9 @@ impl<'a> Looks<'a> {
             return 0;
         };
         let mut likely = 0;
-        let parts = &self.version.parts()[first as usize..];
-        for (i, part) in parts.iter().take(ASKED_AHEAD as usize).enumerate() {
-            if part.segment().may_have(*hash) {
+        let indexes = &self.indexes[first as usize..];
+        for (i, index) in indexes.iter().take(ASKED_AHEAD as usize).enumerate() {
+            if index.may_have(*hash) {
                 likely |= 1 << (i % 64);
             }
         }
@@ -202,8 +217,7 @@ impl<'a> Looks<'a> {
         ensures ranks { AreRanks (segment_at self.now.version.parts part).columns result.ranks.now }
         ensures inverse { AreInverse result.ranks.now result.by_rank.now }
     {
-        let version: &'a Version = self.version;
-        version.part(part).segment().order()
+        self.index(part).order()
     }
 
     /// Returns whether the table of a column is unmarked.
@@ -212,9 +226,8 @@ impl<'a> Looks<'a> {
         requires set { set < length (segment_at self.now.version.parts part).sets }
         ensures { result ≡ not (get_or (marks_of (part_at self.now.version.parts part)) (titled_at (segment_at self.now.version.parts part).columns set).from false) }
     {
-        let part: &Part = self.version.part(part);
-        let owner = part.segment().owner(set);
-        !part.marks()[owner.table as usize]
+        let owner = self.index(part).owner(set);
+        !self.version.part(part).marks()[owner.table as usize]
     }
 
     /// Returns the titles of the table of a column, and the place of the column there, from 1.
@@ -224,10 +237,9 @@ impl<'a> Looks<'a> {
         ensures titles { result.0.now.value ≡ titles_of (table_at (tables_of (part_at self.now.version.parts part)) (titled_at (segment_at self.now.version.parts part).columns set).from) }
         ensures place { result.1 ≡ (titled_at (segment_at self.now.version.parts part).columns set).place }
     {
-        let version: &'a Version = self.version;
-        let segment: &'a Segment = version.part(part).segment();
-        let owner = segment.owner(set);
-        let table = segment.tables()[owner.table as usize].table();
+        let index = self.index(part);
+        let owner = index.owner(set);
+        let table = index.tables()[owner.table as usize].table();
         (table.titles(), owner.place)
     }
 }
@@ -269,12 +281,11 @@ impl<'a> Looks<'a> {
         ensures log { self.new.log ≡ self.old.log ++ Read (part_at self.old.version.parts part).number token ∷ [] }
         ensures spare { self.new.spare + 1 ≡ self.old.spare }
     {
-        let version: &'a Version = self.version;
-        let read: &'a Part = version.part(part);
-        let list = read.segment().list(token);
+        let list = self.index(part).list(token);
+        let number = self.number(part);
         self.meter(part);
         self.note(Look::Read {
-            part: read.number,
+            part: number,
             token,
         });
         list
@@ -292,12 +303,11 @@ impl<'a> Looks<'a> {
         ensures log { self.new.log ≡ self.old.log ++ Probe (part_at self.old.version.parts part).number set after ∷ [] }
         ensures spare { self.new.spare + 1 ≡ self.old.spare }
     {
-        let version: &'a Version = self.version;
-        let probed: &'a Part = version.part(part);
-        let tail = probed.segment().tail(set, after);
+        let tail = self.index(part).tail(set, after);
+        let number = self.number(part);
         self.meter(part);
         self.note(Look::Probe {
-            part: probed.number,
+            part: number,
             set,
             after,
         });
@@ -349,6 +359,23 @@ impl<'a> Looks<'a> {
     {
         self.log.iter().filter(|look| !is_read_look(**look)).count() as u64
     }
+}
+
+// Returns the index of each part's segment, or `None` if one of them has none yet.
+fn indexes_of<'a>(
+    alloc: Global,
+    parts: &'a [Part],
+) -> Result<Option<Vec<&'a SegmentIndex>>, NoMemory>
+    ensures { IfOk result (λ found. IfSome found (λ indexes. map (λ index. index.now) indexes.items ≡ map tables_of parts.now)) }
+{
+    let mut indexes = Vec::with_capacity(alloc, parts.len())?;
+    for part in parts {
+        let Some(index) = part.segment().index() else {
+            return Ok(None);
+        };
+        indexes.push(index)?;
+    }
+    Ok(Some(indexes))
 }
 
 // Raises the meter of a part's segment by a number of looks.

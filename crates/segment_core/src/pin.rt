@@ -1,5 +1,5 @@
 //! Pins, which hold a version while it is searched.
-ghost use Rattle.std.specs.Prelude.{◌≡◌, ◌⊎◌, ◌<◌, ◌≤◌, ◌+◌, [], length, map, slice_range, IfErr, IfOk, None, OnOk, Some};
+ghost use Rattle.std.specs.Prelude.{◌≡◌, ◌⊎◌, ◌<◌, ◌≤◌, ◌+◌, [], length, map, slice_range, IfErr, IfOk, IfSome, None, OnOk, Some};
 ghost use Rattle.lake_model.specs.Layout.{shown, shown_with};
 ghost use Rattle.segment_core.specs.Lines.{line_from, live_lines};
 ghost use Rattle.segment_core.specs.LiveColumn.{column_fault, column_keys};
@@ -9,6 +9,7 @@ use crate::column::{ColumnRefused, live_column};
 use crate::layout::{Layout, TableLines};
 use crate::looks::Looks;
 use crate::plan::{Plan, plan_parts};
+use crate::segment::Segment;
 use crate::version::{Part, Version};
 use column_set::{Name, QuerySet};
 use no_memory::NoMemory;
@@ -16,8 +17,8 @@ use std::alloc::Global;
 use std::marker::Model;
 use std::sync::Arc;
 
-/// A version that is held: later changes to the lake do not affect it. It hands out neither the version nor its
-/// segments. Its model is the version. Parts are found by their index in the order of the layout, from 0.
+/// A version that is held: later changes to the lake do not affect it, except that its segments get their indexes. Its
+/// model is the version. Parts are found by their index in the order of the layout, from 0.
 #[derive(Drop)]
 pub struct Pin {
     version: Arc<Version>,
@@ -99,12 +100,23 @@ impl Pin {
         plan_parts(alloc, self.version.at(), run)
     }
 
-    /// Returns everything that a search may ask of the version, with an empty log that has no room. It allocates
-    /// nothing.
-    pub fn looks(&self, alloc: Global) -> Looks<'_>
-        ensures { result ≡ looks_with self.now [] 0 }
+    /// Returns everything that a search may ask of the version, with an empty log that has no room, or `None` if the
+    /// segment of a part has no index yet. It allocates 8 bytes for each part.
+    pub fn looks(&self, alloc: Global) -> Result<Option<Looks<'_>>, NoMemory>
+        ensures { IfOk result (λ found. IfSome found (λ looks. looks ≡ looks_with self.now [] 0)) }
     {
         Looks::new(alloc, &self.version)
+    }
+
+    /// Returns the segment of a part if it has no index yet.
+    pub fn unindexed(&self, part: u32) -> Option<&Segment>
+        requires { part < length self.now.parts }
+    {
+        let segment = self.version.part(part).segment();
+        if segment.index().is_some() {
+            return None;
+        }
+        Some(segment)
     }
 
     /// Returns the layout of the version, which it shares.

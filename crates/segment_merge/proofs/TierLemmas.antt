@@ -11,30 +11,12 @@ use Rattle.lake_model.specs.Tables.{Column, Table}
 use Rattle.lake_model.specs.Layout.{Place, Part}
 use Rattle.lake_model.specs.Plan.{binary_digits, tier, marks, is_half_marked}
 use Rattle.search_model.specs.Segment.{Titled, titled, columns_of, segment, tokens_of, tokens_in}
+use Rattle.segment_core.proofs.SegmentLemmas.{sets_counted}
 use Rattle.segment_core.specs.Versions.{tables_of, marks_of, segment_of}
-
-columns_in : ℕ → Table → List Titled
-columns_in n t = map (λ c. titled n t.name c.0 c.1) (enumerate_from 1 t.columns)
-
-length-columns_from : (n : ℕ) (tables : List Table) → length (flat_map (λ t. map (λ c. titled t.0 t.1.name c.0 c.1) (enumerate_from 1 t.1.columns)) (enumerate_from n tables)) ≡ sum_by (λ t. length t.columns) tables
-length-columns_from n [] = refl
-length-columns_from n (t ∷ tables) =
-    omega (
-      arith,
-      length-append (map (λ (c : ℕ × Column). titled n t.name c.0 c.1) (enumerate_from 1 t.columns)) (flat_map (λ t. map (λ c. titled t.0 t.1.name c.0 c.1) (enumerate_from 1 t.1.columns)) (enumerate_from (n + 1) tables)),
-      length-map (enumerate_from 1 t.columns) (λ (c : ℕ × Column). titled n t.name c.0 c.1),
-      length-enumerate_from 1 t.columns,
-      length-columns_from (n + 1) tables,
-      sum_by-cons (λ (t : Table). length t.columns) t tables,
-    )
-
-length-sets : (tables : List Table) → length (segment tables).sets ≡ sum_by (λ t. length t.columns) tables
-unfolding segment
-length-sets tables = length-map (columns_of tables) (λ (c : Titled). tokens_in (tokens_of (columns_of tables)) c.column.keys) ∙ length-columns_from 0 tables
 
 -- the tier of a part, from the number of columns of its segment
 pub tier_of_sets : (part : Part) → binary_digits (length (segment_of part).sets) ≡ tier part
-tier_of_sets part = ap binary_digits (length-sets (tables_of part) ∙ fold-map (λ (n : ℕ) (t : Table). n + length t.columns) (λ (p : Place). p.table) 0 part.places)
+tier_of_sets part = ap binary_digits (sets_counted (tables_of part) ∙ fold-map (λ (n : ℕ) (t : Table). n + length t.columns) (λ (p : Place). p.table) 0 part.places)
 
 marks_counted : (part : Part) → count_by (λ mark. mark) (marks_of part) ≡ marks part
 marks_counted part = fold-map (λ (n : ℕ) (b : Bool). n + cond b 1 0) (λ (p : Place). p.marked) 0 part.places

@@ -6,6 +6,7 @@ use crate::answers::{expect_looks, expect_rows, probe, read};
 use column_set::{Keys, QuerySet};
 use cost_model::{AlwaysProbe, AlwaysRead, Chooser, Listed, Profile};
 use josie_search::{SearchRoom, prepare};
+use segment_build::looks_at;
 use segment_core::{Look, Pin};
 use std::alloc::Global;
 use std::process::Abort;
@@ -22,7 +23,7 @@ fn expect<C: Chooser>(
 ) -> Result<(), Fail> {
     let alloc = rt.alloc();
     let asked = QuerySet::read(alloc, Keys::Canonical, body.as_bytes())?;
-    let prepared = prepare(alloc, pin.looks(alloc), &asked, 1, None, SearchRoom::new())?;
+    let prepared = prepare(alloc, looks_at(alloc, pin)?, &asked, 1, None, SearchRoom::new())?;
     let (answer, _room) = prepared.run(chooser);
     expect_rows(rt, &answer.rows, &[row]);
     expect_looks(rt, &answer.looks, looks);

@@ -8,7 +8,7 @@ use Rattle.segment_core.specs.Hashes.{IsByHash}
 use Rattle.segment_build.specs.Holding.{all_tokens}
 use Rattle.segment_build.specs.Inverse.{lists_from, sets_in}
 use Rattle.segment_build.proofs.BuildLemmas.{arrays, bounds_ready, is_made, keys_made, length-sets, one_more, sets_ready}
-use Rattle.segment_build.proofs.segment.build.Goals as goal
+use Rattle.segment_build.proofs.index.build_index.Goals as goal
 
 pub order_by_hash-requires-clause-keys : goal.order_by_hash-requires-clause-keys
 order_by_hash-requires-clause-keys c =

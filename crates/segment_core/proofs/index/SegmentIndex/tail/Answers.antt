@@ -1,7 +1,7 @@
 use Rattle.std.proofs.Common.{◌∙◌, ◌+◌, arith}
 use Rattle.segment_core.proofs.ListsLemmas.{part_is}
 use Rattle.segment_core.proofs.SegmentLemmas.{set_bounds}
-use Rattle.segment_core.proofs.segment.Segment.tail.Goals as goal
+use Rattle.segment_core.proofs.index.SegmentIndex.tail.Goals as goal
 
 pub list_at-requires : goal.list_at-requires
 list_at-requires c =

@@ -1,7 +1,7 @@
 use Rattle.std.proofs.Common.{ap, ℕ, ◌+◌, List, arith}
 use Rattle.std.specs.List.{slice_index}
 use Rattle.segment_core.proofs.SegmentLemmas.{list_bounds}
-use Rattle.segment_core.proofs.segment.Segment.list_len.Goals as goal
+use Rattle.segment_core.proofs.index.SegmentIndex.list_len.Goals as goal
 
 pub len_at-requires : goal.len_at-requires
 len_at-requires c =

@@ -2,7 +2,7 @@ use Rattle.std.proofs.Common.{subst, List}
 use Rattle.lake_model.specs.Tables.{Table}
 use Rattle.segment_core.specs.Hashes.{IsByHash}
 use Rattle.segment_core.proofs.HashLemmas.{lacks_hash}
-use Rattle.segment_core.proofs.segment.Segment.may_have.Goals as goal
+use Rattle.segment_core.proofs.index.SegmentIndex.may_have.Goals as goal
 
 pub returns : goal.returns
 returns c key own none =

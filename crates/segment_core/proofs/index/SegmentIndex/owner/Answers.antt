@@ -4,7 +4,7 @@ use Rattle.search_model.specs.Segment.{segment}
 use Rattle.search_model.specs.declared.Owner.{Owner}
 use Rattle.segment_core.proofs.SegmentLemmas.{length-sets, owner_at, owner_count}
 use Rattle.segment_core.proofs.PartLemmas.{from_within}
-use Rattle.segment_core.proofs.segment.Segment.owner.Goals as goal
+use Rattle.segment_core.proofs.index.SegmentIndex.owner.Goals as goal
 
 pub index-requires : goal.index-requires
 index-requires c = omega (arith, owner_count _ _ c.self.view_is _ _ _ _ _ _ _ c.self.invariant.0.arrays, c.requires)

@@ -1,7 +1,7 @@
 use Rattle.std.proofs.Common.{◌∙◌, arith}
 use Rattle.segment_core.proofs.ListsLemmas.{part_is}
 use Rattle.segment_core.proofs.SegmentLemmas.{list_bounds}
-use Rattle.segment_core.proofs.segment.Segment.list.Goals as goal
+use Rattle.segment_core.proofs.index.SegmentIndex.list.Goals as goal
 
 pub list_at-requires : goal.list_at-requires
 list_at-requires c =
