@@ -11,6 +11,7 @@ ghost use Rattle.text_region.specs.Spans.{IsSpan, KeepsSpans};
 ghost use Rattle.segment_core.specs.Hashes.{all_keyed, entry_hash, hash_of, keyed_at, keyed_from, keyed_in, sorted_by, token_hash, AreInOrder, AreKeyed, AreKeyedTokens, AreKeys, IsByHash, IsSplit};
 
 use column_set::{SharedTable, sip_hash};
+use front_sort::{FrontOrder, sort_by_fronts};
 use hash_directory::{HashDirectory, Near};
 use no_memory::NoMemory;
 use search_model::{Owner, TokenAt};
@@ -281,12 +282,31 @@ fn key_at<'a>(tables: &'a [SharedTable], owners: &[Owner], at: TokenAt) -> &'a s
 }
 
 // Returns the entries sorted by their hashes, and then by the bytes of the keys.
-fn sorted_by_hash(mut entries: Vec<HashedToken>, keys: &Region) -> Vec<HashedToken>
+fn sorted_by_hash(entries: Vec<HashedToken>, keys: &Region) -> Vec<HashedToken>
     ensures same { IsPermutation entries.items result.items }
     ensures rising { IsSortedByKey (λ entry. sorted_by (keyed_in keys.now entry)) (slice_cmp nat_cmp) result.items }
 {
-    entries.sort_unstable_by(|a, b| hashed_order(keys, *a, *b));
-    entries
+    sort_by_fronts(entries, &ByHash { keys })
+}
+
+// The order of tokens by the hashes of their keys, and then by the keys, which are in the region.
+#[derive(Drop)]
+struct ByHash<'a> {
+    keys: &'a Region,
+}
+
+impl<'a> FrontOrder<HashedToken> for ByHash<'a> {
+    ghost front = { λ _ entry. entry.hash };
+
+    ghost rest = { λ by entry. (keyed_in by.keys.now entry).key };
+
+    fn front(&self, entry: &HashedToken) -> u128 {
+        entry.hash as u128
+    }
+
+    fn compare(&self, a: &HashedToken, b: &HashedToken) -> Ordering {
+        hashed_order(self.keys, *a, *b)
+    }
 }
 
 // Compares by the hash, then by the key, which is read only if the hashes are equal.

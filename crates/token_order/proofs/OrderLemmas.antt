@@ -1,17 +1,19 @@
 -- The runs of all members, in their order, are what a vocabulary holds.
-use Rattle.std.proofs.Common.{◌≡◌, refl, ap, sym, ◌∙◌, subst, ℕ, ◌+◌, ◌<◌, List, [], ◌∷◌, map, length, get_or, false, arith}
+use Rattle.std.proofs.Common.{◌≡◌, refl, ap, sym, ◌∙◌, subst, ℕ, ◌+◌, ◌<◌, List, [], ◌∷◌, map, length, get_or, ◌^◌, ◌≤◌, false, inl, inr, arith}
 use Rattle.std.specs.Prelude.{bytes_eq, sum_by}
 use Rattle.std.specs.List.{All, IsDistinct, enumerate_from, range_with_len}
-use Rattle.std.specs.List.Sorted.{IsPermutation, IsSorted}
-use Rattle.std.specs.Cmp.{IsTotalOrder}
+use Rattle.std.specs.List.Sorted.{IsNonDecreasingBy, IsPermutation, IsSorted}
+use Rattle.std.specs.Cmp.{nat_cmp_is}
 use Rattle.std.specs.Cmp.Lexicographic.{slice_cmp}
 use Rattle.std.specs.Ordering.{is_lt, nat_cmp, ordering_then}
-use Rattle.std.proofs.lemmas.Cmp.{nat_cmp_total, on_total, then_total}
+use Rattle.std.specs.declared.cmp.Ordering.TheVariants.{Equal, Greater}
+use Rattle.std.proofs.lemmas.Bool.{cases_lt}
 use Rattle.std.proofs.lemmas.List.{ext_get_or, get_or_default, get_or-map, length-map}
 use Rattle.std.proofs.lemmas.List.Elements.{All-map}
 use Rattle.std.proofs.lemmas.List.FromFn.{get_or-enumerate_from, get_or-range_with_len, length-enumerate_from, length-range_with_len}
 use Rattle.std.proofs.lemmas.List.Sorted.{All-permutation, IsPermutation-map, IsPermutation-sym, length_permutation, sum_by-IsPermutation}
 use Rattle.std.proofs.lemmas.List.Sums.{sum_by-cons}
+use Rattle.list_laws.proofs.DigitLemmas.{scaled_cmp}
 use Rattle.column_set.specs.Columns.{HasDistinctKeys}
 use Rattle.lake_model.specs.Texts.{Text}
 use Rattle.lake_model.specs.Tables.{Table}
@@ -21,7 +23,7 @@ use Rattle.search_model.specs.Segment.{Token, columns_of, token_cmp, tokens_of}
 use Rattle.token_order.specs.Counted.{sorted_keys, AreCounted, AreNumbers, ArePlaces}
 use Rattle.token_order.specs.Places.{keys_of, pointed_by, IsThere}
 use Rattle.token_order.specs.Ranks.{names_of, IsRank}
-use Rattle.token_order.specs.Runs.{run_cmp, run_keys, run_token, runs_of, AreRanked}
+use Rattle.token_order.specs.Runs.{run_cmp, run_keys, run_number, run_token, runs_of, AreRanked}
 use Rattle.token_order.specs.Vocabulary.{frequencies_of, IsVocabulary}
 use Rattle.token_order.specs.declared.columns.ColumnAt.{ColumnAt}
 use Rattle.token_order.specs.declared.runs.Run.{Run}
@@ -31,9 +33,6 @@ use Rattle.token_order.proofs.RankLemmas.{runs_named}
 use Rattle.token_order.proofs.RunLemmas.{runs_differ, runs_long, runs_rise}
 use Rattle.token_order.proofs.SortLemmas.{TextsRise, rises, sorted_from_rises}
 use Rattle.token_order.proofs.TokenLemmas.{tokens_are}
-
-pub run_cmp_total : IsTotalOrder run_cmp
-run_cmp_total = then_total (on_total (λ (r : Run). r.frequency) nat_cmp_total) (on_total (λ (r : Run). r.rank) nat_cmp_total)
 
 abbrev pub rank_of : Run → ℕ
 rank_of run = run.rank
@@ -49,6 +48,22 @@ numbered runs moved ranked perm =
     let z : 0 + i ≡ i = omega arith in
     get_or-range_with_len 0 (length (map rank_of moved)) i 0 (omega (arith, inside, long)) ∙ z ∙ sym (get_or-map rank_of runs i no 0 inside ∙ ranked i no inside)) in
     subst (λ (ns : List ℕ). IsPermutation ns (map rank_of moved)) (sym same) (IsPermutation-map rank_of runs moved perm)
+
+-- ---- the number by which runs are sorted
+
+not_less : (a b : ℕ) → a ≤ b → is_lt (nat_cmp b a) ≡ false
+not_less a b h = elim (cases_lt a b) [
+  | inl l ↦ (let e : Greater ≡ nat_cmp b a = nat_cmp_is b a Greater l in ap is_lt (sym e))
+  | inr g ↦ (let same : b ≡ a = omega (arith, h, g) in let e : Equal ≡ nat_cmp b a = nat_cmp_is b a Equal same in ap is_lt (sym e))
+]
+
+-- runs that are sorted by that number are sorted by their frequencies, and then by their ranks
+pub sorted_by_number : (runs : List Run) → All (λ r. r.rank < 2 ^ 32) runs → IsNonDecreasingBy run_number runs → IsSorted run_cmp runs
+sorted_by_number runs few rising k d low h =
+    let x = get_or runs k d in
+    let y = get_or runs (k + 1) d in
+    let same = scaled_cmp (2 ^ 32) y.frequency x.frequency y.rank x.rank (few (k + 1) d h) (few k d (omega (arith, h))) in
+    ap is_lt (sym same) ∙ not_less (run_number x) (run_number y) (rising k (k + 1) d (omega arith) h)
 
 -- ---- a list of all numbers, and their indices
 

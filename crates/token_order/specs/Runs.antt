@@ -1,5 +1,5 @@
 -- Keys as runs of equal neighbours. A run is a token: its key, and how many keys the run has.
-use Rattle.std.specs.Prelude.{◌≡◌, ℕ, ◌+◌, ◌<◌, List, [], ◌∷◌, bytes_eq, get_or, if◌then◌else◌, length, map}
+use Rattle.std.specs.Prelude.{◌≡◌, ℕ, ◌+◌, ◌*◌, ◌<◌, ◌^◌, List, [], ◌∷◌, bytes_eq, get_or, if◌then◌else◌, length, map}
 use Rattle.std.specs.Ordering.{nat_cmp, ordering_then}
 use Rattle.std.specs.declared.cmp.Ordering.{Ordering}
 use Rattle.lake_model.specs.Texts.{Text}
@@ -30,6 +30,10 @@ run_token tables columns run = token_with (pointed_by tables columns run.first) 
 -- the shorter run first, and then by number
 abbrev pub run_cmp : Run → Run → Ordering
 run_cmp a b = ordering_then (nat_cmp a.frequency b.frequency) (nat_cmp a.rank b.rank)
+
+-- the number by which runs are sorted
+abbrev pub run_number : Run → ℕ
+run_number run = run.frequency * 2 ^ 32 + run.rank
 
 -- each run's number is its index in the list
 abbrev pub AreRanked : List Run → Type 0

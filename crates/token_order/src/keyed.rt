@@ -10,6 +10,7 @@ use crate::columns::ColumnAt;
 use crate::fronts::front_of;
 use crate::places::key_at;
 use column_set::SharedTable;
+use front_sort::FrontOrder;
 use search_model::TokenAt;
 use std::cmp::Ordering;
 
@@ -44,10 +45,10 @@ impl Keyed {
     }
 }
 
-/// Compares members by their fronts, and then by their keys, which are read only if the fronts are equal and more bytes
-/// may follow. The order is that of the bytes of their keys.
+// Compares members by their fronts, and then by their keys, which are read only if the fronts are equal and more bytes
+// may follow. The order is that of the bytes of their keys.
 #[inline(always)]
-pub fn order(tables: &[SharedTable], columns: &[ColumnAt], a: &Keyed, b: &Keyed) -> Ordering
+fn order(tables: &[SharedTable], columns: &[ColumnAt], a: &Keyed, b: &Keyed) -> Ordering
     ensures { result ≡ slice_cmp nat_cmp (compared_with tables.now columns.now a.now) (compared_with tables.now columns.now b.now) }
 {
     let front = a.front();
@@ -72,6 +73,28 @@ fn order_by_rest(
         return Ordering::Equal;
     }
     key_at(tables, columns, a).cmp(key_at(tables, columns, b))
+}
+
+/// The order of members by their keys, for a sort by the fronts of these.
+#[derive(Drop)]
+pub struct ByKey<'a> {
+    pub tables: &'a [SharedTable],
+    pub columns: &'a [ColumnAt],
+}
+
+impl<'a> FrontOrder<Keyed> for ByKey<'a> {
+    ghost front = { λ _ keyed. front_held keyed };
+
+    ghost rest = { λ by keyed. rest_by (front_held keyed) (pointed_by by.tables.now by.columns.now keyed.member) };
+
+    #[inline(always)]
+    fn front(&self, keyed: &Keyed) -> u128 {
+        keyed.front()
+    }
+
+    fn compare(&self, a: &Keyed, b: &Keyed) -> Ordering {
+        order(self.tables, self.columns, a, b)
+    }
 }
 
 /// Returns whether two members have the same key.

@@ -1,11 +1,13 @@
 //! The runs of members in token order.
 ghost use Rattle.std.specs.Prelude.{◌≡◌, ◌<◌, ◌^◌, length, map, sum_by, IfOk};
+ghost use Rattle.std.specs.List.Sorted.{IsNonDecreasingBy, IsPermutation};
 ghost use Rattle.lake_model.specs.Tables.{members};
 ghost use Rattle.token_order.specs.Counted.{AreNumbers, ArePlaces};
+ghost use Rattle.token_order.specs.Runs.{run_number};
 ghost use Rattle.token_order.specs.Vocabulary.{IsVocabulary};
 
 use crate::columns::ColumnAt;
-use crate::runs::{CountedRuns, Run, counted_runs, run_order};
+use crate::runs::{CountedRuns, Run, counted_runs, run_number};
 use column_set::SharedTable;
 use no_memory::NoMemory;
 use search_model::TokenAt;
@@ -30,10 +32,10 @@ pub fn ordered_tokens(alloc: Global, tables: &[SharedTable]) -> Result<OrderedTo
 {
     let CountedRuns {
         columns,
-        mut runs,
+        runs,
         ranks,
     } = counted_runs(alloc, tables)?;
-    runs.sort_unstable_by(|a, b| run_order(*a, *b));
+    let runs = sorted_runs(runs);
     let by_key = numbers_by_rank(alloc, &runs)?;
     let tokens = places_of(alloc, &runs)?;
     let frequencies = frequencies_of(alloc, &runs)?;
@@ -44,6 +46,15 @@ pub fn ordered_tokens(alloc: Global, tables: &[SharedTable]) -> Result<OrderedTo
         by_key,
         ranks,
     })
+}
+
+// Returns the runs sorted by their frequencies, and then by their ranks.
+fn sorted_runs(mut runs: Vec<Run>) -> Vec<Run>
+    ensures same { IsPermutation runs.items result.items }
+    ensures rising { IsNonDecreasingBy run_number result.items }
+{
+    runs.sort_unstable_by(|a, b| run_number(*a).cmp(&run_number(*b)));
+    runs
 }
 
 // Returns the number of the run that has each rank. It takes one write for each run.

@@ -11,8 +11,9 @@ ghost use Rattle.token_order.specs.Keyed.{members_of, IsKeyed, IsMoreKeyed};
 ghost use Rattle.token_order.specs.Places.{keys_of, number_of, pointed_by, AreMembers};
 
 use crate::columns::{ColumnAt, table_of};
-use crate::keyed::{Keyed, order};
+use crate::keyed::{ByKey, Keyed};
 use column_set::{SharedTable, TableSets};
+use front_sort::sort_by_fronts;
 use no_memory::NoMemory;
 use search_model::{Owner, TokenAt};
 use std::alloc::Global;
@@ -124,7 +125,6 @@ pub fn members_by_key(
     ensures all { IfOk result (λ members. AreMembers tables.now columns.now (members_of members.items)) }
     ensures keyed { IfOk result (λ members. All (IsKeyed tables.now columns.now) members.items) }
 {
-    let mut members = all_members(alloc, tables, columns)?;
-    members.sort_unstable_by(|a, b| order(tables, columns, a, b));
-    Ok(members)
+    let members = all_members(alloc, tables, columns)?;
+    Ok(sort_by_fronts(members, &ByKey { tables, columns }))
 }

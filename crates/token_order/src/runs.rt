@@ -8,7 +8,7 @@ ghost use Rattle.search_model.specs.Arrays.{token_with};
 ghost use Rattle.token_order.specs.Keyed.{members_of, IsKeyed};
 ghost use Rattle.token_order.specs.Places.{keys_of, pointed_by, AreMembers, IsThere};
 ghost use Rattle.token_order.specs.Ranks.{HaveRanks};
-ghost use Rattle.token_order.specs.Runs.{run_cmp, run_keys, run_token, runs_from, runs_of, AreRanked};
+ghost use Rattle.token_order.specs.Runs.{run_keys, run_number, run_token, runs_from, runs_of, AreRanked};
 
 use crate::columns::{ColumnAt, all_columns};
 use crate::keyed::{Keyed, same_key};
@@ -17,7 +17,6 @@ use column_set::SharedTable;
 use no_memory::NoMemory;
 use search_model::TokenAt;
 use std::alloc::Global;
-use std::cmp::Ordering;
 
 /// A run of adjacent members with equal keys among the sorted members: its first member, how many it has, and its
 /// number among the runs, from 0.
@@ -54,14 +53,12 @@ pub fn counted_runs(alloc: Global, tables: &[SharedTable]) -> Result<CountedRuns
     })
 }
 
-/// Compares runs: the shorter first, and then the lower number, which has the lower key.
-pub fn run_order(a: Run, b: Run) -> Ordering
-    ensures { result ≡ run_cmp a b }
+/// Returns the number by which runs are sorted: the frequency, and then the rank, which is that of the key. To compare
+/// such numbers takes no branch.
+pub fn run_number(run: Run) -> u64
+    ensures { result ≡ run_number run }
 {
-    match a.frequency.cmp(&b.frequency) {
-        Ordering::Equal => a.rank.cmp(&b.rank),
-        unequal => unequal,
-    }
+    run.frequency as u64 * 0x1_0000_0000 + run.rank as u64
 }
 
 // Returns the runs of the members. The number of each member's run is written to `ranks` at the member's number.

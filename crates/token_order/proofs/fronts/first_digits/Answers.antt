@@ -1,35 +1,11 @@
-use Rattle.std.proofs.Common.{◌≡◌, ◌∙◌, ap, sym, ℕ, ◌+◌, ◌*◌, arith}
-use Rattle.list_laws.specs.Digits.{digits}
-use Rattle.list_laws.proofs.DigitLemmas.{digits_more, digits_none, one_digit_more}
-use Rattle.token_order.proofs.FrontLemmas.{digits_fit}
+use Rattle.std.proofs.Common.{arith}
+use Rattle.token_order.proofs.FrontLemmas.{digits_fit, fifteen_digits, fifteen_small}
 use Rattle.token_order.proofs.fronts.first_digits.Goals as goal
-
-pub loop-i-init : goal.loop-i-init
-loop-i-init c = record { value = sym (digits_none 257 c.args.bytes.now); small = omega arith }
-
-pub loop-i-preserved : goal.loop-i-preserved
-loop-i-preserved c =
-    let bytes = c.args.bytes.now in
-    let i = c.loop-i.i in
-    record {
-      value = ap (λ (n : ℕ). n * 257 + c.digit_at.result) c.loop-i.invariant.value ∙ ap (λ (n : ℕ). digits 257 i bytes * 257 + n) c.digit_at.ensures.value ∙ sym (digits_more 257 i bytes);
-      small = one_digit_more 257 i c.loop-i.digits c.digit_at.result c.loop-i.invariant.small c.digit_at.ensures.small;
-    }
-
-pub overflow_mul-digits : goal.overflow_mul-digits
-overflow_mul-digits c =
-    let small = digits_fit (c.loop-i.i + 1) (c.loop-i.digits * 257 + 0) (omega (arith, c.loop-i-test.true)) (one_digit_more 257 c.loop-i.i c.loop-i.digits 0 c.loop-i.invariant.small (omega arith)) in
-    omega (arith, small)
-
-pub overflow_add-digits : goal.overflow_add-digits
-overflow_add-digits c =
-    let small = digits_fit (c.loop-i.i + 1) (c.loop-i.digits * 257 + c.digit_at.result) (omega (arith, c.loop-i-test.true)) (one_digit_more 257 c.loop-i.i c.loop-i.digits c.digit_at.result c.loop-i.invariant.small c.digit_at.ensures.small) in
-    omega (arith, small)
 
 pub returns-clause-value : goal.returns-clause-value
 returns-clause-value c =
-    let end : c.loop-i.i ≡ 15 = omega (arith, c.loop-i-test.false, c.loop-i.auto.i-end) in
-    c.loop-i.invariant.value ∙ ap (λ (n : ℕ). digits 257 n c.args.bytes.now) end
+    fifteen_digits c.args.bytes.now c.five_digits-first.result c.five_digits-second.result c.five_digits-third.result c.five_digits-first.ensures.value c.five_digits-second.ensures.value c.five_digits-third.ensures.value
 
 pub returns-clause-small : goal.returns-clause-small
-returns-clause-small c = digits_fit c.loop-i.i c.loop-i.digits c.loop-i.auto.i-end c.loop-i.invariant.small
+returns-clause-small c =
+    digits_fit 15 _ (omega arith) (fifteen_small c.five_digits-first.result c.five_digits-second.result c.five_digits-third.result c.five_digits-first.ensures.small c.five_digits-second.ensures.small c.five_digits-third.ensures.small)
