@@ -23,7 +23,14 @@ fn expect<C: Chooser>(
 ) -> Result<(), Fail> {
     let alloc = rt.alloc();
     let asked = QuerySet::read(alloc, Keys::Canonical, body.as_bytes())?;
-    let prepared = prepare(alloc, looks_at(alloc, pin)?, &asked, 1, None, SearchRoom::new())?;
+    let prepared = prepare(
+        alloc,
+        looks_at(alloc, pin)?,
+        &asked,
+        1,
+        None,
+        SearchRoom::new(),
+    )?;
     let (answer, _room) = prepared.run(chooser);
     expect_rows(rt, &answer.rows, &[row]);
     expect_looks(rt, &answer.looks, looks);
