@@ -71,6 +71,7 @@ fn add_missing(alloc: Global, pin: &Pin) -> Result<(), NoMemory> {
 
 // Builds the index of a segment.
 fn add_index(alloc: Global, segment: &Segment) -> Result<(), NoMemory> {
+    segment.is_small();
     let index = build_index(alloc, shares(alloc, segment.tables())?)?;
     segment.keep_index(Box::new(alloc, index)?);
     Ok(())
