@@ -11,5 +11,5 @@ pub returns : goal.returns
 returns c =
     subst (λ (said : Reply). IfOk c.found.result (λ reply. reply_of reply ≡ said))
     (contained_here c.args.pin.now c.args.query.now c.args.a c.args.b c.in_ok-prepared.prepared c.run.result.rows c.run.result.looks.log c.in_ok-layout.layout
-    (c.in_ok-prepared.ensures ∙ ap (λ (looks : LooksOf). contain_with looks.version c.args.query.now c.args.a c.args.b) c.looks.ensures) c.run.ensures.rows c.run.ensures.log c.in_ok-layout.ensures)
+    (c.in_ok-prepared.ensures ∙ ap (λ (looks : LooksOf). contain_with looks.version c.args.query.now c.args.a c.args.b) c.in_ok-looks_at.ensures) c.run.ensures.rows c.run.ensures.log c.in_ok-layout.ensures)
     c.found.ensures
