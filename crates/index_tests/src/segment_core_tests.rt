@@ -4,7 +4,7 @@ ghost use Rattle.std.specs.Prelude.{◌≡◌, ◌∷◌, [], codes, length, IfO
 ghost use Rattle.lake_model.specs.Tables.{column_name, keys_at, titles_of};
 ghost use Rattle.index_tests.specs.Worked.{worked_owners, worked_postings, worked_table, worked_tokens, worked_version};
 
-use crate::making::{holds, name, sets, shows};
+use crate::making::{holds, name, only, sets, shows};
 use column_set::{Keys, QuerySet, SharedTable, TableSets};
 use no_memory::NoMemory;
 use segment_core::{
@@ -155,7 +155,7 @@ fn index(alloc: Global) -> Result<SegmentIndex, Fail>
 fn segment(alloc: Global) -> Result<Segment, Fail>
     ensures { IfOk result (λ segment. segment ≡ worked_table ∷ []) }
 {
-    Ok(Segment::new(vec![in alloc; table(alloc)?]?))
+    Ok(Segment::new(only(alloc, table(alloc)?)?))
 }
 
 // Returns the version after the load of the worked table at position 7.
@@ -243,7 +243,7 @@ fn indexes(rt: HostRuntime) -> Result<(), Fail> {
     segment.keep_index(Box::new(alloc, index(alloc)?)?);
     segment.keep_index(Box::new(alloc, index(alloc)?)?);
     let index = segment.index().ok_or("no index")?;
-    assert!(rt; index.sets() == 2 && index.list_len(1) == 2);
+    assert!(rt; index.sets() == 2 && index.lookup("a") == Some(1));
     Ok(())
 }
 

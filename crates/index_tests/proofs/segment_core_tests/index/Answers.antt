@@ -3,7 +3,7 @@ use Rattle.lake_model.specs.Tables.{Table}
 use Rattle.segment_core.specs.Hashes.{IsByHash}
 use Rattle.index_tests.specs.Worked.{worked_table}
 use Rattle.index_tests.proofs.WorkedSegment.{worked_inverse, worked_kept, worked_keys, worked_ranks}
-use Rattle.index_tests.proofs.segment_core_tests.segment.Goals as goal
+use Rattle.index_tests.proofs.segment_core_tests.index.Goals as goal
 
 pub order_by_hash-requires-clause-keys : goal.order_by_hash-requires-clause-keys
 order_by_hash-requires-clause-keys c =
