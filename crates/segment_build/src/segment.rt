@@ -30,7 +30,8 @@ pub fn build(alloc: Global, tables: Vec<SharedTable>) -> Result<Segment, NoMemor
 /// no index yet get it first: it is built once, when the segment is first searched, and stays for later searches.
 ///
 /// Several callers may need the indexes of the same segments at the same time. Each first builds those that nobody has
-/// begun, and then those that are still missing, so an index is seldom built twice. It fails only if memory runs out.
+/// begun, and then those that are still missing, so an index is seldom built twice. It fails if memory runs out, and with
+/// the same error if another thread has not finished keeping an index after 2^30 tries.
 pub fn looks_at(alloc: Global, pin: &Pin) -> Result<Looks<'_>, NoMemory>
     ensures { IfOk result (λ looks. looks ≡ looks_with pin.now [] 0) }
 {
