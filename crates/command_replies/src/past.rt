@@ -21,7 +21,7 @@ use cost_model::Profile;
 use josie_search::{SearchRoom, prepare};
 use no_memory::NoMemory;
 use run_record::Reply;
-use segment_build::looks_at;
+use segment_build::index_pin;
 use segment_core::Pin;
 use std::alloc::Global;
 
@@ -42,8 +42,8 @@ fn rows_at(alloc: Global, pin: &Pin, query: &QuerySet, k: u32) -> Result<KeptRow
     requires high { k ≤ 10000 }
     ensures { IfOk result (λ rows. rows ≡ answer (live_of pin.now.parts) query.now k None) }
 {
-    let looks = looks_at(alloc, pin)?;
-    let prepared = prepare(alloc, looks, query, k, None, SearchRoom::new())?;
+    let indexed = index_pin(alloc, pin)?;
+    let prepared = prepare(alloc, indexed.looks(alloc), query, k, None, SearchRoom::new())?;
     let (answer, _room) = prepared.run(&Profile);
     answer.rows.keep_all(alloc)
 }

@@ -22,7 +22,7 @@ use cost_model::Profile;
 use josie_search::{Answer, SearchRoom, prepare};
 use no_memory::NoMemory;
 use run_record::Reply;
-use segment_build::looks_at;
+use segment_build::index_pin;
 use segment_core::{ColumnRefused, Layout, Pin};
 use std::alloc::Global;
 use std::mem;
@@ -82,9 +82,9 @@ fn find(
     ensures { IfOk result (λ reply. reply_of reply ≡ found_at pin.now (query_with k query.now (option_copied except.entry))) }
 {
     let layout = pin.layout()?;
-    let looks = looks_at(alloc, pin)?;
+    let indexed = index_pin(alloc, pin)?;
     let taken = mem::replace(room, SearchRoom::new());
-    let prepared = prepare(alloc, looks, query, k, except, taken)?;
+    let prepared = prepare(alloc, indexed.looks(alloc), query, k, except, taken)?;
     let (answer, used) = prepared.run(&Profile);
     *room = used;
     found(alloc, query, &answer, layout)
@@ -104,7 +104,8 @@ fn find_holding(
     ensures { IfOk result (λ reply. reply_of reply ≡ contained_at pin.now query.now a b) }
 {
     let layout = pin.layout()?;
-    let prepared = prepare_contain(alloc, looks_at(alloc, pin)?, query, a, b)?;
+    let indexed = index_pin(alloc, pin)?;
+    let prepared = prepare_contain(alloc, indexed.looks(alloc), query, a, b)?;
     found(alloc, query, &prepared.run(), layout)
 }
 

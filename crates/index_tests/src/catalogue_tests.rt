@@ -11,7 +11,7 @@ use catalogue::{
 };
 use column_set::{Keys, QuerySet, SharedTable};
 use no_memory::NoMemory;
-use segment_build::looks_at;
+use segment_build::index_pin;
 use segment_core::{HashedQuery, Merged, Numbers, Plan, Segment};
 use std::alloc::Global;
 use std::process::Abort;
@@ -397,7 +397,8 @@ fn asked_of_parts(lake: &Catalogue, alloc: Global, body: &str) -> Result<Vec<Vec
     let query = QuerySet::read(alloc, Keys::Canonical, body.as_bytes())?;
     let hashed = HashedQuery::new(alloc, &query)?;
     let pin = lake.pin()?;
-    Ok(looks_at(alloc, &pin)?.tokens_of_parts(alloc, &hashed)?)
+    let indexed = index_pin(alloc, &pin)?;
+    Ok(indexed.looks(alloc).tokens_of_parts(alloc, &hashed)?)
 }
 
 #[test]

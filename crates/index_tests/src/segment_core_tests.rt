@@ -7,6 +7,7 @@ ghost use Rattle.index_tests.specs.Worked.{worked_owners, worked_postings, worke
 use crate::making::{holds, name, only, sets, shows};
 use column_set::{Keys, QuerySet, SharedTable, TableSets};
 use no_memory::NoMemory;
+use segment_build::index_pin;
 use segment_core::{
     ColumnRefused, HashedQuery, Look, Looks, Marks, Numbers, Owner, Part, Pin, Posting, Segment,
     SegmentIndex, TokenAt, Version, order_by_hash,
@@ -163,7 +164,7 @@ fn version(alloc: Global) -> Result<Arc<Version>, Fail>
     ensures { IfOk result (λ version. version.value ≡ worked_version) }
 {
     let segment = segment(alloc)?;
-    segment.keep_index(Box::new(alloc, index(alloc)?)?);
+    let _ = segment.keep_index(Box::new(alloc, index(alloc)?)?);
     let segment = Arc::new(alloc, segment)?;
     let positions = Numbers::new(vec![in alloc; 7]?);
     let marked = Marks::new(vec![in alloc; false]?);
@@ -232,16 +233,17 @@ fn has_tail(looks: &mut Looks<'_>, set: u32, after: u32, wanted: &[u32]) -> bool
     after < looks.size(0, set) && looks.tail(0, set, after) == wanted
 }
 
-// A segment has no index before it is given one, and then keeps it: there are no looks before, and the second index that
-// it is given makes no difference.
+// A segment has no index before it is given one, and then keeps it: the second index that it is given makes no
+// difference.
 #[test]
 fn indexes(rt: HostRuntime) -> Result<(), Fail> {
     let alloc = rt.alloc();
     let segment = segment(alloc)?;
     assert!(rt; segment.index().is_none() && segment.sets() == 2);
     assert!(rt; segment.begins_index() && !segment.begins_index());
-    segment.keep_index(Box::new(alloc, index(alloc)?)?);
-    segment.keep_index(Box::new(alloc, index(alloc)?)?);
+    let first = segment.keep_index(Box::new(alloc, index(alloc)?)?);
+    let second = segment.keep_index(Box::new(alloc, index(alloc)?)?);
+    assert!(rt; first.is_kept() && second.is_kept());
     let index = segment.index().ok_or("no index")?;
     assert!(rt; index.sets() == 2 && index.lookup("a") == Some(1));
     Ok(())
@@ -251,7 +253,8 @@ fn indexes(rt: HostRuntime) -> Result<(), Fail> {
 #[test]
 fn columns(rt: HostRuntime) -> Result<(), Fail> {
     let pin = pin(rt.alloc())?;
-    let looks = pin.looks(rt.alloc())?.ok_or("no index")?;
+    let indexed = index_pin(rt.alloc(), &pin)?;
+    let looks = indexed.looks(rt.alloc());
     assert!(rt; looks.parts() == 1 && looks.number(0) == 7 && looks.sets(0) == 2);
     assert!(rt; has_column(&looks, 0, 2, 1));
     assert!(rt; has_column(&looks, 1, 1, 2));
@@ -264,7 +267,8 @@ fn columns(rt: HostRuntime) -> Result<(), Fail> {
 #[test]
 fn keys(rt: HostRuntime) -> Result<(), Fail> {
     let pin = pin(rt.alloc())?;
-    let looks = pin.looks(rt.alloc())?.ok_or("no index")?;
+    let indexed = index_pin(rt.alloc(), &pin)?;
+    let looks = indexed.looks(rt.alloc());
     assert!(rt; holds_key(&looks, "z", 0, 1));
     assert!(rt; holds_key(&looks, "a", 1, 2));
     assert!(rt; looks.lookup(0, "b").is_none());
@@ -276,7 +280,8 @@ fn keys(rt: HostRuntime) -> Result<(), Fail> {
 #[test]
 fn queries(rt: HostRuntime) -> Result<(), Fail> {
     let pin = pin(rt.alloc())?;
-    let looks = pin.looks(rt.alloc())?.ok_or("no index")?;
+    let indexed = index_pin(rt.alloc(), &pin)?;
+    let looks = indexed.looks(rt.alloc());
     assert!(rt; asks(rt.alloc(), &looks, "a\n", &[1])?);
     assert!(rt; asks(rt.alloc(), &looks, "a\nz\n", &[0, 1])?);
     assert!(rt; asks(rt.alloc(), &looks, "b\na\nz\n", &[0, 1])?);
@@ -321,7 +326,8 @@ fn reads_and_probes(looks: &mut Looks<'_>) -> Result<bool, NoMemory> {
 #[test]
 fn logged(rt: HostRuntime) -> Result<(), Fail> {
     let pin = pin(rt.alloc())?;
-    let mut looks = pin.looks(rt.alloc())?.ok_or("no index")?;
+    let indexed = index_pin(rt.alloc(), &pin)?;
+    let mut looks = indexed.looks(rt.alloc());
     assert!(rt; reads_and_probes(&mut looks)?);
     drop(looks);
     assert_eq!(rt; pin.meter(0), 2);

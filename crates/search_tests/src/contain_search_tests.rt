@@ -6,7 +6,7 @@ use crate::making::{drop_table, empty, load};
 use catalogue::Catalogue;
 use column_set::{Keys, QuerySet};
 use contain_search::prepare_contain;
-use segment_build::looks_at;
+use segment_build::index_pin;
 use segment_core::Look;
 use std::alloc::Global;
 use std::process::Abort;
@@ -36,7 +36,8 @@ fn expect(
     let alloc = rt.alloc();
     let pin = lake.pin()?;
     let query = QuerySet::read(alloc, Keys::Canonical, body.as_bytes())?;
-    let answer = prepare_contain(alloc, looks_at(alloc, &pin)?, &query, 1, b)?.run();
+    let indexed = index_pin(alloc, &pin)?;
+    let answer = prepare_contain(alloc, indexed.looks(alloc), &query, 1, b)?.run();
     expect_rows(rt, &answer.rows, rows);
     expect_looks(rt, &answer.looks, looks);
     Ok(())

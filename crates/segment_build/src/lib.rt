@@ -7,5 +7,5 @@ mod index;
 mod lists;
 mod segment;
 
-pub use segment::{build, looks_at};
+pub use segment::{build, index_pin};
 pub use segment_core::Segment;

@@ -1,18 +1,14 @@
-//! Segments with their indexes, and looks at pins whose segments get theirs.
-ghost use Rattle.std.specs.Prelude.{◌≡◌, ◌<◌, ◌^◌, [], length, sum_by, IfOk};
+//! Segments with their indexes, and pins whose parts get theirs.
+ghost use Rattle.std.specs.Prelude.{◌≡◌, ◌<◌, ◌^◌, length, map, sum_by, IfOk, IfSome};
 ghost use Rattle.lake_model.specs.Tables.{members};
-ghost use Rattle.segment_core.specs.Versions.{looks_with};
+ghost use Rattle.segment_core.specs.Versions.{tables_of};
 
 use crate::index::build_index;
 use column_set::SharedTable;
 use no_memory::NoMemory;
-use segment_core::{Looks, Pin, Segment};
+use segment_core::{IndexedPin, PartIndex, Pin, Segment};
 use std::alloc::Global;
 use std::boxed::Box;
-
-/// How often a pin whose segments have been given their indexes is asked for looks. Only another thread that is keeping
-/// an index at the very moment may make a second time necessary.
-const MOST_TRIES: u32 = 1 << 30;
 
 /// Builds the segment of these tables, with its index. It costs what [`build_index`] does, and fails only if memory runs
 /// out.
@@ -22,60 +18,72 @@ pub fn build(alloc: Global, tables: Vec<SharedTable>) -> Result<Segment, NoMemor
     ensures { IfOk result (λ segment. segment ≡ tables.items) }
 {
     let segment = Segment::new(tables);
-    add_index(alloc, &segment)?;
+    let _ = index_of(alloc, &segment)?;
     Ok(segment)
 }
 
-/// Returns everything that a search may ask of a pin, with an empty log that has no room. Segments of the pin that have
-/// no index yet get it first: it is built once, when the segment is first searched, and stays for later searches.
+/// Returns a pin with the indexes of its parts, so that it can be searched. Segments that have no index yet get it
+/// first: it is built when the segment is first searched, and stays for later searches. It takes 16 bytes for each part,
+/// and what [`build_index`] does for each index that is missing, and fails only if memory runs out.
 ///
 /// Several callers may need the indexes of the same segments at the same time. Each first builds those that nobody has
-/// begun, and then those that are still missing, so an index is seldom built twice. It fails if memory runs out, and with
-/// the same error if another thread has not finished keeping an index after 2^30 tries.
-pub fn looks_at(alloc: Global, pin: &Pin) -> Result<Looks<'_>, NoMemory>
-    ensures { IfOk result (λ looks. looks ≡ looks_with pin.now [] 0) }
+/// begun, and then those that are still missing, so an index is seldom built twice.
+pub fn index_pin(alloc: Global, pin: &Pin) -> Result<IndexedPin<'_>, NoMemory>
+    ensures { IfOk result (λ indexed. indexed ≡ pin.now) }
 {
-    if let Some(looks) = pin.looks(alloc)? {
-        return Ok(looks);
+    if let Some(indexes) = kept_indexes(alloc, pin)? {
+        return Ok(IndexedPin::new(pin, indexes));
     }
     add_begun(alloc, pin)?;
-    add_missing(alloc, pin)?;
-    for _try in 0..MOST_TRIES {
-        if let Some(looks) = pin.looks(alloc)? {
-            return Ok(looks);
-        }
+    Ok(IndexedPin::new(pin, all_indexes(alloc, pin)?))
+}
+
+// Returns the indexes of the parts of a pin, or `None` if one is missing.
+fn kept_indexes(alloc: Global, pin: &Pin) -> Result<Option<Vec<PartIndex<'_>>>, NoMemory>
+    ensures { IfOk result (λ found. IfSome found (λ indexes. indexes.items ≡ map tables_of pin.now.parts)) }
+{
+    let mut indexes = Vec::with_capacity(alloc, pin.parts() as usize)?;
+    for part in 0..pin.parts() {
+        let Some(index) = pin.segment(part).index() else {
+            return Ok(None);
+        };
+        indexes.push(PartIndex::kept(index))?;
     }
-    Err(NoMemory)
+    Ok(Some(indexes))
 }
 
 // Builds the indexes that are missing and that nobody has begun.
 fn add_begun(alloc: Global, pin: &Pin) -> Result<(), NoMemory> {
     for part in 0..pin.parts() {
-        if let Some(segment) = pin.unindexed(part) {
-            if segment.begins_index() {
-                add_index(alloc, segment)?;
-            }
+        let segment = pin.segment(part);
+        if segment.index().is_none() && segment.begins_index() {
+            let _ = index_of(alloc, segment)?;
         }
     }
     Ok(())
 }
 
-// Builds the indexes that are missing.
-fn add_missing(alloc: Global, pin: &Pin) -> Result<(), NoMemory> {
+// Returns the indexes of the parts of a pin, and builds those that are missing.
+fn all_indexes(alloc: Global, pin: &Pin) -> Result<Vec<PartIndex<'_>>, NoMemory>
+    ensures { IfOk result (λ indexes. indexes.items ≡ map tables_of pin.now.parts) }
+{
+    let mut indexes = Vec::with_capacity(alloc, pin.parts() as usize)?;
     for part in 0..pin.parts() {
-        if let Some(segment) = pin.unindexed(part) {
-            add_index(alloc, segment)?;
-        }
+        indexes.push(index_of(alloc, pin.segment(part))?)?;
     }
-    Ok(())
+    Ok(indexes)
 }
 
-// Builds the index of a segment.
-fn add_index(alloc: Global, segment: &Segment) -> Result<(), NoMemory> {
+// Returns the index of a segment, and builds it if it is missing.
+fn index_of(alloc: Global, segment: &Segment) -> Result<PartIndex<'_>, NoMemory>
+    ensures { IfOk result (λ index. index ≡ segment.now) }
+{
+    if let Some(index) = segment.index() {
+        return Ok(PartIndex::kept(index));
+    }
     segment.is_small();
     let index = build_index(alloc, shares(alloc, segment.tables())?)?;
-    segment.keep_index(Box::new(alloc, index)?);
-    Ok(())
+    Ok(segment.keep_index(Box::new(alloc, index)?))
 }
 
 // Returns shares of these tables.

@@ -1,6 +1,6 @@
 -- The tables and the marks of a part's places, and the table to which a column belongs.
-use Rattle.std.proofs.Common.{◌≡◌, refl, ap, sym, ◌∙◌, ℕ, zero, suc, ◌+◌, ◌<◌, ◌≤◌, List, [], ◌∷◌, Bool, true, get_or, map, length, arith}
-use Rattle.std.proofs.lemmas.List.{get_or-map, length-map}
+use Rattle.std.proofs.Common.{◌≡◌, refl, ap, ◌∙◌, ℕ, zero, suc, ◌+◌, ◌<◌, ◌≤◌, List, [], ◌∷◌, Bool, true, get_or, map, length, arith}
+use Rattle.std.proofs.lemmas.List.{get_or-map}
 use Rattle.std.specs.List.{AllByRecursion, flat_map, enumerate_from, slice_set}
 use Rattle.list_laws.proofs.ListLemmas.{all_at, all_append}
 use Rattle.lake_model.specs.Texts.{Text}
@@ -63,7 +63,5 @@ positions_with number (n ∷ ns) (t ∷ ts) [] h k = absurd (omega arith)
 positions_with number (n ∷ ns) (t ∷ ts) (m ∷ ms) h k = ap (λ us. n ∷ us) (positions_with number ns ts ms (omega arith) (omega arith))
 
 -- the index at a part, of indexes that are those of the parts' tables
-pub index_is : {X : Type 0} (tables : X → List Table) (indexes : List X) (parts : List Part) (i : ℕ) (x : X) → map tables indexes ≡ map tables_of parts → i < length parts → x ≡ get_or indexes i x → tables x ≡ tables_of (part_at parts i)
-index_is tables indexes parts i x same h is =
-    let few : i < length indexes = omega (arith, h, length-map indexes tables, length-map parts tables_of, ap (λ (all : List (List Table)). length all) same) in
-    ap tables is ∙ sym (get_or-map tables indexes i x [] few) ∙ ap (λ (all : List (List Table)). get_or all i []) same ∙ get_or-map tables_of parts i (part_with 0 []) [] h
+pub index_is : (indexes : List (List Table)) (parts : List Part) (i : ℕ) (d : List Table) → indexes ≡ map tables_of parts → i < length parts → get_or indexes i d ≡ tables_of (part_at parts i)
+index_is indexes parts i d same h = ap (λ (all : List (List Table)). get_or all i d) same ∙ get_or-map tables_of parts i (part_with 0 []) d h

@@ -1,4 +1,5 @@
 pub mod Versions
+pub mod Indexed
 pub mod Distinct
 pub mod Lines
 pub mod Positions

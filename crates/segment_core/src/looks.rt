@@ -1,12 +1,13 @@
 //! The looks of a search at a version: everything that it may ask, and a log of the lists and the sets that it read.
-ghost use Rattle.std.specs.Prelude.{◌≡◌, ◌<◌, ◌≤◌, ◌+◌, ◌++◌, ◌∷◌, [], count_by, drop, false, get_or, length, map, not, IfOk, IfSome, OnErr, OnOk};
+ghost use Rattle.std.specs.Prelude.{◌≡◌, ◌<◌, ◌≤◌, ◌+◌, ◌++◌, ◌∷◌, [], count_by, drop, false, get_or, length, map, not, IfOk, OnErr, OnOk};
 ghost use Rattle.search_model.specs.Looks.{is_read};
 ghost use Rattle.segment_core.specs.Versions.{tables_of};
 
 use crate::hashed::HashedQuery;
 use crate::index::SegmentIndex;
+use crate::indexed::PartIndex;
 use crate::order::ColumnOrder;
-use crate::version::{Part, Version};
+use crate::version::Version;
 use column_set::Titles;
 use no_memory::NoMemory;
 use search_model::{Look, Posting};
@@ -28,8 +29,7 @@ const ASKED_AHEAD: u32 = 64;
 /// segment, all from 0. It lends no keys.
 pub struct Looks<'a> {
     version: &'a Version,
-    /// The index of each part's segment.
-    indexes: Vec<&'a SegmentIndex>,
+    indexes: &'a [PartIndex<'a>],
     log: Vec<Look>,
     spare: usize,
     /// The part that was looked at last, and how many looks at it are not in its meter yet.
@@ -59,7 +59,7 @@ impl<'a> Model for Looks<'a> {
 
     ghost view = { λ l. looks_with l.version.now l.log.items l.spare };
 
-    ghost invariant = { λ l. (vec_len l.log + l.spare ≤ vec_capacity l.log) × (map (λ index. index.now) l.indexes.items ≡ map tables_of l.version.now.parts) };
+    ghost invariant = { λ l. (vec_len l.log + l.spare ≤ vec_capacity l.log) × (l.indexes.now ≡ map tables_of l.version.now.parts) };
 }
 
 impl<'a> Looks<'a> {
@@ -69,29 +69,31 @@ impl<'a> Looks<'a> {
     ghost use Rattle.search_model.specs.Segment.{tokens_in};
     ghost use Rattle.segment_core.specs.Versions.{looks_with, marks_of, part_at, segment_at, segment_of, tables_of};
 
-    // Makes looks at this version, with an empty log, if the segment of each part has its index.
-    pub(crate) fn new(alloc: Global, version: &'a Version) -> Result<Option<Looks<'a>>, NoMemory>
-        ensures { IfOk result (λ found. IfSome found (λ looks. looks ≡ looks_with version.now [] 0)) }
+    // Makes looks at this version through the indexes of its parts, with an empty log.
+    pub(crate) fn new(
+        alloc: Global,
+        version: &'a Version,
+        indexes: &'a [PartIndex<'a>],
+    ) -> Looks<'a>
+        requires { indexes.now ≡ map tables_of version.now.parts }
+        ensures { result ≡ looks_with version.now [] 0 }
     {
-        let Some(indexes) = indexes_of(alloc, version.parts())? else {
-            return Ok(None);
-        };
-        Ok(Some(Looks {
+        Looks {
             version,
             indexes,
             log: Vec::new(alloc),
             spare: 0,
             last: 0,
             unmetered: 0,
-        }))
+        }
     }
 
-    // Returns the index of a part's segment.
+    // Returns the index of a part.
     fn index(&self, part: u32) -> &'a SegmentIndex
         requires { part < length self.now.version.parts }
         ensures { result.now ≡ tables_of (part_at self.now.version.parts part) }
     {
-        self.indexes[part as usize]
+        self.indexes[part as usize].get()
     }
 
     /// Returns the number of parts.
@@ -204,7 +206,7 @@ impl<'a> Looks<'a> {
         let mut likely = 0;
         let indexes = &self.indexes[first as usize..];
         for (i, index) in indexes.iter().take(ASKED_AHEAD as usize).enumerate() {
-            if index.may_have(*hash) {
+            if index.get().may_have(*hash) {
                 likely |= 1 << (i % 64);
             }
         }
@@ -359,23 +361,6 @@ impl<'a> Looks<'a> {
     {
         self.log.iter().filter(|look| !is_read_look(**look)).count() as u64
     }
-}
-
-// Returns the index of each part's segment, or `None` if one of them has none yet.
-fn indexes_of<'a>(
-    alloc: Global,
-    parts: &'a [Part],
-) -> Result<Option<Vec<&'a SegmentIndex>>, NoMemory>
-    ensures { IfOk result (λ found. IfSome found (λ indexes. map (λ index. index.now) indexes.items ≡ map tables_of parts.now)) }
-{
-    let mut indexes = Vec::with_capacity(alloc, parts.len())?;
-    for part in parts {
-        let Some(index) = part.segment().index() else {
-            return Ok(None);
-        };
-        indexes.push(index)?;
-    }
-    Ok(Some(indexes))
 }
 
 // Raises the meter of a part's segment by a number of looks.

@@ -1,5 +1,5 @@
 //! Pins, which hold a version while it is searched.
-ghost use Rattle.std.specs.Prelude.{◌≡◌, ◌⊎◌, ◌<◌, ◌≤◌, ◌+◌, [], length, map, slice_range, IfErr, IfOk, IfSome, None, OnOk, Some};
+ghost use Rattle.std.specs.Prelude.{◌≡◌, ◌⊎◌, ◌<◌, ◌≤◌, ◌+◌, length, map, slice_range, IfErr, IfOk, None, OnOk, Some};
 ghost use Rattle.lake_model.specs.Layout.{shown, shown_with};
 ghost use Rattle.segment_core.specs.Lines.{line_from, live_lines};
 ghost use Rattle.segment_core.specs.LiveColumn.{column_fault, column_keys};
@@ -7,7 +7,6 @@ ghost use Rattle.segment_core.specs.Plans.{plan_run};
 
 use crate::column::{ColumnRefused, live_column};
 use crate::layout::{Layout, TableLines};
-use crate::looks::Looks;
 use crate::plan::{Plan, plan_parts};
 use crate::segment::Segment;
 use crate::version::{Part, Version};
@@ -33,7 +32,7 @@ impl Model for Pin {
 }
 
 impl Pin {
-    ghost use Rattle.segment_core.specs.Versions.{looks_with, marks_of, part_at, segment_at};
+    ghost use Rattle.segment_core.specs.Versions.{marks_of, part_at, segment_at, tables_of};
 
     /// Makes a pin of this version. It allocates nothing.
     pub fn new(version: Arc<Version>) -> Pin
@@ -100,23 +99,19 @@ impl Pin {
         plan_parts(alloc, self.version.at(), run)
     }
 
-    /// Returns everything that a search may ask of the version, with an empty log that has no room, or `None` if the
-    /// segment of a part has no index yet. It allocates 8 bytes for each part.
-    pub fn looks(&self, alloc: Global) -> Result<Option<Looks<'_>>, NoMemory>
-        ensures { IfOk result (λ found. IfSome found (λ looks. looks ≡ looks_with self.now [] 0)) }
+    /// Returns the segment of a part, with all its tables, including the marked ones.
+    pub fn segment(&self, part: u32) -> &Segment
+        requires { part < length self.now.parts }
+        ensures { result.now ≡ tables_of (part_at self.now.parts part) }
     {
-        Looks::new(alloc, &self.version)
+        self.version.part(part).segment()
     }
 
-    /// Returns the segment of a part if it has no index yet.
-    pub fn unindexed(&self, part: u32) -> Option<&Segment>
-        requires { part < length self.now.parts }
+    // Returns the version.
+    pub(crate) fn version(&self) -> &Version
+        ensures { result.now ≡ self.now }
     {
-        let segment = self.version.part(part).segment();
-        if segment.index().is_some() {
-            return None;
-        }
-        Some(segment)
+        &self.version
     }
 
     /// Returns the layout of the version, which it shares.

@@ -8,6 +8,7 @@ ghost use Rattle.segment_core.specs.LiveColumn.{fault_in, keys_in};
 
 use crate::column::ColumnRefused;
 use crate::index::SegmentIndex;
+use crate::indexed::PartIndex;
 use boxcar::slot::{OnceSlot, SlotRule};
 use boxcar::tag::{Names, Tag};
 use column_set::{QuerySet, SharedTable};
@@ -110,11 +111,19 @@ impl Segment {
         Some(index)
     }
 
-    /// Keeps the index of the tables, if none is kept yet. Whoever keeps another one at the same time may be first.
-    pub fn keep_index(&self, index: Box<SegmentIndex>)
+    /// Gives the segment the index of its tables, and returns it. If the segment has one already, that one is returned,
+    /// and if another thread is giving it one at the same moment, the index given here.
+    pub fn keep_index(&self, index: Box<SegmentIndex>) -> PartIndex<'_>
         requires { index.value ≡ self.now }
+        ensures { result ≡ self.now }
     {
-        let _ = self.index.set(index);
+        match self.index.set(index) {
+            Ok(kept) => PartIndex::kept(kept),
+            Err(index) => match self.index() {
+                Some(kept) => PartIndex::kept(kept),
+                None => PartIndex::own(index),
+            },
+        }
     }
 
     /// Returns whether this is the first call of its kind, so that of several callers who all need the index, one

@@ -4,7 +4,7 @@ use super::model::{Counted, Part, is_counted, search};
 use column_set::{Name, QuerySet, Row};
 use cost_model::{AlwaysProbe, AlwaysRead, Chooser, Listed, Profile};
 use josie_search::{SearchRoom, prepare};
-use segment_build::looks_at;
+use segment_build::index_pin;
 use segment_core::Pin;
 use std::alloc::Global;
 use std::mem;
@@ -56,7 +56,8 @@ impl Laid<'_> {
         if k == 0 || k > 10_000 {
             return Err(Fail::from("no such number of rows"));
         }
-        let looks = looks_at(alloc, self.pin)?;
+        let indexed = index_pin(alloc, self.pin)?;
+        let looks = indexed.looks(alloc);
         let taken = mem::replace(room, SearchRoom::new());
         let (answer, used) = prepare(alloc, looks, self.query, k, self.except, taken)?.run(chooser);
         *room = used;

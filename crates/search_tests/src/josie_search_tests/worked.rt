@@ -6,7 +6,7 @@ use crate::answers::{expect_looks, expect_rows, probe, read};
 use column_set::{Keys, QuerySet};
 use cost_model::{AlwaysProbe, AlwaysRead, Chooser, Listed, Profile};
 use josie_search::{SearchRoom, prepare};
-use segment_build::looks_at;
+use segment_build::index_pin;
 use segment_core::{Look, Pin};
 use std::alloc::Global;
 use std::process::Abort;
@@ -23,9 +23,10 @@ fn expect<C: Chooser>(
 ) -> Result<(), Fail> {
     let alloc = rt.alloc();
     let asked = QuerySet::read(alloc, Keys::Canonical, body.as_bytes())?;
+    let indexed = index_pin(alloc, pin)?;
     let prepared = prepare(
         alloc,
-        looks_at(alloc, pin)?,
+        indexed.looks(alloc),
         &asked,
         1,
         None,

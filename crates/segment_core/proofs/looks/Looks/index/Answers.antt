@@ -4,4 +4,4 @@ use Rattle.segment_core.proofs.PartLemmas.{index_is}
 use Rattle.segment_core.proofs.looks.Looks.index.Goals as goal
 
 pub returns : goal.returns
-returns c = index_is (λ index. index.now) c.self.inside.indexes.items c.args.self.now.version.parts c.args.part c.index.result.now (c.self.invariant.1 ∙ ap (λ (l : LooksOf). map tables_of l.version.parts) c.self.view_is) c.requires c.index.ensures
+returns c = c.get.ensures ∙ index_is c.self.inside.indexes.now c.args.self.now.version.parts c.args.part c.index-self-part.result (c.self.invariant.1 ∙ ap (λ (l : LooksOf). map tables_of l.version.parts) c.self.view_is) c.requires
