@@ -43,7 +43,14 @@ fn rows_at(alloc: Global, pin: &Pin, query: &QuerySet, k: u32) -> Result<KeptRow
     ensures { IfOk result (λ rows. rows ≡ answer (live_of pin.now.parts) query.now k None) }
 {
     let indexed = index_pin(alloc, pin)?;
-    let prepared = prepare(alloc, indexed.looks(alloc), query, k, None, SearchRoom::new())?;
+    let prepared = prepare(
+        alloc,
+        indexed.looks(alloc),
+        query,
+        k,
+        None,
+        SearchRoom::new(),
+    )?;
     let (answer, _room) = prepared.run(&Profile);
     answer.rows.keep_all(alloc)
 }
