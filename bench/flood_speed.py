@@ -10,8 +10,9 @@ the same hash: few enough that no look-up visits more slots than it may. Segment
 choose many keys of one hash, so there is no flood of these.
 
 The random keys are of the same length as those of the flood, and have the same front but for one letter. Keys come in random order. A time is the least CPU
-time of N whole runs, in which the flood and the random keys take turns; that of a search is a fifth of what a run with five of them takes beyond the load, and
-that of the watched queries (to read them, to index them and to find their rows) is what the run with them takes beyond it.
+time of N whole runs, in which the flood and the random keys take turns; that of a search is a fifth of what a run with five of them takes beyond the load, of
+which the first builds the index, and that of the watched queries (to read them, to index them and to find their rows) is what the run with them takes beyond
+it.
 It exits with 1 if a flood takes more than twice the time of the random keys that it is compared with.
 """
 import os
