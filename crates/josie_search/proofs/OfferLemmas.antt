@@ -163,6 +163,12 @@ module _ (query : Query) (part : Searched) (tallies : List Tally) where
           behind None h = cc
           behind (Some w) h = (less_order row_cmp_total).chain (row_at y) row w (no_sooner_there query part tallies known 0 n x y row first (within y e) e) h
 
+-- a row of a lower overlap than the last one's is not kept
+pub too_few : (k : ℕ) (rows : List Row) (last : Option Row) (row : Row) (worst : ℕ) → ((w row : Row) → last ≡ Some w → is_lt (row_cmp row w) ≡ false → take k (put_in_order row_cmp row rows) ≡ rows) → overlap_of last ≡ Some worst → row.overlap < worst
+    → take k (put_in_order row_cmp row rows) ≡ rows
+too_few k rows None row worst out e less = absurd (let f : None ≡ Some worst = e in cc)
+too_few k rows (Some w) row worst out e less = out w row refl (later row w (let same : w.overlap ≡ worst = cc in omega (arith, less, same)))
+
 -- a column that becomes known is one less of those that are not
 pub known_fewer : (known : List Bool) (x : ℕ) → x < length known → get_or known x false ≡ false → count_by not (set known x true) < count_by not known
 known_fewer [] x within fresh = absurd (omega (arith, within))

@@ -4,8 +4,11 @@ use Rattle.std.specs.Option.{MatchOption}
 use Rattle.std.specs.Ordering.{is_lt, nat_cmp, ordering_then}
 use Rattle.lake_model.specs.Answer.{Query, Row, row_cmp}
 use Rattle.lake_model.specs.Layout.{is_among}
+use Rattle.search_model.specs.Arrays.{titled_at}
 use Rattle.search_model.specs.Looks.{Searched, is_eligible, row_with}
+use Rattle.search_model.specs.Segment.{Titled}
 use Rattle.search_state.specs.State.{column_at}
+use Rattle.josie_search.specs.declared.row.Lead.{Lead}
 use Rattle.part_columns.specs.declared.tally.Tally.{Tally}
 use Rattle.part_columns.specs.Tallies.{most_of, tally_at}
 
@@ -24,6 +27,15 @@ bound_row part tallies left x = row_with (most_of left (tally_at tallies x)) (co
 -- the row of the column's bound, if it leads
 abbrev pub lead_row : Query → Searched → List Tally → List Bool → ℕ → ℕ → List Row
 lead_row query part tallies known left x = if leads query part tallies known x then bound_row part tallies left x ∷ [] else []
+
+-- the row of a lead's bound, in a part with these columns
+abbrev pub row_of_lead : List Titled → Lead → Row
+row_of_lead columns lead = row_with lead.bound (titled_at columns lead.column)
+
+-- the column that was found, with the row of its bound
+abbrev pub with_row : List Titled → Option Lead → Option (ℕ × Row)
+with_row columns None = None
+with_row columns (Some lead) = Some (lead.column, row_of_lead columns lead)
 
 abbrev pub is_before : Row → Row → Bool
 is_before a b = is_lt (row_cmp a b)

@@ -5,22 +5,21 @@ ghost use Rattle.search_model.specs.Looks.{Searched, searched};
 ghost use Rattle.search_model.specs.Ranks.{AreInverse, AreRanks};
 ghost use Rattle.segment_core.specs.Versions.{part_at, segment_at};
 ghost use Rattle.josie_search.specs.Candidates.{all_of, AreApart, AreHeld, FoundExact, goes_in, IsOfRank, IsTop, most_now, NoneExact, weight};
-ghost use Rattle.josie_search.specs.Rows.{FoundFrom, leads};
+ghost use Rattle.josie_search.specs.Rows.{FoundFrom, leads, with_row};
 ghost use Rattle.part_columns.specs.Tallies.{most_of, tally_at};
 
 use crate::candidates::{Candidate, Candidates, FEW, candidate_of, most_now};
 use crate::hold::{goes_in, reach};
 use crate::query::Asked;
-use crate::row::lead_of;
-use column_set::Row;
+use crate::row::{Lead, lead_of};
 use part_columns::{Columns, most_of};
 use segment_core::{ColumnOrder, Looks};
 
 /// Returns the first column, by the rows of their bounds, of those that were seen, are not known and may be in the
-/// answer, with the row of its bound; `None` if no such column has a bound of `low` or more. It looks among the columns
-/// of great bounds first, so that few have to be held while one of these is the first.
-pub(crate) fn first_lead<'a>(
-    looks: &Looks<'a>,
+/// answer, with its bound; `None` if no such column has a bound of `low` or more. It looks among the columns of great
+/// bounds first, so that few have to be held while one of these is the first.
+pub(crate) fn first_lead(
+    looks: &Looks<'_>,
     part: u32,
     query: &Asked<'_>,
     columns: &Columns,
@@ -28,7 +27,7 @@ pub(crate) fn first_lead<'a>(
     order: ColumnOrder<'_>,
     left: u32,
     low: u32,
-) -> Option<(u32, Row<'a>)>
+) -> Option<Lead>
     requires part { part < length looks.now.version.parts }
     requires ranks { AreRanks (segment_at looks.now.version.parts part).columns order.ranks.now }
     requires inverse { AreInverse order.ranks.now order.by_rank.now }
@@ -37,7 +36,7 @@ pub(crate) fn first_lead<'a>(
     requires small { (column : ℕ) → (tally_at columns.now.tallies column).count + left < 2 ^ 32 }
     requires room { length columns.now.tallies ≤ candidates.old.room }
     requires held { AreHeld query.now (searched query.now (part_at looks.now.version.parts part)) order.ranks.now columns.now.tallies columns.now.known left candidates.old.low (all_of candidates.old) }
-    ensures found { FoundFrom query.now (searched query.now (part_at looks.now.version.parts part)) columns.now.tallies columns.now.known left (length (segment_at looks.now.version.parts part).sets) low result }
+    ensures found { FoundFrom query.now (searched query.now (part_at looks.now.version.parts part)) columns.now.tallies columns.now.known left (length (segment_at looks.now.version.parts part).sets) low (with_row (segment_at looks.now.version.parts part).columns result) }
     ensures held { AreHeld query.now (searched query.now (part_at looks.now.version.parts part)) order.entry.ranks.now columns.now.tallies columns.now.known left candidates.new.low (all_of candidates.new) }
     ensures room { candidates.new.room ≡ candidates.old.room }
 {
@@ -58,8 +57,8 @@ pub(crate) fn first_lead<'a>(
 
 // Returns the first column as `first_lead` does. It takes out the candidates that come before it, and puts back those
 // whose bounds have fallen.
-fn lead_from<'a>(
-    looks: &Looks<'a>,
+fn lead_from(
+    looks: &Looks<'_>,
     part: u32,
     query: &Asked<'_>,
     columns: &Columns,
@@ -67,7 +66,7 @@ fn lead_from<'a>(
     order: ColumnOrder<'_>,
     left: u32,
     low: u32,
-) -> Option<(u32, Row<'a>)>
+) -> Option<Lead>
     requires part { part < length looks.now.version.parts }
     requires ranks { AreRanks (segment_at looks.now.version.parts part).columns order.ranks.now }
     requires inverse { AreInverse order.ranks.now order.by_rank.now }
@@ -76,7 +75,7 @@ fn lead_from<'a>(
     requires small { (column : ℕ) → (tally_at columns.now.tallies column).count + left < 2 ^ 32 }
     requires room { length columns.now.tallies ≤ candidates.old.room }
     requires held { AreHeld query.now (searched query.now (part_at looks.now.version.parts part)) order.ranks.now columns.now.tallies columns.now.known left candidates.old.low (all_of candidates.old) }
-    ensures found { FoundFrom query.now (searched query.now (part_at looks.now.version.parts part)) columns.now.tallies columns.now.known left (length (segment_at looks.now.version.parts part).sets) low result }
+    ensures found { FoundFrom query.now (searched query.now (part_at looks.now.version.parts part)) columns.now.tallies columns.now.known left (length (segment_at looks.now.version.parts part).sets) low (with_row (segment_at looks.now.version.parts part).columns result) }
     ensures held { AreHeld query.now (searched query.now (part_at looks.now.version.parts part)) order.entry.ranks.now columns.now.tallies columns.now.known left candidates.new.low (all_of candidates.new) }
     ensures room { candidates.new.room ≡ candidates.old.room }
 {
@@ -88,7 +87,7 @@ fn lead_from<'a>(
         let column = ranked(order, top.rank);
         match exact_lead(looks, part, query, columns, left, top, column) {
             Some(lead) => {
-                candidates.rise(lead.1.overlap, columns.touched().len());
+                candidates.rise(lead.bound, columns.touched().len());
                 return Some(lead);
             }
             None => mend(candidates, columns, left, top, column),
@@ -115,30 +114,27 @@ fn ranked(order: ColumnOrder<'_>, rank: u32) -> Option<u32>
     }
 }
 
-// Returns the column with the row of its bound, if it leads and the candidate's number is its bound.
-fn exact_lead<'a>(
-    looks: &Looks<'a>,
+// Returns the column with its bound, if it leads and the candidate's number is its bound.
+fn exact_lead(
+    looks: &Looks<'_>,
     part: u32,
     query: &Asked<'_>,
     columns: &Columns,
     left: u32,
     top: Candidate,
     column: Option<u32>,
-) -> Option<(u32, Row<'a>)>
+) -> Option<Lead>
     requires part { part < length looks.now.version.parts }
     requires column { (x : ℕ) → column ≡ Some x → x < length (segment_at looks.now.version.parts part).sets }
     requires wide { length (segment_at looks.now.version.parts part).sets ≤ length columns.now.tallies }
     requires small { (column : ℕ) → (tally_at columns.now.tallies column).count + left < 2 ^ 32 }
-    ensures { FoundExact query.now (searched query.now (part_at looks.now.version.parts part)) columns.now.tallies columns.now.known left top column result }
+    ensures { FoundExact query.now (searched query.now (part_at looks.now.version.parts part)) columns.now.tallies columns.now.known left top column (with_row (segment_at looks.now.version.parts part).columns result) }
 {
     let column = column?;
     if u64::from(most_of(columns.tally(column), left)) != most_now(top, left) {
         return None;
     }
-    match lead_of(looks, part, query, columns, left, column) {
-        None => None,
-        Some(row) => Some((column, row)),
-    }
+    lead_of(looks, part, query, columns, left, column)
 }
 
 // Takes out the first candidate, and puts its column back with its bound if that is lower than the candidate's number.

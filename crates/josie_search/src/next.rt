@@ -4,13 +4,13 @@ ghost use Rattle.std.specs.Prelude.{true, Some, ◌≡◌, ◌<◌, ◌≤◌, �
 ghost use Rattle.std.specs.List.{All};
 ghost use Rattle.lake_model.specs.Answer.{Row as RowOf, row_cmp};
 ghost use Rattle.search_laws.specs.Select.{best};
-ghost use Rattle.search_model.specs.Looks.{beats, known_rows, next_look, Progress, searched, threshold, unseen_open};
+ghost use Rattle.search_model.specs.Looks.{known_rows, next_look, Progress, searched, threshold, unseen_open};
 ghost use Rattle.search_model.specs.Ranks.{AreInverse, AreRanks};
 ghost use Rattle.segment_core.specs.Versions.{part_at, segment_at};
 ghost use Rattle.josie_search.specs.Candidates.{all_of, AreHeld};
 ghost use Rattle.josie_search.specs.Costs.{lengths_of, threshold_of, AreSums};
 ghost use Rattle.josie_search.specs.Open.{chosen, overlap_of, taken};
-ghost use Rattle.josie_search.specs.Rows.{leads, MayLead};
+ghost use Rattle.josie_search.specs.Rows.{leads, MayLead, with_row};
 ghost use Rattle.josie_search.specs.State.{IsAt};
 ghost use Rattle.part_columns.specs.Tallies.{position_in, tally_at};
 
@@ -19,6 +19,7 @@ use crate::cost::summarize;
 use crate::first::first_lead;
 use crate::hold::rest;
 use crate::query::Asked;
+use crate::row::{Lead, beats};
 use crate::sure::surely_reads;
 use column_set::Row;
 use cost_model::Chooser;
@@ -80,8 +81,8 @@ pub(crate) fn next_look<C: Chooser>(
     let worst = worst_overlap(top.worst());
     let low = threshold(worst);
     let found = first_lead(looks, part, query, columns, candidates, order, left, low);
-    *witness = column_of(&found);
-    let column = take_better(top.worst(), found);
+    *witness = column_of(found);
+    let column = take_better(looks, part, top.worst(), found);
     choose(
         looks, part, tokens, sums, read, columns, chooser, worst, column,
     )
@@ -139,12 +140,12 @@ fn choose<C: Chooser>(
 }
 
 // Returns the column that was found, if any.
-fn column_of(found: &Option<(u32, Row<'_>)>) -> Option<u32>
-    ensures { result ≡ option_map (λ found. found.0) found.now }
+fn column_of(found: Option<Lead>) -> Option<u32>
+    ensures { result ≡ option_map (λ lead. lead.column) found }
 {
     match found {
         None => None,
-        Some((column, _)) => Some(*column),
+        Some(lead) => Some(lead.column),
     }
 }
 
@@ -179,23 +180,20 @@ pub(crate) fn worst_overlap(worst: Option<&Row<'_>>) -> Option<u32>
 }
 
 // Returns the column that was found, if its row beats the last.
-fn take_better<'a>(worst: Option<&Row<'_>>, found: Option<(u32, Row<'a>)>) -> Option<u32>
-    ensures { result ≡ taken (option_map (λ row. row.now) worst.entry) found.entry }
+fn take_better(
+    looks: &Looks<'_>,
+    part: u32,
+    worst: Option<&Row<'_>>,
+    found: Option<Lead>,
+) -> Option<u32>
+    requires part { part < length looks.now.version.parts }
+    requires column { IfSome found (λ lead. lead.column < length (segment_at looks.now.version.parts part).sets) }
+    ensures { result ≡ taken (option_map (λ row. row.now) worst.entry) (with_row (segment_at looks.now.version.parts part).columns found) }
 {
-    let (column, row) = found?;
-    if beats(worst, &row) {
-        Some(column)
+    let lead = found?;
+    if beats(looks, part, worst, lead) {
+        Some(lead.column)
     } else {
         None
-    }
-}
-
-/// Returns whether a row comes before the k-th known row, or fewer than k are known.
-pub(crate) fn beats(worst: Option<&Row<'_>>, row: &Row<'_>) -> bool
-    ensures { result ≡ beats (option_map (λ row. row.now) worst.entry) row.now }
-{
-    match worst {
-        None => true,
-        Some(worst) => row.order(worst).is_lt(),
     }
 }

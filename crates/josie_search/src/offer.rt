@@ -1,32 +1,45 @@
 //! Offers the rows of a search to the first k.
-ghost use Rattle.std.specs.Prelude.{◌≡◌, ◌<◌, ◌≤◌, ◌^◌, ℕ, count_by, false, length, not, true};
-ghost use Rattle.std.specs.Option.{option_to_list};
-ghost use Rattle.search_model.specs.Looks.{searched};
+ghost use Rattle.std.specs.Prelude.{◌≡◌, ◌<◌, ◌≤◌, ◌^◌, ℕ, count_by, false, length, not, take, true};
+ghost use Rattle.lake_model.specs.Answer.{row_cmp};
+ghost use Rattle.lake_model.specs.Sorting.{put_in_order};
+ghost use Rattle.search_model.specs.Arrays.{titled_at};
+ghost use Rattle.search_model.specs.Looks.{row_with, searched};
 ghost use Rattle.search_model.specs.Ranks.{AreInverse, AreRanks};
 ghost use Rattle.segment_core.specs.Versions.{part_at, segment_at};
 ghost use Rattle.part_columns.specs.Columns.{IsListed};
 ghost use Rattle.josie_search.specs.Candidates.{all_of, AreHeld};
-ghost use Rattle.josie_search.specs.Offers.{offered, offers};
+ghost use Rattle.josie_search.specs.Offers.{offers};
 ghost use Rattle.josie_search.specs.Rows.{lead_row};
 ghost use Rattle.part_columns.specs.Tallies.{tally_at};
 
 use crate::candidates::Candidates;
 use crate::first::first_lead;
-use crate::next::{beats, threshold, worst_overlap};
+use crate::next::{threshold, worst_overlap};
 use crate::query::Asked;
-use column_set::Row;
-use part_columns::Columns;
+use crate::row::beats;
+use part_columns::{Columns, row_of_column};
 use segment_core::{ColumnOrder, Looks};
 use topk_heap::TopK;
 
-/// Offers a row, if there is one.
-pub(crate) fn offer<'a>(top: &mut TopK<'a>, row: Option<Row<'a>>)
+/// Offers the row of a column with this overlap. The row is made only if the k-th known row has no greater overlap.
+pub(crate) fn offer_row<'a>(
+    looks: &Looks<'a>,
+    part: u32,
+    column: u32,
+    overlap: u32,
+    top: &mut TopK<'a>,
+)
+    requires part { part < length looks.now.version.parts }
+    requires column { column < length (segment_at looks.now.version.parts part).sets }
     ensures k { top.new.k ≡ top.old.k }
-    ensures rows { top.new.rows ≡ offered top.old.k top.old.rows (option_to_list row.entry) }
+    ensures rows { top.new.rows ≡ take top.old.k (put_in_order row_cmp (row_with overlap (titled_at (segment_at looks.now.version.parts part).columns column)) top.old.rows) }
 {
-    if let Some(row) = row {
-        top.offer(row);
+    if let Some(worst) = worst_overlap(top.worst()) {
+        if overlap < worst {
+            return;
+        }
     }
+    top.offer(row_of_column(looks, part, column, overlap));
 }
 
 /// Offers the rows of the columns that lead, once all lists were read: the first of them again and again, until its row
@@ -89,14 +102,13 @@ fn offer_first<'a>(
     ensures none { result ≡ false → top.new.rows ≡ offers top.old.k (lead_row query.now (searched query.now (part_at looks.now.version.parts part)) columns.new.tallies columns.new.known 0) top.new.rows columns.new.touched }
 {
     let low = threshold(worst_overlap(top.worst()));
-    let Some((column, row)) = first_lead(looks, part, query, columns, candidates, order, 0, low)
-    else {
+    let Some(lead) = first_lead(looks, part, query, columns, candidates, order, 0, low) else {
         return false;
     };
-    if !beats(top.worst(), &row) {
+    if !beats(looks, part, top.worst(), lead) {
         return false;
     }
-    columns.know(column);
-    top.offer(row);
+    columns.know(lead.column);
+    top.offer(row_of_column(looks, part, lead.column, lead.bound));
     true
 }

@@ -5,13 +5,14 @@ ghost use Rattle.lake_model.specs.Answer.{row_cmp};
 ghost use Rattle.lake_model.specs.Sorting.{put_in_order};
 ghost use Rattle.search_laws.specs.Select.{best};
 ghost use Rattle.search_model.specs.declared.Look.TheVariants.{Probe};
-ghost use Rattle.search_model.specs.Looks.{hits, is_eligible, known_rows, run, searched, start};
+ghost use Rattle.lake_model.specs.Texts.{Text};
+ghost use Rattle.search_model.specs.Arrays.{titled_at};
+ghost use Rattle.search_model.specs.Looks.{hits, known_rows, row_with, run, searched, start};
 ghost use Rattle.search_model.specs.Ranks.{AreInverse, AreRanks};
-ghost use Rattle.search_state.specs.State.{column_at};
+ghost use Rattle.search_model.specs.Segment.{tokens_in};
 ghost use Rattle.segment_core.specs.Versions.{part_at, segment_at};
 ghost use Rattle.part_columns.specs.Columns.{IsClean};
 ghost use Rattle.josie_search.specs.Costs.{lengths_of, AreSums};
-ghost use Rattle.josie_search.specs.Offers.{shared_row};
 ghost use Rattle.part_columns.specs.Room.{looks_bound};
 ghost use Rattle.part_columns.specs.Tallies.{no_tally, position_in, tally_at, tally_of};
 ghost use Rattle.token_set.specs.Bits.{IsSetOf};
@@ -19,9 +20,8 @@ ghost use Rattle.token_set.specs.Bits.{IsSetOf};
 use crate::candidates::Candidates;
 use crate::hold::follow;
 use crate::next::next_look;
-use crate::offer::{offer, offer_rest};
+use crate::offer::{offer_rest, offer_row};
 use crate::query::Asked;
-use crate::row::row_of;
 use cost_model::Chooser;
 use part_columns::{Columns, probe};
 use segment_core::{ColumnOrder, Look, Looks};
@@ -32,7 +32,6 @@ use topk_heap::TopK;
 pub(crate) fn probe_column<'a>(
     looks: &mut Looks<'a>,
     part: u32,
-    query: &Asked<'_>,
     tokens: &[u32],
     set: Option<&TokenSet>,
     read: u32,
@@ -48,10 +47,8 @@ pub(crate) fn probe_column<'a>(
     requires wide { column < length columns.old.tallies }
     requires seen { 0 < (tally_at columns.old.tallies column).count }
     requires tally { tally_at columns.old.tallies column ≡ tally_of (get_or (segment_at looks.old.version.parts part).sets column []) (hits (get_or (segment_at looks.old.version.parts part).sets column []) (take read tokens.now)) }
-    requires tokens { tokens.now ≡ (searched query.now (part_at looks.old.version.parts part)).query }
+    requires tokens { (keys : List Text) × (tokens.now ≡ tokens_in (segment_at looks.old.version.parts part).tokens keys) }
     requires set { IfSome set (λ set. IsSetOf set.now tokens.now) }
-    requires live { is_eligible query.now (searched query.now (part_at looks.old.version.parts part)) (column_at (searched query.now (part_at looks.old.version.parts part)) column) ≡ true }
-    requires distinct { IsDistinct bytes_eq query.now.keys }
     ensures version { looks.new.version ≡ looks.old.version }
     ensures log { looks.new.log ≡ looks.old.log ++ Probe (part_at looks.old.version.parts part).number column (position_in (get_or (segment_at looks.old.version.parts part).sets column []) (tally_at columns.old.tallies column)) ∷ [] }
     ensures spare { looks.new.spare + 1 ≡ looks.old.spare }
@@ -59,7 +56,7 @@ pub(crate) fn probe_column<'a>(
     ensures known { columns.new.known ≡ slice_set columns.old.known column true }
     ensures marks { length columns.old.known ≡ length columns.old.tallies }
     ensures k { top.new.k ≡ top.old.k }
-    ensures rows { top.new.rows ≡ take top.old.k (put_in_order row_cmp (shared_row query.now (searched query.now (part_at looks.old.version.parts part)) column) top.old.rows) }
+    ensures rows { top.new.rows ≡ take top.old.k (put_in_order row_cmp (row_with (length (hits (get_or (segment_at looks.old.version.parts part).sets column []) tokens.now)) (titled_at (segment_at looks.old.version.parts part).columns column)) top.old.rows) }
 {
     let overlap = probe(
         looks,
@@ -71,8 +68,7 @@ pub(crate) fn probe_column<'a>(
         columns.tally(column),
     );
     columns.know(column);
-    let row = row_of(looks, part, column, overlap, query.except);
-    offer(top, row);
+    offer_row(looks, part, column, overlap, top);
 }
 
 /// Searches a part: reads lists and probes columns as the chooser says, until no column of the part can come before the
@@ -143,7 +139,7 @@ pub(crate) fn search_part<'a, C: Chooser>(
                 follow(candidates, columns, order.ranks, lists - read, list);
             }
             Some(Look::Probe { set: column, .. }) => {
-                probe_column(looks, part, query, tokens, set, read, column, columns, top);
+                probe_column(looks, part, tokens, set, read, column, columns, top);
             }
         }
     }

@@ -3,6 +3,7 @@ use Rattle.search_model.specs.Looks.{searched}
 use Rattle.segment_core.proofs.SegmentLemmas.{length-sets}
 use Rattle.segment_core.specs.Versions.{part_at, segment_at, tables_of}
 use Rattle.josie_search.specs.Candidates.{all_of, IsOfRank}
+use Rattle.josie_search.specs.Rows.{row_of_lead}
 use Rattle.josie_search.proofs.HeldLemmas.{held_from}
 use Rattle.josie_search.proofs.LeadLemmas.{first_exact, none_so_high}
 use Rattle.josie_search.proofs.LoopLemmas.{lead_parts}
@@ -33,7 +34,7 @@ returns-in-Some-exact_lead-clause-found c =
     let columns = c.args.columns.now in
     let of_rank = subst (λ (n : ℕ). IsOfRank n c.args.order.ranks.now c.in-Some.top.rank c.ranked-column.result) (c.requires.ranks.size ∙ sym (length-sets (tables_of whole))) c.ranked-column.ensures.column in
     first_exact query part c.args.order.ranks.now columns.tallies columns.known c.args.left c.args.low (all_of c.loop-top.candidates) c.loop-top.invariant.held c.in-Some.top c.in-Some.ensures.ahead
-    (length (segment_at c.args.looks.now.version.parts c.args.part).sets) c.in-Some-exact_lead.lead.0 c.ranked-column.result c.in-Some-exact_lead.lead.1 (length-sets (tables_of whole)) c.requires.ranks
+    (length (segment_at c.args.looks.now.version.parts c.args.part).sets) c.in-Some-exact_lead.lead.column c.ranked-column.result (row_of_lead (segment_at c.args.looks.now.version.parts c.args.part).columns c.in-Some-exact_lead.lead) (length-sets (tables_of whole)) c.requires.ranks
     (omega (arith, c.if-most_now-from.false, c.most_now.ensures, c.from.ensures)) of_rank c.in-Some-exact_lead.ensures
     (λ y lead. c.requires.seen y (lead_parts query part columns.tallies columns.known y lead).2)
 

@@ -5,9 +5,11 @@ use Rattle.segment_core.proofs.SegmentLemmas.{length-sets}
 use Rattle.segment_core.specs.Versions.{part_at, segment_at, tables_of}
 use Rattle.josie_search.specs.Costs.{lengths_of, threshold_of}
 use Rattle.josie_search.specs.Open.{chosen, overlap_of}
+use Rattle.josie_search.specs.Rows.{with_row}
 use Rattle.josie_search.proofs.LoopLemmas.{lead_parts}
 use Rattle.josie_search.proofs.NextLemmas.{chosen_probe, found_may_lead, head_now, last_is, next_chosen, taken_leads}
 use Rattle.josie_search.proofs.OpenLemmas.{seen_count}
+use Rattle.josie_search.proofs.RowLemmas.{column_with_row, found_within}
 use Rattle.part_columns.proofs.SegmentLists.{token_within}
 use Rattle.josie_search.proofs.next.next_look.Goals as goal
 
@@ -22,7 +24,7 @@ choose-requires-clause-seen g c = λ x e.
     let query = c.args.query.now in
     let part = searched query (part_at c.args.looks.now.version.parts c.args.part) in
     let columns = c.args.columns.now in
-    let lead = taken_leads query part columns.tallies columns.known _ c.first_lead-found.result _ _ _ x c.first_lead-found.ensures.found (sym e ∙ c.take_better-column.ensures) in
+    let lead = taken_leads query part columns.tallies columns.known _ (with_row part.segment.columns c.first_lead-found.result) _ _ _ x c.first_lead-found.ensures.found (sym e ∙ c.take_better-column.ensures) in
     (omega (arith, lead.0, c.requires.wide), lead.0, (lead_parts query part columns.tallies columns.known x lead.1).2)
 
 pub returns-then-surely_reads-clause-next : goal.returns-then-surely_reads-clause-next
@@ -42,11 +44,11 @@ returns-clause-next g c = λ before progress is at same.
     let told = c.worst_overlap-worst.ensures ∙ ap overlap_of (c.worst.ensures.row ∙ kth) in
     let left : length c.args.tokens.now - c.args.read ≡ left_of part progress = (λ i. length (c.requires.tokens i) - sym at i) in
     let low = c.threshold-low.ensures ∙ ap threshold_of (c.worst_overlap-worst.ensures ∙ ap overlap_of (c.worst.ensures.row ∙ sym c.worst-2.ensures.row)) in
-    let head = head_now query part progress columns.tallies columns.known last _ c.first_lead-found.result _ _ _ c.take_better-column.result is (c.worst-2.ensures.row ∙ kth) left (length-sets (tables_of whole)) low c.first_lead-found.ensures.found c.take_better-column.ensures in
+    let head = head_now query part progress columns.tallies columns.known last _ (with_row part.segment.columns c.first_lead-found.result) _ _ _ c.take_better-column.result is (c.worst-2.ensures.row ∙ kth) left (length-sets (tables_of whole)) low c.first_lead-found.ensures.found c.take_better-column.ensures in
     c.choose.ensures
     ∙ (λ i. chosen says part.number (lengths_of part.segment (c.requires.tokens i)) (c.requires.tokens i) (sym at i) part.segment.sets columns.tallies (told i) c.take_better-column.result)
     ∙ next_chosen says query before part progress columns.tallies columns.known is c.take_better-column.result head
-    (λ x e. seen_count query part progress columns.tallies columns.known is x (taken_leads query part columns.tallies columns.known _ c.first_lead-found.result _ _ _ x c.first_lead-found.ensures.found (sym e ∙ c.take_better-column.ensures)).1)
+    (λ x e. seen_count query part progress columns.tallies columns.known is x (taken_leads query part columns.tallies columns.known _ (with_row part.segment.columns c.first_lead-found.result) _ _ _ x c.first_lead-found.ensures.found (sym e ∙ c.take_better-column.ensures)).1)
 
 pub returns-clause-probed : goal.returns-clause-probed
 returns-clause-probed g c = λ n x after e.
@@ -54,7 +56,7 @@ returns-clause-probed g c = λ n x after e.
     let part = searched query (part_at c.args.looks.now.version.parts c.args.part) in
     let columns = c.args.columns.now in
     let told = chosen_probe (g.C.Chooser.says c.args.chooser.now) part.number _ c.args.tokens.now c.args.read part.segment.sets columns.tallies c.worst_overlap-worst.result c.take_better-column.result n x after (sym c.choose.ensures ∙ e) in
-    let lead = taken_leads query part columns.tallies columns.known _ c.first_lead-found.result _ _ _ x c.first_lead-found.ensures.found (sym told.1 ∙ c.take_better-column.ensures) in
+    let lead = taken_leads query part columns.tallies columns.known _ (with_row part.segment.columns c.first_lead-found.result) _ _ _ x c.first_lead-found.ensures.found (sym told.1 ∙ c.take_better-column.ensures) in
     (told.0, lead.0, lead.1, told.2)
 
 pub returns-then-surely_reads-clause-held : goal.returns-then-surely_reads-clause-held
@@ -67,4 +69,11 @@ pub returns-clause-witness : goal.returns-clause-witness
 returns-clause-witness g c =
     let query = c.args.query.now in
     let whole = part_at c.args.looks.now.version.parts c.args.part in
-    found_may_lead query (searched query whole) c.args.columns.now.tallies c.args.columns.now.known c.first_lead-found.result _ _ _ c.column_of.result (length-sets (tables_of whole)) c.first_lead-found.ensures.found c.column_of.ensures
+    let columns = (segment_at c.args.looks.now.version.parts c.args.part).columns in
+    found_may_lead query (searched query whole) c.args.columns.now.tallies c.args.columns.now.known (with_row columns c.first_lead-found.result) _ _ _ c.column_of.result (length-sets (tables_of whole)) c.first_lead-found.ensures.found
+    (c.column_of.ensures ∙ column_with_row columns c.first_lead-found.result)
+
+pub take_better-column-requires-clause-column : goal.take_better-column-requires-clause-column
+take_better-column-requires-clause-column g c =
+    let query = c.args.query.now in
+    found_within query (searched query (part_at c.args.looks.now.version.parts c.args.part)) c.args.columns.now.tallies c.args.columns.now.known _ _ _ (segment_at c.args.looks.now.version.parts c.args.part).columns c.first_lead-found.result c.first_lead-found.ensures.found

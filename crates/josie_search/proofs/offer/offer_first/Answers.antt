@@ -1,11 +1,13 @@
-use Rattle.std.proofs.Common.{◌∙◌, ap, sym, ◌-◌, length, arith}
+use Rattle.std.proofs.Common.{◌∙◌, ap, sym, ◌-◌, length, take, arith}
 use Rattle.std.specs.Prelude.{slice_get}
+use Rattle.lake_model.specs.Answer.{Row, row_cmp}
+use Rattle.lake_model.specs.Sorting.{put_in_order}
 use Rattle.search_model.specs.Looks.{beats, searched}
 use Rattle.segment_core.specs.Versions.{part_at, segment_at}
 use Rattle.josie_search.specs.Costs.{threshold_of}
 use Rattle.josie_search.specs.Offers.{offers}
 use Rattle.josie_search.specs.Open.{overlap_of}
-use Rattle.josie_search.specs.Rows.{lead_row}
+use Rattle.josie_search.specs.Rows.{lead_row, row_of_lead}
 use Rattle.josie_search.proofs.LoopLemmas.{lead_parts}
 use Rattle.josie_search.proofs.OfferLemmas.{first_taken, none_beats, none_high, none_kept}
 use Rattle.josie_search.proofs.offer.offer_first.Goals as goal
@@ -29,9 +31,10 @@ returns-then-not-beats-clause-none c = λ _.
     let columns = c.args.columns.now in
     let top = c.args.top.now in
     let sets = length (segment_at c.args.looks.now.version.parts c.args.part).sets in
-    let beaten = ap (λ o. beats o c.in-Some.row) (sym c.worst-2.ensures.row) ∙ sym c.beats.ensures ∙ c.if-not-beats.true in
+    let row = row_of_lead part.segment.columns c.in-Some.lead in
+    let beaten = ap (λ o. beats o row) (sym c.worst-2.ensures.row) ∙ sym c.beats.ensures ∙ c.if-not-beats.true in
     none_kept query part columns.tallies columns.known top.k top.rows columns.touched
-    (none_beats query part columns.tallies columns.known top.k top.rows (slice_get top.rows (top.k - 1)) c.worst.ensures.left_out sets c.in-Some.column c.in-Some.row c.in-Some.ensures.found beaten
+    (none_beats query part columns.tallies columns.known top.k top.rows (slice_get top.rows (top.k - 1)) c.worst.ensures.left_out sets c.in-Some.lead.column row c.in-Some.ensures.found beaten
     (λ y e. c.requires.seen y (lead_parts query part columns.tallies columns.known y e).2))
 
 pub returns-clause-rows : goal.returns-clause-rows
@@ -42,4 +45,4 @@ returns-clause-rows c = λ listed.
     let top = c.args.top.now in
     let found = c.in-Some.ensures.found in
     (λ i. offers top.k (lead_row query part (c.know.ensures.tallies i) (c.know.ensures.known i) 0) c.offer.new.self.rows (c.know.ensures.touched i))
-    ∙ first_taken query part columns.tallies columns.known c.in-Some.column top.k top.rows c.offer.new.self.rows columns.touched c.in-Some.row listed found.does (omega (arith, found.within, c.requires.wide, c.know.ensures.marks)) c.worst.ensures.first found.same c.offer.ensures.rows
+    ∙ first_taken query part columns.tallies columns.known c.in-Some.lead.column top.k top.rows c.offer.new.self.rows columns.touched (row_of_lead part.segment.columns c.in-Some.lead) listed found.does (omega (arith, found.within, c.requires.wide, c.know.ensures.marks)) c.worst.ensures.first found.same (c.offer.ensures.rows ∙ ap (λ (row : Row). take top.k (put_in_order row_cmp row top.rows)) c.row_of_column.ensures)

@@ -12,7 +12,7 @@ use Rattle.segment_core.specs.Versions.{part_at, segment_at, tables_of, VersionO
 use Rattle.lake_model.specs.Sorting.{put_in_order}
 use Rattle.std.proofs.lemmas.List.{take_all}
 use Rattle.josie_search.specs.Candidates.{all_of, AreHeld}
-use Rattle.josie_search.specs.Offers.{offers, shared_row}
+use Rattle.josie_search.specs.Offers.{offers}
 use Rattle.part_columns.specs.Room.{unprobed}
 use Rattle.josie_search.specs.Rows.{lead_row, MayLead}
 use Rattle.part_columns.specs.declared.tally.Tally.{Tally}
@@ -22,6 +22,7 @@ use Rattle.josie_search.proofs.RestLemmas.{all_offered, counted_within, probed_k
 use Rattle.josie_search.proofs.GoingLemmas.{Going, begins, ended_log, ended_rows, nothing_next, probes_on, read_rows, reads_on}
 use Rattle.josie_search.proofs.HeldLemmas.{held_known, held_read, held_unseen, uncounted}
 use Rattle.josie_search.proofs.LoopLemmas.{lead_parts, next_now, probed_less}
+use Rattle.josie_search.proofs.ProbedLemmas.{probed_row}
 use Rattle.part_columns.proofs.RoomLemmas.{few_asked}
 use Rattle.part_columns.proofs.SegmentLists.{list_read, token_within}
 use Rattle.josie_search.proofs.part.search_part.Goals as goal
@@ -191,11 +192,8 @@ probe_column-requires-clause-seen g c =
     let looked = c.in-Some-Probe.ensures.probed _ _ _ is in
     (lead_parts c.args.query.now (searched c.args.query.now (part_at c.loop-read.looks.version.parts c.args.part)) c.loop-read.columns.tallies c.loop-read.columns.known c.in-Some-Probe.column looked.2).2
 
-pub probe_column-requires-clause-live : goal.probe_column-requires-clause-live
-probe_column-requires-clause-live g c =
-    let is : Some c.in-Some-Probe.field-0 ≡ Some (Probe c.in-Some-Probe.field-0-0 c.in-Some-Probe.column c.in-Some-Probe.field-0-2) = ap Some c.in-Some-Probe.field-0-is in
-    let looked = c.in-Some-Probe.ensures.probed _ _ _ is in
-    (lead_parts c.args.query.now (searched c.args.query.now (part_at c.loop-read.looks.version.parts c.args.part)) c.loop-read.columns.tallies c.loop-read.columns.known c.in-Some-Probe.column looked.2).0
+pub probe_column-requires-clause-tokens : goal.probe_column-requires-clause-tokens
+probe_column-requires-clause-tokens g c = (c.args.query.now.keys, c.requires.tokens ∙ ap (λ (v : VersionOf). (searched c.args.query.now (part_at v.parts c.args.part)).query) (sym c.loop-read.invariant.version))
 
 pub offer_rest-requires-clause-small : goal.offer_rest-requires-clause-small
 offer_rest-requires-clause-small g c = λ column.
@@ -278,7 +276,8 @@ loop-read-preserved g c =
     let k : c.loop-read.top.k ≡ query.k = kept.k ∙ c.requires.k in
     let live : is_eligible query part (column_at part x) ≡ true = sym (ap (λ (v : VersionOf). is_eligible query (searched query (part_at v.parts c.args.part)) (column_at (searched query (part_at v.parts c.args.part)) x)) kept.version) ∙ led.0 in
     let was = subst (λ (v : VersionOf). AreHeld query (searched query (part_at v.parts c.args.part)) c.args.order.ranks.now c.loop-read.columns.tallies c.loop-read.columns.known (length c.args.tokens.now - read) c.next_look.new.candidates.low (all_of c.next_look.new.candidates)) kept.version c.next_look.ensures.held in
-    let rows = c.probe_column.ensures.rows ∙ (λ i. take (k i) (put_in_order row_cmp (shared_row query (searched query (part_at (kept.version i).parts c.args.part)) x) c.loop-read.top.rows)) in
+    let row = probed_row c.loop-read.looks.version version query c.args.part x c.args.tokens.now kept.version c.requires.distinct columns c.requires.tokens in
+    let rows = c.probe_column.ensures.rows ∙ (λ i. take (k i) (put_in_order row_cmp (row i) c.loop-read.top.rows)) in
     record {
       lists = refl;
       version = c.probe_column.ensures.version ∙ kept.version;
