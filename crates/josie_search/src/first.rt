@@ -103,14 +103,9 @@ fn ranked(order: ColumnOrder<'_>, rank: u32) -> Option<u32>
     ensures column { IsOfRank (length order.entry.ranks.now) order.entry.ranks.now rank result }
     ensures within { (x : ℕ) → result ≡ Some x → x < length order.entry.ranks.now }
 {
-    if rank as usize >= order.by_rank.len() {
-        return None;
-    }
-    let column = order.by_rank[rank as usize];
-    if order.ranks[column as usize] == rank {
-        Some(column)
-    } else {
-        None
+    match order.by_rank.get(rank as usize) {
+        Some(column) => Some(*column),
+        None => None,
     }
 }
 

@@ -1,4 +1,5 @@
-//! Decides which columns are held as candidates.
+//! Decides which columns are held as candidates. The functions with loops are not inlined, so that each loop has the
+//! registers for itself.
 ghost use Rattle.std.specs.Prelude.{◌≡◌, ◌<◌, ◌≤◌, ◌+◌, ◌^◌, ◌∷◌, ℕ, Bool, List, false, true, get_or, length, map};
 ghost use Rattle.std.specs.List.{All};
 ghost use Rattle.std.specs.List.Sorted.{IsPermutation};
@@ -18,7 +19,8 @@ pub(crate) fn goes_in(columns: &Columns, left: u32, low: u32, column: u32) -> bo
     requires small { (tally_at columns.now.tallies column).count + left < 2 ^ 32 }
     ensures { result ≡ goes_in (get_or columns.now.known column false) low left (tally_at columns.now.tallies column) }
 {
-    low <= most_of(columns.tally(column), left) && !columns.is_known(column)
+    // Each of the two is hard to predict, but seldom do both hold, so there is one branch for both.
+    (low <= most_of(columns.tally(column), left)) & !columns.is_known(column)
 }
 
 // Holds a column if it has to be held.
@@ -40,6 +42,7 @@ fn enter(candidates: &mut Candidates, columns: &Columns, ranks: &[u32], left: u3
 }
 
 // Holds the columns that were seen, for bounds of `low` or more.
+#[inline(never)]
 fn fill(candidates: &mut Candidates, columns: &Columns, ranks: &[u32], left: u32, low: u32)
     requires ranked { (column : ℕ) → 0 < (tally_at columns.now.tallies column).count → column < length ranks.now }
     requires small { (column : ℕ) → (tally_at columns.now.tallies column).count + left < 2 ^ 32 }
@@ -113,6 +116,7 @@ pub(crate) fn rest(candidates: &mut Candidates)
 }
 
 // Holds those columns of a list that have to be held.
+#[inline(never)]
 fn enter_list(
     candidates: &mut Candidates,
     columns: &Columns,

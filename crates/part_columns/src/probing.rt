@@ -53,7 +53,9 @@ pub fn probe(
 }
 
 // Returns how many of a column's tokens behind those in the lists read are among the query's tokens of the other lists.
-// The set has all of the query's tokens, but none of the column's tokens there is one of a list read.
+// The set has all of the query's tokens, but none of the column's tokens there is one of a list read. It is not inlined,
+// so that the loop has the registers for itself.
+#[inline(never)]
 fn count_asked(set: Option<&TokenSet>, unread: &[u32], tail: &[u32]) -> usize
     requires set { IfSome set (λ set. count_by (has set.now) tail.now ≡ count_by (is_among unread.now) tail.now) }
     requires unread { IsStrictlyIncreasing unread.now }
