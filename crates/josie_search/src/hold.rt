@@ -19,8 +19,10 @@ pub(crate) fn goes_in(columns: &Columns, left: u32, low: u32, column: u32) -> bo
     requires small { (tally_at columns.now.tallies column).count + left < 2 ^ 32 }
     ensures { result ≡ goes_in (get_or columns.now.known column false) low left (tally_at columns.now.tallies column) }
 {
-    // Each of the two is hard to predict, but seldom do both hold, so there is one branch for both.
-    (low <= most_of(columns.tally(column), left)) & !columns.is_known(column)
+    // Each of the two is hard to predict, but seldom do both hold: one comparison asks for both, since no bound reaches
+    // the least bound that is asked of a known column.
+    let known = u64::from(columns.is_known(column));
+    u64::from(low) + (known << 32) <= u64::from(most_of(columns.tally(column), left))
 }
 
 // Holds a column if it has to be held.
