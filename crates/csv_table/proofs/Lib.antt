@@ -5,3 +5,4 @@ pub mod FaultLemmas
 pub mod TableLemmas
 pub mod TableLawLemmas
 pub mod WideLemmas
+pub mod LineLemmas

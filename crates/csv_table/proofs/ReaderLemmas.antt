@@ -141,6 +141,18 @@ pub left_none : (cfg : Config) (s : State) (y : List ℕ) → next_record cfg s 
 unfolding records_from
 left_none cfg s y e = rw (add-one (length y), e) refl
 
+-- the records from a read on
+abbrev pub reading : Option Read → List Record
+reading o = records_next (left_records default_config) o
+
+left_by : (s : State) (xs : List ℕ) (o : Option Read) → ends_at_end s ≡ false → next_record default_config s [] [] xs ≡ o → left_records default_config s xs ≡ reading o
+left_by s xs None quiet e = left_none default_config s xs e
+left_by s xs (Some p) quiet e = left_more default_config s p.1 xs p.2 p.0 quiet e
+
+-- the records that are left are those from the next read on
+pub left_next : (s : State) (xs : List ℕ) → ends_at_end s ≡ false → left_records default_config s xs ≡ reading (next_record default_config s [] [] xs)
+left_next s xs quiet = left_by s xs (next_record default_config s [] [] xs) quiet refl
+
 -- the parts of what was read, put together
 next_is : (o : Option Read) (p : Read) (f : Record) (s : State) (z : List ℕ) → o ≡ Some p → f ≡ p.0 → p.1 ≡ s → p.2 ≡ z → o ≡ Some (f, s, z)
 next_is o p f s z h a b c = rw (a, ← b, ← c) h

@@ -1,11 +1,11 @@
 -- The first wide record, found by a pass that counts the fields of each record, and what it says of the records that are left.
-use Rattle.std.proofs.Common.{◌≡◌, ◌≤◌, ◌<◌, ◌+◌, ℕ, zero, suc, List, [], ◌∷◌, ◌++◌, length, drop, get_or, Option, Some, None, Bool, true, false, refl, ap, sym, arith, ◌∙◌, inl, inr}
+use Rattle.std.proofs.Common.{◌≡◌, ◌≤◌, ◌<◌, ◌+◌, ℕ, List, [], ◌∷◌, ◌++◌, length, drop, get_or, Option, Some, None, true, false, refl, ap, sym, arith, ◌∙◌, inl, inr}
 use Rattle.std.specs.Prelude.{IfSome, if◌then◌else◌, nat_lt}
 use Rattle.std.proofs.lemmas.Bool.{cases_Bool, le-ltb, lt-ltb, ltb-true}
 use Rattle.std.proofs.lemmas.Option.{same_Some}
 use Rattle.std.proofs.lemmas.List.{drop_all, drop_more, length-append}
-use Rattle.csv.specs.Machine.{Read, ends_at_end, is_end, next_record, step}
-use Rattle.csv.specs.Reading.{default_config, records, records_from, records_next}
+use Rattle.csv.specs.Machine.{ends_at_end, is_end, next_record, step}
+use Rattle.csv.specs.Reading.{default_config, records}
 use Rattle.csv.specs.declared.parser.State.{State}
 use Rattle.csv.specs.declared.parser.State.TheVariants as st
 use Rattle.csv.specs.declared.parser.Action.{Action}
@@ -17,7 +17,7 @@ use Rattle.csv_table.specs.declared.widths.Effect.TheVariants as effect
 use Rattle.csv_table.specs.declared.widths.Place.{Place}
 use Rattle.csv_table.specs.Places.{IsStep, effect_of, state_of}
 use Rattle.csv_table.specs.WideRecords.{first_wide, wide_with}
-use Rattle.csv_table.proofs.ReaderLemmas.{left_more, left_none, left_records, quiet_step}
+use Rattle.csv_table.proofs.ReaderLemmas.{left_next, left_none, left_records, quiet_step, reading}
 
 -- ---- the pass over the bytes
 
@@ -112,18 +112,6 @@ module _ (most number fields i : ℕ) (s : State) (text : List ℕ) (past : leng
   pass_ends_between ends = ap (wide_from most number s fields) (drop_all i text past) ∙ none_end most number fields s ends
 
 -- ---- the pass finds the first wide record
-
--- the records from a read on
-abbrev reading : Option Read → List Record
-reading o = records_next (left_records default_config) o
-
-left_by : (s : State) (xs : List ℕ) (o : Option Read) → ends_at_end s ≡ false → next_record default_config s [] [] xs ≡ o → left_records default_config s xs ≡ reading o
-left_by s xs None quiet e = left_none default_config s xs e
-left_by s xs (Some p) quiet e = left_more default_config s p.1 xs p.2 p.0 quiet e
-
--- the records that are left are those from the next read on
-left_next : (s : State) (xs : List ℕ) → ends_at_end s ≡ false → left_records default_config s xs ≡ reading (next_record default_config s [] [] xs)
-left_next s xs quiet = left_by s xs (next_record default_config s [] [] xs) quiet refl
 
 -- the pass over these bytes finds what the records have, from any state and fields
 abbrev Finds : ℕ → List ℕ → Type 0

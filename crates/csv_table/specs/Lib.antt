@@ -3,3 +3,4 @@ pub mod SplitRecords
 pub mod RecordsLeft
 pub mod Places
 pub mod WideRecords
+pub mod Lines

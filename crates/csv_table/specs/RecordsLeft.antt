@@ -1,4 +1,4 @@
--- A reader of the crate `csv` over bytes, as the records that it has not read yet.
+-- The records of bytes that have not been read yet: those that a reader of the crate `csv` has left, or those of lines.
 use Rattle.std.specs.Prelude.{◌≡◌, ◌+◌, List, [], length, true, false, Option, Some, None, IsSome}
 use Rattle.std.specs.Borrow.{Bor}
 use Rattle.csv.specs.Machine.{ends_at_end}
@@ -8,6 +8,9 @@ use Rattle.csv.specs.declared.reader.Reader.{Reader}
 use Rattle.csv.specs.declared.reader.Trim.TheVariants as trim
 use Rattle.lake_model.specs.Texts.{Text}
 use Rattle.lake_model.specs.Records.{Record}
+use Rattle.csv_table.specs.Lines.{lines_of, HasNoQuotes}
+use Rattle.csv_table.specs.declared.records_left.RecordsLeft.{RecordsLeft}
+use Rattle.csv_table.specs.declared.records_left.RecordsLeft.TheVariants as left
 
 -- the bytes that a reader over a slice has not read yet, if they are known
 abbrev pub bytes_left : Reader (Bor Text) → Option Text
@@ -30,3 +33,13 @@ pub record IsReading (reader : Reader (Bor Text)) : Type 0 where
   pub known : IsSome (bytes_left reader)
   pub flexible : is_flexible reader ≡ true
   pub quiet : ends_at_end (reader_state reader) ≡ false
+
+-- the records that have not been read yet
+abbrev pub left_of : RecordsLeft → List Record
+left_of (left.Lines text) = lines_of text.now
+left_of (left.Reader reader) = records_left reader.value
+
+-- the next record can be read
+abbrev pub IsOpen : RecordsLeft → Type 0
+IsOpen (left.Lines text) = HasNoQuotes text.now
+IsOpen (left.Reader reader) = IsReading reader.value

@@ -3,17 +3,19 @@
 #![tactic(auto)]
 
 ghost use Rattle.std.specs.Prelude.{◌≡◌, ◌⊎◌, ◌↔◌, ℕ, List, ◌+◌, ◌<◌, ◌≤◌, ◌++◌, ◌∷◌, [], true, false, length, Some, None, Ok, Err, IfOk, IfErr, OnOk, OnErr};
-ghost use Rattle.csv.specs.Reading.{has_failed, strip_bom};
+ghost use Rattle.csv.specs.Reading.{strip_bom};
 ghost use Rattle.csv.specs.Records.{fields_of};
 ghost use Rattle.lake_model.specs.Records.{column_count, csv_fault, field_at, header_fault, record_fault, records_of, table_fault, IsTable, Record, text_fault, text_size};
-ghost use Rattle.csv_table.specs.RecordsLeft.{IsReading, records_left};
 
 mod fields;
+mod lines;
+mod records_left;
 mod widths;
 
 use crate::fields::Fields;
+use crate::records_left::RecordsLeft;
 use crate::widths::{fields_if_wide, wide_record};
-use csv::{ByteRecord, Reader, ReaderBuilder};
+use csv::ByteRecord;
 pub use lake_model::CsvRefused;
 use std::alloc::Global;
 use std::marker::Model;
@@ -100,11 +102,11 @@ pub fn read_table(alloc: Global, bytes: &[u8], most: u32) -> Result<RawTable, Cs
     if let Some(got) = fields_if_wide(wide, 1) {
         return Err(CsvRefused::TooManyColumns { got });
     }
-    let mut reader = open_reader(alloc, bytes);
+    let mut left = RecordsLeft::of(alloc, bytes)?;
     let mut row = ByteRecord::new(alloc);
     // While the store grows, it takes half as much memory again.
     let mut store = Fields::with_capacity(alloc, bytes.len(), likely_fields(bytes))?;
-    if !read_next(&mut reader, &mut row)? {
+    if !left.read(&mut row)? {
         return Err(CsvRefused::NoHeader);
     }
     let columns = add_header(&mut store, &row, most)?;
@@ -116,7 +118,7 @@ pub fn read_table(alloc: Global, bytes: &[u8], most: u32) -> Result<RawTable, Cs
                 got,
             });
         }
-        if !read_next(&mut reader, &mut row)? {
+        if !left.read(&mut row)? {
             return Ok(RawTable {
                 store,
                 columns,
@@ -127,17 +129,6 @@ pub fn read_table(alloc: Global, bytes: &[u8], most: u32) -> Result<RawTable, Cs
     }
     // That many records do not fit into an address space.
     Err(CsvRefused::NoMemory)
-}
-
-// Returns a reader of the records of the bytes.
-fn open_reader(alloc: Global, bytes: &[u8]) -> Reader<&[u8]>
-    ensures reading { IsReading result }
-    ensures left { records_left result ≡ records_of bytes.now }
-{
-    ReaderBuilder::new()
-        .has_headers(false)
-        .flexible(true)
-        .from_reader(alloc, behind_mark(bytes))
 }
 
 // Returns a sixteenth more than the number of fields that there are if the rest of the bytes is as their beginning, but no
@@ -162,21 +153,6 @@ fn behind_mark(bytes: &[u8]) -> &[u8]
         Some(rest) => rest,
         None => bytes,
     }
-}
-
-// Reads the next record, and returns whether there is one. A flexible reader over a slice fails only if memory runs out; the
-// clause `failed` says that no fault of the text is reported as that.
-fn read_next(reader: &mut Reader<&[u8]>, row: &mut ByteRecord) -> Result<bool, CsvRefused>
-    requires { IsReading reader.old }
-    ensures more { IfOk result (λ found. found ≡ true → IsReading reader.new × (records_left reader.old ≡ fields_of row.new ∷ records_left reader.new)) }
-    ensures end { IfOk result (λ found. found ≡ false → records_left reader.old ≡ []) }
-    ensures refused { IfErr result (λ e. e ≡ CsvRefused.NoMemory) }
-    ensures failed { OnErr result (has_failed reader.new ≡ true) }
-{
-    let Ok(found) = reader.read_byte_record(row) else {
-        return Err(CsvRefused::NoMemory);
-    };
-    Ok(found)
 }
 
 // Adds the header's fields to the store, and returns their number, at most `most`.

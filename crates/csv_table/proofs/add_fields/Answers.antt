@@ -4,7 +4,6 @@ use Rattle.std.proofs.lemmas.Bool.{false_from_ne_true}
 use Rattle.std.proofs.lemmas.Str.{IsUtf8-from_is_utf8, is_utf8-from_IsUtf8}
 use Rattle.std.specs.Str.{is_utf8}
 use Rattle.csv.specs.Records.{fields_of}
-use Rattle.csv.proofs.ReadFacts.{on-ok}
 use Rattle.lake_model.specs.Records.{text_fault}
 use Rattle.csv_table.proofs.FaultLemmas.{field_past, field_there, text_end, text_here, text_not}
 use Rattle.csv_table.proofs.add_fields.Goals as goal

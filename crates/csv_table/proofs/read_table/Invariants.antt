@@ -1,11 +1,11 @@
 use Rattle.std.proofs.Common.{◌≤◌}
-use Rattle.csv_table.specs.RecordsLeft.{IsReading, records_left}
+use Rattle.csv_table.specs.RecordsLeft.{left_of, IsOpen}
 use Rattle.csv_table.proofs.TableLemmas.{IsLeft}
 use Rattle.csv_table.proofs.read_table.Given as goal
 
 abbrev pub invariant-loop-records : goal.invariant-loop-records
 invariant-loop-records l = record {
-  reading : IsReading l.reader;
+  ready : IsOpen l.left;
   narrow : l.columns ≤ 4096;
-  left : IsLeft l.fn.most l.fn.bytes l.records l.columns l.store (records_left l.reader);
+  left : IsLeft l.fn.most l.fn.bytes l.records l.columns l.store (left_of l.left);
 }

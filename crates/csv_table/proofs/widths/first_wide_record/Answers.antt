@@ -1,4 +1,4 @@
-use Rattle.std.proofs.Common.{◌≡◌, ◌∙◌, ◌<◌, ◌≤◌, length, sym, arith, true, false}
+use Rattle.std.proofs.Common.{◌∙◌, ◌<◌, ◌≤◌, length, sym, arith}
 use Rattle.csv_table.specs.Places.{state_of}
 use Rattle.csv_table.proofs.WideLemmas.{pass_ends_between, pass_ends_narrow, pass_ends_wide, pass_field, pass_finds, pass_next, pass_same, pass_wide}
 use Rattle.csv_table.proofs.widths.first_wide_record.Goals as goal

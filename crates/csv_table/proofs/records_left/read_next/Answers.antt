@@ -1,7 +1,7 @@
 use Rattle.std.proofs.Common.{◌∙◌, Some}
 use Rattle.csv.specs.Records.{fields_of}
 use Rattle.csv_table.proofs.ReaderLemmas.{error_stops, reads_none, reads_one}
-use Rattle.csv_table.proofs.read_next.Goals as goal
+use Rattle.csv_table.proofs.records_left.read_next.Goals as goal
 
 pub returns-clause-more : goal.returns-clause-more
 returns-clause-more c = λ yes.
