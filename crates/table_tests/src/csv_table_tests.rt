@@ -64,6 +64,37 @@ fn mark_and_line_breaks(rt: HostRuntime) -> Result<(), Fail> {
     Ok(())
 }
 
+// Without quotation marks: two byte order marks, lines that end in CR, in CR LF and in LF, empty lines, empty fields, and a
+// last line without an end.
+#[test]
+fn lines_without_quotes(rt: HostRuntime) -> Result<(), Fail> {
+    let table = table(rt.alloc(), "\r\u{feff}\u{feff}a,b\r\rc,\r\n\n,d'\n,")?;
+    expect_shape(&rt, &table, 2, 3);
+    expect_field(&rt, &table, 0, 1, "\u{feff}\u{feff}a");
+    expect_field(&rt, &table, 0, 2, "b");
+    expect_field(&rt, &table, 1, 1, "c");
+    expect_field(&rt, &table, 1, 2, "");
+    expect_field(&rt, &table, 2, 1, "");
+    expect_field(&rt, &table, 2, 2, "d'");
+    expect_field(&rt, &table, 3, 2, "");
+    Ok(())
+}
+
+// Of three byte order marks two are dropped, with and without quotation marks.
+#[test]
+fn marks_before_lines(rt: HostRuntime) -> Result<(), Fail> {
+    for text in [
+        "\u{feff}\u{feff}\u{feff}a\n1",
+        "\u{feff}\u{feff}\u{feff}a\n\"1\"",
+    ] {
+        let table = table(rt.alloc(), text)?;
+        expect_shape(&rt, &table, 1, 1);
+        expect_field(&rt, &table, 0, 1, "\u{feff}a");
+        expect_field(&rt, &table, 1, 1, "1");
+    }
+    Ok(())
+}
+
 const REFUSED: [(&[u8], CsvRefused); 8] = [
     (b"", CsvRefused::NoHeader),
     (b"\xEF\xBB\xBF\r\n\n", CsvRefused::NoHeader),
