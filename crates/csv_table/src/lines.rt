@@ -7,7 +7,7 @@ ghost use Rattle.csv_table.specs.Lines.{behind_breaks, first_line, is_break, lin
 use csv::ByteRecord;
 use no_memory::NoMemory;
 
-/// Reads the first record of a text, which is then the text after it, and returns whether there is one.
+/// Reads the first record of a text and takes it off the text, and returns whether there is one.
 pub(crate) fn read_line(text: &mut &[u8], row: &mut ByteRecord) -> Result<bool, NoMemory>
     requires { HasNoQuotes text.old.now }
     ensures more { IfOk result (λ found. found ≡ true → HasNoQuotes text.new.now × (lines_of text.old.now ≡ fields_of row.new ∷ lines_of text.new.now)) }

@@ -24,8 +24,9 @@ pub(crate) enum RecordsLeft<'a> {
 impl<'a> RecordsLeft<'a> {
     /// Returns the records of the bytes.
     ///
-    /// A reader of the crate `csv` has 8 KB of tables, which it fills when it is made, and a buffer of 8 KB. For a table of
-    /// a hundred fields that takes longer than all else that is done to load it. So only bytes with a quotation mark get one.
+    /// A reader of the crate `csv` fills 8 KB of tables when it is made, and is moved several times with these and a buffer of
+    /// 8 KB. For a table of a hundred fields that took about a third of the time of its load, so only bytes with a quotation
+    /// mark get a reader.
     pub(crate) fn of(alloc: Global, bytes: &'a [u8]) -> Result<RecordsLeft<'a>, NoMemory>
         ensures open { IfOk result IsOpen }
         ensures left { IfOk result (λ left. left_of left ≡ records_of bytes.now) }
