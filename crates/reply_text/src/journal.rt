@@ -6,7 +6,7 @@ ghost use Rattle.script_model.specs.Words.{line_text};
 ghost use Rattle.reply_text.specs.Keeping.{Keeps};
 
 use crate::words::Word::{Command, Number, Numbers, Text};
-use crate::words::{push_bytes, push_line, push_number};
+use crate::words::{push_byte, push_bytes, push_line, push_number};
 use catalogue::{Entry, What};
 use lake_model::Who;
 use no_memory::NoMemory;
@@ -110,6 +110,6 @@ pub fn push_journal(entries: &[Entry], into: &mut Vec<u8>) -> Result<(), NoMemor
 {
     push_bytes(b"journal ", into)?;
     push_number(entries.len() as u64, into)?;
-    push_bytes(b"\n", into)?;
+    push_byte(b'\n', into)?;
     push_entries(entries, into)
 }

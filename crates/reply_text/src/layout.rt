@@ -7,7 +7,7 @@ ghost use Rattle.script_model.specs.Words.{line_text};
 ghost use Rattle.reply_text.specs.Keeping.{Keeps};
 
 use crate::words::Word::Text;
-use crate::words::{push_bytes, push_number, push_words};
+use crate::words::{push_byte, push_bytes, push_number, push_words};
 use no_memory::NoMemory;
 use segment_core::{Layout, Places};
 
@@ -34,7 +34,7 @@ fn push_further_positions(places: &[(u64, bool)], into: &mut Vec<u8>) -> Result<
     ensures kept { Keeps into.old.items into.new.items }
 {
     for place in places {
-        push_bytes(b",", into)?;
+        push_byte(b',', into)?;
         push_position(place, into)?;
     }
     Ok(())
@@ -58,7 +58,7 @@ fn push_part(number: u64, places: &Places, into: &mut Vec<u8>) -> Result<(), NoM
     ensures kept { Keeps into.old.items into.new.items }
 {
     push_number(number, into)?;
-    push_bytes(b":", into)?;
+    push_byte(b':', into)?;
     push_positions(places.list(), into)
 }
 
@@ -68,7 +68,7 @@ fn push_parts(parts: &[(u64, Places)], into: &mut Vec<u8>) -> Result<(), NoMemor
     ensures kept { Keeps into.old.items into.new.items }
 {
     for (number, places) in parts {
-        push_bytes(b" ", into)?;
+        push_byte(b' ', into)?;
         push_part(*number, places, into)?;
     }
     Ok(())
@@ -95,5 +95,5 @@ pub fn push_layout(layout: &Layout, into: &mut Vec<u8>) -> Result<(), NoMemory>
     push_number(layout.at(), into)?;
     push_words(&[Text("parts")], into)?;
     push_parts_or_none(layout.parts(), into)?;
-    push_bytes(b"\n", into)
+    push_byte(b'\n', into)
 }

@@ -5,7 +5,7 @@ ghost use Rattle.record_model.specs.Texts.{escaped_byte, hexadecimal, quoted};
 ghost use Rattle.reply_text.specs.Keeping.{Keeps};
 ghost use Rattle.reply_text.specs.Quoted.{is_plain};
 
-use crate::words::push_bytes;
+use crate::words::{push_byte, push_bytes};
 use no_memory::NoMemory;
 
 // Returns a hexadecimal digit, in lower case.
@@ -41,7 +41,7 @@ fn push_escaped(byte: u8, into: &mut Vec<u8>) -> Result<(), NoMemory>
             into,
         )
     } else {
-        push_bytes(&[byte], into)
+        push_byte(byte, into)
     }
 }
 
@@ -90,7 +90,7 @@ pub fn push_quoted(name: &str, into: &mut Vec<u8>) -> Result<(), NoMemory>
     ensures ok { OnOk result (into.new.items ≡ into.old.items ++ quoted name.now) }
     ensures kept { Keeps into.old.items into.new.items }
 {
-    push_bytes(b"\"", into)?;
+    push_byte(b'"', into)?;
     push_all_escaped(name.as_bytes(), into)?;
-    push_bytes(b"\"", into)
+    push_byte(b'"', into)
 }

@@ -8,7 +8,7 @@ ghost use Rattle.reply_text.specs.Lines.{first_line};
 ghost use Rattle.reply_text.specs.Words.{word_text};
 
 use crate::words::Word::{self, Number, Text};
-use crate::words::{push_bytes, push_number, push_words};
+use crate::words::{push_byte, push_bytes, push_number, push_words};
 use catalogue::KeptName;
 use lake_model::Which;
 use no_memory::NoMemory;
@@ -39,7 +39,7 @@ pub fn push_refused(
     push_number(number, into)?;
     push_words(&[Text("refused"), Text(what)], into)?;
     push_words(words, into)?;
-    push_bytes(b"\n", into)
+    push_byte(b'\n', into)
 }
 
 /// Appends `N refused csv record R want W got G`.

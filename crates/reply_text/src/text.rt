@@ -10,8 +10,8 @@ ghost use Rattle.run_record.specs.Replies.{reply_of};
 use crate::journal::push_journal;
 use crate::layout::push_layout;
 use crate::lines::push_first_line;
-use crate::words::Word::{Number, Quoted, Text};
-use crate::words::{merger_mark, push_bytes, push_line, push_words};
+use crate::words::Word::{Named, Number, Quoted, Text};
+use crate::words::{merger_mark, push_byte, push_bytes, push_line, push_words};
 use column_set::{KeptRow, Name};
 use no_memory::NoMemory;
 use run_record::{Answered, Reply, RunRecord};
@@ -23,7 +23,7 @@ fn push_row(row: &KeptRow, into: &mut Vec<u8>) -> Result<(), NoMemory>
     ensures kept { Keeps into.old.items into.new.items }
 {
     let words = [
-        Text(row.table().text()),
+        Named(row.table()),
         Number(u64::from(row.place())),
         Quoted(row.column()),
     ];
@@ -48,7 +48,7 @@ fn push_table(name: &Name, columns: u32, members: u64, into: &mut Vec<u8>) -> Re
     ensures kept { Keeps into.old.items into.new.items }
 {
     push_bytes(b"  ", into)?;
-    push_bytes(name.text().as_bytes(), into)?;
+    push_bytes(name.bytes(), into)?;
     let words = [
         Text("columns"),
         Number(u64::from(columns)),
@@ -56,7 +56,7 @@ fn push_table(name: &Name, columns: u32, members: u64, into: &mut Vec<u8>) -> Re
         Number(members),
     ];
     push_words(&words, into)?;
-    push_bytes(b"\n", into)
+    push_byte(b'\n', into)
 }
 
 // The lines of tables.

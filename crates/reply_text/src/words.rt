@@ -7,6 +7,7 @@ ghost use Rattle.reply_text.specs.Keeping.{Keeps};
 ghost use Rattle.reply_text.specs.Words.{word_text};
 
 use crate::quoted::push_quoted;
+use column_set::Name;
 use itoa::Buffer;
 use lake_model::Who;
 use no_memory::NoMemory;
@@ -16,6 +17,8 @@ use no_memory::NoMemory;
 pub enum Word<'a> {
     /// A text, as it is.
     Text(&'a str),
+    /// The name of a table.
+    Named(&'a Name),
     /// A number, in decimal.
     Number(u64),
     /// Numbers in decimal, separated by commas; `none` if there are none.
@@ -32,6 +35,15 @@ pub fn push_bytes(bytes: &[u8], into: &mut Vec<u8>) -> Result<(), NoMemory>
     ensures kept { Keeps into.old.items into.new.items }
 {
     into.extend_from_slice(bytes)?;
+    Ok(())
+}
+
+/// Appends a byte. This takes less time than to append a slice of one byte.
+pub fn push_byte(byte: u8, into: &mut Vec<u8>) -> Result<(), NoMemory>
+    ensures ok { OnOk result (into.new.items ≡ into.old.items ++ byte ∷ []) }
+    ensures kept { Keeps into.old.items into.new.items }
+{
+    into.push(byte)?;
     Ok(())
 }
 
@@ -66,7 +78,7 @@ fn push_further_numbers(numbers: &[u64], into: &mut Vec<u8>) -> Result<(), NoMem
     ensures kept { Keeps into.old.items into.new.items }
 {
     for number in numbers {
-        push_bytes(b",", into)?;
+        push_byte(b',', into)?;
         push_number(*number, into)?;
     }
     Ok(())
@@ -102,6 +114,7 @@ fn push_word(word: &Word<'_>, into: &mut Vec<u8>) -> Result<(), NoMemory>
 {
     match word {
         Word::Text(text) => push_bytes(text.as_bytes(), into),
+        Word::Named(name) => push_bytes(name.bytes(), into),
         Word::Number(number) => push_number(*number, into),
         Word::Numbers(numbers) => push_numbers(numbers, into),
         Word::Quoted(text) => push_quoted(text, into),
@@ -115,7 +128,7 @@ pub fn push_words(words: &[Word<'_>], into: &mut Vec<u8>) -> Result<(), NoMemory
     ensures kept { Keeps into.old.items into.new.items }
 {
     for word in words {
-        push_bytes(b" ", into)?;
+        push_byte(b' ', into)?;
         push_word(word, into)?;
     }
     Ok(())
@@ -134,5 +147,5 @@ pub fn push_line(
     push_bytes(lead.as_bytes(), into)?;
     push_number(number, into)?;
     push_words(words, into)?;
-    push_bytes(b"\n", into)
+    push_byte(b'\n', into)
 }

@@ -1,5 +1,5 @@
 -- The ranks of columns: two numbers say which of two columns with the same bound comes first.
-use Rattle.std.specs.Prelude.{◌≡◌, ℕ, ◌<◌, true, false, List, length, get_or}
+use Rattle.std.specs.Prelude.{◌≡◌, ℕ, ◌<◌, true, false, List, length, get_or, map}
 use Rattle.std.specs.Ordering.{is_lt, nat_cmp, ordering_then}
 use Rattle.std.specs.declared.cmp.Ordering.{Ordering}
 use Rattle.std.specs.Cmp.Lexicographic.{slice_cmp}
@@ -32,3 +32,11 @@ pub record AreInverse (ranks by_rank : List ℕ) : Type 0 where
   pub back : (x : ℕ) → x < length ranks → get_or by_rank (get_or ranks x 0) 0 ≡ x
   pub within : (r : ℕ) → r < length by_rank → get_or by_rank r 0 < length ranks
   pub forth : (r : ℕ) → r < length by_rank → get_or ranks (get_or by_rank r 0) 0 ≡ r
+
+-- the columns by their ranks
+abbrev pub ranked : List Titled → List ℕ → List Titled
+ranked columns by_rank = map (titled_at columns) by_rank
+
+-- no two of these columns have the same titles, and of two with the same bound the first comes first
+abbrev pub AreRising : List Titled → Type 0
+AreRising columns = (r s u : ℕ) → r < s → s < length columns → is_lt (row_cmp (row_with u (titled_at columns r)) (row_with u (titled_at columns s))) ≡ true

@@ -25,7 +25,11 @@ pub fn build_index(alloc: Global, tables: Vec<SharedTable>) -> Result<SegmentInd
     requires members { sum_by members tables.items < 2 ^ 32 }
     ensures { IfOk result (λ index. index ≡ tables.items) }
 {
-    let TitleOrder { ranks, by_rank } = order_columns(alloc, &tables)?;
+    let TitleOrder {
+        ranks,
+        by_rank,
+        is_strict,
+    } = order_columns(alloc, &tables)?;
     let vocab = Vocab::build(alloc, &tables)?;
     let sets = column_sets(alloc, &tables, &vocab)?;
     let TokenLists {
@@ -56,5 +60,6 @@ pub fn build_index(alloc: Global, tables: Vec<SharedTable>) -> Result<SegmentInd
         sets.tokens,
         ranks,
         by_rank,
+        is_strict,
     ))
 }

@@ -1,15 +1,15 @@
 //! The inverted index of a list of tables, in flat arrays.
-ghost use Rattle.std.specs.Prelude.{◌≡◌, ◌⊎◌, ◌+◌, ◌<◌, ◌≤◌, [], drop, false, get_or, length, slice_index, slice_range, IfErr, IfOk, None, OnOk, Some};
+ghost use Rattle.std.specs.Prelude.{◌≡◌, ◌⊎◌, ◌+◌, ◌<◌, ◌≤◌, [], drop, false, get_or, length, slice_index, slice_range, true, IfErr, IfOk, IfSome, None, OnOk, Some};
 ghost use Rattle.lake_model.specs.Texts.{Text};
 ghost use Rattle.search_model.specs.Arrays.{table_at, titled_at, IsToken};
-ghost use Rattle.search_model.specs.Ranks.{AreInverse, AreRanks};
+ghost use Rattle.search_model.specs.Ranks.{ranked, AreInverse, AreRanks, AreRising};
 ghost use Rattle.search_model.specs.Segment.{segment, tokens_in};
 ghost use Rattle.segment_core.specs.Hashes.{hash_of};
 ghost use Rattle.segment_core.specs.LiveColumn.{fault_in, keys_in};
 
 use crate::hashed::HashedQuery;
 use crate::hashes::HashOrder;
-use crate::order::ColumnOrder;
+use crate::order::{ColumnOrder, RankedTitles};
 use column_set::SharedTable;
 use no_memory::NoMemory;
 use search_model::{Owner, Posting};
@@ -35,12 +35,13 @@ pub struct SegmentIndex {
     set_tokens: Vec<u32>,
     ranks: Vec<u32>,
     by_rank: Vec<u32>,
+    is_strict: bool,
 }
 
 impl Model for SegmentIndex {
     ghost use Rattle.std.specs.Prelude.{List};
     ghost use Rattle.lake_model.specs.Tables.{Table};
-    ghost use Rattle.search_model.specs.Ranks.{AreInverse, AreRanks};
+    ghost use Rattle.search_model.specs.Ranks.{ranked, AreInverse, AreRanks, AreRising};
     ghost use Rattle.search_model.specs.Segment.{segment};
     ghost use Rattle.segment_core.specs.Hashes.{AreKept};
 
@@ -48,7 +49,7 @@ impl Model for SegmentIndex {
 
     ghost view = { λ s. s.tables.items };
 
-    ghost invariant = { λ s. AreKept s.tables.items s.owners.items s.by_hash s.list_starts.items s.postings.items s.set_starts.items s.set_tokens.items × AreRanks (segment s.tables.items).columns s.ranks.items × AreInverse s.ranks.items s.by_rank.items };
+    ghost invariant = { λ s. AreKept s.tables.items s.owners.items s.by_hash s.list_starts.items s.postings.items s.set_starts.items s.set_tokens.items × AreRanks (segment s.tables.items).columns s.ranks.items × AreInverse s.ranks.items s.by_rank.items × (s.is_strict ≡ true → AreRising (ranked (segment s.tables.items).columns s.by_rank.items)) };
 }
 
 impl SegmentIndex {
@@ -67,10 +68,12 @@ impl SegmentIndex {
         set_tokens: Vec<u32>,
         ranks: Vec<u32>,
         by_rank: Vec<u32>,
+        is_strict: bool,
     ) -> SegmentIndex
         requires arrays { AreKept tables.items owners.items by_hash list_starts.items postings.items set_starts.items set_tokens.items }
         requires ranks { AreRanks (segment tables.items).columns ranks.items }
         requires inverse { AreInverse ranks.items by_rank.items }
+        requires strict { is_strict ≡ true → AreRising (ranked (segment tables.items).columns by_rank.items) }
         ensures { result ≡ tables.items }
     {
         SegmentIndex {
@@ -83,6 +86,7 @@ impl SegmentIndex {
             set_tokens,
             ranks,
             by_rank,
+            is_strict,
         }
     }
 
@@ -138,10 +142,17 @@ impl SegmentIndex {
     pub(crate) fn order(&self) -> ColumnOrder<'_>
         ensures ranks { AreRanks (segment self.now).columns result.ranks.now }
         ensures inverse { AreInverse result.ranks.now result.by_rank.now }
+        ensures titles { IfSome result.titles (λ titles. titles ≡ ranked (segment self.now).columns result.by_rank.now) }
     {
+        let titles = if self.is_strict {
+            Some(RankedTitles::new(self, &self.by_rank))
+        } else {
+            None
+        };
         ColumnOrder {
             ranks: &self.ranks,
             by_rank: &self.by_rank,
+            titles,
         }
     }
 

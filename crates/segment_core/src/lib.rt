@@ -28,7 +28,7 @@ pub use indexed::{IndexedPin, PartIndex};
 pub use layout::{Layout, Places, TableLines};
 pub use looks::Looks;
 pub use numbers::{Marks, Numbers};
-pub use order::ColumnOrder;
+pub use order::{ColumnOrder, RankedTitles};
 pub use pin::Pin;
 pub use plan::{Merged, Plan};
 pub use search_model::{Look, Owner, Posting, TokenAt};

@@ -1,5 +1,5 @@
 //! The looks of a search at a version: everything that it may ask, and a log of the lists and the sets that it read.
-ghost use Rattle.std.specs.Prelude.{◌≡◌, ◌<◌, ◌≤◌, ◌+◌, ◌++◌, ◌∷◌, [], count_by, drop, false, get_or, length, map, not, IfOk, OnErr, OnOk};
+ghost use Rattle.std.specs.Prelude.{◌≡◌, ◌<◌, ◌≤◌, ◌+◌, ◌++◌, ◌∷◌, [], count_by, drop, false, get_or, length, map, not, IfOk, IfSome, OnErr, OnOk};
 ghost use Rattle.search_model.specs.Looks.{is_read};
 ghost use Rattle.segment_core.specs.Versions.{tables_of};
 
@@ -65,7 +65,7 @@ impl<'a> Model for Looks<'a> {
 impl<'a> Looks<'a> {
     ghost use Rattle.lake_model.specs.Tables.{titles_of};
     ghost use Rattle.search_model.specs.Arrays.{table_at, titled_at, IsToken};
-    ghost use Rattle.search_model.specs.Ranks.{AreInverse, AreRanks};
+    ghost use Rattle.search_model.specs.Ranks.{ranked, AreInverse, AreRanks};
     ghost use Rattle.search_model.specs.Segment.{tokens_in};
     ghost use Rattle.segment_core.specs.Versions.{looks_with, marks_of, part_at, segment_at, segment_of, tables_of};
 
@@ -218,6 +218,7 @@ impl<'a> Looks<'a> {
         requires { part < length self.now.version.parts }
         ensures ranks { AreRanks (segment_at self.now.version.parts part).columns result.ranks.now }
         ensures inverse { AreInverse result.ranks.now result.by_rank.now }
+        ensures titles { IfSome result.titles (λ titles. titles ≡ ranked (segment_at self.now.version.parts part).columns result.by_rank.now) }
     {
         self.index(part).order()
     }

@@ -12,11 +12,13 @@ use std::alloc::Global;
 
 /// The order of the columns of a list of tables: by the bytes of their tables' names, then those of their own names,
 /// then by their places, then by their numbers, which count from 0 by table and then by place. `ranks` has, at each
-/// column's number, how many columns come before it; `by_rank` has the numbers of the columns in that order.
+/// column's number, how many columns come before it; `by_rank` has the numbers of the columns in that order. If
+/// `is_strict` is set, no two columns have the same titles, so that none needs its number to tell where it stands.
 #[derive(Drop)]
 pub struct TitleOrder {
     pub ranks: Vec<u32>,
     pub by_rank: Vec<u32>,
+    pub is_strict: bool,
 }
 
 /// Returns the order of the columns of the tables. It sorts the columns, which costs as much as sorting the names of
@@ -25,6 +27,7 @@ pub struct TitleOrder {
 pub fn order_columns(alloc: Global, tables: &[SharedTable]) -> Result<TitleOrder, NoMemory>
     ensures ranks { IfOk result (λ order. AreRanks (segment tables.now).columns order.ranks.items) }
     ensures inverse { IfOk result (λ order. AreInverse order.ranks.items order.by_rank.items) }
+    ensures strict { IfOk result (λ order. order.is_strict ≡ true → AreRising (ranked (segment tables.now).columns order.by_rank.items)) }
 {
     let by_rank = columns_by_title(alloc, tables)?;
     let ranks = places_of(alloc, &by_rank)?;
