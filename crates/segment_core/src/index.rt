@@ -138,21 +138,20 @@ impl SegmentIndex {
         self.owners[set as usize]
     }
 
-    /// Returns the columns in the order of names.
-    pub(crate) fn order(&self) -> ColumnOrder<'_>
-        ensures ranks { AreRanks (segment self.now).columns result.ranks.now }
-        ensures inverse { AreInverse result.ranks.now result.by_rank.now }
-        ensures titles { IfSome result.titles (λ titles. titles ≡ ranked (segment self.now).columns result.by_rank.now) }
+    /// Returns the columns in the order of names, with their titles, unless two columns have the same.
+    pub(crate) fn order(&self) -> (ColumnOrder<'_>, Option<RankedTitles<'_>>)
+        ensures ranks { AreRanks (segment self.now).columns result.0.ranks.now }
+        ensures inverse { AreInverse result.0.ranks.now result.0.by_rank.now }
+        ensures titles { IfSome result.1 (λ titles. titles ≡ ranked (segment self.now).columns result.0.by_rank.now) }
     {
-        let titles = if self.is_strict {
-            Some(RankedTitles::new(self, &self.by_rank))
-        } else {
-            None
-        };
-        ColumnOrder {
+        let order = ColumnOrder {
             ranks: &self.ranks,
             by_rank: &self.by_rank,
-            titles,
+        };
+        if self.is_strict {
+            (order, Some(RankedTitles::new(self, order.by_rank)))
+        } else {
+            (order, None)
         }
     }
 

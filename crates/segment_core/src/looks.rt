@@ -6,7 +6,7 @@ ghost use Rattle.segment_core.specs.Versions.{tables_of};
 use crate::hashed::HashedQuery;
 use crate::index::SegmentIndex;
 use crate::indexed::PartIndex;
-use crate::order::ColumnOrder;
+use crate::order::{ColumnOrder, RankedTitles};
 use crate::version::Version;
 use column_set::Titles;
 use no_memory::NoMemory;
@@ -213,12 +213,13 @@ impl<'a> Looks<'a> {
         likely
     }
 
-    /// Returns the columns of a part in the order of names, including those of marked tables.
-    pub fn order(&self, part: u32) -> ColumnOrder<'a>
+    /// Returns the columns of a part in the order of names, including those of marked tables, with their titles, unless
+    /// two columns have the same.
+    pub fn order(&self, part: u32) -> (ColumnOrder<'a>, Option<RankedTitles<'a>>)
         requires { part < length self.now.version.parts }
-        ensures ranks { AreRanks (segment_at self.now.version.parts part).columns result.ranks.now }
-        ensures inverse { AreInverse result.ranks.now result.by_rank.now }
-        ensures titles { IfSome result.titles (λ titles. titles ≡ ranked (segment_at self.now.version.parts part).columns result.by_rank.now) }
+        ensures ranks { AreRanks (segment_at self.now.version.parts part).columns result.0.ranks.now }
+        ensures inverse { AreInverse result.0.ranks.now result.0.by_rank.now }
+        ensures titles { IfSome result.1 (λ titles. titles ≡ ranked (segment_at self.now.version.parts part).columns result.0.by_rank.now) }
     {
         self.index(part).order()
     }

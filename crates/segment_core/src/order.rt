@@ -13,18 +13,17 @@ use std::marker::Model;
 /// The columns of a segment in the order of their tables' names, their own names, their places and their numbers, where
 /// names compare by their bytes. `ranks` has the rank of each column, from 0, by the column's number; `by_rank` has the
 /// number of each column by its rank. Of two columns with the same overlap, the one with the lower rank comes first in
-/// an answer. `titles` has their titles, unless two columns have the same.
+/// an answer.
 #[derive(Clone, Copy)]
 pub struct ColumnOrder<'a> {
     pub ranks: &'a [u32],
     pub by_rank: &'a [u32],
-    pub titles: Option<RankedTitles<'a>>,
 }
 
 /// The titles of the columns of a segment by their ranks, if no two columns have the same: then, of two rows of these
 /// columns with the same overlap, that of the lower rank comes first, and no name has to be read to tell. Its model is
 /// the list of the columns by their ranks.
-#[derive(Clone, Copy)]
+#[derive(Drop)]
 pub struct RankedTitles<'a> {
     index: &'a SegmentIndex,
     by_rank: &'a [u32],
