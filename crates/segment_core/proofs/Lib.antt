@@ -9,3 +9,4 @@ pub mod ShownLemmas
 pub mod PositionLemmas
 pub mod ColumnLemmas
 mod PlanLemmas
+pub mod PlacedLemmas

@@ -39,7 +39,7 @@ pub struct SegmentIndex {
 }
 
 impl Model for SegmentIndex {
-    ghost use Rattle.std.specs.Prelude.{List};
+    ghost use Rattle.std.specs.Prelude.{◌≡◌, true, List};
     ghost use Rattle.lake_model.specs.Tables.{Table};
     ghost use Rattle.search_model.specs.Ranks.{ranked, AreInverse, AreRanks, AreRising};
     ghost use Rattle.search_model.specs.Segment.{segment};

@@ -71,5 +71,6 @@ impl<'a> RankedTitles<'a> {
     pub fn are_rising(&self)
         ensures { AreRising self.now }
     {
+        let _ = &self.by_rank;
     }
 }

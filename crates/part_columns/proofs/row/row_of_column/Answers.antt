@@ -1,6 +1,6 @@
 use Rattle.search_model.specs.Arrays.{titled_at}
 use Rattle.segment_core.specs.Versions.{part_at, segment_of, tables_of}
-use Rattle.part_columns.proofs.SegmentLists.{placed, row_placed, titles_within}
+use Rattle.segment_core.proofs.PlacedLemmas.{placed, row_placed, titles_within}
 use Rattle.part_columns.proofs.row.row_of_column.Goals as goal
 
 pub invariant_of-result : goal.invariant_of-result
