@@ -6,3 +6,4 @@ pub mod Costs
 pub mod Open
 pub mod Offers
 pub mod Ready
+pub mod Firsts

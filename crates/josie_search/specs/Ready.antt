@@ -4,20 +4,21 @@ use Rattle.std.specs.Prelude.{◌≡◌, ℕ, ◌*◌, ◌<◌, ◌≤◌, [], L
 use Rattle.std.specs.List.{All, IsDistinct}
 use Rattle.lake_model.specs.Answer.{Query}
 use Rattle.lake_model.specs.Layout.{Part}
-use Rattle.topk_heap.specs.First.{first_with, FirstRows}
+use Rattle.josie_search.specs.Firsts.{Firsts}
 use Rattle.josie_search.specs.Candidates.{CandidatesOf}
 use Rattle.part_columns.specs.Columns.{ColumnsOf, IsClean}
 use Rattle.part_columns.specs.Room.{asked_in, IsMost, looks_in}
 use Rattle.token_set.specs.Bits.{IsSetOf}
 
-pub record IsReady (parts : List Part) (query : Query) (spare : ℕ) (lists : List (List ℕ)) (columns : ColumnsOf) (top : FirstRows) : Type 0 where
+pub record IsReady (parts : List Part) (query : Query) (spare : ℕ) (lists : List (List ℕ)) (columns : ColumnsOf) (first : Firsts) : Type 0 where
   pub asked : lists ≡ map (asked_in query.keys) parts
   pub room : sum_by (looks_in query.keys) parts ≤ spare
   pub wide : IsMost parts (length columns.tallies)
   pub different : IsDistinct bytes_eq query.keys
   pub few : length query.keys ≤ 4194304
   pub some : 0 < query.k
-  pub first : top ≡ first_with query.k []
+  pub k : first.k ≡ query.k
+  pub none : first.rows ≡ []
 
 -- a set of this many words has room for each of these tokens
 abbrev pub IsRoomFor : ℕ → List (List ℕ) → Type 0

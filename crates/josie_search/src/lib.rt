@@ -15,6 +15,7 @@ mod room;
 mod row;
 mod search;
 mod sure;
+mod top;
 
 pub use part_columns::Answer;
 pub use room::SearchRoom;

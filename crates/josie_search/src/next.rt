@@ -5,11 +5,11 @@ ghost use Rattle.std.specs.List.{All};
 ghost use Rattle.lake_model.specs.Answer.{Row as RowOf, row_cmp};
 ghost use Rattle.search_laws.specs.Select.{best};
 ghost use Rattle.search_model.specs.Looks.{known_rows, next_look, Progress, searched, threshold, unseen_open};
-ghost use Rattle.search_model.specs.Ranks.{AreInverse, AreRanks};
+ghost use Rattle.search_model.specs.Ranks.{ranked, AreInverse, AreRanks};
 ghost use Rattle.segment_core.specs.Versions.{part_at, segment_at};
 ghost use Rattle.josie_search.specs.Candidates.{all_of, AreHeld};
 ghost use Rattle.josie_search.specs.Costs.{lengths_of, threshold_of, AreSums};
-ghost use Rattle.josie_search.specs.Open.{chosen, overlap_of, taken};
+ghost use Rattle.josie_search.specs.Open.{chosen, taken};
 ghost use Rattle.josie_search.specs.Rows.{leads, MayLead, with_row};
 ghost use Rattle.josie_search.specs.State.{IsAt};
 ghost use Rattle.part_columns.specs.Tallies.{position_in, tally_at};
@@ -19,14 +19,13 @@ use crate::cost::summarize;
 use crate::first::first_lead;
 use crate::hold::rest;
 use crate::query::Asked;
-use crate::row::{Lead, beats};
+use crate::row::Lead;
 use crate::sure::surely_reads;
-use column_set::Row;
+use crate::top::FirstColumns;
 use cost_model::Chooser;
 use part_columns::{Columns, position_of};
 use search_bounds::unseen_open;
 use segment_core::{ColumnOrder, Look, Looks};
-use topk_heap::TopK;
 
 /// Returns the next look of a search in a part whose first `read` lists were read; `None` if the part is done. `sums` has
 /// what the first lists cost. No column has a count above `most`. The best column that it found is left in `witness` for later reads.
@@ -40,7 +39,7 @@ pub(crate) fn next_look<C: Chooser>(
     columns: &Columns,
     candidates: &mut Candidates,
     order: ColumnOrder<'_>,
-    top: &TopK<'_>,
+    top: &FirstColumns<'_>,
     chooser: &C,
     most: u32,
     witness: &mut Option<u32>,
@@ -59,6 +58,7 @@ pub(crate) fn next_look<C: Chooser>(
     requires seen { (column : ℕ) → 0 < (tally_at columns.now.tallies column).count → column < length (segment_at looks.now.version.parts part).sets }
     requires small { (column : ℕ) → (tally_at columns.now.tallies column).count ≤ read }
     requires k { top.now.k ≡ query.now.k }
+    requires titled { IfSome top.now.titled (λ titled. titled ≡ ranked (segment_at looks.now.version.parts part).columns order.by_rank.now) }
     requires witness { IfSome witness.old (MayLead query.now (searched query.now (part_at looks.now.version.parts part))) }
     requires held { AreHeld query.now (searched query.now (part_at looks.now.version.parts part)) order.ranks.now columns.now.tallies columns.now.known (length tokens.now - read) candidates.old.low (all_of candidates.old) }
     ensures next { (before : List RowOf) (progress : Progress) → IsAt (searched query.now (part_at looks.now.version.parts part)) progress columns.now.tallies columns.now.known → progress.read ≡ read → top.now.rows ≡ best row_cmp query.now.k (before ++ known_rows query.now (searched query.now (part_at looks.now.version.parts part)) progress) → result ≡ next_look (C.says chooser.now) query.now before (searched query.now (part_at looks.now.version.parts part)) progress }
@@ -78,11 +78,11 @@ pub(crate) fn next_look<C: Chooser>(
         });
     }
     let left = tokens.len() as u32 - read;
-    let worst = worst_overlap(top.worst());
+    let worst = top.worst_overlap();
     let low = threshold(worst);
     let found = first_lead(looks, part, query, columns, candidates, order, left, low);
     *witness = column_of(found);
-    let column = take_better(looks, part, top.worst(), found);
+    let column = take_better(looks, part, order, top, found);
     choose(
         looks, part, tokens, sums, read, columns, chooser, worst, column,
     )
@@ -151,12 +151,12 @@ fn column_of(found: Option<Lead>) -> Option<u32>
 
 /// Returns whether a part with these tokens of the query may have a column that comes before the k-th known row. If it
 /// has none of them, or fewer than that row has overlap, a search takes no look in the part.
-pub(crate) fn may_hold(top: &TopK<'_>, tokens: &[u32]) -> bool
+pub(crate) fn may_hold(top: &FirstColumns<'_>, tokens: &[u32]) -> bool
     requires few { length tokens.now ≤ 4194304 }
     ensures { result ≡ unseen_open (length tokens.now) (threshold (slice_get top.now.rows (top.now.k - 1))) }
 {
     let left = tokens.len() as u32;
-    unseen_open(left, threshold(worst_overlap(top.worst())))
+    unseen_open(left, threshold(top.worst_overlap()))
 }
 
 /// Returns how many keys a column has to share at least, if the k-th known row has overlap `worst`.
@@ -169,29 +169,23 @@ pub(crate) fn threshold(worst: Option<u32>) -> u32
     }
 }
 
-/// Returns the overlap of a row, if there is one.
-pub(crate) fn worst_overlap(worst: Option<&Row<'_>>) -> Option<u32>
-    ensures { result ≡ overlap_of (option_map (λ row. row.now) worst.entry) }
-{
-    match worst {
-        None => None,
-        Some(row) => Some(row.overlap),
-    }
-}
-
-// Returns the column that was found, if its row beats the last.
+// Returns the column that was found, if its row comes before the k-th known row.
 fn take_better(
     looks: &Looks<'_>,
     part: u32,
-    worst: Option<&Row<'_>>,
+    order: ColumnOrder<'_>,
+    top: &FirstColumns<'_>,
     found: Option<Lead>,
 ) -> Option<u32>
     requires part { part < length looks.now.version.parts }
     requires column { IfSome found (λ lead. lead.column < length (segment_at looks.now.version.parts part).sets) }
-    ensures { result ≡ taken (option_map (λ row. row.now) worst.entry) (with_row (segment_at looks.now.version.parts part).columns found) }
+    requires ranks { AreRanks (segment_at looks.now.version.parts part).columns order.ranks.now }
+    requires inverse { AreInverse order.ranks.now order.by_rank.now }
+    requires titled { IfSome top.now.titled (λ titled. titled ≡ ranked (segment_at looks.now.version.parts part).columns order.by_rank.now) }
+    ensures { result ≡ taken (slice_get top.now.rows (top.now.k - 1)) (with_row (segment_at looks.now.version.parts part).columns found) }
 {
     let lead = found?;
-    if beats(looks, part, worst, lead) {
+    if top.comes_in(looks, part, order, lead) {
         Some(lead.column)
     } else {
         None

@@ -4,7 +4,7 @@ ghost use Rattle.lake_model.specs.Answer.{row_cmp};
 ghost use Rattle.lake_model.specs.Sorting.{put_in_order};
 ghost use Rattle.search_model.specs.Arrays.{titled_at};
 ghost use Rattle.search_model.specs.Looks.{row_with, searched};
-ghost use Rattle.search_model.specs.Ranks.{AreInverse, AreRanks};
+ghost use Rattle.search_model.specs.Ranks.{ranked, AreInverse, AreRanks};
 ghost use Rattle.segment_core.specs.Versions.{part_at, segment_at};
 ghost use Rattle.part_columns.specs.Columns.{IsListed};
 ghost use Rattle.josie_search.specs.Candidates.{all_of, AreHeld};
@@ -14,33 +14,11 @@ ghost use Rattle.part_columns.specs.Tallies.{tally_at};
 
 use crate::candidates::Candidates;
 use crate::first::first_lead;
-use crate::next::{threshold, worst_overlap};
+use crate::next::threshold;
 use crate::query::Asked;
-use crate::row::beats;
-use part_columns::{Columns, row_of_column};
+use crate::top::FirstColumns;
+use part_columns::Columns;
 use segment_core::{ColumnOrder, Looks};
-use topk_heap::TopK;
-
-/// Offers the row of a column with this overlap. The row is made only if the k-th known row has no greater overlap.
-pub(crate) fn offer_row<'a>(
-    looks: &Looks<'a>,
-    part: u32,
-    column: u32,
-    overlap: u32,
-    top: &mut TopK<'a>,
-)
-    requires part { part < length looks.now.version.parts }
-    requires column { column < length (segment_at looks.now.version.parts part).sets }
-    ensures k { top.new.k ≡ top.old.k }
-    ensures rows { top.new.rows ≡ take top.old.k (put_in_order row_cmp (row_with overlap (titled_at (segment_at looks.now.version.parts part).columns column)) top.old.rows) }
-{
-    if let Some(worst) = worst_overlap(top.worst()) {
-        if overlap < worst {
-            return;
-        }
-    }
-    top.offer(row_of_column(looks, part, column, overlap));
-}
 
 /// Offers the rows of the columns that lead, once all lists were read: the first of them again and again, until its row
 /// would not be kept. The first is found by ranks, so that names are compared only for rows that may be kept.
@@ -51,7 +29,7 @@ pub(crate) fn offer_rest<'a>(
     columns: &mut Columns,
     candidates: &mut Candidates,
     order: ColumnOrder<'_>,
-    top: &mut TopK<'a>,
+    top: &mut FirstColumns<'a>,
 )
     requires part { part < length looks.now.version.parts }
     requires ranks { AreRanks (segment_at looks.now.version.parts part).columns order.ranks.now }
@@ -60,6 +38,7 @@ pub(crate) fn offer_rest<'a>(
     requires seen { (column : ℕ) → 0 < (tally_at columns.old.tallies column).count → column < length (segment_at looks.now.version.parts part).sets }
     requires small { (column : ℕ) → (tally_at columns.old.tallies column).count < 2 ^ 32 }
     requires room { length columns.old.tallies ≤ candidates.old.room }
+    requires titled { IfSome top.old.titled (λ titled. titled ≡ ranked (segment_at looks.now.version.parts part).columns order.by_rank.now) }
     requires held { AreHeld query.now (searched query.now (part_at looks.now.version.parts part)) order.ranks.now columns.old.tallies columns.old.known 0 candidates.old.low (all_of candidates.old) }
     ensures k { top.new.k ≡ top.old.k }
     ensures wide { length columns.new.tallies ≡ length columns.old.tallies }
@@ -82,7 +61,7 @@ fn offer_first<'a>(
     columns: &mut Columns,
     candidates: &mut Candidates,
     order: ColumnOrder<'_>,
-    top: &mut TopK<'a>,
+    top: &mut FirstColumns<'a>,
 ) -> bool
     requires part { part < length looks.now.version.parts }
     requires ranks { AreRanks (segment_at looks.now.version.parts part).columns order.ranks.now }
@@ -91,8 +70,10 @@ fn offer_first<'a>(
     requires seen { (column : ℕ) → 0 < (tally_at columns.old.tallies column).count → column < length (segment_at looks.now.version.parts part).sets }
     requires small { (column : ℕ) → (tally_at columns.old.tallies column).count < 2 ^ 32 }
     requires room { length columns.old.tallies ≤ candidates.old.room }
+    requires titled { IfSome top.old.titled (λ titled. titled ≡ ranked (segment_at looks.now.version.parts part).columns order.by_rank.now) }
     requires held { AreHeld query.now (searched query.now (part_at looks.now.version.parts part)) order.ranks.now columns.old.tallies columns.old.known 0 candidates.old.low (all_of candidates.old) }
     ensures k { top.new.k ≡ top.old.k }
+    ensures titled { top.new.titled ≡ top.old.titled }
     ensures tallies { columns.new.tallies ≡ columns.old.tallies }
     ensures touched { columns.new.touched ≡ columns.old.touched }
     ensures room { candidates.new.room ≡ candidates.old.room }
@@ -101,14 +82,14 @@ fn offer_first<'a>(
     ensures fewer { result ≡ true → count_by not columns.new.known < count_by not columns.old.known }
     ensures none { result ≡ false → top.new.rows ≡ offers top.old.k (lead_row query.now (searched query.now (part_at looks.now.version.parts part)) columns.new.tallies columns.new.known 0) top.new.rows columns.new.touched }
 {
-    let low = threshold(worst_overlap(top.worst()));
+    let low = threshold(top.worst_overlap());
     let Some(lead) = first_lead(looks, part, query, columns, candidates, order, 0, low) else {
         return false;
     };
-    if !beats(looks, part, top.worst(), lead) {
+    if !top.comes_in(looks, part, order, lead) {
         return false;
     }
     columns.know(lead.column);
-    top.offer(row_of_column(looks, part, lead.column, lead.bound));
+    top.offer(looks, part, order, lead.column, lead.bound);
     true
 }

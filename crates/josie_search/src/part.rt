@@ -8,7 +8,7 @@ ghost use Rattle.search_model.specs.declared.Look.TheVariants.{Probe};
 ghost use Rattle.lake_model.specs.Texts.{Text};
 ghost use Rattle.search_model.specs.Arrays.{titled_at};
 ghost use Rattle.search_model.specs.Looks.{hits, known_rows, row_with, run, searched, start};
-ghost use Rattle.search_model.specs.Ranks.{AreInverse, AreRanks};
+ghost use Rattle.search_model.specs.Ranks.{ranked, AreInverse, AreRanks};
 ghost use Rattle.search_model.specs.Segment.{tokens_in};
 ghost use Rattle.segment_core.specs.Versions.{part_at, segment_at};
 ghost use Rattle.part_columns.specs.Columns.{IsClean};
@@ -20,13 +20,13 @@ ghost use Rattle.token_set.specs.Bits.{IsSetOf};
 use crate::candidates::Candidates;
 use crate::hold::follow;
 use crate::next::next_look;
-use crate::offer::{offer_rest, offer_row};
+use crate::offer::offer_rest;
 use crate::query::Asked;
+use crate::top::FirstColumns;
 use cost_model::Chooser;
 use part_columns::{Columns, probe};
 use segment_core::{ColumnOrder, Look, Looks};
 use token_set::TokenSet;
-use topk_heap::TopK;
 
 /// Probes a column, marks it as known, and offers its row.
 pub(crate) fn probe_column<'a>(
@@ -37,7 +37,8 @@ pub(crate) fn probe_column<'a>(
     read: u32,
     column: u32,
     columns: &mut Columns,
-    top: &mut TopK<'a>,
+    order: ColumnOrder<'_>,
+    top: &mut FirstColumns<'a>,
 )
     requires part { part < length looks.old.version.parts }
     requires column { column < length (segment_at looks.old.version.parts part).sets }
@@ -49,6 +50,9 @@ pub(crate) fn probe_column<'a>(
     requires tally { tally_at columns.old.tallies column ≡ tally_of (get_or (segment_at looks.old.version.parts part).sets column []) (hits (get_or (segment_at looks.old.version.parts part).sets column []) (take read tokens.now)) }
     requires tokens { (keys : List Text) × (tokens.now ≡ tokens_in (segment_at looks.old.version.parts part).tokens keys) }
     requires set { IfSome set (λ set. IsSetOf set.now tokens.now) }
+    requires ranks { AreRanks (segment_at looks.old.version.parts part).columns order.ranks.now }
+    requires inverse { AreInverse order.ranks.now order.by_rank.now }
+    requires titled { IfSome top.old.titled (λ titled. titled ≡ ranked (segment_at looks.old.version.parts part).columns order.by_rank.now) }
     ensures version { looks.new.version ≡ looks.old.version }
     ensures log { looks.new.log ≡ looks.old.log ++ Probe (part_at looks.old.version.parts part).number column (position_in (get_or (segment_at looks.old.version.parts part).sets column []) (tally_at columns.old.tallies column)) ∷ [] }
     ensures spare { looks.new.spare + 1 ≡ looks.old.spare }
@@ -56,6 +60,7 @@ pub(crate) fn probe_column<'a>(
     ensures known { columns.new.known ≡ slice_set columns.old.known column true }
     ensures marks { length columns.old.known ≡ length columns.old.tallies }
     ensures k { top.new.k ≡ top.old.k }
+    ensures titled { top.new.titled ≡ top.old.titled }
     ensures rows { top.new.rows ≡ take top.old.k (put_in_order row_cmp (row_with (length (hits (get_or (segment_at looks.old.version.parts part).sets column []) tokens.now)) (titled_at (segment_at looks.old.version.parts part).columns column)) top.old.rows) }
 {
     let overlap = probe(
@@ -68,7 +73,7 @@ pub(crate) fn probe_column<'a>(
         columns.tally(column),
     );
     columns.know(column);
-    offer_row(looks, part, column, overlap, top);
+    top.offer(looks, part, order, column, overlap);
 }
 
 /// Searches a part: reads lists and probes columns as the chooser says, until no column of the part can come before the
@@ -84,7 +89,7 @@ pub(crate) fn search_part<'a, C: Chooser>(
     columns: &mut Columns,
     candidates: &mut Candidates,
     order: ColumnOrder<'_>,
-    top: &mut TopK<'a>,
+    top: &mut FirstColumns<'a>,
     chooser: &C,
 )
     requires part { part < length looks.old.version.parts }
@@ -98,6 +103,7 @@ pub(crate) fn search_part<'a, C: Chooser>(
     requires wide { length (segment_at looks.old.version.parts part).sets ≤ length columns.old.tallies }
     requires ranks { AreRanks (segment_at looks.old.version.parts part).columns order.ranks.now }
     requires inverse { AreInverse order.ranks.now order.by_rank.now }
+    requires titled { IfSome top.old.titled (λ titled. titled ≡ ranked (segment_at looks.old.version.parts part).columns order.by_rank.now) }
     requires kept { length columns.old.tallies ≤ candidates.old.room }
     requires clean { IsClean columns.old }
     requires room { looks_bound (part_at looks.old.version.parts part) tokens.now ≤ looks.old.spare }
@@ -139,7 +145,7 @@ pub(crate) fn search_part<'a, C: Chooser>(
                 follow(candidates, columns, order.ranks, lists - read, list);
             }
             Some(Look::Probe { set: column, .. }) => {
-                probe_column(looks, part, tokens, set, read, column, columns, top);
+                probe_column(looks, part, tokens, set, read, column, columns, order, top);
             }
         }
     }

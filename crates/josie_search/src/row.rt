@@ -2,13 +2,13 @@
 ghost use Rattle.std.specs.Prelude.{◌≡◌, ◌<◌, ◌+◌, ◌^◌, ℕ, false, true, get_or, length, not, option_copied, option_map, ◌&&◌, IfNone, IfSome};
 ghost use Rattle.lake_model.specs.Answer.{is_excepted};
 ghost use Rattle.search_model.specs.Arrays.{titled_at};
-ghost use Rattle.search_model.specs.Looks.{beats, searched};
+ghost use Rattle.search_model.specs.Looks.{searched};
 ghost use Rattle.segment_core.specs.Versions.{marks_of, part_at, segment_at};
-ghost use Rattle.josie_search.specs.Rows.{leads, row_of_lead};
+ghost use Rattle.josie_search.specs.Rows.{leads};
 ghost use Rattle.part_columns.specs.Tallies.{most_of, tally_at};
 
 use crate::query::Asked;
-use column_set::{Name, Row};
+use column_set::Name;
 use part_columns::{Columns, most_of, row_of_column};
 use segment_core::Looks;
 
@@ -70,20 +70,4 @@ pub(crate) fn lead_of(
         column,
         bound: most_of(tally, left),
     })
-}
-
-/// Returns whether the row of a lead comes before the k-th known row, or fewer than k are known.
-pub(crate) fn beats(looks: &Looks<'_>, part: u32, worst: Option<&Row<'_>>, lead: Lead) -> bool
-    requires part { part < length looks.now.version.parts }
-    requires column { lead.column < length (segment_at looks.now.version.parts part).sets }
-    ensures { result ≡ beats (option_map (λ row. row.now) worst.entry) (row_of_lead (segment_at looks.now.version.parts part).columns lead) }
-{
-    let Some(worst) = worst else {
-        return true;
-    };
-    if lead.bound != worst.overlap {
-        return worst.overlap < lead.bound;
-    }
-    let row = row_of_column(looks, part, lead.column, lead.bound);
-    row.order(worst).is_lt()
 }

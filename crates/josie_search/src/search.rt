@@ -11,6 +11,7 @@ use crate::next::may_hold;
 use crate::part::search_part;
 use crate::query::Asked;
 use crate::room::{SearchRoom, Seats};
+use crate::top::FirstColumns;
 use column_set::{Name, QuerySet};
 use cost_model::Chooser;
 use no_memory::NoMemory;
@@ -18,7 +19,6 @@ use part_columns::{Answer, most_columns, most_probes};
 use segment_core::{HashedQuery, Looks};
 use std::alloc::Global;
 use std::marker::Model;
-use topk_heap::TopK;
 
 /// A search that is ready to run and holds all the memory that it needs. Its model is the version and the query.
 #[derive(Drop)]
@@ -30,7 +30,7 @@ pub struct Prepared<'a, 'q> {
     /// Room for what it costs to read the first lists of a part.
     sums: Vec<u64>,
     seats: Seats,
-    top: TopK<'a>,
+    top: FirstColumns<'a>,
 }
 
 impl<'a, 'q> Model for Prepared<'a, 'q> {
@@ -71,7 +71,7 @@ pub fn prepare<'a, 'q>(
     let (seats, set) = room.into_parts();
     let set = set_for(alloc, query.len(), &tokens, set)?;
     let seats = Seats::serving(alloc, most_columns(&looks), seats)?;
-    let top = TopK::new(alloc, k)?;
+    let top = FirstColumns::new(alloc, k)?;
     // A part has at most as many tokens of the query as the query has keys.
     let sums = Vec::with_capacity(alloc, query.len() as usize + 1)?;
     // A search reads at most as many lists as the query has keys.
@@ -147,7 +147,8 @@ impl<'a, 'q> Prepared<'a, 'q> {
             if !may_hold(&top, asked) {
                 continue;
             }
-            let order = looks.order(part);
+            let (order, titles) = looks.order(part);
+            top.enter(titles);
             sum_costs(&looks, part, asked, &mut sums);
             fill(&mut set, asked);
             search_part(

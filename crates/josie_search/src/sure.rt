@@ -10,10 +10,10 @@ ghost use Rattle.part_columns.specs.Tallies.{tally_at};
 
 use crate::cost::length_of;
 use crate::query::Asked;
+use crate::top::FirstColumns;
 use cost_model::Chooser;
 use part_columns::{Columns, most_of};
 use segment_core::Looks;
-use topk_heap::TopK;
 
 /// Returns whether this column, the witness, shows that the next list is read: fewer than k rows are known, so that a
 /// probe gains nothing, and the overlap that the witness may reach exceeds every count so far by so much that the best
@@ -26,7 +26,7 @@ pub(crate) fn surely_reads<C: Chooser>(
     tokens: &[u32],
     read: u32,
     columns: &Columns,
-    top: &TopK<'_>,
+    top: &FirstColumns<'_>,
     chooser: &C,
     witness: Option<u32>,
     most: u32,

@@ -230,8 +230,13 @@ impl<'a> Looks<'a> {
         requires set { set < length (segment_at self.now.version.parts part).sets }
         ensures { result ≡ not (get_or (marks_of (part_at self.now.version.parts part)) (titled_at (segment_at self.now.version.parts part).columns set).from false) }
     {
+        let held = self.version.part(part);
+        // Where nothing is marked, it need not be looked up to which table the column belongs.
+        if !held.may_mark() {
+            return true;
+        }
         let owner = self.index(part).owner(set);
-        !self.version.part(part).marks()[owner.table as usize]
+        !held.marks()[owner.table as usize]
     }
 
     /// Returns the titles of the table of a column, and the place of the column there, from 1.

@@ -1,5 +1,6 @@
 //! Lists of numbers and of marks, as small types whose models are the lists of their elements.
-ghost use Rattle.std.specs.Prelude.{◌≡◌, ◌<◌, length, slice_set, true, IfOk};
+ghost use Rattle.std.specs.Prelude.{◌≡◌, ◌<◌, false, length, slice_set, true, IfOk};
+ghost use Rattle.std.specs.List.{list_any};
 
 use no_memory::NoMemory;
 use std::marker::Model;
@@ -43,26 +44,39 @@ impl Numbers {
     }
 }
 
-/// A list of marks, `true` for what is marked. Its model is the list.
+/// A list of marks, `true` for what is marked. It knows whether something may be marked, so that mostly no mark has to be
+/// read. Its model is the list.
 #[derive(Drop)]
 pub struct Marks {
     marks: Vec<bool>,
+    may_mark: bool,
 }
 
 impl Model for Marks {
-    ghost use Rattle.std.specs.Prelude.{List, Bool};
+    ghost use Rattle.std.specs.Prelude.{◌≡◌, List, Bool, false};
+    ghost use Rattle.std.specs.List.{list_any};
 
     ghost Value = { List Bool };
 
     ghost view = { λ m. m.marks.items };
+
+    ghost invariant = { λ m. m.may_mark ≡ false → list_any (λ mark. mark) m.marks.items ≡ false };
 }
 
 impl Marks {
-    /// Makes `Marks` of these marks. It allocates nothing.
+    /// Makes `Marks` of these marks. It reads each once, and allocates nothing.
     pub fn new(marks: Vec<bool>) -> Marks
         ensures { result ≡ marks.items }
     {
-        Marks { marks }
+        let may_mark = is_any(&marks);
+        Marks { marks, may_mark }
+    }
+
+    /// Returns whether something may be marked.
+    pub(crate) fn may_mark(&self) -> bool
+        ensures { result ≡ false → list_any (λ mark. mark) self.now ≡ false }
+    {
+        self.may_mark
     }
 
     /// Returns the marks, in order.
@@ -78,6 +92,7 @@ impl Marks {
         ensures { self.new ≡ slice_set self.old i true }
     {
         self.marks[i as usize] = true;
+        self.may_mark = true;
     }
 
     /// Returns a copy of the marks, in memory of its own.
@@ -86,6 +101,14 @@ impl Marks {
     {
         Ok(Marks {
             marks: self.marks.clone()?,
+            may_mark: self.may_mark,
         })
     }
+}
+
+// Returns whether something is marked.
+fn is_any(marks: &[bool]) -> bool
+    ensures { result ≡ list_any (λ mark. mark) marks.now }
+{
+    marks.iter().any(|mark| *mark)
 }

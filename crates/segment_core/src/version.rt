@@ -1,6 +1,6 @@
 //! Versions: the parts in which the tables of a lake are searched at a position of its journal.
-ghost use Rattle.std.specs.Prelude.{◌≡◌, ◌<◌, ◌≤◌, ◌+◌, ◌^◌, ◌++◌, ◌∷◌, [], length, map, slice_set, IfOk, OnErr, OnOk};
-ghost use Rattle.std.specs.List.{zip};
+ghost use Rattle.std.specs.Prelude.{◌≡◌, ◌<◌, ◌≤◌, ◌+◌, ◌^◌, ◌++◌, ◌∷◌, [], false, length, map, slice_set, IfOk, OnErr, OnOk};
+ghost use Rattle.std.specs.List.{list_any, zip};
 ghost use Rattle.std.specs.Option.{option_to_list};
 ghost use Rattle.lake_model.specs.Layout.{positions_of, shown, shown_with};
 ghost use Rattle.segment_core.specs.Distinct.{unmarked_names};
@@ -85,6 +85,13 @@ impl Part {
         ensures many { length result.now ≡ length (tables_of self.now) }
     {
         self.marked.list()
+    }
+
+    /// Returns whether some of the part's tables may be marked.
+    pub(crate) fn may_mark(&self) -> bool
+        ensures { result ≡ false → list_any (λ mark. mark) (marks_of self.now) ≡ false }
+    {
+        self.marked.may_mark()
     }
 
     // Returns the position of the load of each of the part's tables, and whether the table is marked, in a new list.
