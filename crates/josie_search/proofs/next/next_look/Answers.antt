@@ -41,10 +41,10 @@ returns-clause-next g c = λ before progress is at same.
     let columns = c.args.columns.now in
     let last = worst query (before ++ known_rows query part progress) in
     let kth = last_is query (before ++ known_rows query part progress) c.args.top.now.rows c.args.top.now.k c.requires.some c.requires.k same in
-    let told = c.worst_overlap-worst.ensures ∙ ap overlap_of (c.worst.ensures.row ∙ kth) in
+    let told = c.worst_overlap-worst.ensures.overlap ∙ ap overlap_of kth in
     let left : length c.args.tokens.now - c.args.read ≡ left_of part progress = (λ i. length (c.requires.tokens i) - sym at i) in
-    let low = c.threshold-low.ensures ∙ ap threshold_of (c.worst_overlap-worst.ensures ∙ ap overlap_of (c.worst.ensures.row ∙ sym c.worst-2.ensures.row)) in
-    let head = head_now query part progress columns.tallies columns.known last _ (with_row part.segment.columns c.first_lead-found.result) _ _ _ c.take_better-column.result is (c.worst-2.ensures.row ∙ kth) left (length-sets (tables_of whole)) low c.first_lead-found.ensures.found c.take_better-column.ensures in
+    let low = c.threshold-low.ensures ∙ ap threshold_of c.worst_overlap-worst.ensures.overlap in
+    let head = head_now query part progress columns.tallies columns.known last _ (with_row part.segment.columns c.first_lead-found.result) _ _ _ c.take_better-column.result is kth left (length-sets (tables_of whole)) low c.first_lead-found.ensures.found c.take_better-column.ensures in
     c.choose.ensures
     ∙ (λ i. chosen says part.number (lengths_of part.segment (c.requires.tokens i)) (c.requires.tokens i) (sym at i) part.segment.sets columns.tallies (told i) c.take_better-column.result)
     ∙ next_chosen says query before part progress columns.tallies columns.known is c.take_better-column.result head

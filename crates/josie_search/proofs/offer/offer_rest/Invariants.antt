@@ -10,6 +10,7 @@ use Rattle.josie_search.proofs.offer.offer_rest.Given as goal
 abbrev pub invariant-loop : goal.invariant-loop
 invariant-loop l = record {
   k : l.top.k ≡ l.fn.top.k;
+  titled : l.top.titled ≡ l.fn.top.titled;
   tallies : l.columns.tallies ≡ l.fn.columns.tallies;
   touched : l.columns.touched ≡ l.fn.columns.touched;
   room : l.candidates.room ≡ l.fn.candidates.room;

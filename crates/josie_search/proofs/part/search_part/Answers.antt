@@ -33,6 +33,7 @@ loop-read-init g c = record {
   version = refl;
   going = begins (g.C.Chooser.says c.args.chooser.now) c.args.query.now (searched c.args.query.now (part_at c.args.looks.now.version.parts c.args.part)) c.args.top.now.rows c.args.looks.now.log c.args.columns.now.tallies c.args.columns.now.known c.args.top.now.rows c.requires.clean.clean c.requires.clean.fresh c.requires.rows;
   k = refl;
+  titled = refl;
   most = λ column. omega (arith, ap (λ (t : Tally). t.count) (c.requires.clean.clean column));
   wide = refl;
   within = omega arith;
@@ -163,6 +164,7 @@ loop-read-preserved-in-Some-Read g c =
           (reads_on says query part c.args.top.now.rows c.args.looks.now.log c.loop-read.looks.log read c.loop-read.columns.tallies c.loop-read.columns.known c.loop-read.top.rows kept.going unread c.in-Some-Read.field-0-0 c.in-Some-Read.field-0-1 c.list-list.new.self.log c.count-most.new.self.tallies (sym next ∙ is)
           (c.list-list.ensures.log ∙ (λ i. c.loop-read.looks.log ++ Read (sym looked.0 i) (sym looked.1 i) ∷ [])) are);
       k = kept.k;
+      titled = kept.titled;
       most = c.count-most.ensures.most;
       wide = c.count-most.ensures.wide ∙ kept.wide;
       within = omega (arith, c.loop-read-test.true);
@@ -286,6 +288,7 @@ loop-read-preserved g c =
           (c.probe_column.ensures.log ∙ (λ i. c.loop-read.looks.log ++ Probe (sym looked.0 i) x (sym looked.3 i) ∷ [])) within c.probe_column.ensures.known
           (probed_known query whole c.requires.distinct c.loop-read.columns.tallies c.loop-read.columns.known kept.going.progress.probed c.args.top.now.rows c.loop-read.top.rows c.probe_column.new.top.rows x read columns live led.1 led.2 kept.going.tallies_are kept.going.known_are kept.going.rows_are rows));
       k = c.probe_column.ensures.k ∙ kept.k;
+      titled = c.probe_column.ensures.titled ∙ kept.titled;
       most = λ x. omega (arith, kept.most x, ap (λ (ts : List Tally). (tally_at ts x).count) c.probe_column.ensures.tallies);
       wide = ap (λ (ts : List Tally). length ts) c.probe_column.ensures.tallies ∙ kept.wide;
       within = kept.within;

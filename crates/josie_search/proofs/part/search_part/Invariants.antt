@@ -15,6 +15,7 @@ invariant-loop-read g l = record {
   version : l.looks.version ≡ l.fn.looks.version;
   going : Going (g.C.Chooser.says l.chooser) l.query (searched l.query (part_at l.fn.looks.version.parts l.part)) l.fn.top.rows l.fn.looks.log l.looks.log l.read l.columns.tallies l.columns.known l.top.rows;
   k : l.top.k ≡ l.fn.top.k;
+  titled : l.top.titled ≡ l.fn.top.titled;
   most : (column : ℕ) → (tally_at l.columns.tallies column).count ≤ l.most;
   wide : length l.columns.tallies ≡ length l.fn.columns.tallies;
   within : l.read ≤ length l.tokens;

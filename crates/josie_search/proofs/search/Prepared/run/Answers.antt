@@ -6,7 +6,6 @@ use Rattle.search_laws.proofs.AnswerOfLog.{known_answer}
 use Rattle.search_laws.specs.Select.{best}
 use Rattle.search_model.specs.Looks.{known_rows, log, run, searched, start, threshold, unseen_open}
 use Rattle.segment_core.specs.Versions.{part_at, part_with, VersionOf}
-use Rattle.topk_heap.specs.First.{FirstRows}
 use Rattle.josie_search.specs.Ready.{IsReady}
 use Rattle.part_columns.specs.Room.{asked_in, looks_bound}
 use Rattle.josie_search.specs.Search.{SearchOf}
@@ -25,8 +24,8 @@ loop-part-init g c =
     record {
       end = c.parts-part-end.ensures ∙ ap (λ (s : SearchOf). length s.version.parts) c.self.view_is;
       version = ap (λ (s : SearchOf). s.version) c.self.view_is;
-      through = through_none (g.C.Chooser.says c.args.chooser.now) query ready.some (map (searched query) parts) c.self.inside.looks.log c.self.inside.top.rows c.self.invariant.0 (ap (λ (t : FirstRows). t.rows) ready.first);
-      k = ap (λ (t : FirstRows). t.k) ready.first;
+      through = through_none (g.C.Chooser.says c.args.chooser.now) query ready.some (map (searched query) parts) c.self.inside.looks.log c.self.inside.top.rows c.self.invariant.0 ready.none;
+      k = ready.k;
       wide = ready.wide;
       free = c.self.invariant.2;
       sums = subst (λ (s : SearchOf). length s.query.keys < vec_capacity c.self.inside.sums) c.self.view_is c.self.invariant.3;
