@@ -2,8 +2,10 @@
 use Rattle.std.proofs.Common.{◌≡◌, ◌≤◌, ◌<◌, ◌+◌, ◌-◌, ℕ, zero, suc, List, [], ◌∷◌, ◌++◌, length, take, drop, get_or, refl, ap, sym, ◌∙◌, subst, arith, length-append}
 use Rattle.std.specs.Prelude.{slice_range}
 use Rattle.std.specs.Str.{IsUtf8, IsCharBoundary}
-use Rattle.std.proofs.lemmas.List.{take-append-le, drop-append-le, drop_at, length-drop, take_all, get_or_default}
-use Rattle.std.proofs.lemmas.Str.{IsUtf8-append, IsCharBoundary-from_take}
+use Rattle.std.proofs.lemmas.List.{take-append-le, drop-append-le, drop_at, length-drop, length-take-le, take_all, get_or_default}
+use Rattle.std.proofs.lemmas.List.Folds.{drop_split}
+use Rattle.std.proofs.lemmas.Str.{IsUtf8-append, IsUtf8-drop, IsUtf8-take, IsCharBoundary-at_seam, IsCharBoundary-from_take}
+use Rattle.csv.specs.Records.{AllText}
 use Rattle.csv_table.specs.Cuts.{AreCuts, cut_from}
 
 pub length-cut_from : (from : ℕ) (ends text : List ℕ) → length (cut_from from ends text) ≡ length ends
@@ -72,6 +74,24 @@ starts_between text part start end utf8 is = IsCharBoundary-from_take text start
 
 pub ends_between : (text part : List ℕ) (start end : ℕ) → IsUtf8 text → IsPart text part start end → IsCharBoundary text end
 ends_between text part start end utf8 is = IsCharBoundary-from_take text end utf8 is.within is.through
+
+-- what is cut out of a text between two characters is a text
+text_between : (text : List ℕ) (from to : ℕ) → from ≤ to → to ≤ length text → IsUtf8 text → IsUtf8 (take from text) → IsUtf8 (take to text) → IsUtf8 (slice_range text from to)
+text_between text from to order within whole before through =
+    let behind = IsUtf8-drop text from whole (IsCharBoundary-from_take text from whole (omega arith) before) in
+    let rest = IsUtf8-drop text to whole (IsCharBoundary-from_take text to whole within through) in
+    let seam = IsCharBoundary-at_seam (drop from text) (slice_range text from to) (drop to text) (drop_split text from to order) rest in
+    let size : length (slice_range text from to) ≡ to - from = length-take-le (to - from) (drop from text) (omega (arith, length-drop from text)) in
+    IsUtf8-take (drop from text) (to - from) behind (subst (IsCharBoundary (drop from text)) size seam)
+
+parts_from : (from : ℕ) (ends text : List ℕ) → IsUtf8 text → IsUtf8 (take from text) → AreCuts from ends text → AllText (cut_from from ends text)
+unfolding AllText
+parts_from from [] text whole before cuts = tt
+parts_from from (to ∷ ends) text whole before cuts = (text_between text from to cuts.0 cuts.1 whole before cuts.2, parts_from to ends text whole cuts.2 cuts.3)
+
+-- so all parts are texts
+pub parts_text : (ends text : List ℕ) → IsUtf8 text → AreCuts 0 ends text → AllText (cut_from 0 ends text)
+parts_text ends text whole cuts = parts_from 0 ends text whole ([], (refl, refl)) cuts
 
 -- what a push leaves
 module _ (ends text field more longer : List ℕ) (last : ℕ) (size : last ≡ length text + length field) (ended : more ≡ ends ++ last ∷ []) (written : longer ≡ text ++ field) (cuts : AreCuts 0 ends text) where

@@ -1,9 +1,13 @@
 -- The faults of records, one field and one record at a time.
-use Rattle.std.proofs.Common.{◌≡◌, ◌<◌, ◌≤◌, ◌+◌, ℕ, zero, suc, List, [], ◌∷◌, length, drop, get_or, Some, None, true, false, refl, arith}
+use Rattle.std.proofs.Common.{◌≡◌, ◌<◌, ◌≤◌, ◌+◌, ℕ, zero, suc, List, [], ◌∷◌, ◌++◌, length, drop, get_or, Some, None, true, false, refl, arith}
 use Rattle.std.proofs.lemmas.List.{drop_more}
 use Rattle.std.specs.Str.{is_utf8}
 use Rattle.csv.specs.Records as csv
-use Rattle.lake_model.specs.Records.{text_fault, rows_fault, record_fault}
+use Rattle.csv.specs.Records.{AllText}
+use Rattle.lake_model.specs.Records.{Record, text_fault, rows_fault, record_fault}
+use Rattle.csv_table.specs.Expected.{fault_of, length_fault, number_of}
+use Rattle.csv_table.specs.declared.expected.Expected.{Expected}
+use Rattle.csv_table.proofs.TableLawLemmas.{text_from}
 use Rattle.lake_model.specs.declared.CsvRefused.{CsvRefused}
 use Rattle.lake_model.specs.declared.CsvRefused.TheVariants as refused
 
@@ -48,3 +52,20 @@ unfolding csv.field_at
 field_past [] i e = omega arith
 field_past (f ∷ fs) zero e = cc e
 field_past (f ∷ fs) (suc i) e = let past = field_past fs i e in omega (arith, past)
+
+-- ---- the record that is expected
+
+all_behind : (before fields : Record) → AllText (before ++ fields) → AllText fields
+unfolding AllText
+all_behind [] fields texts = texts
+all_behind (field ∷ before) fields texts = all_behind before fields texts.1
+
+-- fields that follow texts, all of them texts, are no fault if their number is none
+pub texts_sound : (next : Expected) (before after fields : Record) (count : ℕ) → after ≡ before ++ fields → AllText after → count ≡ length fields → length_fault next count ≡ None
+    → fault_of next fields ≡ None
+texts_sound next before after fields count added texts counted sound =
+    rw (rw counted at sound) (text_from (number_of next) 1 fields (all_behind before fields (rw added at texts)))
+
+-- fields are refused for their number, whatever they are
+pub length_bad : (next : Expected) (fields : Record) (count : ℕ) (e : CsvRefused) → count ≡ length fields → length_fault next count ≡ Some e → fault_of next fields ≡ Some e
+length_bad next fields count e counted bad = rw (rw counted at bad) refl

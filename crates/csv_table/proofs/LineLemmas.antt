@@ -1,9 +1,15 @@
 -- What the crate `csv` reads from a text without quotation marks, one line at a time.
-use Rattle.std.proofs.Common.{◌≡◌, ◌≢◌, ◌≤◌, ◌<◌, ◌+◌, ◌-◌, ℕ, List, [], ◌∷◌, ◌++◌, length, drop, get_or, None, Bool, true, false, refl, ap, sym, arith, ◌∙◌, inl, inr}
-use Rattle.std.specs.Prelude.{◌==◌}
+use Rattle.std.proofs.Common.{◌≡◌, ◌≢◌, ◌≤◌, ◌<◌, ◌+◌, ◌-◌, ℕ, List, [], ◌∷◌, ◌++◌, length, drop, get_or, Bor, Option, None, Some, Result, Ok, Err, Bool, true, false, refl, ap, sym, arith, ◌∙◌, inl, inr}
+use Rattle.std.specs.Prelude.{◌==◌, IfSome, MatchResult}
+use Rattle.std.specs.Option.{is_some}
+use Rattle.std.specs.Result.{result_ok}
+use Rattle.std.specs.Str.{IsUtf8}
 use Rattle.std.specs.List.{list_any, slice_range}
-use Rattle.std.proofs.lemmas.Bool.{cases_Bool, eqb-true, or_parts}
-use Rattle.std.proofs.lemmas.List.{drop_all, drop_more, get_or-drop, length-drop, take_more}
+use Rattle.std.proofs.lemmas.Bool.{cases_Bool, eqb-true, false_from_ne_true, false≢true, or_parts}
+use Rattle.std.proofs.lemmas.List.{append-nil, append_assoc, drop_all, drop_more, get_or-drop, length-drop, take_all, take_more}
+use Rattle.std.proofs.lemmas.List.Folds.{list_any_none}
+use Rattle.std.proofs.lemmas.Grind.{get_or_default_zero}
+use Rattle.memchr.specs.Find.{IsFirstByte}
 use Rattle.csv.specs.Machine.{after_end, ends_at_end, in_field, next_record, step}
 use Rattle.csv.specs.Reading.{default_config}
 use Rattle.csv.specs.declared.parser.State.{State}
@@ -13,6 +19,20 @@ use Rattle.lake_model.specs.Texts.{Text}
 use Rattle.lake_model.specs.Records.{Record}
 use Rattle.csv_table.specs.Lines.{behind_breaks, first_line, is_break, lines_of, HasNoQuotes}
 use Rattle.csv_table.proofs.ReaderLemmas.{left_next, left_none, left_records, reading}
+
+-- ---- a text without quotation marks
+
+-- a search that finds no quotation mark
+pub none_found : (text : Text) (r : Option ℕ) → is_some r ≡ false → IsFirstByte (λ c. c == 34) text r → HasNoQuotes text
+none_found text None is found =
+    list_any_none (λ (c : ℕ). c == 34) text (λ k d here. rw (get_or_default_zero text k d here) (false_from_ne_true _ (λ e. found k (omega arith) here e)))
+none_found text (Some at) is found = cc is
+
+-- and the text that the bytes then are
+pub plain_ok : {E : Type 0} (P : E → Type 0) (r : Result (Bor Text) E) (bytes : Text) → HasNoQuotes bytes → MatchResult r (λ text. (text.now ≡ bytes) × IsUtf8 bytes) P
+    → IfSome (result_ok r) (λ text. HasNoQuotes text.now)
+plain_ok P (Ok text) bytes plain is = rw is.0 plain
+plain_ok P (Err e) bytes plain is = tt
 
 -- ---- the loops
 
@@ -55,9 +75,20 @@ module _ (fields : Record) (text : Text) (from i : ℕ) where
   unfolding first_line
   line_more begun here within comma = rw (range_more text from i begun here, drop_more text i 0 here, within, comma) refl
 
-  pub line_end : length text ≤ i → first_line fields (slice_range text from i) (drop i text) ≡ (fields ++ slice_range text from i ∷ [], [])
-  unfolding first_line
-  line_end past = rw (drop_all i text past) refl
+-- the last field of a text that ends without a break
+pub line_end : (fields : Record) (text : Text) (from : ℕ) → first_line fields (slice_range text from (length text)) (drop (length text) text) ≡ (fields ++ drop from text ∷ [], [])
+unfolding first_line
+line_end fields text from =
+    let whole : slice_range text from (length text) ≡ drop from text = take_all (length text - from) (drop from text) (omega (arith, length-drop from text)) in
+    rw (drop_all (length text) text (omega arith), whole) refl
+
+-- a byte that ends a line is a character
+pub break_ascii : (c : ℕ) → is_break c ≡ true → c < 128
+break_ascii c is =
+    elim (cases_Bool (c == 13)) [
+      | inl t ↦ omega (arith, eqb-true c 13 t)
+      | inr f ↦ omega (arith, eqb-true c 10 (rw f at is))
+    ]
 
 -- ---- what the crate's machine does with the bytes of a line
 
@@ -197,15 +228,49 @@ lines_first [] some first none = absurd (some refl)
 lines_first (c ∷ rest) some first none =
     left_next st.StartRecord (c ∷ rest) refl ∙ ap reading (next_begun c rest (first c rest refl)) ∙ reads (c ∷ rest) false [] [] none
 
--- the first line that is not empty is the first record, and what follows it has the others
-pub line_read : (text rest : Text) (fields : Record) → HasNoQuotes text → behind_breaks text ≢ [] → first_line [] [] (behind_breaks text) ≡ (fields, rest)
-    → HasNoQuotes rest × (lines_of text ≡ fields ∷ lines_of rest)
-line_read text rest fields none some is =
+-- fields before those of the line stay before them
+first_behind : (before fields : Record) (field text : Text)
+    → first_line (before ++ fields) field text ≡ (before ++ (first_line fields field text).0, (first_line fields field text).1)
+unfolding first_line
+first_behind before fields field [] = rw (append_assoc before fields (field ∷ [])) refl
+first_behind before fields field (c ∷ rest) =
+    elim (cases_Bool (is_break c)) [
+      | inl t ↦ rw (t, append_assoc before fields (field ∷ [])) refl
+      | inr f ↦ elim (cases_Bool (c == 44)) [
+        | inl u ↦ rw (f, u, append_assoc before fields (field ∷ [])) (first_behind before (fields ++ field ∷ []) [] rest)
+        | inr u ↦ rw (f, u) (first_behind before fields (field ++ c ∷ []) rest)
+      ]
+    ]
+
+-- the first line that is not empty was added to the fields of a store, and this is left of the text
+pub record IsSplit (text rest : Text) (before after : Record) : Type 0 where
+  pub fields : Record
+  pub quiet : HasNoQuotes rest
+  pub taken : lines_of text ≡ fields ∷ lines_of rest
+  pub added : after ≡ before ++ fields
+
+line_split : (text rest : Text) (before after : Record) → HasNoQuotes text → behind_breaks text ≢ [] → first_line before [] (behind_breaks text) ≡ (after, rest)
+    → IsSplit text rest before after
+line_split text rest before after none some is =
     let line = behind_breaks text in
     let quiet = none_skip text none in
-    let left : HasNoQuotes (first_line [] [] line).1 = none_left line [] [] quiet in
-    let read : lines_of text ≡ (first_line [] [] line).0 ∷ lines_of (first_line [] [] line).1 = lines_skip text ∙ lines_first line some (behind_first text) quiet in
-    (rw is at left, rw is at read)
+    let behind : first_line before [] line ≡ (before ++ (first_line [] [] line).0, (first_line [] [] line).1) =
+    ap (λ (fields : Record). first_line fields [] line) (sym (append-nil before)) ∙ first_behind before [] [] line in
+    let both : (after, rest) ≡ (before ++ (first_line [] [] line).0, (first_line [] [] line).1) = sym is ∙ behind in
+    let left : rest ≡ (first_line [] [] line).1 = ap (λ (p : Record × Text). p.1) both in
+    record {
+      fields = (first_line [] [] line).0;
+      quiet = rw left (none_left line [] [] quiet);
+      taken = rw left (lines_skip text ∙ lines_first line some (behind_first text) quiet);
+      added = ap (λ (p : Record × Text). p.0) both;
+    }
+
+-- the first line that is not empty is the first record, and what follows it has the others
+pub line_added : (text line rest : Text) (before after : Record) → HasNoQuotes text → line ≡ behind_breaks text → (length line == 0) ≡ false
+    → first_line before [] line ≡ (after, rest) → IsSplit text rest before after
+line_added text line rest before after none same some is =
+    let begun : behind_breaks text ≢ [] = λ empty. false≢true (sym some ∙ rw (same, empty) refl) in
+    line_split text rest before after none begun (rw same at is)
 
 none_there : next_record default_config st.StartRecord [] [] [] ≡ None
 unfolding next_record

@@ -19,7 +19,7 @@ text_of row place (f ∷ fs) e =
       | inr b ↦ cc (rw b at e)
     ]
 
-text_from : (row place : ℕ) (fs : Record) → AllText fs → text_fault row place fs ≡ None
+pub text_from : (row place : ℕ) (fs : Record) → AllText fs → text_fault row place fs ≡ None
 unfolding text_fault AllText
 text_from row place [] h = refl
 text_from row place (f ∷ fs) h = rw (is_utf8-from_IsUtf8 f h.0) (text_from row (place + 1) fs h.1)

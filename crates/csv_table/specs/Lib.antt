@@ -4,3 +4,4 @@ pub mod RecordsLeft
 pub mod Places
 pub mod WideRecords
 pub mod Lines
+pub mod Expected

@@ -37,9 +37,9 @@ pub record IsReading (reader : Reader (Bor Text)) : Type 0 where
 -- the records that have not been read yet
 abbrev pub left_of : RecordsLeft → List Record
 left_of (left.Lines text) = lines_of text.now
-left_of (left.Reader reader) = records_left reader.value
+left_of (left.Reader rows) = records_left rows.reader.value
 
 -- the next record can be read
 abbrev pub IsOpen : RecordsLeft → Type 0
 IsOpen (left.Lines text) = HasNoQuotes text.now
-IsOpen (left.Reader reader) = IsReading reader.value
+IsOpen (left.Reader rows) = IsReading rows.reader.value

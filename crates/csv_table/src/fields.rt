@@ -1,5 +1,6 @@
 //! The fields of a table, one after another in one text.
 ghost use Rattle.std.specs.Prelude.{◌≡◌, ◌<◌, ◌≤◌, ◌++◌, ◌∷◌, [], get_or, length, IfOk, OnErr, OnOk};
+ghost use Rattle.csv.specs.Records.{AllText};
 
 use no_memory::NoMemory;
 use std::alloc::Global;
@@ -42,7 +43,8 @@ impl Fields {
 
     /// Returns the number of texts.
     pub(crate) fn len(&self) -> usize
-        ensures { result ≡ length self.now }
+        ensures value { result ≡ length self.now }
+        ensures texts { AllText self.now }
     {
         self.ends.len()
     }

@@ -2,24 +2,23 @@
 //! the first fault.
 #![tactic(auto)]
 
-ghost use Rattle.std.specs.Prelude.{◌≡◌, ◌⊎◌, ◌↔◌, ℕ, List, ◌+◌, ◌<◌, ◌≤◌, ◌++◌, ◌∷◌, [], true, false, length, Some, None, Ok, Err, IfOk, IfErr, OnOk, OnErr};
+ghost use Rattle.std.specs.Prelude.{◌≡◌, ◌⊎◌, ◌↔◌, ℕ, List, ◌+◌, ◌<◌, ◌≤◌, length, Some, None, IfOk, IfErr, OnOk};
 ghost use Rattle.csv.specs.Reading.{strip_bom};
-ghost use Rattle.csv.specs.Records.{fields_of};
-ghost use Rattle.lake_model.specs.Records.{column_count, csv_fault, field_at, header_fault, record_fault, records_of, table_fault, IsTable, Record, text_fault, text_size};
+ghost use Rattle.lake_model.specs.Records.{column_count, csv_fault, field_at, records_of, table_fault, IsTable, Record, text_size};
 
+mod expected;
 mod fields;
 mod lines;
 mod records_left;
 mod widths;
 
+use crate::expected::Expected;
 use crate::fields::Fields;
 use crate::records_left::RecordsLeft;
 use crate::widths::{fields_if_wide, wide_record};
-use csv::ByteRecord;
 pub use lake_model::CsvRefused;
 use std::alloc::Global;
 use std::marker::Model;
-use std::str;
 
 /// How many bytes at the beginning of a table are looked at to guess the number of its fields.
 const SAMPLE_BYTES: usize = 65_536;
@@ -103,29 +102,28 @@ pub fn read_table(alloc: Global, bytes: &[u8], most: u32) -> Result<RawTable, Cs
         return Err(CsvRefused::TooManyColumns { got });
     }
     let mut left = RecordsLeft::of(alloc, bytes)?;
-    let mut row = ByteRecord::new(alloc);
     // While the store grows, it takes half as much memory again.
     let mut store = Fields::with_capacity(alloc, bytes.len(), likely_fields(bytes))?;
-    if !left.read(&mut row)? {
+    let Some(columns) = left.add_next(&mut store, Expected::Header { most })? else {
         return Err(CsvRefused::NoHeader);
-    }
-    let columns = add_header(&mut store, &row, most)?;
+    };
     for records in 1..u64::MAX {
-        if let Some(got) = fields_if_wide(wide, records + 1) {
+        let number = records + 1;
+        if let Some(got) = fields_if_wide(wide, number) {
             return Err(CsvRefused::Unequal {
-                row: records + 1,
+                row: number,
                 want: columns as u64,
                 got,
             });
         }
-        if !left.read(&mut row)? {
+        let expected = Expected::Record { number, columns };
+        if left.add_next(&mut store, expected)?.is_none() {
             return Ok(RawTable {
                 store,
                 columns,
                 records,
             });
         }
-        add_record(&mut store, &row, records + 1, columns)?;
     }
     // That many records do not fit into an address space.
     Err(CsvRefused::NoMemory)
@@ -135,14 +133,22 @@ pub fn read_table(alloc: Global, bytes: &[u8], most: u32) -> Result<RawTable, Cs
 // more than there can be: each field but the last is followed by at least one byte.
 fn likely_fields(bytes: &[u8]) -> usize {
     let sample = bytes.len().min(SAMPLE_BYTES);
-    let ends = bytes
-        .iter()
-        .take(sample)
-        .filter(|byte| matches!(**byte, b',' | b'\n' | b'\r'))
-        .count();
+    let ends = field_ends(&bytes[..sample]);
     let fields = ends as u128 * bytes.len() as u128 / sample.max(1) as u128;
     let most = bytes.len() + 1;
     (fields + fields / 16 + 1).min(most as u128) as usize
+}
+
+// Returns how many bytes end a field if there are no quotation marks. A sum without branches, of which the compiler works out
+// many terms at once.
+fn field_ends(sample: &[u8]) -> u32
+    requires { length sample.now ≤ 65536 }
+{
+    let mut ends = 0;
+    for byte in sample {
+        ends += u32::from(*byte == b',' || *byte == b'\n' || *byte == b'\r');
+    }
+    ends
 }
 
 // Returns the bytes after one byte order mark, or all of them if they do not begin with one.
@@ -153,60 +159,6 @@ fn behind_mark(bytes: &[u8]) -> &[u8]
         Some(rest) => rest,
         None => bytes,
     }
-}
-
-// Adds the header's fields to the store, and returns their number, at most `most`.
-fn add_header(store: &mut Fields, header: &ByteRecord, most: u32) -> Result<u32, CsvRefused>
-    ensures ok { IfOk result (λ n. (n ≡ length (fields_of header.now)) × (n ≤ most) × (header_fault most (fields_of header.now) ≡ None)) }
-    ensures added { OnOk result (store.new ≡ store.old ++ fields_of header.now) }
-    ensures refused { IfErr result (λ e. (e ≡ CsvRefused.NoMemory) ⊎ (header_fault most (fields_of header.now) ≡ Some e)) }
-{
-    let got = header.len();
-    if got > most as usize {
-        return Err(CsvRefused::TooManyColumns { got: got as u64 });
-    }
-    add_fields(store, header, 1)?;
-    Ok(got as u32)
-}
-
-// Adds the fields of the record with this number, counted from 1, to the store of a table with `columns` columns.
-fn add_record(
-    store: &mut Fields,
-    row: &ByteRecord,
-    number: u64,
-    columns: u32,
-) -> Result<(), CsvRefused>
-    ensures ok { OnOk result ((length (fields_of row.now) ≡ columns) × (record_fault number columns (fields_of row.now) ≡ None)) }
-    ensures added { OnOk result (store.new ≡ store.old ++ fields_of row.now) }
-    ensures refused { IfErr result (λ e. (e ≡ CsvRefused.NoMemory) ⊎ (record_fault number columns (fields_of row.now) ≡ Some e)) }
-{
-    let got = row.len();
-    if got != columns as usize {
-        return Err(CsvRefused::Unequal {
-            row: number,
-            want: columns as u64,
-            got: got as u64,
-        });
-    }
-    add_fields(store, row, number)
-}
-
-// Adds the fields of the record with this number, up to the first that is not UTF-8, which is refused.
-fn add_fields(store: &mut Fields, row: &ByteRecord, number: u64) -> Result<(), CsvRefused>
-    ensures ok { OnOk result (text_fault number 1 (fields_of row.now) ≡ None) }
-    ensures added { OnOk result (store.new ≡ store.old ++ fields_of row.now) }
-    ensures refused { IfErr result (λ e. (e ≡ CsvRefused.NoMemory) ⊎ (text_fault number 1 (fields_of row.now) ≡ Some e)) }
-{
-    for (i, field) in row.iter().enumerate() {
-        let Ok(text) = str::from_utf8(field) else {
-            return Err(CsvRefused::NotUtf8 {
-                row: number,
-                field: i as u64 + 1,
-            });
-        };
-        store.push(text)?;
-    }
-    Ok(())
 }
 
 /// A law that states the refusals in plain words: records have no fault exactly if there is a header of at most `most`

@@ -1,37 +1,63 @@
 //! The records of a text without quotation marks: the lines that are not empty, each split at its commas.
-ghost use Rattle.std.specs.Prelude.{◌≡◌, ◌∷◌, [], true, false, IfOk};
-ghost use Rattle.csv.specs.Records.{fields_of, partial_of};
-ghost use Rattle.lake_model.specs.Texts.{Text};
+ghost use Rattle.std.specs.Prelude.{◌≡◌, ◌⊎◌, [], None, IfErr, IfOk, IfSome};
+ghost use Rattle.csv_table.specs.Expected.{IsAdded, IsRefused};
 ghost use Rattle.csv_table.specs.Lines.{behind_breaks, first_line, is_break, lines_of, HasNoQuotes};
 
-use csv::ByteRecord;
+use crate::expected::Expected;
+use crate::fields::Fields;
+use lake_model::CsvRefused;
+use memchr::memchr;
 use no_memory::NoMemory;
+use simdutf8::basic::from_utf8;
 
-/// Reads the first record of a text and takes it off the text, and returns whether there is one.
-pub(crate) fn read_line(text: &mut &[u8], row: &mut ByteRecord) -> Result<bool, NoMemory>
-    requires { HasNoQuotes text.old.now }
-    ensures more { IfOk result (λ found. found ≡ true → HasNoQuotes text.new.now × (lines_of text.old.now ≡ fields_of row.new ∷ lines_of text.new.now)) }
-    ensures end { IfOk result (λ found. found ≡ false → lines_of text.old.now ≡ []) }
+/// Returns the bytes as a text if they are UTF-8 without a quotation mark.
+pub(crate) fn plain_text(bytes: &[u8]) -> Option<&str>
+    ensures same { IfSome result (λ text. text.now ≡ bytes.now) }
+    ensures plain { IfSome result (λ text. HasNoQuotes text.now) }
 {
-    row.clear();
+    if memchr(b'"', bytes).is_some() {
+        return None;
+    }
+    from_utf8(bytes).ok()
+}
+
+/// Adds the fields of the first record of a text to the store, takes the record off the text and returns the number of its
+/// fields, or `None` if there is no record.
+///
+/// Pieces of a text that is cut at commas are texts, so only the number of the fields is checked.
+pub(crate) fn add_line(
+    text: &mut &str,
+    store: &mut Fields,
+    expected: Expected,
+) -> Result<Option<u32>, CsvRefused>
+    requires { HasNoQuotes text.old.now }
+    ensures left { IfOk result (λ next. IfSome next (λ _. HasNoQuotes text.new.now)) }
+    ensures more { IfOk result (λ next. IfSome next (IsAdded expected (lines_of text.old.now) (lines_of text.new.now) store.old store.new)) }
+    ensures end { IfOk result (λ next. next ≡ None → lines_of text.old.now ≡ []) }
+    ensures kept { IfOk result (λ next. next ≡ None → store.new ≡ store.old) }
+    ensures refused { IfErr result (λ e. (e ≡ CsvRefused.NoMemory) ⊎ IsRefused expected (lines_of text.old.now) e) }
+{
     let line = behind_breaks(*text);
     if line.is_empty() {
-        return Ok(false);
+        return Ok(None);
     }
-    *text = split_line(line, row)?;
-    Ok(true)
+    let before = store.len();
+    *text = split_line(line, store)?;
+    let count = expected.admit(store.len() - before)?;
+    Ok(Some(count))
 }
 
 // Returns the text from its first byte on that ends no line.
-fn behind_breaks(text: &[u8]) -> &[u8]
+fn behind_breaks(text: &str) -> &str
     ensures { result.now ≡ behind_breaks text.now }
 {
-    for i in 0..text.len() {
-        if !is_break(text[i]) {
+    let bytes = text.as_bytes();
+    for i in 0..bytes.len() {
+        if !is_break(bytes[i]) {
             return &text[i..];
         }
     }
-    &text[text.len()..]
+    ""
 }
 
 // Returns whether a byte ends a line. CR LF ends one line, and then an empty one, which is no record.
@@ -41,23 +67,23 @@ fn is_break(byte: u8) -> bool
     byte == b'\r' || byte == b'\n'
 }
 
-// Splits the first line of the text at its commas, and returns the text from the end of the line on.
-fn split_line<'a>(text: &'a [u8], row: &mut ByteRecord) -> Result<&'a [u8], NoMemory>
-    requires none { fields_of row.old ≡ [] }
-    requires whole { partial_of row.old ≡ [] }
-    ensures { IfOk result (λ rest. first_line [] [] text.now ≡ (fields_of row.new, rest.now)) }
+// Splits the first line of the text at its commas, adds the fields to the store, and returns the text from the end of the line
+// on.
+fn split_line<'a>(text: &'a str, store: &mut Fields) -> Result<&'a str, NoMemory>
+    ensures { IfOk result (λ rest. first_line store.old [] text.now ≡ (store.new, rest.now)) }
 {
+    let bytes = text.as_bytes();
     let mut from = 0;
-    for i in 0..text.len() {
-        if is_break(text[i]) {
-            row.push_field(&text[from..i])?;
+    for i in 0..bytes.len() {
+        if is_break(bytes[i]) {
+            store.push(&text[from..i])?;
             return Ok(&text[i..]);
         }
-        if text[i] == b',' {
-            row.push_field(&text[from..i])?;
+        if bytes[i] == b',' {
+            store.push(&text[from..i])?;
             from = i + 1;
         }
     }
-    row.push_field(&text[from..])?;
-    Ok(&text[text.len()..])
+    store.push(&text[from..])?;
+    Ok("")
 }

@@ -1,75 +1,85 @@
-use Rattle.std.proofs.Common.{◌∙◌, ◌≡◌, arith, true, false, sym, inl, inr}
+use Rattle.std.proofs.Common.{◌∙◌, ap, not, arith, sym, inl, inr}
 use Rattle.csv.specs.Reading.{default_config}
 use Rattle.std.proofs.lemmas.Result.{err_from_is_err_and}
-use Rattle.csv.specs.Records.{fields_of}
 use Rattle.csv_table.specs.RecordsLeft.{left_of}
 use Rattle.lake_model.specs.Records.{records_of}
 use Rattle.csv_table.proofs.TableLawLemmas.{table_of}
 use Rattle.csv_table.proofs.ReaderLemmas.{size_records}
-use Rattle.csv_table.proofs.TableLemmas.{all_read, header_good, record_bad, record_good, wide_header, wide_record_bad}
+use Rattle.csv_table.proofs.TableLemmas.{all_read, header_added, header_refused, none_next, open_next, record_added, record_refused, wide_header, wide_record_bad}
 use Rattle.csv_table.proofs.read_table.Goals as goal
 
 pub returns-in-Some-clause-refused : goal.returns-in-Some-clause-refused
 returns-in-Some-clause-refused c =
     inr (wide_header c.args.most c.in-Some.got c.args.bytes.now c.wide_record-wide.result c.wide_record-wide.ensures c.in-Some.ensures)
 
-pub returns-in-Some-fields_if_wide-clause-refused : goal.returns-in-Some-fields_if_wide-clause-refused
-returns-in-Some-fields_if_wide-clause-refused c =
-    inr (wide_record_bad c.args.most c.loop-records.records c.in_ok-columns.columns c.in-Some-fields_if_wide.got c.args.bytes.now c.loop-records.store (left_of c.loop-records.left)
-    c.wide_record-wide.result c.wide_record-wide.ensures c.in-Some-fields_if_wide.ensures c.in_ok-columns.ensures.ok.1 c.loop-records.invariant.left)
+pub returns-in_err-columns-clause-refused : goal.returns-in_err-columns-clause-refused
+returns-in_err-columns-clause-refused c =
+    let (e, is, same) = err_from_is_err_and c.from_residual-in_err-columns.result c.from_residual-in_err-columns.ensures.1 in
+    rw (is, same) (elim c.in_err-columns.ensures.refused [
+      | inl none ↦ inl none
+      | inr bad ↦ inr (header_refused c.args.most c.args.bytes.now (left_of c.in_ok-left.left) c.in_err-columns.field-0.0 (sym c.in_ok-left.ensures.left) bad)
+    ])
 
 pub loop-records-init : goal.loop-records-init
 loop-records-init c =
-    let found : c.in_ok-read.field-0 ≡ true = c.if-not-branch.false in
-    let more = c.in_ok-read.ensures.more found in
-    let header = c.in_ok-columns.ensures in
-    let flat = rw c.in_ok-store.ensures at header.added in
-    record {
-      ready = more.0;
-      narrow = omega (arith, header.ok.1, c.requires.high);
-      left = header_good c.args.most c.args.bytes.now (fields_of c.read.new.row) c.add_header.new.store (left_of c.read.new.self) c.in_ok-columns.columns
-          (sym c.in_ok-left.ensures.left ∙ more.1) header.ok.2 flat header.ok.0;
-    }
+    let header = rw c.in-Some-2.is at c.in_ok-columns.ensures.more in
+    let ready = rw c.in-Some-2.is at c.in_ok-columns.ensures.open in
+    let (narrow, left) = header_added c.args.most c.args.bytes.now (left_of c.in_ok-left.left) (left_of c.add_next.new.self) c.in_ok-store.store c.add_next.new.store c.in-Some-2.columns
+    (sym c.in_ok-left.ensures.left) c.in_ok-store.ensures header in
+    record { ready = ready; narrow = narrow; left = left }
 
-pub returns-then-not-branch-2-clause-sound : goal.returns-then-not-branch-2-clause-sound
-returns-then-not-branch-2-clause-sound c =
-    let none : c.in_ok-read-2.field-0 ≡ false = c.if-not-branch-2.true in
-    (all_read c.args.most c.args.bytes.now c.loop-records.records c.in_ok-columns.columns c.loop-records.store (left_of c.loop-records.left)
-    c.loop-records.invariant.left (c.in_ok-read-2.ensures.end none)).1
+pub returns-in-Some-fields_if_wide-clause-refused : goal.returns-in-Some-fields_if_wide-clause-refused
+returns-in-Some-fields_if_wide-clause-refused c =
+    inr (wide_record_bad c.args.most c.loop-records.records c.in-Some-2.columns c.in-Some-fields_if_wide.got c.args.bytes.now c.loop-records.store (left_of c.loop-records.left)
+    c.wide_record-wide.result c.wide_record-wide.ensures c.in-Some-fields_if_wide.ensures c.loop-records.invariant.narrow c.loop-records.invariant.left)
 
-pub returns-then-not-branch-2-clause-is_table : goal.returns-then-not-branch-2-clause-is_table
-returns-then-not-branch-2-clause-is_table c =
-    let none : c.in_ok-read-2.field-0 ≡ false = c.if-not-branch-2.true in
-    let (read, sound) = all_read c.args.most c.args.bytes.now c.loop-records.records c.in_ok-columns.columns c.loop-records.store (left_of c.loop-records.left)
-    c.loop-records.invariant.left (c.in_ok-read-2.ensures.end none) in
+pub returns-in_err-add_next-clause-refused : goal.returns-in_err-add_next-clause-refused
+returns-in_err-add_next-clause-refused c =
+    let (e, is, same) = err_from_is_err_and c.from_residual-in_err-add_next.result c.from_residual-in_err-add_next.ensures.1 in
+    rw (is, same) (elim c.in_err-add_next.ensures.refused [
+      | inl none ↦ inl none
+      | inr bad ↦ inr (record_refused c.args.most c.args.bytes.now c.loop-records.records c.in-Some-2.columns c.loop-records.store (left_of c.loop-records.left)
+          c.in_err-add_next.field-0.0 c.loop-records.invariant.left bad)
+    ])
+
+pub invariant_of-result : goal.invariant_of-result
+invariant_of-result c =
+    let none = none_next c.in_ok-add_next.field-0 (c.is_none.ensures ∙ ap not c.if-is_none.true) in
+    let stored = rw (← c.in_ok-add_next.ensures.kept none) at c.loop-records.invariant.left.stored in
+    (stored, omega arith, omega (arith, c.loop-records.invariant.narrow, c.requires.high))
+
+pub returns-then-is_none-clause-table : goal.returns-then-is_none-clause-table
+returns-then-is_none-clause-table c =
+    let none = none_next c.in_ok-add_next.field-0 (c.is_none.ensures ∙ ap not c.if-is_none.true) in
+    (all_read c.args.most c.args.bytes.now c.loop-records.records c.in-Some-2.columns c.loop-records.store c.add_next-in-loop-records.new.store (left_of c.loop-records.left)
+    c.loop-records.invariant.left (c.in_ok-add_next.ensures.end none) (c.in_ok-add_next.ensures.kept none)).0
+
+pub returns-then-is_none-clause-sound : goal.returns-then-is_none-clause-sound
+returns-then-is_none-clause-sound c =
+    let none = none_next c.in_ok-add_next.field-0 (c.is_none.ensures ∙ ap not c.if-is_none.true) in
+    (all_read c.args.most c.args.bytes.now c.loop-records.records c.in-Some-2.columns c.loop-records.store c.add_next-in-loop-records.new.store (left_of c.loop-records.left)
+    c.loop-records.invariant.left (c.in_ok-add_next.ensures.end none) (c.in_ok-add_next.ensures.kept none)).1
+
+pub returns-then-is_none-clause-is_table : goal.returns-then-is_none-clause-is_table
+returns-then-is_none-clause-is_table c =
+    let none = none_next c.in_ok-add_next.field-0 (c.is_none.ensures ∙ ap not c.if-is_none.true) in
+    let (read, sound) = all_read c.args.most c.args.bytes.now c.loop-records.records c.in-Some-2.columns c.loop-records.store c.add_next-in-loop-records.new.store (left_of c.loop-records.left)
+    c.loop-records.invariant.left (c.in_ok-add_next.ensures.end none) (c.in_ok-add_next.ensures.kept none) in
     rw read (table_of c.args.most (records_of c.args.bytes.now) sound)
 
-pub returns-then-not-branch-2-clause-size : goal.returns-then-not-branch-2-clause-size
-returns-then-not-branch-2-clause-size c =
-    let none : c.in_ok-read-2.field-0 ≡ false = c.if-not-branch-2.true in
-    rw ((all_read c.args.most c.args.bytes.now c.loop-records.records c.in_ok-columns.columns c.loop-records.store (left_of c.loop-records.left)
-    c.loop-records.invariant.left (c.in_ok-read-2.ensures.end none)).0) (size_records default_config c.args.bytes.now _ _)
-
-pub returns-in_err-add_record-clause-refused : goal.returns-in_err-add_record-clause-refused
-returns-in_err-add_record-clause-refused c =
-    let found : c.in_ok-read-2.field-0 ≡ true = c.if-not-branch-2.false in
-    let more = c.in_ok-read-2.ensures.more found in
-    let (e, is, same) = err_from_is_err_and c.from_residual-in_err-add_record.result c.from_residual-in_err-add_record.ensures.1 in
-    rw (is, same) (elim c.in_err-add_record.ensures.refused [
-      | inl none ↦ inl none
-      | inr bad ↦ inr (record_bad c.args.most c.args.bytes.now c.loop-records.records c.in_ok-columns.columns c.loop-records.store (fields_of c.read-in-loop-records.new.row)
-          (left_of c.loop-records.left) (left_of c.read-in-loop-records.new.self) c.in_err-add_record.field-0.0 c.loop-records.invariant.left more.1 bad)
-    ])
+pub returns-then-is_none-clause-size : goal.returns-then-is_none-clause-size
+returns-then-is_none-clause-size c =
+    let none = none_next c.in_ok-add_next.field-0 (c.is_none.ensures ∙ ap not c.if-is_none.true) in
+    let (read, sound) = all_read c.args.most c.args.bytes.now c.loop-records.records c.in-Some-2.columns c.loop-records.store c.add_next-in-loop-records.new.store (left_of c.loop-records.left)
+    c.loop-records.invariant.left (c.in_ok-add_next.ensures.end none) (c.in_ok-add_next.ensures.kept none) in
+    rw read (size_records default_config c.args.bytes.now _ _)
 
 pub loop-records-preserved : goal.loop-records-preserved
 loop-records-preserved c =
-    let found : c.in_ok-read-2.field-0 ≡ true = c.if-not-branch-2.false in
-    let more = c.in_ok-read-2.ensures.more found in
-    let added = c.in_ok-add_record.ensures in
+    let some = c.is_none.ensures ∙ ap not c.if-is_none.false in
     record {
-      ready = more.0;
+      ready = open_next c.in_ok-add_next.field-0 _ some c.in_ok-add_next.ensures.open;
       narrow = c.loop-records.invariant.narrow;
-      left = record_good c.args.most c.args.bytes.now c.loop-records.records c.in_ok-columns.columns c.loop-records.store c.add_record.new.store
-          (fields_of c.read-in-loop-records.new.row) (left_of c.loop-records.left) (left_of c.read-in-loop-records.new.self)
-          c.loop-records.invariant.left more.1 added.ok.0 added.ok.1 added.added;
+      left = record_added c.args.most c.args.bytes.now c.loop-records.records c.in-Some-2.columns c.loop-records.store c.add_next-in-loop-records.new.store
+          (left_of c.loop-records.left) (left_of c.add_next-in-loop-records.new.self) c.in_ok-add_next.field-0 c.loop-records.invariant.left some c.in_ok-add_next.ensures.more;
     }

@@ -6,6 +6,6 @@ use Rattle.csv_table.proofs.read_table.Given as goal
 abbrev pub invariant-loop-records : goal.invariant-loop-records
 invariant-loop-records l = record {
   ready : IsOpen l.left;
-  narrow : l.columns ≤ 4096;
+  narrow : l.columns ≤ l.fn.most;
   left : IsLeft l.fn.most l.fn.bytes l.records l.columns l.store (left_of l.left);
 }

@@ -1,7 +1,7 @@
 use Rattle.std.proofs.Common.{◌≡◌, ◌+◌, ◌++◌, take, drop}
 use Rattle.csv.specs.Records.{fields_of}
 use Rattle.lake_model.specs.Records.{text_fault}
-use Rattle.csv_table.proofs.add_fields.Given as goal
+use Rattle.csv_table.proofs.records_left.add_fields.Given as goal
 
 abbrev pub invariant-loop-i : goal.invariant-loop-i
 invariant-loop-i l = record {

@@ -6,7 +6,7 @@ use Rattle.std.specs.Str.{is_utf8}
 use Rattle.csv.specs.Records.{fields_of}
 use Rattle.lake_model.specs.Records.{text_fault}
 use Rattle.csv_table.proofs.FaultLemmas.{field_past, field_there, text_end, text_here, text_not}
-use Rattle.csv_table.proofs.add_fields.Goals as goal
+use Rattle.csv_table.proofs.records_left.add_fields.Goals as goal
 
 pub returns-in_default-clause-refused : goal.returns-in_default-clause-refused
 returns-in_default-clause-refused c =
