@@ -7,7 +7,9 @@ use Rattle.std.specs.declared.cmp.Ordering.{Ordering}
 use Rattle.std.specs.declared.cmp.Ordering.TheVariants.{Less, Equal, Greater}
 use Rattle.std.proofs.lemmas.Cmp.{nat_cmp_total, nat_list_cmp_total, on_total, then_total}
 use Rattle.std.proofs.lemmas.List.Sorted.{ranks_by, sorted_far}
+use Rattle.lake_model.specs.Answer.{row_cmp}
 use Rattle.search_model.specs.Arrays.{titled_at}
+use Rattle.search_model.specs.Looks.{row_with}
 use Rattle.search_model.specs.Ranks.{AreInverse, AreRanks, number_cmp, title_cmp}
 use Rattle.search_model.specs.Segment.{Titled}
 
@@ -20,6 +22,9 @@ number_cmp_total columns = then_total (on_total (titled_at columns) title_cmp_to
 -- rows of one overlap compare by their titles
 level_first : (u : ℕ) (r : Ordering) → ordering_then (nat_cmp u u) r ≡ r
 level_first u r = ap (λ (o : Ordering). ordering_then o r) (sym (nat_cmp_is u u Equal refl))
+
+pub level_rows : (u : ℕ) (a b : Titled) → row_cmp (row_with u a) (row_with u b) ≡ title_cmp a b
+level_rows u a b = level_first u (title_cmp a b)
 
 pub first_late : (r s : Ordering) → is_lt (ordering_then r s) ≡ false → is_lt r ≡ false
 first_late Less s e = cc

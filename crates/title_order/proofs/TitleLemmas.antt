@@ -1,5 +1,5 @@
 -- Columns that are appended to others, and their order.
-use Rattle.std.proofs.Common.{◌≡◌, refl, ap, sym, ◌∙◌, subst, ℕ, ◌+◌, ◌<◌, List, [], ◌++◌, map, length, get_or, arith, append_assoc}
+use Rattle.std.proofs.Common.{◌≡◌, refl, ap, sym, ◌∙◌, subst, inl, inr, true, ℕ, zero, suc, ◌+◌, ◌<◌, List, [], ◌++◌, map, length, get_or, arith, append_assoc}
 use Rattle.std.specs.Cmp.{IsTotalOrder}
 use Rattle.std.specs.List.{All, range_with_len}
 use Rattle.std.specs.List.Sorted.{IsPermutation, IsSorted}
@@ -7,17 +7,19 @@ use Rattle.std.specs.Cmp.Lexicographic.{slice_cmp}
 use Rattle.std.specs.declared.cmp.Ordering.{Ordering}
 use Rattle.std.specs.declared.cmp.Ordering.TheVariants.{Less, Equal, Greater}
 use Rattle.std.specs.Ordering.{is_lt, nat_cmp, ordering_then}
+use Rattle.std.proofs.lemmas.Bool.{cases_lt}
 use Rattle.std.proofs.lemmas.Cmp.{nat_cmp_total, nat_list_cmp_total, on_total, then_total}
 use Rattle.std.proofs.lemmas.List.{ext_get_or, get_or-map, length-map, map-append}
 use Rattle.std.proofs.lemmas.List.FromFn.{get_or-range_with_len, length-range_with_len}
 use Rattle.std.proofs.lemmas.List.Sorted.{All-permutation, IsPermutation-map, length_permutation}
-use Rattle.lake_model.specs.Answer.{Row}
+use Rattle.lake_model.specs.Answer.{Row, row_cmp}
 use Rattle.lake_model.proofs.AnswerLemmas.{row_cmp_total}
 use Rattle.search_model.specs.Arrays.{no_titled, titled_at}
 use Rattle.search_model.specs.Looks.{row_with}
-use Rattle.search_model.specs.Ranks.{number_cmp}
+use Rattle.search_model.specs.Ranks.{number_cmp, ranked, AreRising}
+use Rattle.search_model.proofs.RankLemmas.{level_rows}
 use Rattle.search_model.specs.Segment.{Titled}
-use Rattle.title_order.specs.Titles.{by_title, rows_of, AreMoreTitles, AreNumbered, IsTitle}
+use Rattle.title_order.specs.Titles.{by_title, rows_of, AreMoreTitles, AreNumbered, AreStrict, IsTitle}
 use Rattle.title_order.specs.declared.title.Title.{Title}
 use Rattle.token_order.specs.Counted.{AreNumbers}
 
@@ -40,6 +42,27 @@ more_more old new newer columns others first second =
       numbered = λ h. second.numbered (first.numbered h);
       few = λ h. second.few (first.few h);
     }
+
+-- ---- each before the next
+
+-- then each is before all behind it
+pub far_strict : (titles : List Title) → AreStrict titles → (r s : ℕ) (d : Title) → r < s → s < length titles → is_lt (row_cmp (get_or titles r d).row (get_or titles s d).row) ≡ true
+far_strict titles strict r zero d l b = absurd (omega (arith, l))
+far_strict titles strict r (suc s) d l b =
+    let one : s + 1 ≡ suc s = omega arith in
+    let next : is_lt (row_cmp (get_or titles s d).row (get_or titles (suc s) d).row) ≡ true = ap (λ (n : ℕ). is_lt (row_cmp (get_or titles s d).row (get_or titles n d).row)) (sym one) ∙ strict s d (omega (arith, b)) in
+    elim (cases_lt r s) [
+      | inl m ↦ lt_trans (get_or titles r d).row (get_or titles s d).row (get_or titles (suc s) d).row (far_strict titles strict r s d m (omega (arith, b))) next
+      | inr m ↦ (let same : r ≡ s = omega (arith, l, m) in ap (λ (n : ℕ). is_lt (row_cmp (get_or titles n d).row (get_or titles (suc s) d).row)) same ∙ next)
+    ]
+  where
+    less_is : (o : Ordering) → is_lt o ≡ true → o ≡ Less
+    less_is Less e = refl
+    less_is Equal e = cc
+    less_is Greater e = cc
+
+    lt_trans : (a b c : Row) → is_lt (row_cmp a b) ≡ true → is_lt (row_cmp b c) ≡ true → is_lt (row_cmp a c) ≡ true
+    lt_trans a b c e f = ap is_lt (row_cmp_total.trans a b c (less_is (row_cmp a b) e) (less_is (row_cmp b c) f))
 
 -- ---- all columns
 
@@ -100,3 +123,21 @@ module _ (columns : List Titled) (titles : List Title) (all : AreMoreTitles [] t
         ∙ ap (λ (n : ℕ). is_lt (number_cmp columns y.number n)) (get_or-map number_of sorted k no d early)
         ∙ ap is_lt (same_order y x (are (k + 1) no late) (are k no early))
         ∙ up k no (omega arith) late
+
+    -- if each of them comes before the next, no two have the same titles
+    pub numbers_rising : AreStrict sorted → AreRising (ranked columns (map number_of sorted))
+    numbers_rising strict r s u l b =
+        let are : All (IsTitle columns) sorted = All-permutation (IsTitle columns) titles sorted moved are_titles in
+        let no : Title = record { row = row_with 0 no_titled; number = 0 } in
+        let late : s < length sorted = omega (arith, b, length-map (map number_of sorted) (titled_at columns), length-map sorted number_of) in
+        let early : r < length sorted = omega (arith, l, late) in
+        ap (λ c. is_lt (row_cmp (row_with u c) (row_with u (titled_at (ranked columns (map number_of sorted)) s)))) (ranked_here r early)
+        ∙ ap (λ c. is_lt (row_cmp (row_with u (titled_at columns (get_or sorted r no).number)) (row_with u c))) (ranked_here s late)
+        ∙ ap is_lt (level_rows u (titled_at columns (get_or sorted r no).number) (titled_at columns (get_or sorted s no).number) ∙ sym (level_rows 0 (titled_at columns (get_or sorted r no).number) (titled_at columns (get_or sorted s no).number)))
+        ∙ (λ i. is_lt (row_cmp (sym (are r no early) i) (sym (are s no late) i)))
+        ∙ far_strict sorted strict r s no l late
+      where
+        ranked_here : (i : ℕ) → i < length sorted → titled_at (ranked columns (map number_of sorted)) i ≡ titled_at columns (get_or sorted i (record { row = row_with 0 no_titled; number = 0 })).number
+        ranked_here i b =
+            get_or-map (titled_at columns) (map number_of sorted) i 0 no_titled (omega (arith, b, length-map sorted number_of))
+            ∙ ap (titled_at columns) (get_or-map number_of sorted i (record { row = row_with 0 no_titled; number = 0 }) 0 b)

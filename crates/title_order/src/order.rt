@@ -1,8 +1,9 @@
 //! The numbers of columns in the order of their names, and their ranks in that order.
-ghost use Rattle.std.specs.Prelude.{◌≡◌, ◌<◌, ◌^◌, length, map, IfOk};
+ghost use Rattle.std.specs.Prelude.{◌≡◌, ◌<◌, ◌^◌, length, map, true, IfOk};
 ghost use Rattle.std.specs.List.Sorted.{IsSorted};
-ghost use Rattle.search_model.specs.Ranks.{number_cmp, AreInverse, AreRanks};
+ghost use Rattle.search_model.specs.Ranks.{number_cmp, ranked, AreInverse, AreRanks, AreRising};
 ghost use Rattle.search_model.specs.Segment.{columns_of, segment};
+ghost use Rattle.title_order.specs.Titles.{AreStrict};
 ghost use Rattle.token_order.specs.Counted.{AreNumbers, ArePlaces};
 
 use crate::title::{Title, all_titles};
@@ -29,21 +30,39 @@ pub fn order_columns(alloc: Global, tables: &[SharedTable]) -> Result<TitleOrder
     ensures inverse { IfOk result (λ order. AreInverse order.ranks.items order.by_rank.items) }
     ensures strict { IfOk result (λ order. order.is_strict ≡ true → AreRising (ranked (segment tables.now).columns order.by_rank.items)) }
 {
-    let by_rank = columns_by_title(alloc, tables)?;
+    let (by_rank, is_strict) = columns_by_title(alloc, tables)?;
     let ranks = places_of(alloc, &by_rank)?;
-    Ok(TitleOrder { ranks, by_rank })
+    Ok(TitleOrder {
+        ranks,
+        by_rank,
+        is_strict,
+    })
 }
 
-// Returns the numbers of the columns in their order.
-fn columns_by_title(alloc: Global, tables: &[SharedTable]) -> Result<Vec<u32>, NoMemory>
-    ensures sorted { IfOk result (λ numbers. IsSorted (number_cmp (columns_of tables.now)) numbers.items) }
-    ensures long { IfOk result (λ numbers. length numbers.items ≡ length (columns_of tables.now)) }
-    ensures all { IfOk result (λ numbers. AreNumbers numbers.items) }
-    ensures few { IfOk result (λ numbers. length numbers.items < 2 ^ 32) }
+// Returns the numbers of the columns in their order, and whether it is certain that no two columns have the same titles.
+fn columns_by_title(alloc: Global, tables: &[SharedTable]) -> Result<(Vec<u32>, bool), NoMemory>
+    ensures sorted { IfOk result (λ order. IsSorted (number_cmp (columns_of tables.now)) order.0.items) }
+    ensures long { IfOk result (λ order. length order.0.items ≡ length (columns_of tables.now)) }
+    ensures all { IfOk result (λ order. AreNumbers order.0.items) }
+    ensures few { IfOk result (λ order. length order.0.items < 2 ^ 32) }
+    ensures strict { IfOk result (λ order. order.1 ≡ true → AreRising (ranked (columns_of tables.now) order.0.items)) }
 {
     let mut titles = all_titles(alloc, tables)?;
     titles.sort_unstable_by(|a, b| a.order(b));
-    numbers_of(alloc, &titles)
+    let is_strict = are_strict(&titles);
+    Ok((numbers_of(alloc, &titles)?, is_strict))
+}
+
+// Returns whether the row of each column comes before that of the next.
+fn are_strict(titles: &[Title<'_>]) -> bool
+    ensures { result ≡ true → AreStrict titles.now }
+{
+    for i in 1..titles.len() {
+        if !titles[i - 1].row.order(&titles[i].row).is_lt() {
+            return false;
+        }
+    }
+    true
 }
 
 // Returns the numbers of these columns.
