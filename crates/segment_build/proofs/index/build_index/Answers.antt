@@ -2,7 +2,7 @@ use Rattle.std.proofs.Common.{◌∙◌, sym, subst, ℕ, ◌-◌, List, length,
 use Rattle.std.specs.List.{All}
 use Rattle.lake_model.specs.Tables.{Table}
 use Rattle.search_model.specs.Arrays.{all_of, AreArrays, IsAt, IsByKey}
-use Rattle.search_model.specs.Ranks.{AreRanks}
+use Rattle.search_model.specs.Ranks.{ranked, AreRanks, AreRising}
 use Rattle.search_model.specs.Segment.{segment}
 use Rattle.segment_core.specs.Hashes.{IsByHash}
 use Rattle.segment_build.specs.Holding.{all_tokens}
@@ -60,3 +60,6 @@ new-requires-clause-arrays c =
 
 pub new-requires-clause-ranks : goal.new-requires-clause-ranks
 new-requires-clause-ranks c = subst (λ (ts : List Table). AreRanks (segment ts).columns c.in_ok-ranks.field-0.ranks.items) c.deref.ensures.value c.in_ok-ranks.ensures.ranks
+
+pub new-requires-clause-strict : goal.new-requires-clause-strict
+new-requires-clause-strict c = λ told. subst (λ (ts : List Table). AreRising (ranked (segment ts).columns c.in_ok-ranks.field-0.by_rank.items)) c.deref.ensures.value (c.in_ok-ranks.ensures.strict told)
