@@ -17,7 +17,7 @@ use Rattle.lake_model.proofs.AnswerLemmas.{row_cmp_total, row_cmp_exact}
 use Rattle.search_laws.specs.Select.{best, no_later, IsBehind}
 use Rattle.search_laws.proofs.SelectLemmas.{best_behind, best_IsPermutation, best_more}
 
-abbrev is_lt_row : Row → Row → Bool
+abbrev pub is_lt_row : Row → Row → Bool
 is_lt_row a b = is_lt (row_cmp a b)
 
 pub in_order_empty : in_order row_cmp [] ≡ []
