@@ -16,3 +16,4 @@ pub mod EmptyLemmas
 pub mod SureLemmas
 pub mod OfferLemmas
 pub mod RoomLemmas
+mod RankLemmas

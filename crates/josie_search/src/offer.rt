@@ -1,5 +1,5 @@
 //! Offers the rows of a search to the first k.
-ghost use Rattle.std.specs.Prelude.{◌≡◌, ◌<◌, ◌≤◌, ◌^◌, ℕ, count_by, false, length, not, take, true};
+ghost use Rattle.std.specs.Prelude.{◌≡◌, ◌<◌, ◌≤◌, ◌^◌, ℕ, count_by, false, length, not, take, true, IfSome};
 ghost use Rattle.lake_model.specs.Answer.{row_cmp};
 ghost use Rattle.lake_model.specs.Sorting.{put_in_order};
 ghost use Rattle.search_model.specs.Arrays.{titled_at};

@@ -1,5 +1,5 @@
 //! The first k rows of a search.
-ghost use Rattle.std.specs.Prelude.{◌≡◌, ◌<◌, ◌≤◌, ◌-◌, false, IfOk, IfSome, length, nat_le, option_map, slice_get, Some, take};
+ghost use Rattle.std.specs.Prelude.{◌≡◌, ◌<◌, ◌≤◌, ◌-◌, [], false, IfOk, IfSome, length, nat_le, option_map, slice_get, Some, take};
 ghost use Rattle.std.specs.Ordering.{is_lt};
 ghost use Rattle.lake_model.specs.Answer.{Row as RowOf, row_cmp};
 ghost use Rattle.lake_model.specs.Sorting.{put_in_order};

@@ -124,8 +124,9 @@ search_part-requires-clause-rows g c =
     let kept = c.loop-part.invariant in
     let query = c.args.self.query in
     let some = subst (λ (s : SearchOf). 0 < s.query.k) c.self.view_is c.self.invariant.1.some in
-    rows_kept (g.C.Chooser.says c.args.chooser.now) query some (map (searched query) c.args.self.version.parts) c.loop-part.part c.loop-part.looks.log c.loop-part.top.rows kept.through
-    ∙ ap (λ (s : SearchOf). best row_cmp s.query.k c.loop-part.top.rows) (sym c.self.view_is)
+    c.enter.ensures.rows
+    ∙ rows_kept (g.C.Chooser.says c.args.chooser.now) query some (map (searched query) c.args.self.version.parts) c.loop-part.part c.loop-part.looks.log c.loop-part.top.rows kept.through
+    ∙ (λ i. best row_cmp (sym c.self.view_is i).query.k (sym c.enter.ensures.rows i))
 
 -- a part with too few tokens is passed over
 pub loop-part-preserved-then-not-may_hold : goal.loop-part-preserved-then-not-may_hold
@@ -173,9 +174,9 @@ loop-part-preserved g c =
       end = kept.end;
       version = done.version ∙ kept.version;
       through = through_more says query some (map (searched query) parts) part (searched query (part_with 0 [])) c.loop-part.looks.log _ c.loop-part.top.rows _ (omega (arith, within, length-searched query parts)) kept.through
-          (done.log ∙ (λ i. c.loop-part.looks.log ++ (run says (same i) c.loop-part.top.rows (here i) start).0))
-          (done.rows ∙ (λ i. best row_cmp (same i).k (c.loop-part.top.rows ++ known_rows (same i) (here i) (run says (same i) c.loop-part.top.rows (here i) start).1)));
-      k = done.k ∙ kept.k;
+          (done.log ∙ (λ i. c.loop-part.looks.log ++ (run says (same i) (c.enter.ensures.rows i) (here i) start).0))
+          (done.rows ∙ (λ i. best row_cmp (same i).k (c.enter.ensures.rows i ++ known_rows (same i) (here i) (run says (same i) (c.enter.ensures.rows i) (here i) start).1)));
+      k = done.k ∙ c.enter.ensures.k ∙ kept.k;
       wide = λ i h. (let w = kept.wide i h in omega (arith, w, done.wide, c.clear.ensures.wide));
       free = c.clear.ensures.free;
       sums = omega (arith, kept.sums, c.sum_costs.ensures.room);
