@@ -5,14 +5,15 @@ use Rattle.std.specs.Prelude.{codes}
 use Rattle.std.specs.Cmp.Lexicographic.{slice_cmp}
 use Rattle.std.specs.List.Sorted.{IsSorted}
 use Rattle.std.specs.Ordering.{is_lt, nat_cmp}
+use Rattle.std.specs.declared.cmp.Ordering.TheVariants.{Less}
 use Rattle.std.proofs.lemmas.List.Sorted.{IsPermutation-middle}
 use Rattle.lake_model.specs.Texts.{Text}
 use Rattle.lake_model.specs.Sorting.{in_order, put_in_order}
 use Rattle.lake_model.specs.Tables.{Column, Table, column_name, column_with, keys_at, table_with, titles_of}
-use Rattle.search_model.specs.Arrays.{AreArrays, IsAt, IsByKey, key_of, token_with}
-use Rattle.search_model.specs.Ranks.{number_cmp, AreInverse, AreRanks}
+use Rattle.search_model.specs.Arrays.{titled_at, AreArrays, IsAt, IsByKey, key_of, token_with}
+use Rattle.search_model.specs.Ranks.{number_cmp, ranked, title_cmp, AreInverse, AreRanks, AreRising}
 use Rattle.search_model.specs.Segment.{columns_of, segment, Token, tokens_of}
-use Rattle.search_model.proofs.RankLemmas.{ranks_are}
+use Rattle.search_model.proofs.RankLemmas.{ranks_are, rising_from_next}
 use Rattle.search_model.specs.declared.TokenAt.{TokenAt}
 use Rattle.segment_core.specs.Hashes.{AreKept, AreKeys, IsByHash, KeyedToken}
 use Rattle.segment_core.proofs.SegmentLemmas.{keys_kept}
@@ -100,3 +101,12 @@ in_names (suc k) d low h = absurd (omega arith)
 pub worked_ranks : AreRanks (segment (worked_table ∷ [])).columns (0 ∷ 1 ∷ [])
 unfolding segment
 worked_ranks = ranks_are (columns_of (worked_table ∷ [])) (0 ∷ 1 ∷ []) (0 ∷ 1 ∷ []) refl worked_inverse in_names (λ x b. worked_inverse.within x b)
+
+-- p comes before q, by the titles alone
+titles_rise : (k : ℕ) → k + 1 < 2 → title_cmp (titled_at (ranked (columns_of (worked_table ∷ [])) (0 ∷ 1 ∷ [])) k) (titled_at (ranked (columns_of (worked_table ∷ [])) (0 ∷ 1 ∷ [])) (k + 1)) ≡ Less
+titles_rise zero h = refl
+titles_rise (suc k) h = absurd (omega arith)
+
+pub worked_rising : AreRising (ranked (segment (worked_table ∷ [])).columns (0 ∷ 1 ∷ []))
+unfolding segment
+worked_rising = rising_from_next (ranked (columns_of (worked_table ∷ [])) (0 ∷ 1 ∷ [])) titles_rise

@@ -149,6 +149,7 @@ fn index(alloc: Global) -> Result<SegmentIndex, Fail>
         set_tokens,
         ranks,
         by_rank,
+        true,
     ))
 }
 
@@ -249,7 +250,8 @@ fn indexes(rt: HostRuntime) -> Result<(), Fail> {
     Ok(())
 }
 
-// The number of the part, and its columns: their sizes, their table and their places.
+// The number of the part, and its columns: their sizes, their table and their places. Their order comes with their
+// titles, since no two columns have the same.
 #[test]
 fn columns(rt: HostRuntime) -> Result<(), Fail> {
     let pin = pin(rt.alloc())?;
@@ -258,8 +260,9 @@ fn columns(rt: HostRuntime) -> Result<(), Fail> {
     assert!(rt; looks.parts() == 1 && looks.number(0) == 7 && looks.sets(0) == 2);
     assert!(rt; has_column(&looks, 0, 2, 1));
     assert!(rt; has_column(&looks, 1, 1, 2));
-    let order = looks.order(0);
+    let (order, titles) = looks.order(0);
     assert!(rt; order.ranks == [0, 1].as_slice() && order.by_rank == [0, 1].as_slice());
+    assert!(rt; titles.is_some());
     Ok(())
 }
 

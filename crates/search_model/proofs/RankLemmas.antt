@@ -1,16 +1,15 @@
 -- The ranks, made from the columns' numbers in order.
-use Rattle.std.proofs.Common.{◌≡◌, refl, ap, sym, ◌∙◌, ℕ, ◌<◌, List, true, false, length, get_or, arith}
+use Rattle.std.proofs.Common.{◌≡◌, refl, ap, sym, ◌∙◌, subst, ℕ, zero, suc, ◌+◌, ◌<◌, List, true, false, length, get_or, inl, inr, arith}
 use Rattle.std.specs.Cmp.{IsTotalOrder, nat_cmp_is}
 use Rattle.std.specs.List.Sorted.{IsSorted}
 use Rattle.std.specs.Ordering.{is_lt, nat_cmp, ordering_reverse, ordering_then}
 use Rattle.std.specs.declared.cmp.Ordering.{Ordering}
 use Rattle.std.specs.declared.cmp.Ordering.TheVariants.{Less, Equal, Greater}
+use Rattle.std.proofs.lemmas.Bool.{cases_lt}
 use Rattle.std.proofs.lemmas.Cmp.{nat_cmp_total, nat_list_cmp_total, on_total, then_total}
 use Rattle.std.proofs.lemmas.List.Sorted.{ranks_by, sorted_far}
-use Rattle.lake_model.specs.Answer.{row_cmp}
 use Rattle.search_model.specs.Arrays.{titled_at}
-use Rattle.search_model.specs.Looks.{row_with}
-use Rattle.search_model.specs.Ranks.{AreInverse, AreRanks, number_cmp, title_cmp}
+use Rattle.search_model.specs.Ranks.{AreInverse, AreRanks, AreRising, number_cmp, title_cmp}
 use Rattle.search_model.specs.Segment.{Titled}
 
 pub title_cmp_total : IsTotalOrder title_cmp
@@ -22,9 +21,6 @@ number_cmp_total columns = then_total (on_total (titled_at columns) title_cmp_to
 -- rows of one overlap compare by their titles
 level_first : (u : ℕ) (r : Ordering) → ordering_then (nat_cmp u u) r ≡ r
 level_first u r = ap (λ (o : Ordering). ordering_then o r) (sym (nat_cmp_is u u Equal refl))
-
-pub level_rows : (u : ℕ) (a b : Titled) → row_cmp (row_with u a) (row_with u b) ≡ title_cmp a b
-level_rows u a b = level_first u (title_cmp a b)
 
 pub first_late : (r s : Ordering) → is_lt (ordering_then r s) ≡ false → is_lt r ≡ false
 first_late Less s e = cc
@@ -61,3 +57,20 @@ module _ (columns : List Titled) (ranks by_rank : List ℕ) (size : length ranks
         ∙ ap is_lt (title_cmp_total.antisymm (titled_at columns x) (titled_at columns y))
         ∙ strictly_late (title_cmp (titled_at columns y) (titled_at columns x)) (nat_cmp y x) (sym (nat_cmp_is y x Less m)) (late x y b c l);
   }
+
+-- columns each of which comes before the next
+module _ (columns : List Titled) (next : (k : ℕ) → k + 1 < length columns → title_cmp (titled_at columns k) (titled_at columns (k + 1)) ≡ Less) where
+  next_one : (k : ℕ) → suc k < length columns → title_cmp (titled_at columns k) (titled_at columns (suc k)) ≡ Less
+  next_one k b =
+      let e : k + 1 ≡ suc k = omega arith in
+      subst (λ (n : ℕ). title_cmp (titled_at columns k) (titled_at columns n) ≡ Less) e (next k (omega (arith, b)))
+
+  first : (s r : ℕ) → r < s → s < length columns → title_cmp (titled_at columns r) (titled_at columns s) ≡ Less
+  first zero r l b = absurd (omega (arith, l))
+  first (suc s) r l b = elim (cases_lt r s) [
+    | inl m ↦ title_cmp_total.trans (titled_at columns r) (titled_at columns s) (titled_at columns (suc s)) (first s r m (omega (arith, b))) (next_one s b)
+    | inr g ↦ (let e : s ≡ r = omega (arith, g, l) in subst (λ (n : ℕ). title_cmp (titled_at columns n) (titled_at columns (suc s)) ≡ Less) e (next_one s b))
+  ]
+
+  pub rising_from_next : AreRising columns
+  rising_from_next r s u l b = ap is_lt (level_first u (title_cmp (titled_at columns r) (titled_at columns s))) ∙ ap is_lt (first s r l b)

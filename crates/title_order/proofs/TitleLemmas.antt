@@ -1,13 +1,12 @@
 -- Columns that are appended to others, and their order.
-use Rattle.std.proofs.Common.{◌≡◌, refl, ap, sym, ◌∙◌, subst, inl, inr, true, ℕ, zero, suc, ◌+◌, ◌<◌, List, [], ◌++◌, map, length, get_or, arith, append_assoc}
+use Rattle.std.proofs.Common.{◌≡◌, refl, ap, sym, ◌∙◌, subst, ℕ, ◌+◌, ◌<◌, List, [], ◌++◌, map, false, length, get_or, arith, append_assoc}
 use Rattle.std.specs.Cmp.{IsTotalOrder}
-use Rattle.std.specs.List.{All, range_with_len}
+use Rattle.std.specs.List.{All, AllAdjacentBelow, range_with_len}
 use Rattle.std.specs.List.Sorted.{IsPermutation, IsSorted}
 use Rattle.std.specs.Cmp.Lexicographic.{slice_cmp}
 use Rattle.std.specs.declared.cmp.Ordering.{Ordering}
 use Rattle.std.specs.declared.cmp.Ordering.TheVariants.{Less, Equal, Greater}
-use Rattle.std.specs.Ordering.{is_lt, nat_cmp, ordering_then}
-use Rattle.std.proofs.lemmas.Bool.{cases_lt}
+use Rattle.std.specs.Ordering.{is_eq, is_lt, nat_cmp, ordering_reverse, ordering_then}
 use Rattle.std.proofs.lemmas.Cmp.{nat_cmp_total, nat_list_cmp_total, on_total, then_total}
 use Rattle.std.proofs.lemmas.List.{ext_get_or, get_or-map, length-map, map-append}
 use Rattle.std.proofs.lemmas.List.FromFn.{get_or-range_with_len, length-range_with_len}
@@ -16,10 +15,10 @@ use Rattle.lake_model.specs.Answer.{Row, row_cmp}
 use Rattle.lake_model.proofs.AnswerLemmas.{row_cmp_total}
 use Rattle.search_model.specs.Arrays.{no_titled, titled_at}
 use Rattle.search_model.specs.Looks.{row_with}
-use Rattle.search_model.specs.Ranks.{number_cmp, ranked, AreRising}
-use Rattle.search_model.proofs.RankLemmas.{level_rows}
+use Rattle.search_model.specs.Ranks.{number_cmp, ranked, title_cmp, AreRising}
 use Rattle.search_model.specs.Segment.{Titled}
-use Rattle.title_order.specs.Titles.{by_title, rows_of, AreMoreTitles, AreNumbered, AreStrict, IsTitle}
+use Rattle.search_model.proofs.RankLemmas.{first_late, rising_from_next, title_cmp_total}
+use Rattle.title_order.specs.Titles.{by_title, rows_of, AreMoreTitles, AreNumbered, IsTitle, RowsDiffer}
 use Rattle.title_order.specs.declared.title.Title.{Title}
 use Rattle.token_order.specs.Counted.{AreNumbers}
 
@@ -43,27 +42,6 @@ more_more old new newer columns others first second =
       few = λ h. second.few (first.few h);
     }
 
--- ---- each before the next
-
--- then each is before all behind it
-pub far_strict : (titles : List Title) → AreStrict titles → (r s : ℕ) (d : Title) → r < s → s < length titles → is_lt (row_cmp (get_or titles r d).row (get_or titles s d).row) ≡ true
-far_strict titles strict r zero d l b = absurd (omega (arith, l))
-far_strict titles strict r (suc s) d l b =
-    let one : s + 1 ≡ suc s = omega arith in
-    let next : is_lt (row_cmp (get_or titles s d).row (get_or titles (suc s) d).row) ≡ true = ap (λ (n : ℕ). is_lt (row_cmp (get_or titles s d).row (get_or titles n d).row)) (sym one) ∙ strict s d (omega (arith, b)) in
-    elim (cases_lt r s) [
-      | inl m ↦ lt_trans (get_or titles r d).row (get_or titles s d).row (get_or titles (suc s) d).row (far_strict titles strict r s d m (omega (arith, b))) next
-      | inr m ↦ (let same : r ≡ s = omega (arith, l, m) in ap (λ (n : ℕ). is_lt (row_cmp (get_or titles n d).row (get_or titles (suc s) d).row)) same ∙ next)
-    ]
-  where
-    less_is : (o : Ordering) → is_lt o ≡ true → o ≡ Less
-    less_is Less e = refl
-    less_is Equal e = cc
-    less_is Greater e = cc
-
-    lt_trans : (a b c : Row) → is_lt (row_cmp a b) ≡ true → is_lt (row_cmp b c) ≡ true → is_lt (row_cmp a c) ≡ true
-    lt_trans a b c e f = ap is_lt (row_cmp_total.trans a b c (less_is (row_cmp a b) e) (less_is (row_cmp b c) f))
-
 -- ---- all columns
 
 pub by_title_total : IsTotalOrder by_title
@@ -74,6 +52,11 @@ said_twice : (r s t : Ordering) → ordering_then r (ordering_then (ordering_the
 said_twice Less s t = refl
 said_twice Equal s t = refl
 said_twice Greater s t = refl
+
+left_first : (r : Ordering) → is_lt r ≡ false → is_eq (ordering_reverse r) ≡ false → ordering_reverse r ≡ Less
+left_first Less e f = cc
+left_first Equal e f = cc
+left_first Greater e f = refl
 
 module _ (columns : List Titled) (titles : List Title) (all : AreMoreTitles [] titles columns) where
   numbered : AreNumbered titles
@@ -124,20 +107,36 @@ module _ (columns : List Titled) (titles : List Title) (all : AreMoreTitles [] t
         ∙ ap is_lt (same_order y x (are (k + 1) no late) (are k no early))
         ∙ up k no (omega arith) late
 
-    -- if each of them comes before the next, no two have the same titles
-    pub numbers_rising : AreStrict sorted → AreRising (ranked columns (map number_of sorted))
-    numbers_rising strict r s u l b =
-        let are : All (IsTitle columns) sorted = All-permutation (IsTitle columns) titles sorted moved are_titles in
-        let no : Title = record { row = row_with 0 no_titled; number = 0 } in
-        let late : s < length sorted = omega (arith, b, length-map (map number_of sorted) (titled_at columns), length-map sorted number_of) in
-        let early : r < length sorted = omega (arith, l, late) in
-        ap (λ c. is_lt (row_cmp (row_with u c) (row_with u (titled_at (ranked columns (map number_of sorted)) s)))) (ranked_here r early)
-        ∙ ap (λ c. is_lt (row_cmp (row_with u (titled_at columns (get_or sorted r no).number)) (row_with u c))) (ranked_here s late)
-        ∙ ap is_lt (level_rows u (titled_at columns (get_or sorted r no).number) (titled_at columns (get_or sorted s no).number) ∙ sym (level_rows 0 (titled_at columns (get_or sorted r no).number) (titled_at columns (get_or sorted s no).number)))
-        ∙ (λ i. is_lt (row_cmp (sym (are r no early) i) (sym (are s no late) i)))
-        ∙ far_strict sorted strict r s no l late
+    -- of two of them in order whose rows differ, the first comes first by its titles alone
+    first_strictly : (a b : Title) → IsTitle columns a → IsTitle columns b → is_lt (by_title b a) ≡ false → RowsDiffer a b → title_cmp (titled_at columns a.number) (titled_at columns b.number) ≡ Less
+    first_strictly a b h g up d =
+        let x = titled_at columns a.number in
+        let y = titled_at columns b.number in
+        let late : is_lt (title_cmp y x) ≡ false = first_late (title_cmp y x) (nat_cmp b.number a.number) (ap is_lt (same_order b a g h) ∙ up) in
+        let apart : is_eq (title_cmp x y) ≡ false = subst (λ (r : Row). is_eq (row_cmp r (row_with 0 y)) ≡ false) h (subst (λ (r : Row). is_eq (row_cmp a.row r) ≡ false) g d) in
+        title_cmp_total.antisymm x y ∙ left_first (title_cmp y x) late (ap is_eq (sym (title_cmp_total.antisymm x y)) ∙ apart)
+
+    pub numbers_rise : IsSorted by_title sorted → AllAdjacentBelow RowsDiffer sorted (length sorted) → AreRising (ranked columns (map number_of sorted))
+    numbers_rise up differ = rising_from_next (ranked columns (map number_of sorted)) next
       where
-        ranked_here : (i : ℕ) → i < length sorted → titled_at (ranked columns (map number_of sorted)) i ≡ titled_at columns (get_or sorted i (record { row = row_with 0 no_titled; number = 0 })).number
-        ranked_here i b =
-            get_or-map (titled_at columns) (map number_of sorted) i 0 no_titled (omega (arith, b, length-map sorted number_of))
-            ∙ ap (titled_at columns) (get_or-map number_of sorted i (record { row = row_with 0 no_titled; number = 0 }) 0 b)
+        numbers : List ℕ
+        numbers = map number_of sorted
+
+        are : All (IsTitle columns) sorted
+        are = All-permutation (IsTitle columns) titles sorted moved are_titles
+
+        no : Title
+        no = record { row = row_with 0 no_titled; number = 0 }
+
+        at : (k : ℕ) → k < length sorted → titled_at (ranked columns numbers) k ≡ titled_at columns (get_or sorted k no).number
+        at k b =
+            get_or-map (titled_at columns) numbers k 0 no_titled (omega (arith, b, length-map sorted number_of))
+            ∙ ap (titled_at columns) (get_or-map number_of sorted k no 0 b)
+
+        next : (k : ℕ) → k + 1 < length (ranked columns numbers) → title_cmp (titled_at (ranked columns numbers) k) (titled_at (ranked columns numbers) (k + 1)) ≡ Less
+        next k b =
+            let late : k + 1 < length sorted = omega (arith, b, length-map sorted number_of, length-map numbers (titled_at columns)) in
+            let early : k < length sorted = omega (arith, late) in
+            ap (λ (c : Titled). title_cmp c (titled_at (ranked columns numbers) (k + 1))) (at k early)
+            ∙ ap (title_cmp (titled_at columns (get_or sorted k no).number)) (at (k + 1) late)
+            ∙ first_strictly (get_or sorted k no) (get_or sorted (k + 1) no) (are k no early) (are (k + 1) no late) (up k no (omega arith) late) (differ k no late)

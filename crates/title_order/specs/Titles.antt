@@ -1,7 +1,7 @@
 -- Columns with the values by which they are sorted, and lists of numbers with their indices.
-use Rattle.std.specs.Prelude.{◌≡◌, ℕ, ◌+◌, ◌<◌, ◌^◌, true, List, ◌++◌, get_or, length, map}
+use Rattle.std.specs.Prelude.{◌≡◌, ℕ, ◌<◌, ◌^◌, List, ◌++◌, false, get_or, length, map}
 use Rattle.std.specs.Cmp.Lexicographic.{slice_cmp}
-use Rattle.std.specs.Ordering.{is_lt, nat_cmp, ordering_then}
+use Rattle.std.specs.Ordering.{is_eq, nat_cmp, ordering_then}
 use Rattle.std.specs.declared.cmp.Ordering.{Ordering}
 use Rattle.lake_model.specs.Answer.{Row, row_cmp}
 use Rattle.search_model.specs.Arrays.{titled_at}
@@ -16,6 +16,10 @@ by_row a b = ordering_then (row_cmp a.row b.row) (nat_cmp a.number b.number)
 -- by the tables' names, then by the rows and the numbers
 abbrev pub by_title : Title → Title → Ordering
 by_title a b = ordering_then (slice_cmp nat_cmp a.row.table b.row.table) (by_row a b)
+
+-- the rows of the two are not equal
+abbrev pub RowsDiffer : Title → Title → Type 0
+RowsDiffer a b = is_eq (row_cmp a.row b.row) ≡ false
 
 -- the rows of columns, with an overlap of 0
 abbrev pub rows_of : List Titled → List Row
@@ -38,7 +42,3 @@ IsTitle columns title = title.row ≡ row_with 0 (titled_at columns title.number
 -- the number is at this index
 abbrev pub IsPlace : List ℕ → ℕ → ℕ → Type 0
 IsPlace numbers number place = (place < length numbers) × (get_or numbers place 0 ≡ number)
-
--- the row of each column comes before that of the next
-abbrev pub AreStrict : List Title → Type 0
-AreStrict titles = (i : ℕ) (d : Title) → i + 1 < length titles → is_lt (row_cmp (get_or titles i d).row (get_or titles (i + 1) d).row) ≡ true

@@ -1,9 +1,10 @@
 //! The numbers of columns in the order of their names, and their ranks in that order.
 ghost use Rattle.std.specs.Prelude.{◌≡◌, ◌<◌, ◌^◌, length, map, true, IfOk};
+ghost use Rattle.std.specs.List.{AllAdjacentBelow};
 ghost use Rattle.std.specs.List.Sorted.{IsSorted};
 ghost use Rattle.search_model.specs.Ranks.{number_cmp, ranked, AreInverse, AreRanks, AreRising};
 ghost use Rattle.search_model.specs.Segment.{columns_of, segment};
-ghost use Rattle.title_order.specs.Titles.{AreStrict};
+ghost use Rattle.title_order.specs.Titles.{RowsDiffer};
 ghost use Rattle.token_order.specs.Counted.{AreNumbers, ArePlaces};
 
 use crate::title::{Title, all_titles};
@@ -30,7 +31,7 @@ pub fn order_columns(alloc: Global, tables: &[SharedTable]) -> Result<TitleOrder
     ensures inverse { IfOk result (λ order. AreInverse order.ranks.items order.by_rank.items) }
     ensures strict { IfOk result (λ order. order.is_strict ≡ true → AreRising (ranked (segment tables.now).columns order.by_rank.items)) }
 {
-    let (by_rank, is_strict) = columns_by_title(alloc, tables)?;
+    let ByTitle { by_rank, is_strict } = columns_by_title(alloc, tables)?;
     let ranks = places_of(alloc, &by_rank)?;
     Ok(TitleOrder {
         ranks,
@@ -39,30 +40,34 @@ pub fn order_columns(alloc: Global, tables: &[SharedTable]) -> Result<TitleOrder
     })
 }
 
-// Returns the numbers of the columns in their order, and whether it is certain that no two columns have the same titles.
-fn columns_by_title(alloc: Global, tables: &[SharedTable]) -> Result<(Vec<u32>, bool), NoMemory>
-    ensures sorted { IfOk result (λ order. IsSorted (number_cmp (columns_of tables.now)) order.0.items) }
-    ensures long { IfOk result (λ order. length order.0.items ≡ length (columns_of tables.now)) }
-    ensures all { IfOk result (λ order. AreNumbers order.0.items) }
-    ensures few { IfOk result (λ order. length order.0.items < 2 ^ 32) }
-    ensures strict { IfOk result (λ order. order.1 ≡ true → AreRising (ranked (columns_of tables.now) order.0.items)) }
+// The numbers of the columns in their order. If `is_strict` is set, no two columns have the same titles.
+#[derive(Drop)]
+struct ByTitle {
+    by_rank: Vec<u32>,
+    is_strict: bool,
+}
+
+// Returns the numbers of the columns in their order.
+fn columns_by_title(alloc: Global, tables: &[SharedTable]) -> Result<ByTitle, NoMemory>
+    ensures sorted { IfOk result (λ order. IsSorted (number_cmp (columns_of tables.now)) order.by_rank.items) }
+    ensures long { IfOk result (λ order. length order.by_rank.items ≡ length (columns_of tables.now)) }
+    ensures all { IfOk result (λ order. AreNumbers order.by_rank.items) }
+    ensures few { IfOk result (λ order. length order.by_rank.items < 2 ^ 32) }
+    ensures strict { IfOk result (λ order. order.is_strict ≡ true → AreRising (ranked (columns_of tables.now) order.by_rank.items)) }
 {
     let mut titles = all_titles(alloc, tables)?;
     titles.sort_unstable_by(|a, b| a.order(b));
-    let is_strict = are_strict(&titles);
-    Ok((numbers_of(alloc, &titles)?, is_strict))
+    let is_strict = neighbours_differ(&titles);
+    let by_rank = numbers_of(alloc, &titles)?;
+    Ok(ByTitle { by_rank, is_strict })
 }
 
-// Returns whether the row of each column comes before that of the next.
-fn are_strict(titles: &[Title<'_>]) -> bool
-    ensures { result ≡ true → AreStrict titles.now }
+// Returns whether the rows of any two neighbours differ. In the sorted order equal rows are neighbours, so this tells
+// whether any two are equal.
+fn neighbours_differ(titles: &[Title<'_>]) -> bool
+    ensures { result ≡ true → AllAdjacentBelow RowsDiffer titles.now (length titles.now) }
 {
-    for i in 1..titles.len() {
-        if !titles[i - 1].row.order(&titles[i].row).is_lt() {
-            return false;
-        }
-    }
-    true
+    titles.is_sorted_by(|a, b| a.row_differs(b))
 }
 
 // Returns the numbers of these columns.

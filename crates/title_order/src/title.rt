@@ -1,5 +1,7 @@
 //! The columns of tables, with the values by which they are sorted.
-ghost use Rattle.std.specs.Prelude.{◌≡◌, ◌<◌, ◌≤◌, ◌∷◌, ℕ, [], length, sum_by, IfOk, OnOk};
+ghost use Rattle.std.specs.Prelude.{◌≡◌, ◌<◌, ◌≤◌, ◌∷◌, ℕ, [], length, not, sum_by, IfOk, OnOk};
+ghost use Rattle.std.specs.Ordering.{is_eq};
+ghost use Rattle.lake_model.specs.Answer.{row_cmp};
 ghost use Rattle.search_model.specs.Segment.{columns_in, columns_of, titled_in};
 ghost use Rattle.title_order.specs.Titles.{by_row, by_title, AreMoreTitles};
 
@@ -35,6 +37,14 @@ impl<'a> Title<'a> {
         let by_row = self.row.order(&other.row);
         let by_number = self.number.cmp(&other.number);
         by_row.then(by_number)
+    }
+
+    /// Returns whether the rows differ. The names are read only if the places are equal, which those of two columns of
+    /// one table never are.
+    pub fn row_differs(&self, other: &Title<'_>) -> bool
+        ensures { result ≡ not (is_eq (row_cmp self.now.row other.now.row)) }
+    {
+        self.row.place != other.row.place || self.row.order(&other.row).is_ne()
     }
 }
 

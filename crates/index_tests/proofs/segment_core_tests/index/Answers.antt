@@ -1,8 +1,10 @@
-use Rattle.std.proofs.Common.{◌≡◌, ◌∙◌, ap, subst, List, [], ◌∷◌, lit<}
+use Rattle.std.proofs.Common.{◌≡◌, ◌∙◌, ap, sym, subst, ℕ, List, [], ◌∷◌, lit<}
 use Rattle.lake_model.specs.Tables.{Table}
+use Rattle.search_model.specs.Ranks.{ranked, AreRising}
+use Rattle.search_model.specs.Segment.{segment}
 use Rattle.segment_core.specs.Hashes.{IsByHash}
 use Rattle.index_tests.specs.Worked.{worked_table}
-use Rattle.index_tests.proofs.WorkedSegment.{worked_inverse, worked_kept, worked_keys, worked_ranks}
+use Rattle.index_tests.proofs.WorkedSegment.{worked_inverse, worked_kept, worked_keys, worked_ranks, worked_rising}
 use Rattle.index_tests.proofs.segment_core_tests.index.Goals as goal
 
 pub order_by_hash-requires-clause-keys : goal.order_by_hash-requires-clause-keys
@@ -26,3 +28,9 @@ new-requires-clause-ranks c =
 
 pub new-requires-clause-inverse : goal.new-requires-clause-inverse
 new-requires-clause-inverse c = rw (c.in_ok-ranks.ensures.items, c.in_ok-by_rank.ensures.items) worked_inverse
+
+pub new-requires-clause-strict : goal.new-requires-clause-strict
+new-requires-clause-strict c strict =
+    let tables : c.in_ok-tables.tables.items ≡ worked_table ∷ [] = c.in_ok-tables.ensures.items ∙ ap (λ (t : Table). t ∷ []) c.in_ok-table.ensures in
+    subst (λ (ts : List Table). AreRising (ranked (segment ts).columns c.in_ok-by_rank.by_rank.items)) (sym tables)
+    (subst (λ (ns : List ℕ). AreRising (ranked (segment (worked_table ∷ [])).columns ns)) (sym c.in_ok-by_rank.ensures.items) worked_rising)

@@ -1,4 +1,4 @@
-use Rattle.std.proofs.Common.{◌∙◌, sym, subst, ℕ, ◌-◌, List, length, arith}
+use Rattle.std.proofs.Common.{◌≡◌, ◌∙◌, sym, subst, ℕ, ◌-◌, true, List, length, arith}
 use Rattle.std.specs.List.{All}
 use Rattle.lake_model.specs.Tables.{Table}
 use Rattle.search_model.specs.Arrays.{all_of, AreArrays, IsAt, IsByKey}
@@ -62,4 +62,4 @@ pub new-requires-clause-ranks : goal.new-requires-clause-ranks
 new-requires-clause-ranks c = subst (λ (ts : List Table). AreRanks (segment ts).columns c.in_ok-ranks.field-0.ranks.items) c.deref.ensures.value c.in_ok-ranks.ensures.ranks
 
 pub new-requires-clause-strict : goal.new-requires-clause-strict
-new-requires-clause-strict c = λ told. subst (λ (ts : List Table). AreRising (ranked (segment ts).columns c.in_ok-ranks.field-0.by_rank.items)) c.deref.ensures.value (c.in_ok-ranks.ensures.strict told)
+new-requires-clause-strict c = subst (λ (ts : List Table). c.in_ok-ranks.field-0.is_strict ≡ true → AreRising (ranked (segment ts).columns c.in_ok-ranks.field-0.by_rank.items)) c.deref.ensures.value c.in_ok-ranks.ensures.strict
