@@ -52,8 +52,8 @@ module _ (titled : List Titled) (rising : AreRising titled) where
   first_entry a b p q l = elim (cases_lt (a / 2 ^ 32) (b / 2 ^ 32)) [
     | inl m ↦ more_first (row_in titled a) (row_in titled b) (let high = q.1 in omega (arith, m, high))
     | inr g ↦ (let same : a / 2 ^ 32 ≡ b / 2 ^ 32 = omega (arith, g, quotient_up (2 ^ 32) a b (omega arith) (omega (arith, l))) in
-      (λ i. is_lt (row_cmp (row_in titled a) (row_with (2 ^ 32 - 1 - sym same i) (titled_at titled (rank_in b)))))
-      ∙ rising (rank_in a) (rank_in b) (overlap_in a) (rest_less (2 ^ 32) a b l same) q.0)
+        (λ i. is_lt (row_cmp (row_in titled a) (row_with (2 ^ 32 - 1 - sym same i) (titled_at titled (rank_in b)))))
+        ∙ rising (rank_in a) (rank_in b) (overlap_in a) (rest_less (2 ^ 32) a b l same) q.0)
   ]
 
   -- a greater one, or itself, does not

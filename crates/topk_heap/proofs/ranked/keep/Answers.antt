@@ -1,5 +1,5 @@
-use Rattle.std.proofs.Common.{◌≡◌, ◌∙◌, ap, sym, ℕ, ◌<◌, length, get_or, take, arith}
-use Rattle.std.specs.BinaryHeap.{heap_items, heap_len}
+use Rattle.std.proofs.Common.{◌≡◌, ◌∙◌, ap, sym, ℕ, length, get_or, take, arith}
+use Rattle.std.specs.BinaryHeap.{heap_items}
 use Rattle.std.proofs.lemmas.List.Elements.{All-from_recursion}
 use Rattle.lake_model.specs.Answer.{row_cmp}
 use Rattle.lake_model.specs.Sorting.{put_in_order}

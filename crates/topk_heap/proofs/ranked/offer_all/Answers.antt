@@ -1,4 +1,4 @@
-use Rattle.std.proofs.Common.{◌≡◌, refl, ◌∙◌, ap, sym, ℕ, ◌+◌, ◌-◌, ◌<◌, drop, get_or, length, take, arith}
+use Rattle.std.proofs.Common.{◌≡◌, refl, ◌∙◌, ap, sym, ℕ, ◌+◌, ◌-◌, drop, get_or, take, arith}
 use Rattle.lake_model.specs.Answer.{row_cmp}
 use Rattle.lake_model.specs.Sorting.{put_in_order}
 use Rattle.search_model.specs.Arrays.{titled_at}

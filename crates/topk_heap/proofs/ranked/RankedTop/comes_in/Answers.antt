@@ -1,4 +1,4 @@
-use Rattle.std.proofs.Common.{◌≡◌, ◌∙◌, ap, sym, subst, ◌-◌, ◌<◌, ℕ, length, arith, Some, true, ltb as nat_lt}
+use Rattle.std.proofs.Common.{◌≡◌, ◌∙◌, ap, sym, subst, ◌-◌, ◌<◌, length, arith, true, ltb as nat_lt}
 use Rattle.std.specs.Prelude.{slice_get}
 use Rattle.std.specs.BinaryHeap.{heap_items}
 use Rattle.search_model.specs.Arrays.{titled_at}

@@ -1,4 +1,4 @@
-use Rattle.std.proofs.Common.{◌≡◌, ◌∙◌, ap, sym, subst, ℕ, List, [], length, Option}
+use Rattle.std.proofs.Common.{◌≡◌, ◌∙◌, ap, sym, subst, List, [], length, Option}
 use Rattle.std.specs.BinaryHeap.{heap_items}
 use Rattle.search_model.specs.Segment.{Titled}
 use Rattle.topk_heap.specs.Ranked.{titles_in, AreEntries, RankedRows}

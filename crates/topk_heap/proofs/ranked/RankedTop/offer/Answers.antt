@@ -1,11 +1,5 @@
-use Rattle.std.proofs.Common.{◌≡◌, ◌∙◌, ap, subst, ◌<◌, length, take, arith}
-use Rattle.std.specs.BinaryHeap.{heap_items}
-use Rattle.lake_model.specs.Answer.{row_cmp}
-use Rattle.lake_model.specs.Sorting.{put_in_order}
-use Rattle.search_model.specs.Arrays.{titled_at}
-use Rattle.search_model.specs.Looks.{row_with}
-use Rattle.topk_heap.specs.Ranked.{titles_in, IsEntry, RankedRows}
-use Rattle.topk_heap.proofs.RankedLemmas.{in_rows}
+use Rattle.std.proofs.Common.{ap, ◌<◌, length, arith}
+use Rattle.topk_heap.specs.Ranked.{titles_in, RankedRows}
 use Rattle.topk_heap.proofs.ranked.RankedTop.offer.Goals as goal
 
 pub invariant_of-self : goal.invariant_of-self

@@ -1,11 +1,11 @@
-use Rattle.std.proofs.Common.{◌≡◌, ◌∙◌, ap, sym, subst, ◌-◌, ℕ, length, arith, None, Some, take, false}
+use Rattle.std.proofs.Common.{◌≡◌, ◌∙◌, ap, sym, subst, ◌-◌, arith, None, Some, take, false}
 use Rattle.std.specs.Prelude.{option_map, slice_get}
 use Rattle.std.specs.BinaryHeap.{heap_items}
 use Rattle.std.specs.Ordering.{is_lt}
 use Rattle.lake_model.specs.Answer.{Row, row_cmp}
 use Rattle.lake_model.specs.Sorting.{put_in_order}
 use Rattle.search_laws.specs.Select.{best}
-use Rattle.topk_heap.specs.Ranked.{overlap_in, titles_in, RankedRows}
+use Rattle.topk_heap.specs.Ranked.{titles_in, RankedRows}
 use Rattle.topk_heap.proofs.RankedLemmas.{kept_first, kth, kth_left, none_kth}
 use Rattle.topk_heap.proofs.ranked.RankedTop.worst_overlap.Goals as goal
 
