@@ -155,13 +155,7 @@ impl<'a> FirstColumns<'a> {
 }
 
 // Offers the row of a column with this overlap. The row is made only if the k-th row has no greater overlap.
-fn offer_row<'a>(
-    looks: &Looks<'a>,
-    part: u32,
-    column: u32,
-    overlap: u32,
-    top: &mut TopK<'a>,
-)
+fn offer_row<'a>(looks: &Looks<'a>, part: u32, column: u32, overlap: u32, top: &mut TopK<'a>)
     requires part { part < length looks.now.version.parts }
     requires column { column < length (segment_at looks.now.version.parts part).sets }
     ensures k { top.new.k ≡ top.old.k }

@@ -1,12 +1,9 @@
-use Rattle.std.proofs.Common.{◌∙◌, ap, sym, ◌-◌, length, take, arith}
+use Rattle.std.proofs.Common.{◌∙◌, ap, sym, ◌-◌, length, arith}
 use Rattle.std.specs.Prelude.{slice_get}
-use Rattle.lake_model.specs.Answer.{Row, row_cmp}
-use Rattle.lake_model.specs.Sorting.{put_in_order}
-use Rattle.search_model.specs.Looks.{beats, searched}
+use Rattle.search_model.specs.Looks.{searched}
 use Rattle.segment_core.specs.Versions.{part_at, segment_at}
 use Rattle.josie_search.specs.Costs.{threshold_of}
 use Rattle.josie_search.specs.Offers.{offers}
-use Rattle.josie_search.specs.Open.{overlap_of}
 use Rattle.josie_search.specs.Rows.{lead_row, row_of_lead}
 use Rattle.josie_search.proofs.LoopLemmas.{lead_parts}
 use Rattle.josie_search.proofs.OfferLemmas.{first_taken, none_beats, none_high, none_kept}

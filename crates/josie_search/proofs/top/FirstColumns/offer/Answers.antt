@@ -1,8 +1,8 @@
-use Rattle.std.proofs.Common.{◌≡◌, ◌∙◌, ap, sym, subst, Option, [], ℕ, ◌-◌, ◌<◌, List, length, take, arith}
-use Rattle.std.specs.Prelude.{slice_get, IfSome}
+use Rattle.std.proofs.Common.{◌≡◌, ◌∙◌, ap, sym, subst, Option, [], ℕ, ◌<◌, List, length, take, arith}
+use Rattle.std.specs.Prelude.{IfSome}
 use Rattle.lake_model.specs.Answer.{row_cmp}
 use Rattle.lake_model.specs.Sorting.{put_in_order}
-use Rattle.search_model.specs.Looks.{beats, row_with}
+use Rattle.search_model.specs.Looks.{row_with}
 use Rattle.search_model.specs.Arrays.{titled_at}
 use Rattle.search_model.specs.Ranks.{ranked}
 use Rattle.search_model.specs.Segment.{Titled}
