@@ -83,11 +83,15 @@ fn find(
 {
     let layout = pin.layout()?;
     let indexed = index_pin(alloc, pin)?;
-    let taken = mem::replace(room, SearchRoom::new());
-    let prepared = prepare(alloc, indexed.looks(alloc), query, k, except, taken)?;
+    let mut taken = mem::replace(room, SearchRoom::new());
+    let looks = taken.looks(alloc, &indexed);
+    let prepared = prepare(alloc, looks, query, k, except, taken)?;
     let (answer, used) = prepared.run(&Profile);
     *room = used;
-    found(alloc, query, &answer, layout)
+    let reply = found(alloc, query, &answer, layout)?;
+    let Answer { looks, .. } = answer;
+    room.keep_log(looks.into_log(alloc));
+    Ok(reply)
 }
 
 // Finds the columns at a pin that hold at least a of b parts of a query, and states what was read for them.

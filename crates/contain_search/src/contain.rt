@@ -90,7 +90,7 @@ fn ask_parts(
     ensures looks { IfOk result (λ asked. sum_by (looks_for query.now least) looks.old.version.parts ≤ looks.new.spare) }
     ensures rows { IfOk result (λ asked. sum_by (rows_for query.now least) looks.old.version.parts ≤ asked.1) }
 {
-    let hashed = HashedQuery::new(alloc, query)?;
+    let hashed = HashedQuery::new(alloc, query, looks.parts())?;
     let asked = looks.tokens_of_parts(alloc, &hashed)?;
     let mut rows = 0;
     for part in 0..looks.parts() {

@@ -395,10 +395,11 @@ fn many_parts(alloc: Global) -> Result<Catalogue, Fail> {
 // Returns the tokens that a query has in each part of the lake.
 fn asked_of_parts(lake: &Catalogue, alloc: Global, body: &str) -> Result<Vec<Vec<u32>>, Fail> {
     let query = QuerySet::read(alloc, Keys::Canonical, body.as_bytes())?;
-    let hashed = HashedQuery::new(alloc, &query)?;
     let pin = lake.pin()?;
     let indexed = index_pin(alloc, &pin)?;
-    Ok(indexed.looks(alloc).tokens_of_parts(alloc, &hashed)?)
+    let looks = indexed.looks(alloc);
+    let hashed = HashedQuery::new(alloc, &query, looks.parts())?;
+    Ok(looks.tokens_of_parts(alloc, &hashed)?)
 }
 
 #[test]

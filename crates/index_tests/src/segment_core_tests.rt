@@ -211,7 +211,7 @@ fn asks(alloc: Global, looks: &Looks<'_>, body: &str, wanted: &[u32]) -> Result<
         return Ok(false);
     }
     let query = QuerySet::read(alloc, Keys::Canonical, body.as_bytes())?;
-    let hashed = HashedQuery::new(alloc, &query)?;
+    let hashed = HashedQuery::new(alloc, &query, looks.parts())?;
     Ok(looks.query_tokens(alloc, 0, &hashed)?.as_slice() == wanted)
 }
 

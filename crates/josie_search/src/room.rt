@@ -1,5 +1,6 @@
 //! The memory that a search takes for the columns and the tokens of a part, which the next search uses again.
 ghost use Rattle.std.specs.Prelude.{◌≡◌, ◌≤◌, [], length, IfOk, IfSome};
+ghost use Rattle.segment_core.specs.Versions.{looks_with};
 ghost use Rattle.josie_search.specs.Ready.{IsFree};
 ghost use Rattle.token_set.specs.Bits.{IsSetOf};
 
@@ -7,6 +8,7 @@ use crate::asked::KeptSet;
 use crate::candidates::Candidates;
 use no_memory::NoMemory;
 use part_columns::Columns;
+use segment_core::{IndexedPin, Look, Looks};
 use std::alloc::Global;
 use std::marker::Model;
 
@@ -65,17 +67,19 @@ impl Seats {
         SearchRoom {
             seats: Some(self),
             set,
+            log: None,
         }
     }
 }
 
-/// Memory that a search takes for the columns and the tokens of a part, and that the next search may use again, over any
-/// version of any lake. What was searched before makes no difference to an answer: no column that it holds was seen, and
-/// its set has no token. Contracts say nothing of how much memory it is.
+/// Memory that a search takes for the columns and the tokens of a part and for its looks, and that the next search may use
+/// again, over any version of any lake. What was searched before makes no difference to an answer: no column that it holds
+/// was seen, its set has no token, and a log is emptied before it is used. Contracts say nothing of how much memory it is.
 #[derive(Drop)]
 pub struct SearchRoom {
     seats: Option<Seats>,
     set: Option<KeptSet>,
+    log: Option<Vec<Look>>,
 }
 
 impl Model for SearchRoom {
@@ -96,6 +100,23 @@ impl SearchRoom {
         SearchRoom {
             seats: None,
             set: None,
+            log: None,
+        }
+    }
+
+    /// Keeps the memory of a log for the next search, whose looks [`SearchRoom::looks`] makes.
+    pub fn keep_log(&mut self, log: Vec<Look>) {
+        self.log = Some(log);
+    }
+
+    /// Returns everything that a search may ask of a pin, with an empty log that has no room, in the memory of the kept log,
+    /// if there is one. It allocates nothing.
+    pub fn looks<'a>(&mut self, alloc: Global, pin: &'a IndexedPin<'_>) -> Looks<'a>
+        ensures { result ≡ looks_with pin.now [] 0 }
+    {
+        match self.log.take() {
+            Some(log) => pin.looks_in(log),
+            None => pin.looks(alloc),
         }
     }
 

@@ -102,7 +102,7 @@ fn ask_parts(
     ensures log { looks.new.log ≡ looks.old.log }
     ensures room { IfOk result (λ asked. sum_by (looks_in query.now) looks.old.version.parts ≤ looks.new.spare) }
 {
-    let hashed = HashedQuery::new(alloc, query)?;
+    let hashed = HashedQuery::new(alloc, query, looks.parts())?;
     let asked = looks.tokens_of_parts(alloc, &hashed)?;
     for part in 0..looks.parts() {
         let tokens: &[u32] = &asked[part as usize];

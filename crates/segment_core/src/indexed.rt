@@ -6,6 +6,7 @@ use crate::index::SegmentIndex;
 use crate::looks::Looks;
 use crate::pin::Pin;
 use crate::version::Version;
+use search_model::Look;
 use std::alloc::Global;
 use std::boxed::Box;
 use std::marker::Model;
@@ -106,6 +107,14 @@ impl<'a> IndexedPin<'a> {
     pub fn looks(&self, alloc: Global) -> Looks<'_>
         ensures { result ≡ looks_with self.now [] 0 }
     {
-        Looks::new(alloc, self.version, &self.indexes)
+        Looks::new(self.version, &self.indexes, Vec::new(alloc))
+    }
+
+    /// Returns the same with a log in the memory of an earlier one, whose looks are forgotten. It allocates nothing.
+    pub fn looks_in(&self, mut log: Vec<Look>) -> Looks<'_>
+        ensures { result ≡ looks_with self.now [] 0 }
+    {
+        log.clear();
+        Looks::new(self.version, &self.indexes, log)
     }
 }

@@ -13,6 +13,7 @@ use no_memory::NoMemory;
 use search_model::{Look, Posting};
 use std::alloc::Global;
 use std::marker::Model;
+use std::mem;
 use std::sync::Arc;
 
 /// How many parts are asked for a key ahead of the look-ups in them. Each has a bit in a number of 64 bits.
@@ -69,19 +70,20 @@ impl<'a> Looks<'a> {
     ghost use Rattle.search_model.specs.Segment.{tokens_in};
     ghost use Rattle.segment_core.specs.Versions.{looks_with, marks_of, part_at, segment_at, segment_of, tables_of};
 
-    // Makes looks at this version through the indexes of its parts, with an empty log.
+    // Makes looks at this version through the indexes of its parts, with this log, which is empty.
     pub(crate) fn new(
-        alloc: Global,
         version: &'a Version,
         indexes: &'a [PartIndex<'a>],
+        log: Vec<Look>,
     ) -> Looks<'a>
-        requires { indexes.now ≡ map tables_of version.now.parts }
+        requires indexes { indexes.now ≡ map tables_of version.now.parts }
+        requires empty { log.items ≡ [] }
         ensures { result ≡ looks_with version.now [] 0 }
     {
         Looks {
             version,
             indexes,
-            log: Vec::new(alloc),
+            log,
             spare: 0,
             last: 0,
             unmetered: 0,
@@ -346,6 +348,12 @@ impl<'a> Looks<'a> {
             Ok(()) => self.spare -= 1,
             Err(_) => unreachable!(),
         }
+    }
+
+    /// Returns the memory of the log, for the looks of another search.
+    pub fn into_log(mut self, alloc: Global) -> Vec<Look> {
+        self.spare = 0;
+        mem::replace(&mut self.log, Vec::new(alloc))
     }
 
     /// Returns the looks so far, in order. A part is named by its number.
