@@ -37,11 +37,7 @@ impl<'q> HashedQuery<'q> {
     /// Returns the query with the hashes of its keys, to be looked up in so many parts. It reads each key once and takes 4
     /// bytes for each; and 1 to 2 for a filter, if there are several parts: each key of a part with fewer keys than the query
     /// is then asked of the filter first.
-    pub fn new(
-        alloc: Global,
-        query: &'q QuerySet,
-        parts: u32,
-    ) -> Result<HashedQuery<'q>, NoMemory>
+    pub fn new(alloc: Global, query: &'q QuerySet, parts: u32) -> Result<HashedQuery<'q>, NoMemory>
         ensures { IfOk result (λ hashed. hashed ≡ query.now) }
     {
         let mut hashes = Vec::with_capacity(alloc, query.len() as usize)?;
