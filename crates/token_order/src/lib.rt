@@ -4,6 +4,7 @@
 
 mod columns;
 mod fronts;
+mod groups;
 mod keyed;
 mod numbers;
 mod order;
