@@ -1,77 +1,66 @@
--- The runs of sorted keys: each key has one run, which is as long as the key is frequent.
-use Rattle.std.proofs.Common.{◌≡◌, refl, ap, sym, ◌∙◌, ℕ, ◌+◌, ◌≤◌, List, [], ◌∷◌, map, length, Bool, true, false, ◌||◌, cond, arith}
-use Rattle.std.specs.Prelude.{bytes_eq, sum_by}
+-- The runs of tokens whose keys are sorted: each key has one run, which is as frequent as the key is among the tokens.
+use Rattle.std.proofs.Common.{◌≡◌, refl, ap, sym, ◌∙◌, ℕ, zero, suc, ◌+◌, ◌<◌, ◌≤◌, List, [], ◌∷◌, map, length, Bool, true, false, ◌||◌, cond, arith}
+use Rattle.std.specs.Prelude.{bytes_eq, nat_lt, sum_by}
 use Rattle.std.specs.List.{AllByRecursion, IsDistinct, count_by, list_any}
 use Rattle.std.proofs.lemmas.List.Sums.{sum_by-cons}
 use Rattle.std.proofs.lemmas.Slice.Eq.{bytes_eq-Decides}
 use Rattle.lake_model.specs.Texts.{Text}
 use Rattle.search_model.specs.Segment.{Token}
-use Rattle.search_model.specs.Arrays.{token_with}
-use Rattle.token_order.specs.Runs.{runs_from, runs_of}
+use Rattle.search_model.specs.Arrays.{token_keys, token_with}
+use Rattle.token_order.specs.Groups.{often, often_as}
+use Rattle.token_order.specs.Runs.{longer, runs_from, runs_of}
 use Rattle.token_order.proofs.SortLemmas.{TextsRise, beyond_all, differ_back, less}
 use Rattle.list_laws.proofs.TestLemmas.{once}
 
-abbrev longer : Token → Token
-longer first = token_with first.key (first.frequency + 1)
+abbrev runs_then : Bool → Token → Token → List Token → List Token
+runs_then b first t ts = cond b (runs_from (longer first t.frequency) ts) (first ∷ runs_from t ts)
 
-abbrev runs_then : Bool → Token → Text → List Text → List Token
-runs_then b first key keys = cond b (runs_from (longer first) keys) (first ∷ runs_from (token_with key 1) keys)
-
-all_from : (P : Text → Type 0) (first : Token) (keys : List Text) → P first.key → AllByRecursion P keys → AllByRecursion (λ t. P t.key) (runs_from first keys)
+all_from : (P : Text → Type 0) (first : Token) (ts : List Token) → P first.key → AllByRecursion P (token_keys ts) → AllByRecursion P (token_keys (runs_from first ts))
 all_from P first [] p h = (p, tt)
-all_from P first (key ∷ keys) p h = by (bytes_eq key first.key) (all_from P (longer first) keys p h.1) (all_from P (token_with key 1) keys h.0 h.1)
+all_from P first (t ∷ ts) p h = by (bytes_eq t.key first.key) (all_from P (longer first t.frequency) ts p h.1) (all_from P t ts h.0 h.1)
   where
-    by : (b : Bool) → AllByRecursion (λ t. P t.key) (runs_from (longer first) keys) → AllByRecursion (λ t. P t.key) (runs_from (token_with key 1) keys) → AllByRecursion (λ t. P t.key) (runs_then b first key keys)
+    by : (b : Bool) → AllByRecursion P (token_keys (runs_from (longer first t.frequency) ts)) → AllByRecursion P (token_keys (runs_from t ts)) → AllByRecursion P (token_keys (runs_then b first t ts))
     by true u v = u
     by false u v = (p, v)
 
-all_keys : (P : Text → Type 0) (tokens : List Token) → AllByRecursion (λ t. P t.key) tokens → AllByRecursion P (map (λ t. t.key) tokens)
-all_keys P [] h = tt
-all_keys P (t ∷ tokens) h = (h.0, all_keys P tokens h.1)
-
-all_both : {X : Type 0} (P Q R : X → Type 0) → ((x : X) → P x → Q x → R x) → (xs : List X) → AllByRecursion P xs → AllByRecursion Q xs → AllByRecursion R xs
-all_both P Q R f [] h g = tt
-all_both P Q R f (x ∷ xs) h g = (f x h.0 g.0, all_both P Q R f xs h.1 g.1)
-
 -- the keys after one that differs
-others : (first : Token) (key : Text) (keys : List Text) → TextsRise (first.key ∷ key ∷ keys) → bytes_eq key first.key ≡ false → AllByRecursion (λ y. bytes_eq first.key y ≡ false) (key ∷ keys)
-others first key keys r e = (differ_back first.key key e, beyond_all first.key key keys r.0.0 e r.1.0)
+others : (first t : Token) (ts : List Token) → TextsRise (first.key ∷ t.key ∷ token_keys ts) → bytes_eq t.key first.key ≡ false → AllByRecursion (λ y. bytes_eq first.key y ≡ false) (t.key ∷ token_keys ts)
+others first t ts r e = (differ_back first.key t.key e, beyond_all first.key t.key (token_keys ts) r.0.0 e r.1.0)
 
 -- ---- no key has two runs
 
-differ_then : (first : Token) (key : Text) (keys : List Text) (b : Bool) → bytes_eq key first.key ≡ b → TextsRise (first.key ∷ key ∷ keys) → IsDistinct bytes_eq (map (λ t. t.key) (runs_from (longer first) keys)) → IsDistinct bytes_eq (map (λ t. t.key) (runs_from (token_with key 1) keys))
-    → IsDistinct bytes_eq (map (λ t. t.key) (runs_then b first key keys))
+differ_then : (first t : Token) (ts : List Token) (b : Bool) → bytes_eq t.key first.key ≡ b → TextsRise (first.key ∷ t.key ∷ token_keys ts) → IsDistinct bytes_eq (token_keys (runs_from (longer first t.frequency) ts)) → IsDistinct bytes_eq (token_keys (runs_from t ts))
+    → IsDistinct bytes_eq (token_keys (runs_then b first t ts))
 unfolding IsDistinct
-differ_then first key keys true e r u v = u
-differ_then first key keys false e r u v =
-    let apart = others first key keys r e in
-    (all_keys (λ y. bytes_eq first.key y ≡ false) (runs_from (token_with key 1) keys) (all_from (λ y. bytes_eq first.key y ≡ false) (token_with key 1) keys apart.0 apart.1), v)
+differ_then first t ts true e r u v = u
+differ_then first t ts false e r u v =
+    let apart = others first t ts r e in
+    (all_from (λ y. bytes_eq first.key y ≡ false) t ts apart.0 apart.1, v)
 
-differ_from : (first : Token) (keys : List Text) → TextsRise (first.key ∷ keys) → IsDistinct bytes_eq (map (λ t. t.key) (runs_from first keys))
+differ_from : (first : Token) (ts : List Token) → TextsRise (first.key ∷ token_keys ts) → IsDistinct bytes_eq (token_keys (runs_from first ts))
 unfolding IsDistinct
 differ_from first [] r = (tt, tt)
-differ_from first (key ∷ keys) r = differ_then first key keys (bytes_eq key first.key) refl r (differ_from (longer first) keys (r.0.1, r.1.1)) (differ_from (token_with key 1) keys r.1)
+differ_from first (t ∷ ts) r = differ_then first t ts (bytes_eq t.key first.key) refl r (differ_from (longer first t.frequency) ts (r.0.1, r.1.1)) (differ_from t ts r.1)
 
-pub runs_differ : (keys : List Text) → TextsRise keys → IsDistinct bytes_eq (map (λ t. t.key) (runs_of keys))
+pub runs_differ : (ts : List Token) → TextsRise (token_keys ts) → IsDistinct bytes_eq (token_keys (runs_of ts))
 unfolding IsDistinct
 runs_differ [] r = tt
-runs_differ (key ∷ keys) r = differ_from (token_with key 1) keys r
+runs_differ (t ∷ ts) r = differ_from t ts r
 
 -- ---- the keys of the runs increase
 
-rise_then : (first : Token) (key : Text) (keys : List Text) (b : Bool) → TextsRise (first.key ∷ key ∷ keys) → TextsRise (map (λ t. t.key) (runs_from (longer first) keys)) → TextsRise (map (λ t. t.key) (runs_from (token_with key 1) keys))
-    → TextsRise (map (λ t. t.key) (runs_then b first key keys))
-rise_then first key keys true r u v = u
-rise_then first key keys false r u v =
-    (all_keys (λ y. less y first.key ≡ false) (runs_from (token_with key 1) keys) (all_from (λ y. less y first.key ≡ false) (token_with key 1) keys r.0.0 r.0.1), v)
+rise_then : (first t : Token) (ts : List Token) (b : Bool) → TextsRise (first.key ∷ t.key ∷ token_keys ts) → TextsRise (token_keys (runs_from (longer first t.frequency) ts)) → TextsRise (token_keys (runs_from t ts))
+    → TextsRise (token_keys (runs_then b first t ts))
+rise_then first t ts true r u v = u
+rise_then first t ts false r u v = (all_from (λ y. less y first.key ≡ false) t ts r.0.0 r.0.1, v)
 
-rise_from : (first : Token) (keys : List Text) → TextsRise (first.key ∷ keys) → TextsRise (map (λ t. t.key) (runs_from first keys))
+rise_from : (first : Token) (ts : List Token) → TextsRise (first.key ∷ token_keys ts) → TextsRise (token_keys (runs_from first ts))
 rise_from first [] r = (tt, tt)
-rise_from first (key ∷ keys) r = rise_then first key keys (bytes_eq key first.key) r (rise_from (longer first) keys (r.0.1, r.1.1)) (rise_from (token_with key 1) keys r.1)
+rise_from first (t ∷ ts) r = rise_then first t ts (bytes_eq t.key first.key) r (rise_from (longer first t.frequency) ts (r.0.1, r.1.1)) (rise_from t ts r.1)
 
-pub runs_rise : (keys : List Text) → TextsRise keys → TextsRise (map (λ t. t.key) (runs_of keys))
+pub runs_rise : (ts : List Token) → TextsRise (token_keys ts) → TextsRise (token_keys (runs_of ts))
 runs_rise [] r = tt
-runs_rise (key ∷ keys) r = rise_from (token_with key 1) keys r
+runs_rise (t ∷ ts) r = rise_from t ts r
 
 -- ---- each key has one
 
@@ -79,106 +68,118 @@ twice : (a l : Bool) → (a || l) ≡ (a || (a || l))
 twice true l = refl
 twice false l = refl
 
-has_from : (q : Text) (first : Token) (keys : List Text) → list_any (bytes_eq q) (map (λ t. t.key) (runs_from first keys)) ≡ (bytes_eq q first.key || list_any (bytes_eq q) keys)
+has_from : (q : Text) (first : Token) (ts : List Token) → list_any (bytes_eq q) (token_keys (runs_from first ts)) ≡ (bytes_eq q first.key || list_any (bytes_eq q) (token_keys ts))
 has_from q first [] = refl
-has_from q first (key ∷ keys) = by (bytes_eq key first.key) refl (has_from q (longer first) keys) (has_from q (token_with key 1) keys)
+has_from q first (t ∷ ts) = by (bytes_eq t.key first.key) refl (has_from q (longer first t.frequency) ts) (has_from q t ts)
   where
-    by : (b : Bool) → bytes_eq key first.key ≡ b
-        → list_any (bytes_eq q) (map (λ t. t.key) (runs_from (longer first) keys)) ≡ (bytes_eq q first.key || list_any (bytes_eq q) keys)
-        → list_any (bytes_eq q) (map (λ t. t.key) (runs_from (token_with key 1) keys)) ≡ (bytes_eq q key || list_any (bytes_eq q) keys)
-        → list_any (bytes_eq q) (map (λ t. t.key) (runs_then b first key keys)) ≡ (bytes_eq q first.key || (bytes_eq q key || list_any (bytes_eq q) keys))
+    by : (b : Bool) → bytes_eq t.key first.key ≡ b
+        → list_any (bytes_eq q) (token_keys (runs_from (longer first t.frequency) ts)) ≡ (bytes_eq q first.key || list_any (bytes_eq q) (token_keys ts))
+        → list_any (bytes_eq q) (token_keys (runs_from t ts)) ≡ (bytes_eq q t.key || list_any (bytes_eq q) (token_keys ts))
+        → list_any (bytes_eq q) (token_keys (runs_then b first t ts)) ≡ (bytes_eq q first.key || (bytes_eq q t.key || list_any (bytes_eq q) (token_keys ts)))
     by true e u v =
-        let same : first.key ≡ key = sym ((bytes_eq-Decides key first.key).0 e) in
-        u ∙ twice (bytes_eq q first.key) (list_any (bytes_eq q) keys) ∙ ap (λ (k : Text). bytes_eq q first.key || (bytes_eq q k || list_any (bytes_eq q) keys)) same
+        let same : first.key ≡ t.key = sym ((bytes_eq-Decides t.key first.key).0 e) in
+        u ∙ twice (bytes_eq q first.key) (list_any (bytes_eq q) (token_keys ts)) ∙ ap (λ (k : Text). bytes_eq q first.key || (bytes_eq q k || list_any (bytes_eq q) (token_keys ts))) same
     by false e u v = ap (λ b. bytes_eq q first.key || b) v
 
-pub runs_have : (q : Text) (keys : List Text) → list_any (bytes_eq q) (map (λ t. t.key) (runs_of keys)) ≡ list_any (bytes_eq q) keys
+pub runs_have : (q : Text) (ts : List Token) → list_any (bytes_eq q) (token_keys (runs_of ts)) ≡ list_any (bytes_eq q) (token_keys ts)
 runs_have q [] = refl
-runs_have q (key ∷ keys) = has_from q (token_with key 1) keys
+runs_have q (t ∷ ts) = has_from q t ts
 
--- ---- as long as the key is frequent
+-- ---- as often as the tokens
 
 abbrev times : ℕ → Bool → ℕ
 times n b = cond b n 0
 
-count_none : (a : Text) (ys : List Text) → AllByRecursion (λ y. bytes_eq a y ≡ false) ys → count_by (bytes_eq a) ys ≡ 0
-count_none a [] h = refl
-count_none a (y ∷ ys) h =
-    omega (arith, sum_by-cons (λ (y : Text). once (bytes_eq a y)) y ys, count_none a ys h.1, ap once h.0)
+added : (f n : ℕ) (b : Bool) → times (f + n) b ≡ times f b + times n b
+added f n true = refl
+added f n false = refl
 
--- how many keys a run of q has, if the keys follow those of the first run
-abbrev often : Token → List Text → Text → ℕ
-often first keys q = times first.frequency (bytes_eq q first.key) + count_by (bytes_eq q) keys
-
-often_longer : (first : Token) (key : Text) (keys : List Text) (q : Text) → key ≡ first.key → often (longer first) keys q ≡ often first (key ∷ keys) q
-often_longer first key keys q e =
-    let same : bytes_eq q key ≡ bytes_eq q first.key = ap (bytes_eq q) e in
-    let split = sum_by-cons (λ (y : Text). once (bytes_eq q y)) key keys in
-    by (bytes_eq q first.key) first.frequency (count_by (bytes_eq q) keys) (count_by (bytes_eq q) (key ∷ keys)) (split ∙ ap (λ b. once b + count_by (bytes_eq q) keys) same)
+often_from : (q : Text) (first : Token) (ts : List Token) → often q (runs_from first ts) ≡ often_as q first + often q ts
+often_from q first [] = omega (arith, sum_by-cons (often_as q) first [])
+often_from q first (t ∷ ts) = by (bytes_eq t.key first.key) refl (often_from q (longer first t.frequency) ts) (often_from q t ts)
   where
-    by : (b : Bool) (f c n : ℕ) → n ≡ once b + c → times (f + 1) b + c ≡ times f b + n
-    by true f c n e = omega arith
-    by false f c n e = omega arith
+    by : (b : Bool) → bytes_eq t.key first.key ≡ b → often q (runs_from (longer first t.frequency) ts) ≡ often_as q (longer first t.frequency) + often q ts → often q (runs_from t ts) ≡ often_as q t + often q ts
+        → often q (runs_then b first t ts) ≡ often_as q first + often q (t ∷ ts)
+    by true e u v =
+        let same : times t.frequency (bytes_eq q first.key) ≡ often_as q t = ap (λ (k : Text). times t.frequency (bytes_eq q k)) (sym ((bytes_eq-Decides t.key first.key).0 e)) in
+        omega (arith, u, added first.frequency t.frequency (bytes_eq q first.key), same, sum_by-cons (often_as q) t ts)
+    by false e u v = omega (arith, v, sum_by-cons (often_as q) first (runs_from t ts), sum_by-cons (often_as q) t ts)
 
-often_next : (first : Token) (key : Text) (keys : List Text) (q : Text) → bytes_eq q first.key ≡ false → often (token_with key 1) keys q ≡ often first (key ∷ keys) q
-often_next first key keys q e =
-    omega (arith, ap (times first.frequency) e, sum_by-cons (λ (y : Text). once (bytes_eq q y)) key keys)
+pub runs_often : (q : Text) (ts : List Token) → often q (runs_of ts) ≡ often q ts
+runs_often q [] = refl
+runs_often q (t ∷ ts) = often_from q t ts ∙ sym (sum_by-cons (often_as q) t ts)
 
-often_first : (first : Token) (keys : List Text) → AllByRecursion (λ y. bytes_eq first.key y ≡ false) keys → first.frequency ≡ often first keys first.key
-often_first first keys h =
-    omega (arith, ap (times first.frequency) ((bytes_eq-Decides first.key first.key).1 refl), count_none first.key keys h)
+often_none : (q : Text) (ts : List Token) → AllByRecursion (λ y. bytes_eq q y ≡ false) (token_keys ts) → often q ts ≡ 0
+often_none q [] h = refl
+often_none q (t ∷ ts) h = omega (arith, sum_by-cons (often_as q) t ts, often_none q ts h.1, ap (times t.frequency) h.0)
 
-counted_then : (first : Token) (key : Text) (keys : List Text) (b : Bool) → bytes_eq key first.key ≡ b → TextsRise (first.key ∷ key ∷ keys)
-    → AllByRecursion (λ t. t.frequency ≡ often (longer first) keys t.key) (runs_from (longer first) keys)
-    → AllByRecursion (λ t. t.frequency ≡ often (token_with key 1) keys t.key) (runs_from (token_with key 1) keys)
-    → AllByRecursion (λ t. t.frequency ≡ often first (key ∷ keys) t.key) (runs_then b first key keys)
-counted_then first key keys true e r u v =
-    let same = (bytes_eq-Decides key first.key).0 e in
-    all_both (λ (t : Token). t.frequency ≡ often (longer first) keys t.key) (λ (t : Token). t.frequency ≡ often (longer first) keys t.key) (λ (t : Token). t.frequency ≡ often first (key ∷ keys) t.key)
-    (λ t h g. h ∙ often_longer first key keys t.key same) (runs_from (longer first) keys) u u
-counted_then first key keys false e r u v =
-    let apart = others first key keys r e in
-    let behind = all_from (λ y. bytes_eq first.key y ≡ false) (token_with key 1) keys apart.0 apart.1 in (
-      often_first first (key ∷ keys) apart,
-      all_both (λ (t : Token). t.frequency ≡ often (token_with key 1) keys t.key) (λ (t : Token). bytes_eq first.key t.key ≡ false) (λ (t : Token). t.frequency ≡ often first (key ∷ keys) t.key)
-          (λ t h g. h ∙ often_next first key keys t.key (differ_back t.key first.key g)) (runs_from (token_with key 1) keys) v behind,
-    )
+-- one token more, with another key
+often_more : (t : Token) (ts us : List Token) → AllByRecursion (λ y. bytes_eq t.key y ≡ false) (token_keys us) → AllByRecursion (λ u. u.frequency ≡ often u.key ts) us → AllByRecursion (λ u. u.frequency ≡ often u.key (t ∷ ts)) us
+often_more t ts [] apart h = tt
+often_more t ts (u ∷ us) apart h = (
+  omega (arith, h.0, sum_by-cons (often_as u.key) t ts, ap (times t.frequency) (differ_back u.key t.key apart.0)),
+  often_more t ts us apart.1 h.1,
+)
 
-counted_from : (first : Token) (keys : List Text) → TextsRise (first.key ∷ keys) → AllByRecursion (λ t. t.frequency ≡ often first keys t.key) (runs_from first keys)
-counted_from first [] r = (often_first first [] tt, tt)
-counted_from first (key ∷ keys) r = counted_then first key keys (bytes_eq key first.key) refl r (counted_from (longer first) keys (r.0.1, r.1.1)) (counted_from (token_with key 1) keys r.1)
+-- if no two have the same key, each occurs as often as it is frequent
+pub often_alone : (ts : List Token) → IsDistinct bytes_eq (token_keys ts) → AllByRecursion (λ t. t.frequency ≡ often t.key ts) ts
+unfolding IsDistinct
+often_alone [] d = tt
+often_alone (t ∷ ts) d = (
+  omega (arith, sum_by-cons (often_as t.key) t ts, ap (times t.frequency) ((bytes_eq-Decides t.key t.key).1 refl), often_none t.key ts d.0),
+  often_more t ts ts d.0 (often_alone ts d.1),
+)
 
-pub runs_counted : (keys : List Text) → TextsRise keys → AllByRecursion (λ t. t.frequency ≡ count_by (bytes_eq t.key) keys) (runs_of keys)
-runs_counted [] r = tt
-runs_counted (key ∷ keys) r =
-    all_both (λ (t : Token). t.frequency ≡ often (token_with key 1) keys t.key) (λ (t : Token). t.frequency ≡ often (token_with key 1) keys t.key) (λ (t : Token). t.frequency ≡ count_by (bytes_eq t.key) (key ∷ keys))
-    (λ t h g. h ∙ sym (sum_by-cons (λ (y : Text). once (bytes_eq t.key y)) key keys)) (runs_from (token_with key 1) keys) (counted_from (token_with key 1) keys r) (counted_from (token_with key 1) keys r)
+-- ---- a key is there exactly if it occurs
 
--- ---- all runs together are as long as the keys
+some_less : (n : ℕ) → 0 < n → true ≡ nat_lt 0 n
+some_less zero h = absurd (omega arith)
+some_less (suc n) h = refl
 
-long_from : (first : Token) (keys : List Text) → sum_by (λ t. t.frequency) (runs_from first keys) ≡ first.frequency + length keys
-long_from first [] = omega (arith, sum_by-cons (λ (t : Token). t.frequency) first [])
-long_from first (key ∷ keys) = by (bytes_eq key first.key) (long_from (longer first) keys) (long_from (token_with key 1) keys)
+any_counted_then : (b l : Bool) (n : ℕ) → l ≡ nat_lt 0 n → (b || l) ≡ nat_lt 0 (once b + n)
+any_counted_then true l n h = some_less (1 + n) (omega arith)
+any_counted_then false l n h = h
+
+pub any_counted : (q : Text) (keys : List Text) → list_any (bytes_eq q) keys ≡ nat_lt 0 (count_by (bytes_eq q) keys)
+any_counted q [] = refl
+any_counted q (key ∷ keys) = any_counted_then (bytes_eq q key) (list_any (bytes_eq q) keys) (count_by (bytes_eq q) keys) (any_counted q keys) ∙ ap (nat_lt 0) (sym (sum_by-cons (λ (y : Text). once (bytes_eq q y)) key keys))
+
+any_often_then : (b l : Bool) (f n : ℕ) → 0 < f → l ≡ nat_lt 0 n → (b || l) ≡ nat_lt 0 (times f b + n)
+any_often_then true l f n some h = some_less (f + n) (omega (arith, some))
+any_often_then false l f n some h = h
+
+pub any_often : (q : Text) (ts : List Token) → AllByRecursion (λ t. 0 < t.frequency) ts → list_any (bytes_eq q) (token_keys ts) ≡ nat_lt 0 (often q ts)
+any_often q [] some = refl
+any_often q (t ∷ ts) some = any_often_then (bytes_eq q t.key) (list_any (bytes_eq q) (token_keys ts)) t.frequency (often q ts) some.0 (any_often q ts some.1) ∙ ap (nat_lt 0) (sym (sum_by-cons (often_as q) t ts))
+
+-- ---- all runs together are as frequent as the tokens
+
+total_from : (first : Token) (ts : List Token) → sum_by (λ t. t.frequency) (runs_from first ts) ≡ first.frequency + sum_by (λ t. t.frequency) ts
+total_from first [] = omega (arith, sum_by-cons (λ (t : Token). t.frequency) first [])
+total_from first (t ∷ ts) = by (bytes_eq t.key first.key) (total_from (longer first t.frequency) ts) (total_from t ts)
   where
-    by : (b : Bool) → sum_by (λ t. t.frequency) (runs_from (longer first) keys) ≡ first.frequency + 1 + length keys → sum_by (λ t. t.frequency) (runs_from (token_with key 1) keys) ≡ 1 + length keys
-        → sum_by (λ t. t.frequency) (runs_then b first key keys) ≡ first.frequency + length (key ∷ keys)
-    by true u v = omega (arith, u)
-    by false u v = omega (arith, v, sum_by-cons (λ (t : Token). t.frequency) first (runs_from (token_with key 1) keys))
+    by : (b : Bool) → sum_by (λ t. t.frequency) (runs_from (longer first t.frequency) ts) ≡ first.frequency + t.frequency + sum_by (λ t. t.frequency) ts → sum_by (λ t. t.frequency) (runs_from t ts) ≡ t.frequency + sum_by (λ t. t.frequency) ts
+        → sum_by (λ t. t.frequency) (runs_then b first t ts) ≡ first.frequency + sum_by (λ t. t.frequency) (t ∷ ts)
+    by true u v = omega (arith, u, sum_by-cons (λ (t : Token). t.frequency) t ts)
+    by false u v = omega (arith, v, sum_by-cons (λ (t : Token). t.frequency) first (runs_from t ts), sum_by-cons (λ (t : Token). t.frequency) t ts)
 
-pub runs_long : (keys : List Text) → sum_by (λ t. t.frequency) (runs_of keys) ≡ length keys
-runs_long [] = refl
-runs_long (key ∷ keys) = omega (arith, long_from (token_with key 1) keys)
+pub runs_total : (ts : List Token) → sum_by (λ t. t.frequency) (runs_of ts) ≡ sum_by (λ t. t.frequency) ts
+runs_total [] = refl
+runs_total (t ∷ ts) = total_from t ts ∙ sym (sum_by-cons (λ (t : Token). t.frequency) t ts)
 
--- ---- there are no more runs than keys
+pub run_total : (first : Token) (ts : List Token) → sum_by (λ t. t.frequency) (runs_from first ts) ≡ first.frequency + sum_by (λ t. t.frequency) ts
+run_total = total_from
 
-few_from : (first : Token) (keys : List Text) → length (runs_from first keys) ≤ length keys + 1
+-- ---- there are no more runs than tokens
+
+few_from : (first : Token) (ts : List Token) → length (runs_from first ts) ≤ length ts + 1
 few_from first [] = omega arith
-few_from first (key ∷ keys) = by (bytes_eq key first.key) (few_from (longer first) keys) (few_from (token_with key 1) keys)
+few_from first (t ∷ ts) = by (bytes_eq t.key first.key) (few_from (longer first t.frequency) ts) (few_from t ts)
   where
-    by : (b : Bool) → length (runs_from (longer first) keys) ≤ length keys + 1 → length (runs_from (token_with key 1) keys) ≤ length keys + 1 → length (runs_then b first key keys) ≤ length (key ∷ keys) + 1
+    by : (b : Bool) → length (runs_from (longer first t.frequency) ts) ≤ length ts + 1 → length (runs_from t ts) ≤ length ts + 1 → length (runs_then b first t ts) ≤ length (t ∷ ts) + 1
     by true u v = omega (arith, u)
     by false u v = omega (arith, v)
 
-pub runs_few : (keys : List Text) → length (runs_of keys) ≤ length keys
+pub runs_few : (ts : List Token) → length (runs_of ts) ≤ length ts
 runs_few [] = omega arith
-runs_few (key ∷ keys) = omega (arith, few_from (token_with key 1) keys)
+runs_few (t ∷ ts) = omega (arith, few_from t ts)

@@ -7,17 +7,17 @@ use Rattle.lake_model.specs.Sorting.{in_order}
 use Rattle.lake_model.specs.Texts.{Text}
 use Rattle.lake_model.specs.Tables.{Table}
 use Rattle.search_model.specs.Segment.{Token, columns_of, tokens_of}
-use Rattle.token_order.specs.Places.{keys_of, number_of}
+use Rattle.token_order.specs.Places.{keys_of, pointed_by}
 use Rattle.token_order.specs.declared.columns.ColumnAt.{ColumnAt}
-use Rattle.search_model.specs.declared.TokenAt.{TokenAt}
+use Rattle.token_order.specs.declared.groups.Group.{Group}
 
 -- the text is the one with this number
 abbrev pub IsRank : List Text → Text → ℕ → Type 0
 IsRank names key n = (n < length names) × (get_or names n [] ≡ key)
 
--- the numbers written for these members are those of their keys among the names
-abbrev pub HaveRanks : List Text → List Text → List ℕ → List ColumnAt → List TokenAt → Type 0
-HaveRanks names keys ranks columns members = All (λ m. IsRank names (get_or keys (number_of columns m) []) (get_or ranks (number_of columns m) 0)) members
+-- the numbers written for these groups are those of their keys among the names
+abbrev pub HaveRanks : List Text → List Table → List ColumnAt → List ℕ → List Group → Type 0
+HaveRanks names tables columns ranks groups = All (λ g. IsRank names (pointed_by tables columns g.keyed.member) (get_or ranks g.number 0)) groups
 
 -- the keys of the tokens, sorted by their bytes
 abbrev pub names_of : List Token → List Text

@@ -1,5 +1,6 @@
--- Keys as runs of equal neighbours. A run is a token: its key, and how many keys the run has.
-use Rattle.std.specs.Prelude.{◌≡◌, ℕ, ◌+◌, ◌*◌, ◌<◌, ◌^◌, List, [], ◌∷◌, bytes_eq, get_or, if◌then◌else◌, length, map}
+-- Tokens whose keys are sorted, as runs of neighbours with the same key. A run is a token, too: it is as frequent as all
+-- of these together.
+use Rattle.std.specs.Prelude.{◌≡◌, ℕ, ◌+◌, ◌*◌, ◌<◌, ◌^◌, List, [], ◌∷◌, bytes_eq, get_or, if◌then◌else◌, length}
 use Rattle.std.specs.Ordering.{nat_cmp, ordering_then}
 use Rattle.std.specs.declared.cmp.Ordering.{Ordering}
 use Rattle.lake_model.specs.Texts.{Text}
@@ -10,20 +11,20 @@ use Rattle.token_order.specs.Places.{pointed_by}
 use Rattle.token_order.specs.declared.columns.ColumnAt.{ColumnAt}
 use Rattle.token_order.specs.declared.runs.Run.{Run}
 
--- the runs, if the keys follow those of the first run
-abbrev pub runs_from : Token → List Text → List Token
+-- a token that is more frequent
+abbrev pub longer : Token → ℕ → Token
+longer token more = token_with token.key (token.frequency + more)
+
+-- the runs, if the tokens follow those of the first run
+abbrev pub runs_from : Token → List Token → List Token
 runs_from first [] = first ∷ []
-runs_from first (key ∷ keys) = if bytes_eq key first.key then runs_from (token_with first.key (first.frequency + 1)) keys else first ∷ runs_from (token_with key 1) keys
+runs_from first (token ∷ tokens) = if bytes_eq token.key first.key then runs_from (longer first token.frequency) tokens else first ∷ runs_from token tokens
 
-abbrev pub runs_of : List Text → List Token
+abbrev pub runs_of : List Token → List Token
 runs_of [] = []
-runs_of (key ∷ keys) = runs_from (token_with key 1) keys
+runs_of (token ∷ tokens) = runs_from token tokens
 
--- the keys of runs
-abbrev pub run_keys : List Text → List Text
-run_keys keys = map (λ t. t.key) (runs_of keys)
-
--- the token of a run of members
+-- the token of a run
 abbrev pub run_token : List Table → List ColumnAt → Run → Token
 run_token tables columns run = token_with (pointed_by tables columns run.first) run.frequency
 

@@ -10,7 +10,6 @@ use crate::columns::ColumnAt;
 use crate::fronts::front_of;
 use crate::places::key_at;
 use column_set::SharedTable;
-use front_sort::FrontOrder;
 use search_model::TokenAt;
 use std::cmp::Ordering;
 
@@ -36,19 +35,19 @@ impl Keyed {
         }
     }
 
-    // Returns the front.
+    /// Returns the front.
     #[inline(always)]
-    fn front(&self) -> u128
+    pub fn front(&self) -> u128
         ensures { result ≡ front_held self.now }
     {
         self.high as u128 * 0x1_0000_0000_0000_0000 + self.low as u128
     }
 }
 
-// Compares members by their fronts, and then by their keys, which are read only if the fronts are equal and more bytes
-// may follow. The order is that of the bytes of their keys.
+/// Compares members by their fronts, and then by their keys, which are read only if the fronts are equal and more bytes
+/// may follow. The order is that of the bytes of their keys.
 #[inline(always)]
-fn order(tables: &[SharedTable], columns: &[ColumnAt], a: &Keyed, b: &Keyed) -> Ordering
+pub fn order(tables: &[SharedTable], columns: &[ColumnAt], a: &Keyed, b: &Keyed) -> Ordering
     ensures { result ≡ slice_cmp nat_cmp (compared_with tables.now columns.now a.now) (compared_with tables.now columns.now b.now) }
 {
     let front = a.front();
@@ -73,28 +72,6 @@ fn order_by_rest(
         return Ordering::Equal;
     }
     key_at(tables, columns, a).cmp(key_at(tables, columns, b))
-}
-
-/// The order of members by their keys, for a sort by the fronts of these.
-#[derive(Drop)]
-pub struct ByKey<'a> {
-    pub tables: &'a [SharedTable],
-    pub columns: &'a [ColumnAt],
-}
-
-impl<'a> FrontOrder<Keyed> for ByKey<'a> {
-    ghost front = { λ _ keyed. front_held keyed };
-
-    ghost rest = { λ by keyed. rest_by (front_held keyed) (pointed_by by.tables.now by.columns.now keyed.member) };
-
-    #[inline(always)]
-    fn front(&self, keyed: &Keyed) -> u128 {
-        keyed.front()
-    }
-
-    fn compare(&self, a: &Keyed, b: &Keyed) -> Ordering {
-        order(self.tables, self.columns, a, b)
-    }
 }
 
 /// Returns whether two members have the same key.

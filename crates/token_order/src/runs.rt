@@ -1,25 +1,26 @@
 //! Members with equal keys, counted.
-ghost use Rattle.std.specs.Prelude.{◌≡◌, ◌<◌, ◌^◌, length, map, sum_by, IfOk, OnOk};
+ghost use Rattle.std.specs.Prelude.{◌≡◌, ◌<◌, ◌^◌, [], get_or, length, map, sum_by, IfOk, OnOk};
 ghost use Rattle.std.specs.List.{All};
 ghost use Rattle.column_set.specs.Columns.{HasDistinctKeys};
 ghost use Rattle.lake_model.specs.Tables.{members};
-ghost use Rattle.token_order.specs.Counted.{AreCounted};
-ghost use Rattle.search_model.specs.Arrays.{token_with};
-ghost use Rattle.token_order.specs.Keyed.{members_of, IsKeyed};
-ghost use Rattle.token_order.specs.Places.{keys_of, pointed_by, AreMembers, IsThere};
+ghost use Rattle.search_model.specs.Arrays.{token_keys, token_with};
+ghost use Rattle.token_order.specs.Counted.{AreCounted, AreNumbers};
+ghost use Rattle.token_order.specs.Groups.{group_token};
+ghost use Rattle.token_order.specs.Keyed.{IsKeyed};
+ghost use Rattle.token_order.specs.Places.{pointed_by, IsThere};
 ghost use Rattle.token_order.specs.Ranks.{HaveRanks};
-ghost use Rattle.token_order.specs.Runs.{run_keys, run_number, run_token, runs_from, runs_of, AreRanked};
+ghost use Rattle.token_order.specs.Runs.{run_number, run_token, runs_from, runs_of, AreRanked};
 
 use crate::columns::{ColumnAt, all_columns};
+use crate::groups::{Group, Groups, grouped_members, sorted_groups};
 use crate::keyed::{Keyed, same_key};
-use crate::places::{members_by_key, number_of};
 use column_set::SharedTable;
 use no_memory::NoMemory;
 use search_model::TokenAt;
 use std::alloc::Global;
 
-/// A run of adjacent members with equal keys among the sorted members: its first member, how many it has, and its
-/// number among the runs, from 0.
+/// All members that have one key: the first of them, how many they are, and the number of the key among the distinct
+/// keys sorted by their bytes, from 0.
 #[derive(Clone, Copy)]
 pub struct Run {
     pub first: TokenAt,
@@ -36,16 +37,20 @@ pub struct CountedRuns {
     pub ranks: Vec<u32>,
 }
 
-/// Returns the runs of the members of all columns of the tables. The members themselves are freed at the end.
+/// Returns the runs of the members of all columns of the tables. The members are grouped first, so that only one of each
+/// group is sorted.
 pub fn counted_runs(alloc: Global, tables: &[SharedTable]) -> Result<CountedRuns, NoMemory>
     requires { sum_by members tables.now < 2 ^ 32 }
     ensures counted { IfOk result (λ made. AreCounted tables.now made.columns.items made.runs.items made.ranks.items) }
     ensures different { OnOk result (All HasDistinctKeys tables.now) }
 {
     let columns = all_columns(alloc, tables)?;
-    let members = members_by_key(alloc, tables, &columns)?;
-    let mut ranks = vec![in alloc; 0; members.len()]?;
-    let runs = count_runs(alloc, tables, &columns, &members, &mut ranks)?;
+    let Groups { groups, numbers } = grouped_members(alloc, tables, &columns)?;
+    let groups = sorted_groups(groups, tables, &columns);
+    let mut ranks = vec![in alloc; 0; groups.len()]?;
+    let runs = count_runs(alloc, tables, &columns, &groups, &mut ranks)?;
+    drop(groups);
+    let ranks = ranks_of_members(numbers, &ranks);
     Ok(CountedRuns {
         columns,
         runs,
@@ -61,49 +66,54 @@ pub fn run_number(run: Run) -> u64
     run.frequency as u64 * 0x1_0000_0000 + run.rank as u64
 }
 
-// Returns the runs of the members. The number of each member's run is written to `ranks` at the member's number.
+// Returns the runs of these groups, which are sorted by their keys. The number of each group's run is written to `ranks`
+// at the number of the group.
 fn count_runs(
     alloc: Global,
     tables: &[SharedTable],
     columns: &[ColumnAt],
-    members: &[Keyed],
+    groups: &[Group],
     ranks: &mut [u32],
 ) -> Result<Vec<Run>, NoMemory>
-    requires members { AreMembers tables.now columns.now (members_of members.now) }
-    requires keyed { All (IsKeyed tables.now columns.now) members.now }
-    requires few { length members.now < 2 ^ 32 }
-    requires room { length ranks.old ≡ length (keys_of tables.now) }
-    ensures runs { IfOk result (λ runs. map (run_token tables.now columns.now) runs.items ≡ runs_of (map (pointed_by tables.now columns.now) (members_of members.now))) }
+    requires keyed { All (λ g. IsKeyed tables.now columns.now g.keyed) groups.now }
+    requires within { All (λ g. IsThere tables.now columns.now g.keyed.member) groups.now }
+    requires numbers { AreNumbers (map (λ g. g.number) groups.now) }
+    requires few { sum_by (λ g. g.frequency) groups.now < 2 ^ 32 }
+    requires many { length groups.now < 2 ^ 32 }
+    requires room { length ranks.old ≡ length groups.now }
+    ensures runs { IfOk result (λ runs. map (run_token tables.now columns.now) runs.items ≡ runs_of (map (group_token tables.now columns.now) groups.now)) }
     ensures within { IfOk result (λ runs. All (λ r. IsThere tables.now columns.now r.first) runs.items) }
     ensures numbered { IfOk result (λ runs. AreRanked runs.items) }
-    ensures ranked { OnOk result (HaveRanks (run_keys (map (pointed_by tables.now columns.now) (members_of members.now))) (keys_of tables.now) ranks.new columns.now (members_of members.now)) }
+    ensures ranked { OnOk result (HaveRanks (token_keys (runs_of (map (group_token tables.now columns.now) groups.now))) tables.now columns.now ranks.new groups.now) }
     ensures long { length ranks.new ≡ length ranks.old }
 {
-    let Some(first) = members.first() else {
+    let Some(first) = groups.first() else {
         return Ok(Vec::new(alloc));
     };
-    count_from(alloc, tables, columns, *first, members, ranks)
+    count_from(alloc, tables, columns, first.keyed, groups, ranks)
 }
 
-// Returns the runs. The first one begins at a member that has not been counted yet.
+// Returns the runs. The first one begins at the first member of a group that has not been counted yet.
 fn count_from(
     alloc: Global,
     tables: &[SharedTable],
     columns: &[ColumnAt],
     first: Keyed,
-    members: &[Keyed],
+    groups: &[Group],
     ranks: &mut [u32],
 ) -> Result<Vec<Run>, NoMemory>
     requires first { IsThere tables.now columns.now first.member }
     requires keyed_first { IsKeyed tables.now columns.now first }
-    requires members { AreMembers tables.now columns.now (members_of members.now) }
-    requires keyed { All (IsKeyed tables.now columns.now) members.now }
-    requires few { length members.now < 2 ^ 32 }
-    requires room { length ranks.old ≡ length (keys_of tables.now) }
-    ensures runs { IfOk result (λ runs. map (run_token tables.now columns.now) runs.items ≡ runs_from (token_with (pointed_by tables.now columns.now first.member) 0) (map (pointed_by tables.now columns.now) (members_of members.now))) }
+    requires keyed { All (λ g. IsKeyed tables.now columns.now g.keyed) groups.now }
+    requires within { All (λ g. IsThere tables.now columns.now g.keyed.member) groups.now }
+    requires numbers { AreNumbers (map (λ g. g.number) groups.now) }
+    requires few { sum_by (λ g. g.frequency) groups.now < 2 ^ 32 }
+    requires many { length groups.now < 2 ^ 32 }
+    requires room { length ranks.old ≡ length groups.now }
+    ensures runs { IfOk result (λ runs. map (run_token tables.now columns.now) runs.items ≡ runs_from (token_with (pointed_by tables.now columns.now first.member) 0) (map (group_token tables.now columns.now) groups.now)) }
     ensures within { IfOk result (λ runs. All (λ r. IsThere tables.now columns.now r.first) runs.items) }
     ensures numbered { IfOk result (λ runs. AreRanked runs.items) }
-    ensures ranked { OnOk result (HaveRanks (map (λ t. t.key) (runs_from (token_with (pointed_by tables.now columns.now first.member) 0) (map (pointed_by tables.now columns.now) (members_of members.now)))) (keys_of tables.now) ranks.new columns.now (members_of members.now)) }
+    ensures ranked { OnOk result (HaveRanks (token_keys (runs_from (token_with (pointed_by tables.now columns.now first.member) 0) (map (group_token tables.now columns.now) groups.now))) tables.now columns.now ranks.new groups.now) }
     ensures long { length ranks.new ≡ length ranks.old }
 {
     let mut runs = Vec::new(alloc);
@@ -113,20 +123,32 @@ fn count_from(
         frequency: 0,
         rank: 0,
     };
-    for keyed in members {
-        if same_key(tables, columns, keyed, &held) {
-            run.frequency += 1;
+    for group in groups {
+        if same_key(tables, columns, &group.keyed, &held) {
+            run.frequency += group.frequency;
         } else {
             runs.push(run)?;
-            held = *keyed;
+            held = group.keyed;
             run = Run {
-                first: keyed.member,
-                frequency: 1,
+                first: group.keyed.member,
+                frequency: group.frequency,
                 rank: run.rank + 1,
             };
         }
-        ranks[number_of(columns, keyed.member)] = run.rank;
+        ranks[group.number as usize] = run.rank;
     }
     runs.push(run)?;
     Ok(runs)
+}
+
+// Returns at each member's number the number of its run, given the numbers of the members' groups and at each group's
+// number that of its run. It takes no memory.
+fn ranks_of_members(mut numbers: Vec<u32>, ranks: &[u32]) -> Vec<u32>
+    requires { All (λ number. number < length ranks.now) numbers.items }
+    ensures { result.items ≡ map (λ number. get_or ranks.now number 0) numbers.items }
+{
+    for number in &mut numbers {
+        *number = ranks[*number as usize];
+    }
+    numbers
 }
