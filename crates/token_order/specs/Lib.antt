@@ -2,6 +2,7 @@ pub mod Columns
 pub mod Counted
 pub mod Counting
 pub mod Fronts
+pub mod Grouping
 pub mod Groups
 pub mod Keyed
 pub mod Places
