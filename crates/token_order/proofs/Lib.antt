@@ -5,6 +5,7 @@ pub mod OrderLemmas
 pub mod RunLemmas
 pub mod SortLemmas
 pub mod TokenLemmas
+pub mod GroupLemmas
 pub mod HeldLemmas
 pub mod CountLemmas
 pub mod FrontLemmas

@@ -1,5 +1,5 @@
 -- Members that are put into groups one after another, and the slots through which the group of a key is found.
-use Rattle.std.specs.Prelude.{◌≡◌, ℕ, ◌+◌, ◌<◌, List, get_or, length, map}
+use Rattle.std.specs.Prelude.{◌≡◌, ℕ, ◌+◌, ◌<◌, List, ⊤, get_or, length, map}
 use Rattle.lake_model.specs.Texts.{Text}
 use Rattle.lake_model.specs.Tables.{Table}
 use Rattle.token_order.specs.Groups.{group_key, AreGroups}
@@ -42,7 +42,7 @@ pub record IsProbe (tables : List Table) (columns : List ColumnAt) (probe : Prob
 -- a group that has the key
 pub record HasKey (tables : List Table) (columns : List ColumnAt) (groups : List Group) (key : Text) (number : ℕ) : Type 0 where
   pub within : number < length groups
-  pub key : group_key tables columns groups number ≡ key
+  pub same : group_key tables columns groups number ≡ key
 
 -- the result of a look-up: a group that has the key, or a slot for a new group, of `size` slots, or neither
 abbrev pub IsSeat : List Table → List ColumnAt → List Group → Text → ℕ → Seat → Type 0
