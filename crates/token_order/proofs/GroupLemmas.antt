@@ -1,12 +1,12 @@
 -- The steps by which members are put into groups.
-use Rattle.std.proofs.Common.{◌≡◌, refl, ap, sym, ◌∙◌, subst, ℕ, ◌+◌, ◌%◌, ◌*◌, ◌^◌, ◌<◌, ◌≤◌, List, [], ◌∷◌, ◌++◌, map, length, get_or, set, inl, inr, Bool, true, false, cond, arith}
-use Rattle.std.specs.Prelude.{bytes_eq, sum_by, Result, Ok, Err, OnOk}
+use Rattle.std.proofs.Common.{◌≡◌, refl, ap, sym, ◌∙◌, subst, ℕ, ◌+◌, ◌%◌, ◌<◌, ◌≤◌, List, [], ◌∷◌, ◌++◌, map, length, get_or, set, inl, inr, Bool, true, false, cond, arith}
+use Rattle.std.specs.Prelude.{bytes_eq, nat_lt, sum_by, Result, Ok, Err, OnOk}
 use Rattle.std.specs.Cmp.Lexicographic.{slice_cmp}
 use Rattle.std.specs.Ordering.{is_eq, nat_cmp}
-use Rattle.std.specs.List.{All, AllByRecursion, count_by}
+use Rattle.std.specs.List.{All, AllByRecursion}
 use Rattle.std.proofs.lemmas.Bool.{cases_eq, cases_lt}
-use Rattle.std.proofs.lemmas.Bool.Decides.{Decides-eqb}
-use Rattle.std.proofs.lemmas.List.{ext_get_or, get_or_append_left, get_or_push, get_or-map, get_or-set_other, get_or-set_same, length-map, length-set, length_push, map-set, map_push}
+use Rattle.std.proofs.lemmas.Bool.Decides.{Decides-eqb, Decides-ltb}
+use Rattle.std.proofs.lemmas.List.{get_or_append_left, get_or_push, get_or-map, get_or-set_other, get_or-set_same, length-map, length-set, length_push, map-set, map_push}
 use Rattle.std.proofs.lemmas.List.Elements.{All-nil, All-push, All-set, recursion_from_All}
 use Rattle.std.proofs.lemmas.List.Sums.{sum_by-cons, sum_by-set, sum_by_push}
 use Rattle.std.proofs.Math.Seq.{map-set_same}
@@ -18,7 +18,7 @@ use Rattle.search_model.specs.Segment.{Token}
 use Rattle.search_model.specs.declared.TokenAt.{TokenAt}
 use Rattle.token_order.specs.Fronts.{front_of, rest_by}
 use Rattle.token_order.specs.Grouping.{group_at, group_of, keys_so_far, no_group, with_member, AreGrouped, HasKey, IsProbe}
-use Rattle.token_order.specs.Groups.{group_key, group_token, often, often_as, AreGroups}
+use Rattle.token_order.specs.Groups.{group_key, group_token, often_as, AreGroups}
 use Rattle.token_order.specs.Keyed.{front_held, IsKeyed}
 use Rattle.token_order.specs.Places.{pointed_by, IsThere}
 use Rattle.token_order.specs.declared.columns.ColumnAt.{ColumnAt}
@@ -44,6 +44,10 @@ cond_more : (b : Bool) (n : ℕ) → cond b (n + 1) 0 ≡ cond b n 0 + cond b 1 
 cond_more true n = refl
 cond_more false n = refl
 
+-- an index that a test found to be within a list
+pub slice_within : {X : Type 0} (i : ℕ) (lent xs : List X) → nat_lt i (length lent) ≡ true → lent ≡ xs → i < length xs
+slice_within i lent xs test same = omega (arith, (Decides-ltb i (length lent)).0 test, ap length same)
+
 -- what follows from two facts on a value follows if there is a value
 pub on_both : {T E P Q R : Type 0} (r : Result T E) → (P → Q → R) → OnOk r P → OnOk r Q → OnOk r R
 on_both (Ok x) f p q = f p q
@@ -57,10 +61,10 @@ same_fronts a b within_a within_b same even =
     let order = slice_cmp nat_cmp in
     let alike : compared_by 15 b ≡ compared_by 15 a = whole b (ap (λ n. n % 2) (sym same) ∙ even) ∙ ap (λ (n : ℕ). n ∷ []) (sym same) ∙ sym (whole a even) in
     same_texts a b (
-      sym (is_eq-slice_cmp a b)
-      ∙ ap is_eq (sym (compared 15 a b within_a within_b) ∙ ap (order (compared_by 15 a)) alike ∙ compared 15 a a within_a within_a)
-      ∙ is_eq-slice_cmp a a
-      ∙ texts_same a a refl
+    sym (is_eq-slice_cmp a b)
+    ∙ ap is_eq (sym (compared 15 a b within_a within_b) ∙ ap (order (compared_by 15 a)) alike ∙ compared 15 a a within_a within_a)
+    ∙ is_eq-slice_cmp a a
+    ∙ texts_same a a refl
     )
 
 -- ---- groups
@@ -134,19 +138,19 @@ module _ (tables : List Table) (columns : List ColumnAt) where
         ];
         some = All-set (λ g. 0 < g.frequency) groups i new (omega arith) are.some;
         counted = λ q.
-        let tokens = map token_of groups in
-        let f = often_as q in
-        let none = token_of no_group in
-        omega (
-          arith,
-          ap (λ (ts : List Token). sum_by f ts) (map-set token_of groups i new),
-          sum_by-set f tokens i (token_of new) none (omega (arith, has.within, length-map groups token_of)),
-          ap f (get_or-map token_of groups i no_group none has.within),
-          cond_more (bytes_eq q (key_of old)) old.frequency,
-          ap {B = ℕ} (λ (k : Text). cond (bytes_eq q k) 1 0) named,
-          are.counted q,
-          sum_by_push (λ (y : Text). cond (bytes_eq q y) 1 0) keys key,
-        );
+            let tokens = map token_of groups in
+            let f = often_as q in
+            let none = token_of no_group in
+            omega (
+              arith,
+              ap (λ (ts : List Token). sum_by f ts) (map-set token_of groups i new),
+              sum_by-set f tokens i (token_of new) none (omega (arith, has.within, length-map groups token_of)),
+              ap f (get_or-map token_of groups i no_group none has.within),
+              cond_more (bytes_eq q (key_of old)) old.frequency,
+              ap {B = ℕ} (λ (k : Text). cond (bytes_eq q k) 1 0) named,
+              are.counted q,
+              sum_by_push (λ (y : Text). cond (bytes_eq q y) 1 0) keys key,
+            );
         total = omega (arith, sum_by-set (λ g. g.frequency) groups i new no_group has.within, are.total, length_push keys key);
         long = omega (arith, length_push numbers i, length_push keys key, are.long);
         inside = λ k d b. omega (arith, long, All-push (λ n. n < length groups) numbers i are.inside has.within k d b);
@@ -182,15 +186,15 @@ module _ (tables : List Table) (columns : List ColumnAt) where
         ];
         some = All-push (λ g. 0 < g.frequency) groups new are.some (omega arith);
         counted = λ q.
-        let f = often_as q in
-        omega (
-          arith,
-          ap (λ (ts : List Token). sum_by f ts) (map_push token_of groups new),
-          sum_by_push f (map token_of groups) (token_of new),
-          ap {B = ℕ} (λ (k : Text). cond (bytes_eq q k) 1 0) named,
-          are.counted q,
-          sum_by_push (λ (y : Text). cond (bytes_eq q y) 1 0) keys key,
-        );
+            let f = often_as q in
+            omega (
+              arith,
+              ap (λ (ts : List Token). sum_by f ts) (map_push token_of groups new),
+              sum_by_push f (map token_of groups) (token_of new),
+              ap {B = ℕ} (λ (k : Text). cond (bytes_eq q k) 1 0) named,
+              are.counted q,
+              sum_by_push (λ (y : Text). cond (bytes_eq q y) 1 0) keys key,
+            );
         total = omega (arith, sum_by_push (λ g. g.frequency) groups new, are.total, length_push keys key);
         long = omega (arith, length_push numbers (length groups), length_push keys key, are.long);
         inside = λ k d b. elim (cases_lt k (length numbers)) [
