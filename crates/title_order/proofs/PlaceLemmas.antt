@@ -1,10 +1,7 @@
 -- The numbers 0, 1, and so on in some order, and the index of each.
 use Rattle.std.proofs.Common.{◌≡◌, sym, ◌∙◌, subst, ℕ, ◌+◌, ◌<◌, List, false, length, get_or, inl, inr, arith, eqb}
 use Rattle.std.specs.List.{All, IsDistinct, range_with_len}
-use Rattle.std.proofs.lemmas.Bool.{cases_lt, eqb-false}
-use Rattle.std.proofs.lemmas.Bool.Decides.{eqb_tells}
-use Rattle.std.proofs.lemmas.Cmp.{nat_eq_equiv}
-use Rattle.std.proofs.lemmas.Map.Keys.{IsDistinct-from_apart, IsDistinct-IsPermutation, apart_from_distinct}
+use Rattle.std.proofs.lemmas.Bool.{cases_lt}
 use Rattle.std.proofs.lemmas.List.FromFn.{get_or-range_with_len, length-range_with_len}
 use Rattle.std.proofs.lemmas.List.Sorted.{All-permutation, IsPermutation-sym}
 use Rattle.std.specs.List.Sorted.{IsSorted}
@@ -14,22 +11,7 @@ use Rattle.search_model.specs.Segment.{columns_of, segment}
 use Rattle.search_model.proofs.RankLemmas.{ranks_are}
 use Rattle.title_order.specs.Titles.{IsPlace}
 use Rattle.token_order.specs.Counted.{AreNumbers, ArePlaces}
-use Rattle.token_order.proofs.OrderLemmas.{numbers_below}
-
-differ : (m n : ℕ) → m < n → eqb m n ≡ false
-differ m n l = elim (eqb_tells m n) [
-  | inl e ↦ absurd (omega (arith, l, e.1))
-  | inr e ↦ e.0
-]
-
--- no two of them are equal
-numbers_apart : (numbers : List ℕ) → AreNumbers numbers → (r s : ℕ) → r < s → s < length numbers → get_or numbers r 0 ≡ get_or numbers s 0 → ⊥
-numbers_apart numbers all r s l b =
-    let all_below = range_with_len 0 (length numbers) in
-    let distinct : IsDistinct eqb all_below =
-    IsDistinct-from_apart eqb all_below (λ i j d m h. let late : j < length numbers = omega (arith, h, length-range_with_len 0 (length numbers)) in
-    differ (get_or all_below i d) (get_or all_below j d) (omega (arith, m, get_or-range_with_len 0 (length numbers) i d (omega (arith, m, late)), get_or-range_with_len 0 (length numbers) j d late))) in
-    eqb-false (get_or numbers r 0) (get_or numbers s 0) (apart_from_distinct eqb numbers r s 0 (IsDistinct-IsPermutation eqb nat_eq_equiv.symm all_below numbers all distinct) l b)
+use Rattle.token_order.proofs.OrderLemmas.{numbers_apart, numbers_below}
 
 same_place : (numbers : List ℕ) → AreNumbers numbers → (r s : ℕ) → r < length numbers → s < length numbers → get_or numbers r 0 ≡ get_or numbers s 0 → r ≡ s
 same_place numbers all r s b c e = elim (cases_lt r s) [

@@ -5,8 +5,10 @@ pub mod OrderLemmas
 pub mod RunLemmas
 pub mod SortLemmas
 pub mod TokenLemmas
+pub mod GroupLemmas
 pub mod HeldLemmas
 pub mod CountLemmas
+pub mod CountedLemmas
 pub mod FrontLemmas
 pub mod KeyedLemmas
 pub mod RankLemmas

@@ -1,5 +1,5 @@
 -- The runs of all members, in their order, are what a vocabulary holds.
-use Rattle.std.proofs.Common.{◌≡◌, refl, ap, sym, ◌∙◌, subst, ℕ, ◌+◌, ◌<◌, List, [], ◌∷◌, map, length, get_or, ◌^◌, ◌≤◌, false, inl, inr, arith}
+use Rattle.std.proofs.Common.{◌≡◌, refl, ap, sym, ◌∙◌, subst, ℕ, ◌+◌, ◌<◌, List, [], ◌∷◌, map, length, get_or, ◌^◌, ◌≤◌, false, inl, inr, arith, eqb}
 use Rattle.std.specs.Prelude.{bytes_eq, sum_by}
 use Rattle.std.specs.List.{All, IsDistinct, enumerate_from, range_with_len}
 use Rattle.std.specs.List.Sorted.{IsNonDecreasingBy, IsPermutation, IsSorted}
@@ -7,7 +7,10 @@ use Rattle.std.specs.Cmp.{nat_cmp_is}
 use Rattle.std.specs.Cmp.Lexicographic.{slice_cmp}
 use Rattle.std.specs.Ordering.{is_lt, nat_cmp, ordering_then}
 use Rattle.std.specs.declared.cmp.Ordering.TheVariants.{Equal, Greater}
-use Rattle.std.proofs.lemmas.Bool.{cases_lt}
+use Rattle.std.proofs.lemmas.Bool.{cases_lt, eqb-false}
+use Rattle.std.proofs.lemmas.Cmp.{nat_eq_equiv}
+use Rattle.std.proofs.lemmas.Bool.Decides.{eqb_tells}
+use Rattle.std.proofs.lemmas.Map.Keys.{IsDistinct-from_apart, IsDistinct-IsPermutation, apart_from_distinct}
 use Rattle.std.proofs.lemmas.List.{ext_get_or, get_or_default, get_or-map, length-map}
 use Rattle.std.proofs.lemmas.List.Elements.{All-map}
 use Rattle.std.proofs.lemmas.List.FromFn.{get_or-enumerate_from, get_or-range_with_len, length-enumerate_from, length-range_with_len}
@@ -20,17 +23,16 @@ use Rattle.lake_model.specs.Tables.{Table}
 use Rattle.search_model.specs.declared.TokenAt.{TokenAt}
 use Rattle.search_model.specs.Arrays.{key_of, numbers_of, token_keys, token_with, IsByKey}
 use Rattle.search_model.specs.Segment.{Token, columns_of, token_cmp, tokens_of}
-use Rattle.token_order.specs.Counted.{sorted_keys, AreCounted, AreNumbers, ArePlaces}
+use Rattle.token_order.specs.Counted.{AreCounted, AreNumbers, ArePlaces}
 use Rattle.token_order.specs.Places.{keys_of, pointed_by, IsThere}
 use Rattle.token_order.specs.Ranks.{names_of, IsRank}
-use Rattle.token_order.specs.Runs.{run_cmp, run_keys, run_number, run_token, runs_of, AreRanked}
+use Rattle.token_order.specs.Runs.{run_cmp, run_number, run_token, AreRanked}
 use Rattle.token_order.specs.Vocabulary.{frequencies_of, IsVocabulary}
 use Rattle.token_order.specs.declared.columns.ColumnAt.{ColumnAt}
 use Rattle.token_order.specs.declared.runs.Run.{Run}
 use Rattle.token_order.proofs.NameLemmas.{differ_moved, places_compare, same_place}
 use Rattle.token_order.proofs.PlaceLemmas.{length-keys_of}
 use Rattle.token_order.proofs.RankLemmas.{runs_named}
-use Rattle.token_order.proofs.RunLemmas.{runs_differ, runs_long, runs_rise}
 use Rattle.token_order.proofs.SortLemmas.{TextsRise, rises, sorted_from_rises}
 use Rattle.token_order.proofs.TokenLemmas.{tokens_are}
 
@@ -71,6 +73,21 @@ pub numbers_below : (ranks : List ℕ) → AreNumbers ranks → All (λ r. r < l
 numbers_below ranks all =
     All-permutation (λ r. r < length ranks) (range_with_len 0 (length ranks)) ranks all
     (λ k d b. let h : k < length ranks = omega (arith, b, length-range_with_len 0 (length ranks)) in omega (arith, get_or-range_with_len 0 (length ranks) k d h))
+
+differ : (m n : ℕ) → m < n → eqb m n ≡ false
+differ m n l = elim (eqb_tells m n) [
+  | inl e ↦ absurd (omega (arith, l, e.1))
+  | inr e ↦ e.0
+]
+
+-- no two of them are equal
+pub numbers_apart : (numbers : List ℕ) → AreNumbers numbers → (r s : ℕ) → r < s → s < length numbers → get_or numbers r 0 ≡ get_or numbers s 0 → ⊥
+numbers_apart numbers all r s l b =
+    let all_below = range_with_len 0 (length numbers) in
+    let distinct : IsDistinct eqb all_below =
+    IsDistinct-from_apart eqb all_below (λ i j d m h. let late : j < length numbers = omega (arith, h, length-range_with_len 0 (length numbers)) in
+    differ (get_or all_below i d) (get_or all_below j d) (omega (arith, m, get_or-range_with_len 0 (length numbers) i d (omega (arith, m, late)), get_or-range_with_len 0 (length numbers) j d late))) in
+    eqb-false (get_or numbers r 0) (get_or numbers s 0) (apart_from_distinct eqb numbers r s 0 (IsDistinct-IsPermutation eqb nat_eq_equiv.symm all_below numbers all distinct) l b)
 
 -- the run with this number has the rank
 abbrev pub IsSlot : List Run → ℕ → ℕ → Type 0
@@ -166,8 +183,11 @@ summed (t ∷ tokens) =
     omega (arith, sum_by-cons (λ (n : ℕ). n) t.frequency (frequencies_of tokens), sum_by-cons (λ (t : Token). t.frequency) t tokens, summed tokens)
 
 module _ (tables : List Table) (columns : List ColumnAt) (runs ordered : List Run) (ranks : List ℕ) (counted : AreCounted tables columns runs ranks) (perm : IsPermutation runs ordered) where
+  abbrev counts : List Token
+  counts = map (run_token tables columns) runs
+
   abbrev names : List Text
-  names = run_keys (sorted_keys tables)
+  names = token_keys counts
 
   abbrev tokens : List Token
   tokens = map (run_token tables columns) ordered
@@ -176,31 +196,27 @@ module _ (tables : List Table) (columns : List ColumnAt) (runs ordered : List Ru
   HasRank run = IsRank names (pointed_by tables columns run.first) run.rank
 
   rise : TextsRise names
-  rise = runs_rise (sorted_keys tables) (rises (sorted_keys tables) counted.sorted)
+  rise = rises names counted.tokens.rising
 
-  differ : IsDistinct bytes_eq names
-  differ = runs_differ (sorted_keys tables) (rises (sorted_keys tables) counted.sorted)
-
-  moved : IsPermutation (runs_of (sorted_keys tables)) tokens
-  moved = subst (λ (ts : List Token). IsPermutation ts tokens) counted.counted (IsPermutation-map (run_token tables columns) runs ordered perm)
+  moved : IsPermutation counts tokens
+  moved = IsPermutation-map (run_token tables columns) runs ordered perm
 
   have_ranks : All HasRank ordered
   have_ranks =
       let key : Token → Text = λ t. t.key in
-      let is : map key (map (run_token tables columns) runs) ≡ names = ap (map key) counted.counted in
-      let long : length names ≡ length runs = sym (ap (λ (ks : List Text). length ks) is) ∙ length-map (map (run_token tables columns) runs) key ∙ length-map runs (run_token tables columns) in
+      let long : length names ≡ length runs = length-map counts key ∙ length-map runs (run_token tables columns) in
       All-permutation HasRank runs ordered perm (λ i d b.
       (let r = get_or runs i d in
       let here : i < length (map (run_token tables columns) runs) = omega (arith, b, length-map runs (run_token tables columns)) in
       let at : get_or names i [] ≡ pointed_by tables columns r.first =
-      ap (λ (ks : List Text). get_or ks i []) (sym is) ∙ get_or-map key (map (run_token tables columns) runs) i (run_token tables columns d) [] here ∙ ap key (get_or-map (run_token tables columns) runs i d (run_token tables columns d) b) in
+      get_or-map key (map (run_token tables columns) runs) i (run_token tables columns d) [] here ∙ ap key (get_or-map (run_token tables columns) runs i d (run_token tables columns d) b) in
       subst (IsRank names (pointed_by tables columns r.first)) (sym (counted.numbered i d b)) (omega (arith, b, long), at)))
 
   -- two runs compare as their tokens
   same_order : (a b : Run) → HasRank a → HasRank b → token_cmp (run_token tables columns a) (run_token tables columns b) ≡ run_cmp a b
   same_order a b h g =
       ap (ordering_then (nat_cmp a.frequency b.frequency))
-      (ap (λ (k : Text). slice_cmp nat_cmp k (pointed_by tables columns b.first)) (sym h.1) ∙ ap (slice_cmp nat_cmp (get_or names a.rank [])) (sym g.1) ∙ places_compare names rise differ a.rank b.rank h.0 g.0)
+      (ap (λ (k : Text). slice_cmp nat_cmp k (pointed_by tables columns b.first)) (sym h.1) ∙ ap (slice_cmp nat_cmp (get_or names a.rank [])) (sym g.1) ∙ places_compare names rise counted.tokens.different a.rank b.rank h.0 g.0)
 
   tokens_up : IsSorted run_cmp ordered → IsSorted token_cmp tokens
   tokens_up up k d a b =
@@ -219,7 +235,7 @@ module _ (tables : List Table) (columns : List ColumnAt) (runs ordered : List Ru
   vocabulary places frequencies by_key different up are made sized =
       let key : Token → Text = λ t. t.key in
       let first : Run → TokenAt = λ r. r.first in
-      let named : tokens ≡ tokens_of (columns_of tables) = tokens_are tables (sorted_keys tables) tokens different counted.same counted.sorted moved (tokens_up up) in
+      let named : tokens ≡ tokens_of (columns_of tables) = tokens_are tables counts tokens different counted.tokens moved (tokens_up up) in
       let within : All (IsThere tables columns) places = subst (All (IsThere tables columns)) (sym made) (All-map (IsThere tables columns) first ordered (All-permutation (λ r. IsThere tables columns r.first) runs ordered perm counted.within)) in
       let frequent : frequencies ≡ frequencies_of tokens = sized ∙ as_frequent tables columns ordered in
       let as_long : length (map rank_of ordered) ≡ length tokens = length-map ordered rank_of ∙ sym (length-map ordered (run_token tables columns)) in
@@ -232,8 +248,8 @@ module _ (tables : List Table) (columns : List ColumnAt) (runs ordered : List Ru
       ∙ sym (have_ranks t no h).1
       ∙ ap (λ (n : ℕ). get_or names n []) (sym (get_or-map rank_of ordered t no 0 h))) in
       let sorted : IsByKey tokens by_key =
-      places_by_key tokens names (map rank_of ordered) by_key rise differ (IsPermutation-map key (runs_of (sorted_keys tables)) tokens moved) (numbered runs ordered counted.numbered perm) as_long keys_at_ranks are in
-      let ranked : names ≡ names_of (tokens_of (columns_of tables)) = runs_named (sorted_keys tables) tokens counted.sorted moved ∙ ap names_of named in
+      places_by_key tokens names (map rank_of ordered) by_key rise counted.tokens.different (IsPermutation-map key counts tokens moved) (numbered runs ordered counted.numbered perm) as_long keys_at_ranks are in
+      let ranked : names ≡ names_of (tokens_of (columns_of tables)) = runs_named counts tokens counted.tokens.rising moved ∙ ap names_of named in
       record {
         owned = counted.owned;
         named = ap (map (pointed_by tables columns)) made ∙ places_named tables columns ordered ∙ ap token_keys named;
@@ -244,9 +260,8 @@ module _ (tables : List Table) (columns : List ColumnAt) (runs ordered : List Ru
         counted =
             ap (sum_by (λ n. n)) frequent
             ∙ summed tokens
-            ∙ sum_by-IsPermutation (λ (t : Token). t.frequency) (runs_of (sorted_keys tables)) tokens moved
-            ∙ runs_long (sorted_keys tables)
-            ∙ length_permutation (keys_of tables) (sorted_keys tables) counted.same
+            ∙ sum_by-IsPermutation (λ (t : Token). t.frequency) counts tokens moved
+            ∙ counted.tokens.total
             ∙ length-keys_of tables;
         ranked = record {
           long = counted.long;

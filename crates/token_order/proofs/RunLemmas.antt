@@ -1,7 +1,8 @@
 -- The runs of tokens whose keys are sorted: each key has one run, which is as frequent as the key is among the tokens.
-use Rattle.std.proofs.Common.{◌≡◌, refl, ap, sym, ◌∙◌, ℕ, zero, suc, ◌+◌, ◌<◌, ◌≤◌, List, [], ◌∷◌, map, length, Bool, true, false, ◌||◌, cond, arith}
+use Rattle.std.proofs.Common.{◌≡◌, refl, ap, sym, ◌∙◌, ℕ, ◌+◌, ◌<◌, ◌≤◌, List, [], ◌∷◌, map, length, Bool, true, false, ◌||◌, cond, arith}
 use Rattle.std.specs.Prelude.{bytes_eq, nat_lt, sum_by}
 use Rattle.std.specs.List.{AllByRecursion, IsDistinct, count_by, list_any}
+use Rattle.std.proofs.lemmas.Bool.Decides.{Decides-ltb}
 use Rattle.std.proofs.lemmas.List.Sums.{sum_by-cons}
 use Rattle.std.proofs.lemmas.Slice.Eq.{bytes_eq-Decides}
 use Rattle.lake_model.specs.Texts.{Text}
@@ -133,12 +134,11 @@ often_alone (t ∷ ts) d = (
 -- ---- a key is there exactly if it occurs
 
 some_less : (n : ℕ) → 0 < n → true ≡ nat_lt 0 n
-some_less zero h = absurd (omega arith)
-some_less (suc n) h = refl
+some_less n h = sym ((Decides-ltb 0 n).1 h)
 
 any_counted_then : (b l : Bool) (n : ℕ) → l ≡ nat_lt 0 n → (b || l) ≡ nat_lt 0 (once b + n)
 any_counted_then true l n h = some_less (1 + n) (omega arith)
-any_counted_then false l n h = h
+any_counted_then false l n h = let e : n ≡ 0 + n = omega arith in h ∙ ap (nat_lt 0) e
 
 pub any_counted : (q : Text) (keys : List Text) → list_any (bytes_eq q) keys ≡ nat_lt 0 (count_by (bytes_eq q) keys)
 any_counted q [] = refl
@@ -146,7 +146,7 @@ any_counted q (key ∷ keys) = any_counted_then (bytes_eq q key) (list_any (byte
 
 any_often_then : (b l : Bool) (f n : ℕ) → 0 < f → l ≡ nat_lt 0 n → (b || l) ≡ nat_lt 0 (times f b + n)
 any_often_then true l f n some h = some_less (f + n) (omega (arith, some))
-any_often_then false l f n some h = h
+any_often_then false l f n some h = let e : n ≡ 0 + n = omega arith in h ∙ ap (nat_lt 0) e
 
 pub any_often : (q : Text) (ts : List Token) → AllByRecursion (λ t. 0 < t.frequency) ts → list_any (bytes_eq q) (token_keys ts) ≡ nat_lt 0 (often q ts)
 any_often q [] some = refl

@@ -2,9 +2,11 @@ pub mod Columns
 pub mod Counted
 pub mod Counting
 pub mod Fronts
+pub mod Grouping
 pub mod Groups
 pub mod Keyed
 pub mod Places
+pub mod Ranked
 pub mod Ranks
 pub mod Runs
 pub mod Vocabulary

@@ -1,8 +1,9 @@
 //! Members with the fronts of their keys, so that sorting them seldom reads the keys.
-ghost use Rattle.std.specs.Prelude.{◌≡◌, bytes_eq};
+ghost use Rattle.std.specs.Prelude.{◌≡◌, ◌<◌, bytes_eq};
 ghost use Rattle.std.specs.Cmp.Lexicographic.{slice_cmp};
 ghost use Rattle.std.specs.Ordering.{nat_cmp};
-ghost use Rattle.token_order.specs.Fronts.{rest_by};
+ghost use Rattle.std.specs.List.{All};
+ghost use Rattle.token_order.specs.Fronts.{front_of, rest_by};
 ghost use Rattle.token_order.specs.Keyed.{compared_with, front_held, IsKeyed};
 ghost use Rattle.token_order.specs.Places.{pointed_by};
 
@@ -23,11 +24,13 @@ pub struct Keyed {
 
 impl Keyed {
     /// Makes a member with the front of its key.
-    pub fn new(tables: &[SharedTable], columns: &[ColumnAt], member: TokenAt) -> Keyed
+    #[inline]
+    pub fn of_key(key: &str, member: TokenAt) -> Keyed
         ensures member { result.member ≡ member }
-        ensures keyed { IsKeyed tables.now columns.now result }
+        ensures front { front_held result ≡ front_of key.now }
+        ensures bytes { All (λ byte. byte < 256) key.now }
     {
-        let front = front_of(key_at(tables, columns, member));
+        let front = front_of(key);
         Keyed {
             high: (front / 0x1_0000_0000_0000_0000) as u64,
             low: (front % 0x1_0000_0000_0000_0000) as u64,

@@ -1,30 +1,14 @@
-//! The members of the columns of tables, sorted by their keys. A member is a key of a column. There is an entry for
-//! each member, so it is kept small: the number of its column and its index there, with the front of its key.
-ghost use Rattle.std.specs.Prelude.{◌≡◌, ◌<◌, ◌^◌, [], get_or, length, map, sum_by, IfOk, OnOk};
-ghost use Rattle.std.specs.Cmp.Lexicographic.{slice_cmp};
-ghost use Rattle.std.specs.List.Sorted.{IsPermutation, IsSorted};
-ghost use Rattle.std.specs.Ordering.{nat_cmp};
+//! The keys of the members of the columns of tables. A member is a key of a column: the number of its column, and its
+//! index there.
+ghost use Rattle.std.specs.Prelude.{◌≡◌, [], get_or, sum_by, IfOk};
 ghost use Rattle.lake_model.specs.Tables.{keys_at, members};
-ghost use Rattle.token_order.specs.Columns.{column_at, keys_there, keys_through, owner_there, AreColumns};
-ghost use Rattle.std.specs.List.{All};
-ghost use Rattle.token_order.specs.Keyed.{members_of, IsKeyed, IsMoreKeyed};
-ghost use Rattle.token_order.specs.Places.{keys_of, number_of, pointed_by, AreMembers};
+ghost use Rattle.token_order.specs.Columns.{column_at, owner_there};
+ghost use Rattle.token_order.specs.Places.{pointed_by};
 
-use crate::columns::{ColumnAt, table_of};
-use crate::keyed::{ByKey, Keyed};
+use crate::columns::ColumnAt;
 use column_set::{SharedTable, TableSets};
-use front_sort::sort_by_fronts;
 use no_memory::NoMemory;
 use search_model::{Owner, TokenAt};
-use std::alloc::Global;
-
-/// Returns the number of a member among the members of all columns by table, place and index, from 0.
-pub fn number_of(columns: &[ColumnAt], member: TokenAt) -> usize
-    requires { member.column < length columns.now }
-    ensures { result ≡ number_of columns.now member }
-{
-    columns[member.column as usize].first as usize + member.index as usize
-}
 
 /// Returns the key of a member, or an empty text if there is none.
 pub fn key_at<'a>(tables: &'a [SharedTable], columns: &[ColumnAt], member: TokenAt) -> &'a str

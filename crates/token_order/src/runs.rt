@@ -3,11 +3,13 @@ ghost use Rattle.std.specs.Prelude.{◌≡◌, ◌<◌, ◌^◌, [], get_or, len
 ghost use Rattle.std.specs.List.{All};
 ghost use Rattle.column_set.specs.Columns.{HasDistinctKeys};
 ghost use Rattle.lake_model.specs.Tables.{members};
-ghost use Rattle.search_model.specs.Arrays.{token_keys, token_with};
+ghost use Rattle.search_model.specs.Arrays.{owner_of, token_keys, token_with};
+ghost use Rattle.search_model.specs.Segment.{columns_of};
+ghost use Rattle.token_order.specs.Columns.{keys_through, owner_there, AreColumns};
 ghost use Rattle.token_order.specs.Counted.{AreCounted, AreNumbers};
 ghost use Rattle.token_order.specs.Groups.{group_token};
 ghost use Rattle.token_order.specs.Keyed.{IsKeyed};
-ghost use Rattle.token_order.specs.Places.{pointed_by, IsThere};
+ghost use Rattle.token_order.specs.Places.{keys_of, pointed_by, IsThere};
 ghost use Rattle.token_order.specs.Ranks.{HaveRanks};
 ghost use Rattle.token_order.specs.Runs.{run_number, run_token, runs_from, runs_of, AreRanked};
 
@@ -37,24 +39,50 @@ pub struct CountedRuns {
     pub ranks: Vec<u32>,
 }
 
-/// Returns the runs of the members of all columns of the tables. The members are grouped first, so that only one of each
-/// group is sorted.
+// The same without the columns.
+#[derive(Drop)]
+struct RankedRuns {
+    runs: Vec<Run>,
+    ranks: Vec<u32>,
+}
+
+/// Returns the runs of the members of all columns of the tables.
 pub fn counted_runs(alloc: Global, tables: &[SharedTable]) -> Result<CountedRuns, NoMemory>
     requires { sum_by members tables.now < 2 ^ 32 }
     ensures counted { IfOk result (λ made. AreCounted tables.now made.columns.items made.runs.items made.ranks.items) }
     ensures different { OnOk result (All HasDistinctKeys tables.now) }
 {
     let columns = all_columns(alloc, tables)?;
-    let Groups { groups, numbers } = grouped_members(alloc, tables, &columns)?;
-    let groups = sorted_groups(groups, tables, &columns);
-    let mut ranks = vec![in alloc; 0; groups.len()]?;
-    let runs = count_runs(alloc, tables, &columns, &groups, &mut ranks)?;
-    drop(groups);
-    let ranks = ranks_of_members(numbers, &ranks);
+    let RankedRuns { runs, ranks } = ranked_runs(alloc, tables, &columns)?;
     Ok(CountedRuns {
         columns,
         runs,
         ranks,
+    })
+}
+
+// Returns the runs of the members of these columns, which are those of the tables. The members are grouped first, so
+// that only one of each group is sorted.
+fn ranked_runs(
+    alloc: Global,
+    tables: &[SharedTable],
+    columns: &[ColumnAt],
+) -> Result<RankedRuns, NoMemory>
+    requires columns { AreColumns tables.now columns.now }
+    requires owned { map owner_there columns.now ≡ map owner_of (columns_of tables.now) }
+    requires few { length columns.now < 2 ^ 32 }
+    requires all { keys_through tables.now columns.now ≡ keys_of tables.now }
+    requires members { length (keys_of tables.now) < 2 ^ 32 }
+    ensures { IfOk result (λ made. AreCounted tables.now columns.now made.runs.items made.ranks.items) }
+{
+    let Groups { groups, numbers } = grouped_members(alloc, tables, columns)?;
+    let groups = sorted_groups(groups, tables, columns);
+    let mut ranks = vec![in alloc; 0; groups.len()]?;
+    let runs = count_runs(alloc, tables, columns, &groups, &mut ranks)?;
+    drop(groups);
+    Ok(RankedRuns {
+        runs,
+        ranks: ranks_of_members(numbers, &ranks),
     })
 }
 
@@ -147,8 +175,8 @@ fn ranks_of_members(mut numbers: Vec<u32>, ranks: &[u32]) -> Vec<u32>
     requires { All (λ number. number < length ranks.now) numbers.items }
     ensures { result.items ≡ map (λ number. get_or ranks.now number 0) numbers.items }
 {
-    for number in &mut numbers {
-        *number = ranks[*number as usize];
+    for i in 0..numbers.len() {
+        numbers[i] = ranks[numbers[i] as usize];
     }
     numbers
 }
