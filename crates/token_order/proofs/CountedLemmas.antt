@@ -1,15 +1,14 @@
 -- The runs of groups are those of all members.
 use Rattle.std.proofs.Common.{◌≡◌, refl, ap, sym, ◌∙◌, subst, ℕ, ◌+◌, ◌<◌, ◌≤◌, ◌^◌, List, [], ◌∷◌, map, length, get_or, arith}
 use Rattle.std.specs.Prelude.{bytes_eq, nat_lt, sum_by}
-use Rattle.std.specs.List.{All, AllByRecursion, count_by, list_any, range_with_len}
+use Rattle.std.specs.List.{All, AllByRecursion, count_by, range_with_len}
 use Rattle.std.specs.List.Sorted.{IsPermutation, IsSorted, IsSortedByKey}
 use Rattle.std.specs.Cmp.Lexicographic.{slice_cmp}
 use Rattle.std.specs.Ordering.{nat_cmp}
-use Rattle.std.proofs.lemmas.List.{ext_get_or, get_or_default, get_or-map, length-map}
+use Rattle.std.proofs.lemmas.List.{ext_get_or, get_or-map, length-map}
 use Rattle.std.proofs.lemmas.List.Elements.{recursion_from_All}
 use Rattle.std.proofs.lemmas.List.FromFn.{get_or-range_with_len, length-range_with_len}
 use Rattle.std.proofs.lemmas.List.Sorted.{All-permutation, IsPermutation-map, IsPermutation-sym, length_permutation, sum_by-IsPermutation}
-use Rattle.std.proofs.lemmas.List.Sums.{sum_by-cons}
 use Rattle.lake_model.specs.Texts.{Text}
 use Rattle.lake_model.specs.Tables.{Table}
 use Rattle.search_model.specs.Arrays.{owner_of, token_keys}
@@ -114,5 +113,5 @@ counted tables columns groups sorted numbers ranks ranked runs are moved up owne
       long = ap (λ (ns : List ℕ). length ns) is ∙ length-map numbers (λ (number : ℕ). get_or ranks number 0) ∙ are.long;
       ranked = λ n b. subst (λ (ns : List ℕ). IsRank (run_names tables columns runs) (get_or keys n []) (get_or ns n 0)) (sym is)
           (subst (λ (all : List Token). IsRank (token_keys all) (get_or keys n []) (get_or (map (λ number. get_or ranks number 0) numbers) n 0)) (sym made)
-              (member_ranks tables columns keys groups numbers are sorted moved (token_keys (runs_of ts)) ranks have n b));
+          (member_ranks tables columns keys groups numbers are sorted moved (token_keys (runs_of ts)) ranks have n b));
     }

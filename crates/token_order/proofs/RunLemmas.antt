@@ -1,5 +1,5 @@
 -- The runs of tokens whose keys are sorted: each key has one run, which is as frequent as the key is among the tokens.
-use Rattle.std.proofs.Common.{◌≡◌, refl, ap, sym, ◌∙◌, ℕ, ◌+◌, ◌<◌, ◌≤◌, List, [], ◌∷◌, map, length, Bool, true, false, ◌||◌, cond, arith}
+use Rattle.std.proofs.Common.{◌≡◌, refl, ap, sym, ◌∙◌, ℕ, ◌+◌, ◌<◌, ◌≤◌, List, [], ◌∷◌, length, Bool, true, false, ◌||◌, cond, arith}
 use Rattle.std.specs.Prelude.{bytes_eq, nat_lt, sum_by}
 use Rattle.std.specs.List.{AllByRecursion, IsDistinct, count_by, list_any}
 use Rattle.std.proofs.lemmas.Bool.Decides.{Decides-ltb}
@@ -7,7 +7,7 @@ use Rattle.std.proofs.lemmas.List.Sums.{sum_by-cons}
 use Rattle.std.proofs.lemmas.Slice.Eq.{bytes_eq-Decides}
 use Rattle.lake_model.specs.Texts.{Text}
 use Rattle.search_model.specs.Segment.{Token}
-use Rattle.search_model.specs.Arrays.{token_keys, token_with}
+use Rattle.search_model.specs.Arrays.{token_keys}
 use Rattle.token_order.specs.Groups.{often, often_as}
 use Rattle.token_order.specs.Runs.{longer, runs_from, runs_of}
 use Rattle.token_order.proofs.SortLemmas.{TextsRise, beyond_all, differ_back, less}

@@ -56,13 +56,15 @@ impl<'a> Vocab<'a> {
     ghost use Rattle.token_order.specs.Places.{keys_of};
     ghost use Rattle.token_order.specs.Vocabulary.{frequencies_of, frequency_of};
 
-    /// Builds the vocabulary of the tables. It sorts all keys of all columns once, by their bytes. While it sorts, it
-    /// reads a key again only to compare it with one that has the same first 15 bytes.
+    /// Builds the vocabulary of the tables. It reads each key of each column once, and puts it into a group by its hash;
+    /// then it sorts one key of each group by their bytes. A key is read again only to compare it with one that has the
+    /// same first 15 bytes.
     ///
-    /// While the keys are sorted and counted, it takes 28 bytes for each key of each column and at most 32 for each
-    /// distinct key; while the distinct keys are put in order, it takes 4 for each key of each column and at most 48
-    /// for each distinct key; and it takes at most 24 for each column throughout. It keeps 4 bytes for each key of each
-    /// column, 16 for each distinct key, and at most 24 for each column. It fails only if memory runs out.
+    /// While the keys are grouped, it takes 4 bytes for each key of each column, and 34 to 86 for each distinct key: the
+    /// groups grow by doubling, and so do the slots. While the groups are sorted and counted, it takes 4 bytes for each
+    /// key of each column, and at most 80 for each distinct key; while the distinct keys are put in order, it takes 4
+    /// and at most 48; and it takes at most 24 for each column throughout. It keeps 4 bytes for each key of each column,
+    /// 16 for each distinct key, and at most 24 for each column. It fails only if memory runs out.
     pub fn build(alloc: Global, tables: &'a [SharedTable]) -> Result<Vocab<'a>, NoMemory>
         requires columns { sum_by (λ t. length t.columns) tables.now < 2 ^ 32 }
         requires members { sum_by members tables.now < 2 ^ 32 }

@@ -1,5 +1,5 @@
-use Rattle.std.proofs.Common.{◌≡◌, ◌∙◌, ap, sym, subst, ℕ, ◌+◌, ◌<◌, List, [], length, get_or, map, take, arith}
-use Rattle.std.specs.Prelude.{bytes_eq, sum_by}
+use Rattle.std.proofs.Common.{◌≡◌, ◌∙◌, ap, sym, subst, ℕ, ◌+◌, ◌<◌, List, length, get_or, map, take, arith}
+use Rattle.std.specs.Prelude.{bytes_eq}
 use Rattle.std.specs.List.{All}
 use Rattle.std.proofs.Math.Seq.{take-length}
 use Rattle.std.proofs.lemmas.List.{get_or_default, length-set}
@@ -7,14 +7,13 @@ use Rattle.std.proofs.lemmas.List.Elements.{All-push}
 use Rattle.std.proofs.lemmas.Slice.Eq.{bytes_eq-Decides}
 use Rattle.lake_model.specs.Texts.{Text}
 use Rattle.search_model.specs.Arrays.{token_keys, token_with}
-use Rattle.search_model.specs.Segment.{Token}
 use Rattle.token_order.specs.Counting.{IsCounting}
 use Rattle.token_order.specs.Grouping.{no_group}
 use Rattle.token_order.specs.Groups.{group_token}
 use Rattle.token_order.specs.Keyed.{IsKeyed}
 use Rattle.token_order.specs.Places.{pointed_by, IsThere}
 use Rattle.token_order.specs.Ranks.{HaveRanks, IsRank}
-use Rattle.token_order.specs.Runs.{longer, run_token, runs_from, AreRanked}
+use Rattle.token_order.specs.Runs.{run_token, runs_from, AreRanked}
 use Rattle.search_model.specs.declared.TokenAt.{TokenAt}
 use Rattle.token_order.specs.declared.groups.Group.{Group}
 use Rattle.token_order.specs.declared.keyed.Keyed.{Keyed}

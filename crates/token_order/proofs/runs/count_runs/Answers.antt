@@ -1,8 +1,7 @@
-use Rattle.std.proofs.Common.{◌≡◌, ◌∙◌, ap, sym, subst, List, map}
+use Rattle.std.proofs.Common.{◌≡◌, subst, List, map}
 use Rattle.std.specs.Result.{IfOk, OnOk}
 use Rattle.search_model.specs.Arrays.{token_keys}
 use Rattle.search_model.specs.Segment.{Token}
-use Rattle.token_order.specs.Groups.{group_token}
 use Rattle.token_order.specs.Ranks.{HaveRanks}
 use Rattle.token_order.specs.Runs.{run_token}
 use Rattle.token_order.proofs.CountLemmas.{from_first}

@@ -1,4 +1,4 @@
-use Rattle.std.proofs.Common.{◌<◌, ◌^◌, arith}
+use Rattle.std.proofs.Common.{arith}
 use Rattle.token_order.proofs.PlaceLemmas.{length-keys_of}
 use Rattle.token_order.proofs.runs.counted_runs.Goals as goal
 
