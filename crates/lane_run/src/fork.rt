@@ -6,9 +6,11 @@ ghost use Rattle.lane_run.specs.Numbered.{AllChange, AllNumbered};
 
 use std::thread::{Threads, join_mut};
 
-/// Calls f(i, &mut items[i]) at each place. If threads can be made, the calls at busy places run at the same time, one
-/// on the caller's thread and each of the others on a thread of its own; if none can be made, they run one after
-/// another on the caller's thread.
+/// Calls f(i, &mut items[i]) at each place. A place that `busy` does not have is not busy.
+///
+/// If two or more places are busy, each of their calls has a thread of its own, and they run at the same time; a call
+/// for which no thread can be made is made on the caller's thread. All other calls are made one after another on the
+/// caller's thread, and if fewer than two places are busy, no thread is started.
 pub fn for_each_busy<R: Threads + Sync, T: Send, F: Fn(usize, &mut T) + Sync>(
     rt: &R,
     f: &F,
@@ -18,14 +20,18 @@ pub fn for_each_busy<R: Threads + Sync, T: Send, F: Fn(usize, &mut T) + Sync>(
     requires { AcceptsEach F.Fn f.now items.old }
     ensures { ChangesEach F.Fn f.now items.old items.new }
 {
-    call_each(rt, f, busy, 0, items);
+    let apart = if are_several_busy(busy) { busy } else { &[] };
+    call_each(rt, f, apart, 0, items);
 }
 
-// Returns whether a place from `from` to below `to` is busy.
-fn is_any_busy(busy: &[bool], from: usize, to: usize) -> bool {
-    busy.iter()
-        .enumerate()
-        .any(|(place, is_busy)| *is_busy && from <= place && place < to)
+// Returns whether two or more places are busy.
+fn are_several_busy(busy: &[bool]) -> bool {
+    busy.iter().filter(|is_busy| **is_busy).count() > 1
+}
+
+// Returns whether a place is busy.
+fn is_busy_at(busy: &[bool], place: usize) -> bool {
+    place < busy.len() && busy[place]
 }
 
 // Makes the call at one place.
@@ -36,9 +42,9 @@ fn call_one<T, F: Fn(usize, &mut T)>(f: &F, place: usize, item: &mut T)
     f(place, item);
 }
 
-// Makes the calls at the places from `first` on, which is that of the first element. A thread is started only if both
-// halves have busy places.
-#[cycle(halves)]
+// Makes the calls at the places from `first` on, which is that of the first element. At a busy place the call has a
+// thread of its own.
+#[cycle(places)]
 fn call_each<R: Threads + Sync, T: Send, F: Fn(usize, &mut T) + Sync>(
     rt: &R,
     f: &F,
@@ -50,50 +56,44 @@ fn call_each<R: Threads + Sync, T: Send, F: Fn(usize, &mut T) + Sync>(
     requires accepts { AllNumbered (AcceptsAt F.Fn f.now) first items.old }
     ensures { AllChange (ChangesAt F.Fn f.now) first items.old items.new }
 {
-    if items.is_empty() {
+    let Some((item, rest)) = items.split_first_mut() else {
         return;
-    }
-    if items.len() == 1 {
-        call_one(f, first, &mut items[0]);
-        return;
-    }
-    let mid = first + items.len() / 2;
-    let end = first + items.len();
-    let (front, back) = items.split_at_mut(items.len() / 2);
-    if is_any_busy(busy, first, mid) && is_any_busy(busy, mid, end) {
-        call_halves(rt, f, busy, first, front, mid, back);
+    };
+    if is_busy_at(busy, first) {
+        call_apart(rt, f, busy, first, item, rest);
     } else {
-        call_each(rt, f, busy, first, front);
-        call_each(rt, f, busy, mid, back);
+        call_one(f, first, item);
+        call_each(rt, f, busy, first + 1, rest);
     }
 }
 
-// Makes the calls at two halves, the first on a thread of its own.
-#[cycle(halves)]
-fn call_halves<R: Threads + Sync, T: Send, F: Fn(usize, &mut T) + Sync>(
+// Makes the call at a busy place on a thread of its own, and the calls at the places behind it.
+//
+// The last busy place has a thread of its own, too, so that the caller's thread only waits: a new thread shares a
+// processor with the thread that started it until the system moves one of the two, which takes about ten milliseconds,
+// and until then each of them runs at half speed if both have work.
+#[cycle(places)]
+fn call_apart<R: Threads + Sync, T: Send, F: Fn(usize, &mut T) + Sync>(
     rt: &R,
     f: &F,
     busy: &[bool],
-    first: usize,
-    front: &mut [T],
-    mid: usize,
-    back: &mut [T],
+    place: usize,
+    item: &mut T,
+    rest: &mut [T],
 )
-    requires some { (0 < length front.old) × (0 < length back.old) }
-    requires front_room { first + length front.old < 2 ^ 64 }
-    requires front_accepts { AllNumbered (AcceptsAt F.Fn f.now) first front.old }
-    requires back_room { mid + length back.old < 2 ^ 64 }
-    requires back_accepts { AllNumbered (AcceptsAt F.Fn f.now) mid back.old }
-    ensures front { AllChange (ChangesAt F.Fn f.now) first front.old front.new }
-    ensures back { AllChange (ChangesAt F.Fn f.now) mid back.old back.new }
+    requires accepts { AcceptsAt F.Fn f.now place item.old }
+    requires room { place + 1 + length rest.old < 2 ^ 64 }
+    requires rest_accepts { AllNumbered (AcceptsAt F.Fn f.now) (place + 1) rest.old }
+    ensures item { ChangesAt F.Fn f.now place item.old item.new }
+    ensures rest { AllChange (ChangesAt F.Fn f.now) (place + 1) rest.old rest.new }
 {
-    let mut call_front = ||
-        requires { IsSync R.row × IsSync F.row × IsSend T.row × (first + length front.now < 2 ^ 64) × AllNumbered (AcceptsAt F.Fn f.now) first front.now }
-        ensures { AllChange (ChangesAt F.Fn f.entry.now) first front.entry.now front.exit.now }
-    { call_each(rt, f, busy, first, front) };
-    let mut call_back = ||
-        requires { IsSync R.row × IsSync F.row × IsSend T.row × (mid + length back.now < 2 ^ 64) × AllNumbered (AcceptsAt F.Fn f.now) mid back.now }
-        ensures { AllChange (ChangesAt F.Fn f.entry.now) mid back.entry.now back.exit.now }
-    { call_each(rt, f, busy, mid, back) };
-    join_mut(rt, &mut call_front, &mut call_back);
+    let mut call_item = ||
+        requires { AcceptsAt F.Fn f.now place item.now }
+        ensures { ChangesAt F.Fn f.entry.now place item.entry.now item.exit.now }
+    { call_one(f, place, item) };
+    let mut call_rest = ||
+        requires { IsSync R.row × IsSync F.row × IsSend T.row × (place + 1 + length rest.now < 2 ^ 64) × AllNumbered (AcceptsAt F.Fn f.now) (place + 1) rest.now }
+        ensures { AllChange (ChangesAt F.Fn f.entry.now) (place + 1) rest.entry.now rest.exit.now }
+    { call_each(rt, f, busy, place + 1, rest) };
+    join_mut(rt, &mut call_item, &mut call_rest);
 }
