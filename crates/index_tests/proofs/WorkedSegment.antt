@@ -1,11 +1,12 @@
 -- One table, whose column p has the keys z and a, and whose column q has a: what is read of it shows that it is that table; and the arrays
 -- of its segment, by hand.
-use Rattle.std.proofs.Common.{◌≡◌, refl, ap, ℕ, zero, suc, ◌+◌, ◌<◌, ◌≤◌, false, List, [], ◌∷◌, map, length, get_or, arith, lit<}
+use Rattle.std.proofs.Common.{◌≡◌, refl, ap, sym, ◌∙◌, subst, ℕ, zero, suc, ◌+◌, ◌<◌, ◌≤◌, false, List, [], ◌∷◌, map, length, get_or, arith, lit<}
 use Rattle.std.specs.Prelude.{codes}
 use Rattle.std.specs.Cmp.Lexicographic.{slice_cmp}
 use Rattle.std.specs.List.Sorted.{IsSorted}
 use Rattle.std.specs.Ordering.{is_lt, nat_cmp}
 use Rattle.std.specs.declared.cmp.Ordering.TheVariants.{Less}
+use Rattle.std.proofs.lemmas.List.Elements.{All-from_recursion}
 use Rattle.std.proofs.lemmas.List.Sorted.{IsPermutation-middle}
 use Rattle.lake_model.specs.Texts.{Text}
 use Rattle.lake_model.specs.Sorting.{in_order, put_in_order}
@@ -15,8 +16,10 @@ use Rattle.search_model.specs.Ranks.{number_cmp, ranked, title_cmp, AreInverse, 
 use Rattle.search_model.specs.Segment.{columns_of, segment, Token, tokens_of}
 use Rattle.search_model.proofs.RankLemmas.{ranks_are, rising_from_next}
 use Rattle.search_model.specs.declared.TokenAt.{TokenAt}
-use Rattle.segment_core.specs.Hashes.{AreKept, AreKeys, IsByHash, KeyedToken}
-use Rattle.segment_core.proofs.SegmentLemmas.{keys_kept}
+use Rattle.segment_core.specs.Hashes.{all_keyed, hash_of, keyed_from, keyed_in, AreKept, AreKeyed, AreKeyedTokens, IsByHash, IsHashed, KeyedToken}
+use Rattle.segment_core.specs.declared.hashes.HashedToken.{HashedToken}
+use Rattle.text_region.specs.Spans.{IsSpan, KeepsSpans}
+use Rattle.text_region.specs.Written.{Written}
 use Rattle.index_tests.specs.Worked.{worked_owners, worked_postings, worked_table, worked_tokens}
 
 pub one_key : (keys : List Text) (a : Text) → length keys ≡ 1 → get_or keys 0 [] ≡ a → keys ≡ a ∷ []
@@ -73,8 +76,27 @@ worked_arrays = record {
   few = lit< tt;
 }
 
-pub worked_keys : AreKeys (worked_table ∷ []) worked_owners worked_tokens
-worked_keys = keys_kept _ _ _ _ _ _ _ _ worked_arrays
+-- the tokens with their keys
+abbrev keyed : ℕ → Text → KeyedToken
+keyed token key = keyed_from (hash_of key) token key
+
+two_keyed : AreKeyedTokens (worked_table ∷ []) (keyed 0 (codes "z") ∷ keyed 1 (codes "a") ∷ [])
+unfolding in_order put_in_order tokens_of segment
+two_keyed = record {
+  hashes = All-from_recursion (λ entry. entry.hash ≡ hash_of entry.key) (keyed 0 (codes "z") ∷ keyed 1 (codes "a") ∷ []) (refl, refl, tt);
+  hashed = All-from_recursion (IsHashed (worked_table ∷ [])) (keyed 0 (codes "z") ∷ keyed 1 (codes "a") ∷ []) (record { there = lit< tt; key = refl }, record { there = lit< tt; key = refl }, tt);
+  numbers = refl;
+}
+
+-- which were put into a region one after the other
+pub worked_keyed : (first both : Written) (z a : HashedToken) → KeepsSpans first both → IsSpan first z.key → keyed_in first z ≡ keyed 0 (codes "z") → keyed_in both a ≡ keyed 1 (codes "a") → AreKeyedTokens (worked_table ∷ []) (all_keyed both (z ∷ a ∷ []))
+worked_keyed first both z a kept span is_z is_a =
+    let text = (kept z.key span).1 in
+    let here : keyed_in both z ≡ keyed 0 (codes "z") = ap (λ (t : Text). keyed_from z.hash z.token t) text ∙ is_z in
+    subst (AreKeyedTokens (worked_table ∷ [])) (λ i. sym here i ∷ sym is_a i ∷ []) two_keyed
+
+pub worked_spans : (first both : Written) (z a : HashedToken) → KeepsSpans first both → IsSpan first z.key → IsSpan both a.key → AreKeyed both (z ∷ a ∷ [])
+worked_spans first both z a kept span_z span_a = All-from_recursion (λ entry. IsSpan both entry.key) (z ∷ a ∷ []) ((kept z.key span_z).0, span_a, tt)
 
 pub worked_kept : (order : List KeyedToken) → IsByHash (worked_table ∷ []) order → AreKept (worked_table ∷ []) worked_owners order (0 ∷ 1 ∷ 3 ∷ []) worked_postings (0 ∷ 2 ∷ 3 ∷ []) (0 ∷ 1 ∷ 1 ∷ [])
 worked_kept order is = record { tokens = worked_tokens; by_key = 1 ∷ 0 ∷ []; arrays = worked_arrays; order = is }

@@ -2,19 +2,21 @@
 //! meter, and its columns' sets. Also marks, with pins that were made before and after them.
 ghost use Rattle.std.specs.Prelude.{◌≡◌, ◌∷◌, [], codes, length, IfOk, OnOk};
 ghost use Rattle.lake_model.specs.Tables.{column_name, keys_at, titles_of};
-ghost use Rattle.index_tests.specs.Worked.{worked_owners, worked_postings, worked_table, worked_tokens, worked_version};
+ghost use Rattle.segment_core.specs.Hashes.{IsByHash};
+ghost use Rattle.index_tests.specs.Worked.{worked_owners, worked_postings, worked_table, worked_version};
 
 use crate::making::{holds, name, only, sets, shows};
 use column_set::{Keys, QuerySet, SharedTable, TableSets};
 use no_memory::NoMemory;
 use segment_build::index_pin;
 use segment_core::{
-    ColumnRefused, HashedQuery, Look, Looks, Marks, Numbers, Owner, Part, Pin, Posting, Segment,
-    SegmentIndex, TokenAt, Version, order_by_hash,
+    ColumnRefused, HashOrder, HashedQuery, HashedToken, Look, Looks, Marks, Numbers, Owner, Part,
+    Pin, Posting, Segment, SegmentIndex, Version, order_by_hash,
 };
 use std::alloc::Global;
 use std::sync::Arc;
 use std::test::Fail;
+use text_region::Region;
 
 // Expects that the table is named t.
 fn expect_name(table: &TableSets) -> Result<(), Fail>
@@ -100,18 +102,14 @@ fn owners(alloc: Global) -> Result<Vec<Owner>, NoMemory>
     Ok(vec![in alloc; Owner { table: 0, place: 1 }, Owner { table: 0, place: 2 }]?)
 }
 
-fn tokens(alloc: Global) -> Result<Vec<TokenAt>, NoMemory>
-    ensures { IfOk result (λ tokens. tokens.items ≡ worked_tokens) }
+// Returns the tokens of the worked table by the hashes of their keys.
+fn by_hash(alloc: Global) -> Result<HashOrder, NoMemory>
+    ensures { IfOk result (λ order. IsByHash (worked_table ∷ []) order) }
 {
-    let z = TokenAt {
-        column: 0,
-        index: 0,
-    };
-    let a = TokenAt {
-        column: 0,
-        index: 1,
-    };
-    Ok(vec![in alloc; z, a]?)
+    let mut keys = Region::new(alloc, 0)?;
+    let z = HashedToken::new(0, "z", &mut keys)?;
+    let a = HashedToken::new(1, "a", &mut keys)?;
+    order_by_hash(alloc, vec![in alloc; z, a]?, keys)
 }
 
 fn postings(alloc: Global) -> Result<Vec<Posting>, NoMemory>
@@ -131,8 +129,7 @@ fn index(alloc: Global) -> Result<SegmentIndex, Fail>
 {
     let tables = vec![in alloc; table(alloc)?]?;
     let owners = owners(alloc)?;
-    let tokens = tokens(alloc)?;
-    let by_hash = order_by_hash(alloc, &tables, &owners, &tokens)?;
+    let by_hash = by_hash(alloc)?;
     let list_starts = vec![in alloc; 0, 1, 3]?;
     let postings = postings(alloc)?;
     let set_starts = vec![in alloc; 0, 2, 3]?;

@@ -16,7 +16,6 @@ use Rattle.search_model.specs.Segment.{Titled, Token, columns_of, postings_of, s
 use Rattle.search_model.proofs.FilterLemmas.{rising}
 use Rattle.search_model.proofs.OverlapLemmas.{front, tokens_from, tokens_from-cons}
 use Rattle.search_model.proofs.TokenLemmas.{token_cmp_total}
-use Rattle.segment_core.specs.Hashes.{AreKeys}
 use Rattle.list_laws.proofs.ListLemmas.{all_at}
 use Rattle.token_order.specs.Vocabulary.{frequencies_of}
 use Rattle.segment_build.specs.Holding.{all_tokens, held_with, sets_for, HasMore}
@@ -203,10 +202,6 @@ module _ (tables : List Table) (owners : List Owner) (tokens : List TokenAt) (li
 
   pub length-sets : length (sets_in set_starts set_tokens) ≡ sum_by (λ t. length t.columns) tables
   length-sets = ap length sets_are ∙ length-map (columns_of tables) (λ (c : Titled). tokens_in (all_tokens tables) c.column.keys) ∙ columns_counted tables
-
-  pub keys_made : All (IsAt tables) tokens → AreKeys tables owners tokens
-  unfolding segment
-  keys_made within = record { owned = made.more.owned; named = made.named; within = within }
 
   pub arrays : (by_key : List ℕ) (postings : List Posting) → All (IsAt tables) tokens → IsByKey (all_tokens tables) by_key → sum_by (λ t. length t.columns) tables < 2 ^ 32 → length tokens < 2 ^ 32
       → postings ≡ all_of (lists_from (sets_in set_starts set_tokens) 0 (length list_starts - 1)) → AreArrays tables owners tokens by_key list_starts postings set_starts set_tokens

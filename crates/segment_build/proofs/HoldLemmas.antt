@@ -94,6 +94,17 @@ count_from n (t ∷ tables) =
 pub count_columns_of : (tables : List Table) → key_count (columns_of tables) ≡ sum_by members tables
 count_columns_of tables = count_from 0 tables
 
+-- and how many with one more column of a table
+pub count_more : (number : ℕ) (table : Table) (i : ℕ) → i < length table.columns → key_count (take (i + 1) (columns_in number table)) ≡ key_count (take i (columns_in number table)) + length (keys_at table (i + 1))
+count_more number table i h =
+    let size : Titled → ℕ = λ c. length c.column.keys in
+    omega (
+      arith,
+      sum_by_more size (columns_in number table) i no_titled (omega (arith, length-columns_in number table)),
+      ap size (column_in number table i h),
+      ap length (keys_there table (i + 1) (omega arith) (omega arith)),
+    )
+
 -- there is room for one more column of a table if there is room for the table
 pub room_in : (number : ℕ) (table : Table) (i : ℕ) → i < length table.columns → key_count (take i (columns_in number table)) + length (keys_at table (i + 1)) ≤ members table
 room_in number table i h =

@@ -4,3 +4,4 @@ pub mod AddLemmas
 pub mod HoldLemmas
 pub mod BuildLemmas
 pub mod StretchLemmas
+pub mod HashingLemmas

@@ -1,3 +1,4 @@
 pub mod Filling
 pub mod Inverse
 pub mod Holding
+pub mod Hashing

@@ -3,6 +3,7 @@ ghost use Rattle.std.specs.Prelude.{◌≡◌, ◌<◌, ◌^◌, length, sum_by,
 ghost use Rattle.lake_model.specs.Tables.{members};
 
 use crate::columns::column_sets;
+use crate::hashing::{HashedTokens, hashed_tokens};
 use crate::lists::{PostingLists, list_starts, posting_lists};
 use column_set::SharedTable;
 use no_memory::NoMemory;
@@ -32,18 +33,13 @@ pub fn build_index(alloc: Global, tables: Vec<SharedTable>) -> Result<SegmentInd
     } = order_columns(alloc, &tables)?;
     let vocab = Vocab::build(alloc, &tables)?;
     let sets = column_sets(alloc, &tables, &vocab)?;
-    let TokenLists {
-        tokens,
-        frequencies,
-        ..
-    } = vocab.into_lists();
+    let HashedTokens { entries, keys } = hashed_tokens(alloc, &tables, &vocab)?;
+    let TokenLists { frequencies, .. } = vocab.into_lists();
     let list_starts = list_starts(alloc, &frequencies)?;
     // The starts hold the same information, so the frequencies are freed before the steps that follow take their
     // memory.
     drop(frequencies);
-    let by_hash = order_by_hash(alloc, &tables, &sets.owners, &tokens)?;
-    // The order has its own note of where each token's key is.
-    drop(tokens);
+    let by_hash = order_by_hash(alloc, entries, keys)?;
     let PostingLists { starts, postings } = posting_lists(
         alloc,
         &sets.starts,

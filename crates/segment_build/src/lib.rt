@@ -3,6 +3,7 @@
 #![tactic(auto)]
 
 mod columns;
+mod hashing;
 mod index;
 mod lists;
 mod segment;

@@ -1,5 +1,5 @@
 -- The tokens in the order of the hashes of their keys: how they are sorted, and what a search among them finds.
-use Rattle.std.proofs.Common.{◌≡◌, refl, ap, sym, ◌∙◌, subst, inl, inr, ℕ, suc, ◌+◌, ◌-◌, ◌<◌, ◌≤◌, List, [], ◌∷◌, ◌++◌, Bool, true, false, map, length, get_or, take, drop, Option, Some, None, arith}
+use Rattle.std.proofs.Common.{◌≡◌, refl, ap, sym, ◌∙◌, subst, inl, inr, ℕ, suc, ◌+◌, ◌-◌, ◌<◌, ◌≤◌, List, [], ◌∷◌, Bool, true, false, map, length, get_or, drop, Option, Some, None, arith}
 use Rattle.std.specs.Prelude.{IfNone, IfSome, bytes_eq}
 use Rattle.std.specs.Cmp.{nat_cmp_is}
 use Rattle.std.specs.Cmp.Lexicographic.{slice_cmp}
@@ -8,11 +8,10 @@ use Rattle.std.specs.List.Sorted.{IsNonDecreasingBy, IsPermutation, IsSortedByKe
 use Rattle.std.specs.Ordering.{is_eq, is_lt, nat_cmp, ordering_index}
 use Rattle.std.specs.declared.cmp.Ordering.{Ordering}
 use Rattle.std.specs.declared.cmp.Ordering.TheVariants.{Less, Equal, Greater}
-use Rattle.std.proofs.Math.Seq.{take-length}
 use Rattle.std.proofs.lemmas.Bool.{cases_lt}
 use Rattle.std.proofs.lemmas.Cmp.{nat_list_cmp_total}
-use Rattle.std.proofs.lemmas.List.{get_or_default, get_or-drop, get_or-map, get_or-take, length-drop, length-map, length-take, map-append, take_more}
-use Rattle.std.proofs.lemmas.List.Elements.{All-append, All-from_recursion}
+use Rattle.std.proofs.lemmas.List.{get_or_default, get_or-drop, get_or-map, get_or-take, length-drop, length-map, length-take}
+use Rattle.std.proofs.lemmas.List.Elements.{All-from_recursion}
 use Rattle.std.proofs.lemmas.List.Folds.{list_any_at, list_any_none}
 use Rattle.std.proofs.lemmas.List.FromFn.{get_or-enumerate_from, length-enumerate_from}
 use Rattle.std.proofs.lemmas.List.Sorted.{length_permutation, ranks_by, searchable_from_sorted, sorted_far, All-permutation, IsNonDecreasingBy-drop, IsNonDecreasingBy-take, IsPermutation-map, IsPermutation-sym}
@@ -24,7 +23,7 @@ use Rattle.lake_model.specs.Tables.{Table}
 use Rattle.search_model.specs.Segment.{Token, segment}
 use Rattle.search_model.specs.Arrays.{key_of, numbers_of, token_with, IsToken}
 use Rattle.hash_directory.specs.Buckets.{FilterOf, may_have, AreIn, IsNear}
-use Rattle.text_region.specs.Spans.{IsSpan, text_at, KeepsSpans}
+use Rattle.text_region.specs.Spans.{text_at, KeepsSpans}
 use Rattle.text_region.specs.Written.{Written}
 use Rattle.segment_core.specs.Hashes.{KeyedToken, all_keyed, entry_hash, hash_of, keyed_at, keyed_from, keyed_in, sorted_by, token_hash, token_number, AreInOrder, AreKeyed, AreKeyedTokens, IsByHash, IsHashed, IsSplit, IsSplitIn}
 use Rattle.segment_core.specs.declared.hashes.HashedToken.{HashedToken}
@@ -35,7 +34,7 @@ use Rattle.search_model.proofs.RankLemmas.{first_late}
 pub length-numbers : (tokens : List Token) → length (numbers_of tokens) ≡ length tokens
 length-numbers tokens = length-map (enumerate_from 0 tokens) (λ (t : ℕ × Token). t.0) ∙ length-enumerate_from 0 tokens
 
-number_at : (tokens : List Token) (k d : ℕ) → k < length tokens → get_or (numbers_of tokens) k d ≡ k
+pub number_at : (tokens : List Token) (k d : ℕ) → k < length tokens → get_or (numbers_of tokens) k d ≡ k
 number_at tokens k d h =
     let b : k < length (enumerate_from 0 tokens) = omega (arith, length-enumerate_from 0 tokens) in
     let z : 0 + k ≡ k = omega arith in
@@ -104,58 +103,11 @@ keyed_kept old new (entry ∷ entries) kept spans =
 pub spans_kept : (old new : Written) (entries : List HashedToken) → KeepsSpans old new → AreKeyed old entries → AreKeyed new entries
 spans_kept old new entries kept spans k d h = (kept (get_or entries k d).key (spans k d h)).0
 
--- one more token, whose key was put behind the others
-module _ (old new : Written) (before after : List HashedToken) (entry : HashedToken) (kept : KeepsSpans old new) (spans : AreKeyed old before) (is : after ≡ before ++ entry ∷ []) where
-  pub spans_more : IsSpan new entry.key → AreKeyed new after
-  spans_more one =
-      let P : HashedToken → Type 0 = λ e. IsSpan new e.key in
-      subst (All P) (sym is) (All-append P before (entry ∷ []) (spans_kept old new before kept spans) (All-from_recursion P (entry ∷ []) (one, tt)))
-
-  pub keyed_more : all_keyed new after ≡ all_keyed old before ++ keyed_in new entry ∷ []
-  keyed_more =
-      ap (all_keyed new) is ∙ map-append (keyed_in new) before (entry ∷ []) ∙ ap (λ (ks : List KeyedToken). ks ++ keyed_in new entry ∷ []) (keyed_kept old new before kept spans)
-
 -- ---- sorting
 
--- the numbers with one more token
-numbers_more : (tokens : List Token) (before after : List KeyedToken) (i : ℕ) (entry : KeyedToken) → i < length tokens → entry.token ≡ i → map token_number before ≡ take i (numbers_of tokens) → after ≡ before ++ entry ∷ []
-    → map token_number after ≡ take (i + 1) (numbers_of tokens)
-numbers_more tokens before after i entry h is so_far e =
-    let ns = numbers_of tokens in
-    ap (map token_number) e
-    ∙ map-append token_number before (entry ∷ [])
-    ∙ (λ j. so_far j ++ (is ∙ sym (number_at tokens i 0 h)) j ∷ [])
-    ∙ sym (take_more ns i 0 (omega (arith, length-numbers tokens)))
-
-numbers_all : (tokens : List Token) (i : ℕ) → i ≡ length tokens → take i (numbers_of tokens) ≡ numbers_of tokens
-numbers_all tokens i e = ap (λ (n : ℕ). take n (numbers_of tokens)) (e ∙ sym (length-numbers tokens)) ∙ take-length (numbers_of tokens)
-
--- the first tokens of the segment of these tables, each with its key and the hash of that
-pub record AreFirst (tables : List Table) (count : ℕ) (keyed : List KeyedToken) : Type 0 where
-  pub hashes : All (λ entry. entry.hash ≡ hash_of entry.key) keyed
-  pub hashed : All (IsHashed tables) keyed
-  pub numbers : map token_number keyed ≡ take count (numbers_of (segment tables).tokens)
-
-all_more : (P : KeyedToken → Type 0) (before after : List KeyedToken) (entry : KeyedToken) → All P before → P entry → after ≡ before ++ entry ∷ [] → All P after
-all_more P before after entry all one e = subst (All P) (sym e) (All-append P before (entry ∷ []) all (All-from_recursion P (entry ∷ []) (one, tt)))
-
-pub first_more : (tables : List Table) (before after : List KeyedToken) (i : ℕ) (entry : KeyedToken) → i < length (segment tables).tokens → AreFirst tables i before → entry.hash ≡ hash_of entry.key → entry.token ≡ i
-    → entry.key ≡ key_of (segment tables).tokens i → after ≡ before ++ entry ∷ [] → AreFirst tables (i + 1) after
-first_more tables before after i entry h first hash number key e =
-    let tokens = (segment tables).tokens in
-    let one : IsHashed tables entry = record { there = omega (arith, h, number); key = key ∙ ap (key_of tokens) (sym number) } in
-    record {
-      hashes = all_more (λ entry. entry.hash ≡ hash_of entry.key) before after entry first.hashes hash e;
-      hashed = all_more (IsHashed tables) before after entry first.hashed one e;
-      numbers = numbers_more tokens before after i entry h number first.numbers e;
-    }
-
-pub first_all : (tables : List Table) (i : ℕ) (keyed : List KeyedToken) → i ≡ length (segment tables).tokens → AreFirst tables i keyed → AreKeyedTokens tables keyed
-first_all tables i keyed all first = record { hashes = first.hashes; hashed = first.hashed; numbers = first.numbers ∙ numbers_all (segment tables).tokens i all }
-
 -- the tokens with their hashes, sorted
-pub in_order_of : (tables : List Table) (keyed sorted : List KeyedToken) → AreKeyedTokens tables keyed → IsPermutation keyed sorted → IsSortedByKey sorted_by (slice_cmp nat_cmp) sorted → AreInOrder sorted
-in_order_of tables keyed sorted are same up = record { hashes = All-permutation (λ entry. entry.hash ≡ hash_of entry.key) keyed sorted same are.hashes; rising = up }
+pub in_order_of : (keyed sorted : List KeyedToken) → All (λ entry. entry.hash ≡ hash_of entry.key) keyed → IsPermutation keyed sorted → IsSortedByKey sorted_by (slice_cmp nat_cmp) sorted → AreInOrder sorted
+in_order_of keyed sorted hashes same up = record { hashes = All-permutation (λ entry. entry.hash ≡ hash_of entry.key) keyed sorted same hashes; rising = up }
 
 pub by_hash_of : (tables : List Table) (keyed sorted : List KeyedToken) → AreKeyedTokens tables keyed → IsPermutation keyed sorted → IsByHash tables sorted
 by_hash_of tables keyed sorted are same = record {

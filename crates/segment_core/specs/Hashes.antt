@@ -7,7 +7,7 @@ use Rattle.std.specs.Ordering.{nat_cmp}
 use Rattle.lake_model.specs.Texts.{Text}
 use Rattle.lake_model.specs.Tables.{Table}
 use Rattle.column_set.specs.Hashes.{sip_of}
-use Rattle.search_model.specs.Arrays.{AreArrays, IsAt, key_of, numbers_of, owner_of, pointed, token_keys}
+use Rattle.search_model.specs.Arrays.{AreArrays, key_of, numbers_of}
 use Rattle.search_model.specs.Segment.{segment}
 use Rattle.search_model.specs.declared.Owner.{Owner}
 use Rattle.search_model.specs.declared.Posting.{Posting}
@@ -88,12 +88,6 @@ pub record AreKeyedTokens (tables : List Table) (keyed : List KeyedToken) : Type
 pub record IsByHash (tables : List Table) (order : List KeyedToken) : Type 0 where
   pub hashed : All (IsHashed tables) order
   pub same : IsPermutation (numbers_of (segment tables).tokens) (map token_number order)
-
--- where the columns are, and where the keys of the tokens are
-pub record AreKeys (tables : List Table) (owners : List Owner) (tokens : List TokenAt) : Type 0 where
-  pub owned : owners ≡ map owner_of (segment tables).columns
-  pub named : map (pointed tables) tokens ≡ token_keys (segment tables).tokens
-  pub within : (i : ℕ) (d : TokenAt) → i < length tokens → IsAt tables (get_or tokens i d)
 
 -- The arrays that a segment keeps: those of its tables, with the order of the tokens by hash in place of that by key and
 -- of the places at which their keys are.

@@ -1,20 +1,18 @@
 //! The tokens of a segment in the order of the hashes of their keys.
-ghost use Rattle.std.specs.Prelude.{◌≡◌, ◌∷◌, ◌<◌, ◌^◌, ℕ, false, length, map, IfNone, IfOk, IfSome};
+ghost use Rattle.std.specs.Prelude.{◌≡◌, ◌∷◌, ◌<◌, ◌^◌, ℕ, List, false, length, map, IfNone, IfOk, IfSome};
 ghost use Rattle.std.specs.Cmp.Lexicographic.{slice_cmp};
 ghost use Rattle.std.specs.List.{All};
 ghost use Rattle.std.specs.List.Sorted.{IsNonDecreasingBy, IsPermutation, IsSortedByKey};
 ghost use Rattle.std.specs.Ordering.{nat_cmp};
-ghost use Rattle.search_model.specs.Arrays.{owner_of, pointed, IsAt};
-ghost use Rattle.search_model.specs.Segment.{segment};
+ghost use Rattle.lake_model.specs.Tables.{Table};
 ghost use Rattle.hash_directory.specs.Buckets.{IsNear};
 ghost use Rattle.text_region.specs.Spans.{IsSpan, KeepsSpans};
-ghost use Rattle.segment_core.specs.Hashes.{all_keyed, entry_hash, hash_of, keyed_at, keyed_from, keyed_in, sorted_by, token_hash, AreInOrder, AreKeyed, AreKeyedTokens, AreKeys, IsByHash, IsSplit};
+ghost use Rattle.segment_core.specs.Hashes.{all_keyed, entry_hash, hash_of, keyed_at, keyed_from, keyed_in, sorted_by, token_hash, AreInOrder, AreKeyed, AreKeyedTokens, IsByHash, IsSplit};
 
-use column_set::{SharedTable, sip_hash};
+use column_set::sip_hash;
 use front_sort::{FrontOrder, sort_by_fronts};
 use hash_directory::{HashDirectory, Near};
 use no_memory::NoMemory;
-use search_model::{Owner, TokenAt};
 use std::alloc::Global;
 use std::cmp::Ordering;
 use std::marker::Model;
@@ -25,10 +23,27 @@ const MOST_COUNTED: usize = 16;
 
 /// A token of a part, with the hash of its key and where the key is in the region of the keys.
 #[derive(Clone, Copy)]
-struct HashedToken {
+pub struct HashedToken {
     hash: u32,
-    token: u32,
+    /// The number of the token.
+    pub token: u32,
     key: Span,
+}
+
+impl HashedToken {
+    /// Returns a token with the hash of its key, which it puts into the region.
+    pub fn new(token: u32, key: &str, keys: &mut Region) -> Result<HashedToken, NoMemory>
+        ensures kept { KeepsSpans keys.old keys.new }
+        ensures span { IfOk result (λ entry. IsSpan keys.new entry.key) }
+        ensures key { IfOk result (λ entry. keyed_in keys.new entry ≡ keyed_from (hash_of key.now) token key.now) }
+    {
+        keys.reserve(key.len())?;
+        Ok(HashedToken {
+            hash: hash_key(key),
+            token,
+            key: keys.put(key),
+        })
+    }
 }
 
 /// The tokens of a part with their keys, sorted by the hashes of the keys and then by their bytes, with a directory of
@@ -190,21 +205,20 @@ fn split_by_halves(entries: &[HashedToken], hash: u32) -> usize
     entries.partition_point(|entry| entry.hash < hash)
 }
 
-/// Returns the tokens in the order of the hashes of their keys. It reads each key once, copies it, and sorts one number
-/// for each token. It takes 22 to 24 bytes for each token, of which 18 to 20 are kept, and the bytes of the keys, up to
-/// three times while they are copied. Keys are compared only if their hashes are equal.
+/// Returns the tokens in the order of the hashes of their keys, which are in the region. It sorts one number for each
+/// token, and compares keys only if their hashes are equal. Beside the entries and the keys, it takes 22 to 24 bytes for
+/// each token, and it keeps 2 to 4 of them; the spare room of the region is released first.
 pub fn order_by_hash(
     alloc: Global,
-    tables: &[SharedTable],
-    owners: &[Owner],
-    tokens: &[TokenAt],
+    hashed: Vec<HashedToken>,
+    mut keys: Region,
 ) -> Result<HashOrder, NoMemory>
-    requires keys { AreKeys tables.now owners.now tokens.now }
-    requires few { length tokens.now < 2 ^ 32 }
-    ensures { IfOk result (λ order. IsByHash tables.now order) }
+    requires keyed { AreKeyed keys hashed.items }
+    requires hashes { All (λ entry. entry.hash ≡ hash_of entry.key) (all_keyed keys hashed.items) }
+    requires few { length hashed.items < 2 ^ 32 }
+    ensures { (tables : List Table) → AreKeyedTokens tables (all_keyed keys hashed.items) → IfOk result (λ order. IsByHash tables order) }
 {
-    let mut keys = Region::new(alloc, 0)?;
-    let entries = sorted_tokens(alloc, tables, owners, tokens, &mut keys)?;
+    let entries = sorted_tokens(hashed, &mut keys);
     let hashes = hashes_of(alloc, &entries)?;
     let directory = HashDirectory::of(alloc, &hashes)?;
     Ok(HashOrder {
@@ -214,71 +228,17 @@ pub fn order_by_hash(
     })
 }
 
-// Returns the tokens in that order, and puts their keys into the region.
-fn sorted_tokens(
-    alloc: Global,
-    tables: &[SharedTable],
-    owners: &[Owner],
-    tokens: &[TokenAt],
-    keys: &mut Region,
-) -> Result<Vec<HashedToken>, NoMemory>
-    requires keys { AreKeys tables.now owners.now tokens.now }
-    requires few { length tokens.now < 2 ^ 32 }
-    ensures keyed { IfOk result (λ hashed. AreKeyed keys.new hashed.items) }
-    ensures order { IfOk result (λ hashed. AreInOrder (all_keyed keys.new hashed.items)) }
-    ensures tokens { IfOk result (λ hashed. IsByHash tables.now (all_keyed keys.new hashed.items)) }
-    ensures few { IfOk result (λ hashed. length hashed.items < 2 ^ 32) }
+// Returns the tokens in that order, and releases the spare room of the region.
+fn sorted_tokens(hashed: Vec<HashedToken>, keys: &mut Region) -> Vec<HashedToken>
+    requires keyed { AreKeyed keys.old hashed.items }
+    requires hashes { All (λ entry. entry.hash ≡ hash_of entry.key) (all_keyed keys.old hashed.items) }
+    ensures keyed { AreKeyed keys.new result.items }
+    ensures order { AreInOrder (all_keyed keys.new result.items) }
+    ensures same { IsPermutation (all_keyed keys.old hashed.items) (all_keyed keys.new result.items) }
+    ensures long { length result.items ≡ length hashed.items }
 {
-    let hashed = hashed_tokens(alloc, tables, owners, tokens, keys)?;
     keys.shrink_to_fit();
-    Ok(sorted_by_hash(hashed, keys))
-}
-
-// Returns the tokens in their own order, each with the hash of its key, and puts the keys into the region.
-fn hashed_tokens(
-    alloc: Global,
-    tables: &[SharedTable],
-    owners: &[Owner],
-    tokens: &[TokenAt],
-    keys: &mut Region,
-) -> Result<Vec<HashedToken>, NoMemory>
-    requires keys { AreKeys tables.now owners.now tokens.now }
-    requires few { length tokens.now < 2 ^ 32 }
-    ensures keyed { IfOk result (λ hashed. AreKeyed keys.new hashed.items) }
-    ensures tokens { IfOk result (λ hashed. AreKeyedTokens tables.now (all_keyed keys.new hashed.items)) }
-{
-    let mut hashed = Vec::with_capacity(alloc, tokens.len())?;
-    for (token, at) in tokens.iter().enumerate() {
-        let key = key_at(tables, owners, *at);
-        let entry = hashed_token(token as u32, key, keys)?;
-        hashed.push(entry)?;
-    }
-    Ok(hashed)
-}
-
-// Returns a token with the hash of its key, which it puts into the region.
-fn hashed_token(token: u32, key: &str, keys: &mut Region) -> Result<HashedToken, NoMemory>
-    ensures kept { KeepsSpans keys.old keys.new }
-    ensures span { IfOk result (λ entry. IsSpan keys.new entry.key) }
-    ensures key { IfOk result (λ entry. keyed_in keys.new entry ≡ keyed_from (hash_of key.now) token key.now) }
-{
-    keys.reserve(key.len())?;
-    Ok(HashedToken {
-        hash: hash_key(key),
-        token,
-        key: keys.put(key),
-    })
-}
-
-// Returns the key of a token, which is at `at`.
-fn key_at<'a>(tables: &'a [SharedTable], owners: &[Owner], at: TokenAt) -> &'a str
-    requires owned { owners.now ≡ map owner_of (segment tables.now).columns }
-    requires there { IsAt tables.now at }
-    ensures { result.now ≡ pointed tables.now at }
-{
-    let owner = owners[at.column as usize];
-    let table = tables[owner.table as usize].table();
-    table.key(owner.place, at.index)
+    sorted_by_hash(hashed, keys)
 }
 
 // Returns the entries sorted by their hashes, and then by the bytes of the keys.

@@ -22,7 +22,7 @@ mod version;
 
 pub use column::ColumnRefused;
 pub use hashed::HashedQuery;
-pub use hashes::{HashOrder, hash_key, order_by_hash};
+pub use hashes::{HashOrder, HashedToken, hash_key, order_by_hash};
 pub use index::SegmentIndex;
 pub use indexed::{IndexedPin, PartIndex};
 pub use layout::{Layout, Places, TableLines};

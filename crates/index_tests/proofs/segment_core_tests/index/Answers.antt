@@ -2,24 +2,14 @@ use Rattle.std.proofs.Common.{◌≡◌, ◌∙◌, ap, sym, subst, ℕ, List, [
 use Rattle.lake_model.specs.Tables.{Table}
 use Rattle.search_model.specs.Ranks.{ranked, AreRising}
 use Rattle.search_model.specs.Segment.{segment}
-use Rattle.segment_core.specs.Hashes.{IsByHash}
 use Rattle.index_tests.specs.Worked.{worked_table}
-use Rattle.index_tests.proofs.WorkedSegment.{worked_inverse, worked_kept, worked_keys, worked_ranks, worked_rising}
+use Rattle.index_tests.proofs.WorkedSegment.{worked_inverse, worked_kept, worked_ranks, worked_rising}
 use Rattle.index_tests.proofs.segment_core_tests.index.Goals as goal
-
-pub order_by_hash-requires-clause-keys : goal.order_by_hash-requires-clause-keys
-order_by_hash-requires-clause-keys c =
-    let tables : c.in_ok-tables.tables.items ≡ worked_table ∷ [] = c.in_ok-tables.ensures.items ∙ ap (λ (t : Table). t ∷ []) c.in_ok-table.ensures in
-    rw (c.deref.ensures.value, c.deref-2.ensures.value, c.deref-3.ensures.value, tables, c.in_ok-owners.ensures, c.in_ok-tokens.ensures) worked_keys
-
-pub order_by_hash-requires-clause-few : goal.order_by_hash-requires-clause-few
-order_by_hash-requires-clause-few c = rw (c.deref-3.ensures.value, c.in_ok-tokens.ensures) (lit< tt)
 
 pub new-requires-clause-arrays : goal.new-requires-clause-arrays
 new-requires-clause-arrays c =
     let tables : c.in_ok-tables.tables.items ≡ worked_table ∷ [] = c.in_ok-tables.ensures.items ∙ ap (λ (t : Table). t ∷ []) c.in_ok-table.ensures in
-    let order = subst (λ (ts : List Table). IsByHash ts c.in_ok-by_hash.by_hash) (c.deref.ensures.value ∙ tables) c.in_ok-by_hash.ensures in
-    rw (tables, c.in_ok-owners.ensures, c.in_ok-list_starts.ensures.items, c.in_ok-postings.ensures, c.in_ok-set_starts.ensures.items, c.in_ok-set_tokens.ensures.items) (worked_kept c.in_ok-by_hash.by_hash order)
+    rw (tables, c.in_ok-owners.ensures, c.in_ok-list_starts.ensures.items, c.in_ok-postings.ensures, c.in_ok-set_starts.ensures.items, c.in_ok-set_tokens.ensures.items) (worked_kept c.in_ok-by_hash.by_hash c.in_ok-by_hash.ensures)
 
 pub new-requires-clause-ranks : goal.new-requires-clause-ranks
 new-requires-clause-ranks c =
