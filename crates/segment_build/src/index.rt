@@ -15,12 +15,12 @@ use token_order::{TokenLists, Vocab};
 /// Builds the index of these tables, which is that of Zhu, Deng, Nargesian and Miller, "JOSIE: Overlap Set
 /// Similarity Search for Finding Joinable Tables in Data Lakes", SIGMOD 2019.
 ///
-/// It sorts all keys of all columns by their bytes, once, which gives the token of each key of each column. The
-/// distinct keys and the sets are then sorted as numbers, and the posting lists are written in one pass. Keys are
-/// compared again only if their hashes are equal, while the tokens are sorted by these. The columns are also sorted
-/// once, by their names. The index keeps 16 bytes for each key of each column, 22 to 24 for each distinct key, and 20
-/// for each column. The most memory is taken while the keys are sorted and counted: 28 bytes for each key of each
-/// column, and at most 32 for each distinct key. It fails only if memory runs out.
+/// It puts the keys of all columns into groups of the same key by hashes, and sorts one key of each group by its bytes,
+/// which gives the token of each key of each column. The sets are then sorted as numbers, and the posting lists are
+/// written in one pass. Each distinct key is hashed once more and copied, and compared again only if another has the same
+/// hash. The columns are also sorted once, by their names. The index keeps 16 bytes for each key of each column, 22 to 24
+/// for each distinct key, and 20 for each column, and the bytes of the distinct keys. The most memory is taken while it
+/// is put together: what it keeps, and 4 bytes more for each key of each column. It fails only if memory runs out.
 pub fn build_index(alloc: Global, tables: Vec<SharedTable>) -> Result<SegmentIndex, NoMemory>
     requires columns { sum_by (λ t. length t.columns) tables.items < 2 ^ 32 }
     requires members { sum_by members tables.items < 2 ^ 32 }
