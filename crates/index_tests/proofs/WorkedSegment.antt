@@ -83,8 +83,8 @@ keyed token key = keyed_from (hash_of key) token key
 two_keyed : AreKeyedTokens (worked_table ∷ []) (keyed 0 (codes "z") ∷ keyed 1 (codes "a") ∷ [])
 unfolding in_order put_in_order tokens_of segment
 two_keyed = record {
-  hashes = All-from_recursion (λ entry. entry.hash ≡ hash_of entry.key) (keyed 0 (codes "z") ∷ keyed 1 (codes "a") ∷ []) (refl, refl, tt);
-  hashed = All-from_recursion (IsHashed (worked_table ∷ [])) (keyed 0 (codes "z") ∷ keyed 1 (codes "a") ∷ []) (record { there = lit< tt; key = refl }, record { there = lit< tt; key = refl }, tt);
+  hashes = All-from_recursion (λ entry. entry.hash ≡ hash_of entry.key) (keyed 0 (codes "z") ∷ keyed 1 (codes "a") ∷ []) (refl, (refl, tt));
+  hashed = All-from_recursion (IsHashed (worked_table ∷ [])) (keyed 0 (codes "z") ∷ keyed 1 (codes "a") ∷ []) (record { there = lit< tt; key = refl }, (record { there = lit< tt; key = refl }, tt));
   numbers = refl;
 }
 
@@ -96,7 +96,7 @@ worked_keyed first both z a kept span is_z is_a =
     subst (AreKeyedTokens (worked_table ∷ [])) (λ i. sym here i ∷ sym is_a i ∷ []) two_keyed
 
 pub worked_spans : (first both : Written) (z a : HashedToken) → KeepsSpans first both → IsSpan first z.key → IsSpan both a.key → AreKeyed both (z ∷ a ∷ [])
-worked_spans first both z a kept span_z span_a = All-from_recursion (λ entry. IsSpan both entry.key) (z ∷ a ∷ []) ((kept z.key span_z).0, span_a, tt)
+worked_spans first both z a kept span_z span_a = All-from_recursion (λ entry. IsSpan both entry.key) (z ∷ a ∷ []) ((kept z.key span_z).0, (span_a, tt))
 
 pub worked_kept : (order : List KeyedToken) → IsByHash (worked_table ∷ []) order → AreKept (worked_table ∷ []) worked_owners order (0 ∷ 1 ∷ 3 ∷ []) worked_postings (0 ∷ 2 ∷ 3 ∷ []) (0 ∷ 1 ∷ 1 ∷ [])
 worked_kept order is = record { tokens = worked_tokens; by_key = 1 ∷ 0 ∷ []; arrays = worked_arrays; order = is }
